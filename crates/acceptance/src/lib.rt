@@ -1,0 +1,9 @@
+//! Whole runs over files and sinks in memory, as tests: what a user sees of the product.
+#![tactic(auto)]
+
+#[cfg(test)]
+mod harness;
+#[cfg(test)]
+mod rows;
+#[cfg(test)]
+mod trouble;

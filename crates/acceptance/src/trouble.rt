@@ -1,0 +1,138 @@
+// Words that are no run, scripts at the limits, and files and sinks that fail.
+use crate::harness::{AMPLE, files_with, run_words};
+use cell_core::NoMemory;
+use outside_io::MemFiles;
+use script_run::Status;
+use std::alloc::{AllocError, Global};
+use std::process::Abort;
+use std::test::Fail;
+
+const USAGE: &str = "usage: pdscript [--stats] [--demo N | SCRIPT] [NAME=PATH ..]\n";
+
+// A script that prints two lines and then faults.
+const SCRIPT: &[u8] =
+    b"s = pd.Series([10, -20])\nprint(s.iloc[0])\nprint(s.iloc[1])\nprint(t.iloc[0])\n";
+
+const OUTPUT: &[u8] = b"10\n-20\n";
+
+const ERRORS: &[u8] = b"line 4: NameError: t\n";
+
+// The words end with the usage line.
+fn expect_usage(rt: &(impl Abort + AllocGlobal), words: &[&str]) -> Result<(), Fail> {
+    let mut files = files_with(rt.alloc(), b"")?;
+    let ran = run_words(rt.alloc(), words, &mut files, AMPLE, AMPLE)?;
+    assert_eq!(rt; ran.status, Status::Usage);
+    assert_eq!(rt; ran.output.written(), b"".as_slice());
+    assert_eq!(rt; ran.errors.written(), USAGE.as_bytes());
+    Ok(())
+}
+
+#[test]
+fn words_that_are_no_run_get_the_usage_line(rt: HostRuntime) -> Result<(), Fail> {
+    expect_usage(&rt, &[])?;
+    expect_usage(&rt, &["pdscript"])?;
+    expect_usage(&rt, &["pdscript", ""])?;
+    expect_usage(&rt, &["pdscript", "-s"])?;
+    expect_usage(&rt, &["pdscript", "--help"])?;
+    expect_usage(&rt, &["pdscript", "s", "orders"])
+}
+
+#[test]
+fn a_dash_alone_is_a_path(rt: HostRuntime) -> Result<(), Fail> {
+    let mut files = MemFiles::new(rt.alloc());
+    files.hold("-", SCRIPT)?;
+    let ran = run_words(rt.alloc(), &["pdscript", "-"], &mut files, AMPLE, AMPLE)?;
+    assert_eq!(rt; ran.output.written(), OUTPUT);
+    Ok(())
+}
+
+#[test]
+fn a_script_that_is_not_there(rt: HostRuntime) -> Result<(), Fail> {
+    let mut files = MemFiles::new(rt.alloc());
+    let ran = run_words(rt.alloc(), &["pdscript", "s"], &mut files, AMPLE, AMPLE)?;
+    assert_eq!(rt; ran.status, Status::Usage);
+    assert_eq!(rt; ran.errors.written(), b"script not found: s\n".as_slice());
+    Ok(())
+}
+
+// The text so many times, one after the other.
+fn repeated(alloc: Global, text: &[u8], times: usize) -> Result<Vec<u8>, AllocError> {
+    let mut all = Vec::new(alloc);
+    for _ in 0..times {
+        all.extend_from_slice(text)?;
+    }
+    Ok(all)
+}
+
+// The status of the script.
+fn status_of(alloc: Global, script: &[u8]) -> Result<Status, NoMemory> {
+    let mut files = files_with(alloc, script)?;
+    Ok(run_words(alloc, &["pdscript", "s"], &mut files, AMPLE, AMPLE)?.status)
+}
+
+#[test]
+fn a_script_has_at_most_a_mebibyte(rt: HostRuntime) -> Result<(), Fail> {
+    let script = repeated(rt.alloc(), b" ", 1 << 20)?;
+    assert_eq!(rt; status_of(rt.alloc(), &script)?, Status::Done);
+    let script = repeated(rt.alloc(), b" ", (1 << 20) + 1)?;
+    assert_eq!(rt; status_of(rt.alloc(), &script)?, Status::Syntax);
+    Ok(())
+}
+
+#[test]
+fn a_script_has_at_most_ten_thousand_statements(rt: HostRuntime) -> Result<(), Fail> {
+    let script = repeated(rt.alloc(), b"a = pd.Series([1])\n", 10_000)?;
+    assert_eq!(rt; status_of(rt.alloc(), &script)?, Status::Done);
+    let script = repeated(rt.alloc(), b"a = pd.Series([1])\n", 10_001)?;
+    assert_eq!(rt; status_of(rt.alloc(), &script)?, Status::Syntax);
+    Ok(())
+}
+
+#[test]
+fn a_read_that_fails_ends_the_run(rt: HostRuntime) -> Result<(), Fail> {
+    // The fetch, the read of the bytes and the read that finds the end.
+    for call in 0..3 {
+        let mut files = files_with(rt.alloc(), SCRIPT)?;
+        files.fail_at(call)?;
+        let ran = run_words(rt.alloc(), &["pdscript", "s"], &mut files, AMPLE, AMPLE)?;
+        assert_eq!(rt; ran.status, Status::Input, "call {call}");
+        assert_eq!(rt; ran.output.written(), b"".as_slice());
+        assert_eq!(rt; ran.errors.written(), b"input failed\n".as_slice());
+    }
+    Ok(())
+}
+
+#[test]
+fn a_full_output_ends_the_run_at_once(rt: HostRuntime) -> Result<(), Fail> {
+    for room in 0..OUTPUT.len() {
+        let mut files = files_with(rt.alloc(), SCRIPT)?;
+        let ran = run_words(rt.alloc(), &["pdscript", "s"], &mut files, room, AMPLE)?;
+        assert_eq!(rt; ran.status, Status::Output, "room {room}");
+        assert_eq!(rt; ran.output.written(), &OUTPUT[..room]);
+        assert_eq!(rt; ran.errors.written(), b"".as_slice());
+    }
+    Ok(())
+}
+
+#[test]
+fn a_full_error_stream_ends_the_run(rt: HostRuntime) -> Result<(), Fail> {
+    for room in 0..ERRORS.len() {
+        let mut files = files_with(rt.alloc(), SCRIPT)?;
+        let ran = run_words(rt.alloc(), &["pdscript", "s"], &mut files, AMPLE, room)?;
+        assert_eq!(rt; ran.status, Status::Output, "room {room}");
+        assert_eq!(rt; ran.output.written(), OUTPUT);
+        assert_eq!(rt; ran.errors.written(), &ERRORS[..room]);
+    }
+    Ok(())
+}
+
+// With ample memory a run is never refused for want of it.
+#[test]
+fn run_always_want_of_memory(rt: HostRuntime) -> Result<(), Fail> {
+    let mut files = files_with(rt.alloc(), SCRIPT)?;
+    let ran = run_words(rt.alloc(), &["pdscript", "s"], &mut files, AMPLE, AMPLE)?;
+    assert_eq!(rt; ran.status, Status::Fault);
+    assert_eq!(rt; ran.output.written(), OUTPUT);
+    assert_eq!(rt; ran.errors.written(), ERRORS);
+    Ok(())
+}

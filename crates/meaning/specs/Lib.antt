@@ -1,0 +1,11 @@
+pub mod Text
+pub mod Cell
+pub mod Table
+pub mod Tree
+pub mod First
+pub mod Token
+pub mod Grammar
+pub mod Script
+pub mod State
+pub mod Statement
+pub mod Run

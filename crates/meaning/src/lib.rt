@@ -1,0 +1,2 @@
+//! What scripts mean: definitions alone, in `specs/`, which the contracts of all crates cite.
+#![tactic(auto)]

@@ -1,0 +1,49 @@
+// Which calls are to fail.
+ghost use Rattle.std.specs.Prelude.{◌≡◌, ◌↔◌, ◌++◌, ◌∷◌, [], Some, IsTrue, OnOk, OnErr};
+ghost use Rattle.outside_io.specs.Memory.{IsNamed, call_after};
+
+use cell_core::NoMemory;
+use std::alloc::Global;
+
+/// The number of the next call, counted from 0, and the calls that are to fail. A call from 2^64 on
+/// has no number.
+#[derive(Drop)]
+pub struct Calls {
+    pub next: Option<u64>,
+    pub failing: Vec<u64>,
+}
+
+impl Calls {
+    pub fn new(alloc: Global) -> Calls
+        ensures next { result.next ≡ Some 0 }
+        ensures failing { result.failing.items ≡ [] }
+    {
+        Calls {
+            next: Some(0),
+            failing: Vec::new(alloc),
+        }
+    }
+
+    /// Names a call that is to fail. `NoMemory` leaves all as it was.
+    pub fn fail_at(&mut self, call: u64) -> Result<(), NoMemory>
+        ensures ok { OnOk result (self.new.failing.items ≡ self.old.failing.items ++ call ∷ []) }
+        ensures err { OnErr result (self.new.failing.items ≡ self.old.failing.items) }
+        ensures next { self.new.next ≡ self.old.next }
+    {
+        self.failing.push(call)?;
+        Ok(())
+    }
+
+    /// Counts a call, and says whether it is to fail.
+    pub fn fails(&mut self) -> bool
+        ensures named { IsTrue result ↔ IsNamed self.old.next self.old.failing.items }
+        ensures next { self.new.next ≡ call_after self.old.next }
+        ensures failing { self.new.failing ≡ self.old.failing }
+    {
+        let Some(call) = self.next else {
+            return false;
+        };
+        self.next = call.checked_add(1);
+        self.failing.contains(&call)
+    }
+}

@@ -1,0 +1,42 @@
+//! `pdscript SCRIPT` runs a script of tables and prints what it prints.
+//!
+//! The program hands the words of its command line, the files of the machine and its two standard
+//! streams to `script_run::run`, and ends with the number of the status that this answers. Before
+//! that call it ends with 7 where a word isn't UTF-8 text, and with 6 where memory is refused.
+#![tactic(auto)]
+
+use outside_io::{RealFiles, RealSink};
+use script_run::run;
+use std::env;
+use std::io::{Error, ErrorKind};
+use std::process::ExitCode;
+
+const MEMORY: u8 = 6;
+
+const WORD_NOT_TEXT: u8 = 7;
+
+fn main(rt: HostRuntime) -> ExitCode {
+    let words = match env::args(&rt) {
+        Ok(words) => words,
+        Err(error) => return ExitCode::from(number_of(&error)),
+    };
+    let Ok(words) = words.collect(rt.alloc()) else {
+        return ExitCode::from(MEMORY);
+    };
+    let Ok(copy) = rt.clone() else {
+        return ExitCode::from(MEMORY);
+    };
+    let mut files = RealFiles::over(copy);
+    let mut out = RealSink::over(rt.stdout());
+    let mut err = RealSink::over(rt.stderr());
+    let status = run(rt.alloc(), &words, &mut files, &mut out, &mut err);
+    ExitCode::from(status.number())
+}
+
+// The exit status where the words could not be had.
+fn number_of(error: &Error) -> u8 {
+    match error.kind() {
+        ErrorKind::InvalidData => WORD_NOT_TEXT,
+        _ => MEMORY,
+    }
+}

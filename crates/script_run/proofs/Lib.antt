@@ -1,0 +1,9 @@
+pub mod Numbers
+pub mod Bindings
+pub mod States
+pub mod Counts
+pub mod Rebinding
+pub mod Answering
+pub mod Live
+pub mod RunLaws
+pub mod FileLaws

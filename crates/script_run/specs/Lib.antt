@@ -1,0 +1,6 @@
+pub mod Objects
+pub mod Names
+pub mod Namespace
+pub mod Session
+pub mod Answers
+pub mod Ends

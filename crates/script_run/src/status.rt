@@ -1,0 +1,35 @@
+// How a run ends.
+
+/// How a run ends. The number of each, from 0 on, is the exit status of the program.
+#[derive(Clone, Copy, Debug, PartialEq, Eq)]
+pub enum Status {
+    /// The script was done to its last statement.
+    Done,
+    /// A statement was refused; its line was written on the error sink.
+    Fault,
+    /// The words are no run, or the script isn't there.
+    Usage,
+    /// The bytes are no script.
+    Syntax,
+    /// The script could not be read.
+    Input,
+    /// A sink failed.
+    Output,
+    /// Memory was refused.
+    Memory,
+}
+
+impl Status {
+    /// The exit status, 0 to 6.
+    pub fn number(self) -> u8 {
+        match self {
+            Status::Done => 0,
+            Status::Fault => 1,
+            Status::Usage => 2,
+            Status::Syntax => 3,
+            Status::Input => 4,
+            Status::Output => 5,
+            Status::Memory => 6,
+        }
+    }
+}

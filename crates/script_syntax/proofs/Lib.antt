@@ -1,0 +1,11 @@
+pub mod Rows
+pub mod Injective
+pub mod Inversion
+pub mod NumberLists
+pub mod Runs
+pub mod TokenLaws
+pub mod LexLaws
+pub mod ReadingLaws
+pub mod GrammarLaws
+pub mod FormLaws
+pub mod ScriptLaws

@@ -1,0 +1,88 @@
+// Statements, as trees.
+use crate::literal::{Accessor, Binary, Literal, Unary};
+use crate::parts::{ArgList, ArgPairs, Args};
+use cell_core::Words;
+
+/// A statement, and the line of its first token, counted from 1.
+#[derive(Drop)]
+pub struct Statement {
+    pub line: u64,
+    pub form: Form,
+}
+
+/// What a statement does.
+#[derive(Drop)]
+pub enum Form {
+    /// `import pandas as pd`
+    Import,
+    /// `name = expr`
+    Bind(Words, Expr),
+    /// An expression, with a last step, that is set to a value: `expr[..] = arg`.
+    Put(Expr, Step, Arg),
+    /// `del name`
+    DropName(Words),
+    /// `del name[expr]`
+    DropColumn(Words, Expr),
+    /// `print(expr, end=text)`; the text is a line feed where none is given.
+    Print(Expr, Words),
+}
+
+/// An expression.
+#[derive(Drop)]
+#[cycle(tree)]
+pub enum Expr {
+    Name(Words),
+    Literal(Literal),
+    Unary(Unary, Box<Expr>),
+    Infix(Binary, Box<Expr>, Box<Expr>),
+    /// An expression with a step after it.
+    After(Box<Expr>, Box<Step>),
+    /// `len(expr)`
+    Len(Box<Expr>),
+    /// `pd.name(args)`
+    Make(Words, Args),
+    /// An expression in parentheses.
+    Paren(Box<Expr>),
+}
+
+/// What stands after an expression.
+#[derive(Drop)]
+#[cycle(tree)]
+pub enum Step {
+    /// `[arg]`
+    Item(Arg),
+    /// `.loc[sub]` or `.loc[sub, sub]`, and so for the other accessors.
+    Access(Accessor, Sub, Option<Sub>),
+    /// `.name(args)`
+    Method(Words, Args),
+    /// `.groupby(args)[arg].name(args)`, where `[arg]` may be absent.
+    Group(Args, Option<Arg>, Words, Args),
+    /// `.rolling(args).name(args)`
+    Rolling(Args, Words, Args),
+    /// `.expanding(args).name(args)`
+    Expanding(Args, Words, Args),
+}
+
+/// What an accessor is given for one axis.
+#[derive(Drop)]
+#[cycle(tree)]
+pub enum Sub {
+    Key(Arg),
+    /// `start:end:step`, each of which may be absent.
+    Span(Option<Arg>, Option<Arg>, Option<Expr>),
+}
+
+/// An argument, or a part of a list.
+#[derive(Drop)]
+#[cycle(tree)]
+pub enum Arg {
+    Expr(Expr),
+    /// A list: `[arg, ..]`.
+    Many(ArgList),
+    /// A tuple: `(arg, ..)`.
+    Row(ArgList),
+    /// A dictionary: `{literal: arg, ..}`.
+    Table(ArgPairs),
+    /// `None`
+    Nothing,
+}
