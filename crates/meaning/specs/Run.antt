@@ -1,13 +1,12 @@
 -- What a run prints, and how it ends.
-use Rattle.std.specs.Prelude.{◌≡◌, ◌⊎◌, ℕ, ◌==◌, not, ◌||◌, Bool, true, false, List, [], ◌∷◌, ◌++◌, Option, Some, None, codes, decimal, if◌then◌else◌}
-use Rattle.std.specs.Fmt.{signed_decimal}
+use Rattle.std.specs.Prelude.{◌≡◌, ◌⊎◌, ℕ, ◌<◌, ◌≤◌, ◌==◌, not, Bool, true, false, List, [], ◌∷◌, ◌++◌, length, Option, Some, None, codes, decimal, if◌then◌else◌}
 use Rattle.std.specs.FinMap.{get}
-use Rattle.cell_core.specs.declared.code.Code.{Code}
-use Rattle.cell_core.specs.declared.code.Code.TheVariants.{NoName, OutOfRange}
 use Rattle.meaning.specs.Text.{Text, Contents}
+use Rattle.meaning.specs.Tree.{Statement}
 use Rattle.meaning.specs.State.{State, no_names}
 use Rattle.meaning.specs.Statement.{Answer, done, refused, statement_result}
-use Rattle.meaning.specs.Script.{FirstStatement, IsScript}
+use Rattle.meaning.specs.Script.{IsScript, IsSyntaxLine, most_bytes}
+use Rattle.meaning.specs.FaultText.{fault_text}
 
 -- how a run ends: after its last statement, at a fault, at words that are no run or a script that isn't there, at a text that is no script
 pub data Ending : Type 0 where
@@ -22,28 +21,30 @@ pub record RunResult : Type 0 where
   pub errors : List ℕ
   pub ending : Ending
 
-abbrev pub code_text : Code → Text
-code_text (NoName n) = codes "NameError: " ++ n
-code_text (OutOfRange k count) = codes "IndexError: position " ++ signed_decimal k ++ codes ", length " ++ decimal count
+-- a line of errors about a line of the script
+abbrev pub line_about : ℕ → Text → Text
+line_about line text = codes "line " ++ decimal line ++ codes ": " ++ text ++ codes "\n"
 
-abbrev pub fault_line : ℕ → Text → Text
-fault_line line text = codes "line " ++ decimal line ++ codes ": " ++ text ++ codes "\n"
+-- the line that warns of a setting of an object without a name
+abbrev pub warning_line : ℕ → Bool → Text
+warning_line line true = line_about line (codes "warning: ChainedAssignmentError")
+warning_line line false = []
 
 -- a run that ends with one line of errors
 abbrev pub with_line : Text → Ending → RunResult
 with_line line ending = record { output = []; errors = line; ending = ending }
 
--- this text, and then what the rest prints
-abbrev pub after_text : Text → RunResult → RunResult
-after_text text rest = record { output = text ++ rest.output; errors = rest.errors; ending = rest.ending }
+-- these texts, and then what the rest prints
+abbrev pub after_texts : Text → Text → RunResult → RunResult
+after_texts printed warned rest = record { output = printed ++ rest.output; errors = warned ++ rest.errors; ending = rest.ending }
 
 -- what an answer prints, and then what follows it
 abbrev pub after_answer : Answer → ℕ → (State → RunResult) → RunResult
-after_answer (done s printed) line go = after_text printed (go s)
-after_answer (refused code) line go = with_line (fault_line line (code_text code)) fault
+after_answer (done s printed mark) line go = after_texts printed (warning_line line mark) (go s)
+after_answer (refused f mark) line go = with_line (warning_line line mark ++ line_about line (fault_text f)) fault
 
 -- the statements in order, up to the first fault
-abbrev pub statements_result : State → List FirstStatement → RunResult
+abbrev pub statements_result : State → List Statement → RunResult
 statements_result s [] = record { output = []; errors = []; ending = finished }
 statements_result s (st ∷ rest) = after_answer (statement_result s st.form) st.line (λ s'. statements_result s' rest)
 
@@ -53,8 +54,11 @@ usage_line = codes "usage: pdscript [--stats] [--demo N | SCRIPT] [NAME=PATH ..]
 abbrev pub not_found_line : Text → Text
 not_found_line path = codes "script not found: " ++ path ++ codes "\n"
 
-abbrev pub not_first_line : Text
-not_first_line = codes "not in the first language\n"
+abbrev pub too_large_line : Text
+too_large_line = codes "script too large\n"
+
+abbrev pub syntax_line : ℕ → Text
+syntax_line line = line_about line (codes "SyntaxError")
 
 -- a word that is no option: it isn't empty and doesn't begin with `-`, or is `-` alone
 abbrev pub is_path : Text → Bool
@@ -70,8 +74,9 @@ path_of words = None
 -- the run of these bytes
 abbrev pub IsScriptResult : List ℕ → RunResult → Type 0
 IsScriptResult bytes result =
-    ((ss : List FirstStatement) × IsScript bytes ss × (result ≡ statements_result no_names ss))
-    ⊎ (((ss : List FirstStatement) → IsScript bytes ss → ⊥) × (result ≡ with_line not_first_line syntax))
+    ((most_bytes < length bytes) × (result ≡ with_line too_large_line syntax))
+    ⊎ ((length bytes ≤ most_bytes) × ((ss : List Statement) × IsScript bytes ss × (result ≡ statements_result no_names ss)))
+    ⊎ ((length bytes ≤ most_bytes) × ((line : ℕ) × IsSyntaxLine bytes line × (result ≡ with_line (syntax_line line) syntax)))
 
 -- the run of the file that the path holds
 abbrev pub IsFileResult : Text → Option (List ℕ) → RunResult → Type 0

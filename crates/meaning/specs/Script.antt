@@ -1,11 +1,10 @@
--- Scripts of the first language.
-use Rattle.std.specs.Prelude.{◌≡◌, ℕ, suc, ◌+◌, ◌≤◌, ◌^◌, ◌⊎◌, List, [], ◌∷◌, length}
+-- Scripts.
+use Rattle.std.specs.Prelude.{◌≡◌, ◌≢◌, ℕ, suc, ◌+◌, ◌==◌, ◌⊎◌, ◌^◌, List, [], ◌∷◌, count_by}
 use Rattle.std.specs.Str.{IsUtf8}
-use Rattle.std.specs.Str.Lines.{lines}
-use Rattle.meaning.specs.Token.{Token, Lexes, skip_blanks}
-use Rattle.meaning.specs.First.{FirstForm, tree_of_first}
-use Rattle.meaning.specs.Grammar.{Spells}
-use Rattle.meaning.specs.Tree as tree
+use Rattle.meaning.specs.Token.{Token, Lexes, skip}
+use Rattle.meaning.specs.Tree.{Form, Statement}
+use Rattle.meaning.specs.Grammar.{SpellsForm, IsShallow}
+use Rattle.meaning.specs.Pieces.{pieces}
 
 abbrev pub most_bytes : ℕ
 most_bytes = 2 ^ 20
@@ -13,30 +12,42 @@ most_bytes = 2 ^ 20
 abbrev pub most_statements : ℕ
 most_statements = 10000
 
--- a statement, with the line that it stands on, counted from 1
-pub record FirstStatement : Type 0 where
-  pub line : ℕ
-  pub form : FirstForm
+-- how many lines end in a piece
+abbrev pub line_ends : List ℕ → ℕ
+line_ends piece = count_by (λ b. b == 10) piece
 
-abbrev pub tree_of_statement : FirstStatement → tree.Statement
-tree_of_statement s = record { line = s.line; form = tree_of_first s.form }
+-- nothing but blanks, line ends and comments
+abbrev pub IsBlank : List ℕ → Type 0
+IsBlank piece = skip piece ≡ []
 
--- nothing but blanks
-abbrev pub IsBlankLine : List ℕ → Type 0
-IsBlankLine line = skip_blanks line ≡ []
+-- the piece is the statement, from its first column on
+abbrev pub IsStatement : Form → List ℕ → Type 0
+IsStatement form piece = (ts : List Token) × Lexes ts piece × SpellsForm form ts × IsShallow form
 
--- the line holds the statement, from its first column on
-abbrev pub IsStatementLine : FirstForm → List ℕ → Type 0
-IsStatementLine form line = (ts : List Token) × Lexes ts line × Spells form ts
+-- The statements of pieces, of which the first begins on this line. So many statements may still come.
+abbrev pub ArePieces : ℕ → ℕ → List (List ℕ) → List Statement → Type 0
+ArePieces left line [] ss = ss ≡ []
+ArePieces left line (piece ∷ rest) ss =
+    (IsUtf8 piece × IsBlank piece × ArePieces left (line + line_ends piece) rest ss)
+    ⊎ ((fewer : ℕ) × (form : Form) × (more : List Statement) × (left ≡ suc fewer) × IsUtf8 piece × IsStatement form piece
+    × (ss ≡ record { line = line; form = form } ∷ more) × ArePieces fewer (line + line_ends piece) rest more)
 
--- The statements of lines, of which the first has this number. So many statements may still come.
-abbrev pub AreLines : ℕ → ℕ → List (List ℕ) → List FirstStatement → Type 0
-AreLines left number [] ss = ss ≡ []
-AreLines left number (line ∷ rest) ss =
-    (IsBlankLine line × AreLines left (number + 1) rest ss)
-    ⊎ ((fewer : ℕ) × (form : FirstForm) × (more : List FirstStatement) × (left ≡ suc fewer) × IsStatementLine form line
-    × (ss ≡ record { line = number; form = form } ∷ more) × AreLines fewer (number + 1) rest more)
+-- a piece that is text, and blank, or one statement where one may still come
+abbrev pub IsRight : ℕ → List ℕ → Type 0
+IsRight left piece = IsUtf8 piece × (IsBlank piece ⊎ ((left ≢ 0) × ((form : Form) × IsStatement form piece)))
 
--- The bytes are a script, and these are its statements. (All tokens, blanks and line ends are ASCII, so a script is UTF-8 text.) A line ends at a line feed, and a carriage return just before that is part of the line's end.
-abbrev pub IsScript : List ℕ → List FirstStatement → Type 0
-IsScript bytes ss = (length bytes ≤ most_bytes) × IsUtf8 bytes × AreLines most_statements 1 (lines bytes) ss
+-- the line on which the first piece begins that isn't right
+abbrev pub IsFirstWrong : ℕ → ℕ → List (List ℕ) → ℕ → Type 0
+IsFirstWrong left line [] wrong = ⊥
+IsFirstWrong left line (piece ∷ rest) wrong =
+    (IsUtf8 piece × IsBlank piece × IsFirstWrong left (line + line_ends piece) rest wrong)
+    ⊎ ((fewer : ℕ) × (form : Form) × (left ≡ suc fewer) × IsUtf8 piece × IsStatement form piece × IsFirstWrong fewer (line + line_ends piece) rest wrong)
+    ⊎ ((wrong ≡ line) × (¬ (IsRight left piece)))
+
+-- the bytes are a script, and these are its statements
+abbrev pub IsScript : List ℕ → List Statement → Type 0
+IsScript bytes ss = ArePieces most_statements 1 (pieces bytes) ss
+
+-- the bytes are no script, and this is the line of the syntax error
+abbrev pub IsSyntaxLine : List ℕ → ℕ → Type 0
+IsSyntaxLine bytes line = IsFirstWrong most_statements 1 (pieces bytes) line

@@ -1,12 +1,13 @@
 -- What names stand for.
-use Rattle.std.specs.Prelude.{ℕ, Bool, true, false, List, [], ◌∷◌, Option, Some, None, if◌then◌else◌}
+use Rattle.std.specs.Prelude.{Bool, true, false, ◌&&◌, ◌||◌, not, List, [], ◌∷◌, Option, Some, None, if◌then◌else◌, filter}
 use Rattle.meaning.specs.Text.{Text, same_text}
 use Rattle.meaning.specs.Table.{Table}
+use Rattle.meaning.specs.Value.{Entry, table, is_table}
 
--- The names in the order in which they were first bound, the table of each, and which names stand for one object. Where a name isn't bound there is no table, and it stands for no object.
+-- The names in the order in which they were first bound, the value of each, and which names stand for one object. A name that isn't bound, or bound to a scalar, stands for no object.
 pub record State : Type 0 where
   pub names : List Text
-  pub value : Text → Option Table
+  pub value : Text → Option Entry
   pub paired : Text → Text → Bool
 
 abbrev pub no_names : State
@@ -17,13 +18,13 @@ abbrev pub with_name : List Text → Text → List Text
 with_name [] x = x ∷ []
 with_name (n ∷ ns) x = if same_text x n then n ∷ ns else n ∷ with_name ns x
 
--- the name stands for an object of its own with this table
-abbrev pub with_new : State → Text → Table → State
-with_new s x t =
+-- the name has this value: a scalar, or an object of its own with this table
+abbrev pub with_new : State → Text → Entry → State
+with_new s x v =
     record {
       names = with_name s.names x;
-      value = λ m. if same_text x m then Some t else s.value m;
-      paired = λ a b. if same_text x a then same_text x b else if same_text x b then false else s.paired a b;
+      value = λ m. if same_text x m then Some v else s.value m;
+      paired = λ a b. if same_text x a then same_text x b && is_table v else if same_text x b then false else s.paired a b;
     }
 
 -- the name stands for the object of the name n, and so is paired with n and with the names that are paired with n
@@ -37,4 +38,13 @@ with_object s x n =
 
 -- the object of the name gets another table: so do all names that stand for it
 abbrev pub with_table : State → Text → Table → State
-with_table s n t = record { names = s.names; value = λ m. if s.paired n m then Some t else s.value m; paired = s.paired }
+with_table s n t = record { names = s.names; value = λ m. if same_text n m || s.paired n m then Some (table t) else s.value m; paired = s.paired }
+
+-- the name, its value and its pairs are taken out
+abbrev pub without_name : State → Text → State
+without_name s x =
+    record {
+      names = filter (λ n. not (same_text x n)) s.names;
+      value = λ m. if same_text x m then None else s.value m;
+      paired = λ a b. if same_text x a then false else if same_text x b then false else s.paired a b;
+    }

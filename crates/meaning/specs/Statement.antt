@@ -1,38 +1,63 @@
 -- What a statement does.
-use Rattle.std.specs.Prelude.{ℕ, ℤ, List, ◌++◌, [], codes, length, slice_get, slice_set, Option, Some, None}
+use Rattle.std.specs.Prelude.{Bool, true, false, [], ◌++◌, codes, Option, Some, None, Result, Ok, Err}
 use Rattle.std.specs.Fmt.{signed_decimal}
-use Rattle.cell_core.specs.declared.code.Code.{Code}
-use Rattle.cell_core.specs.declared.code.Code.TheVariants.{NoName, OutOfRange}
 use Rattle.meaning.specs.Text.{Text}
-use Rattle.meaning.specs.Table.{Table, place_of}
-use Rattle.meaning.specs.State.{State, with_new, with_object, with_table}
-use Rattle.meaning.specs.First.{FirstForm, bind_name, bind_series, bind_copy, set_place, print_place}
+use Rattle.meaning.specs.Cell.{CellValue, na_cell, int_cell, truth_cell, text_cell}
+use Rattle.meaning.specs.Table.{Table}
+use Rattle.meaning.specs.State.{State, with_new, with_object, with_table, without_name}
+use Rattle.meaning.specs.Value.{Entry, cell, table}
+use Rattle.meaning.specs.Fault.{FaultValue, wrong_kind, not_built}
+use Rattle.meaning.specs.Expression.{named_by, value_of_name, value_of, given_of, target_of, set_result}
+use Rattle.meaning.specs.Tree as tree
 
--- The state that it leaves and the text that it prints, or the first fault, which leaves the state as it was. No statement of the first language is warned of.
+-- The state that it leaves and the text that it prints, or the first fault, which leaves the state as it was. The mark says that a setting of an object without a name was reached.
 pub data Answer : Type 0 where
-  done : State → Text → Answer
-  refused : Code → Answer
+  done : State → Text → Bool → Answer
+  refused : FaultValue → Bool → Answer
 
--- the table of a name, or a NameError
-abbrev pub on_table : Text → Option Table → (Table → Answer) → Answer
-on_table n None go = refused (NoName n)
-on_table n (Some t) go = go t
+abbrev pub then_answer : {A : Type 0} → Result A FaultValue → (A → Answer) → Answer
+then_answer (Ok a) go = go a
+then_answer (Err fault) go = refused fault false
 
--- the row at a position, or an IndexError
-abbrev pub on_place : ℤ → ℕ → Option ℕ → (ℕ → Answer) → Answer
-on_place k count None go = refused (OutOfRange k count)
-on_place k count (Some i) go = go i
+-- a name that is bound to another name's object is that object; any other value is its own
+abbrev pub with_value : State → Text → Option Text → Entry → State
+with_value s x (Some n) (table t) = with_object s x n
+with_value s x other v = with_new s x v
 
--- the number of a row as it is printed, with a line feed
-abbrev pub printed_row : Option ℤ → Text
-printed_row None = []
-printed_row (Some z) = signed_decimal z ++ codes "\n"
+-- a setting on an object without a name changes nothing that a name stands for
+abbrev pub with_set : State → Option Text → Table → State
+with_set s None t = s
+with_set s (Some n) t = with_table s n t
 
-abbrev pub statement_result : State → FirstForm → Answer
-statement_result s (bind_name x n) = on_table n (s.value n) (λ t. done (with_object s x n) [])
-statement_result s (bind_series x zs) = done (with_new s x zs) []
-statement_result s (bind_copy x n) = on_table n (s.value n) (λ t. done (with_new s x t) [])
-statement_result s (set_place n k v) =
-    on_table n (s.value n) (λ t. on_place k (length t) (place_of k (length t)) (λ i. done (with_table s n (slice_set t i v)) []))
-statement_result s (print_place n k) =
-    on_table n (s.value n) (λ t. on_place k (length t) (place_of k (length t)) (λ i. done s (printed_row (slice_get t i))))
+abbrev pub is_chained : Option Text → Bool
+is_chained None = true
+is_chained (Some n) = false
+
+abbrev pub set_answer : State → Option Text → Result Table FaultValue → Answer
+set_answer s on (Ok t) = done (with_set s on t) [] (is_chained on)
+set_answer s on (Err fault) = refused fault (is_chained on)
+
+abbrev pub cell_text : CellValue → Text
+cell_text na_cell = codes "<NA>"
+cell_text (int_cell z) = signed_decimal z
+cell_text (truth_cell true) = codes "True"
+cell_text (truth_cell false) = codes "False"
+cell_text (text_cell t) = t
+
+abbrev pub print_answer : State → Text → Entry → Answer
+print_answer s end (cell c) = done s (cell_text c ++ end) false
+print_answer s end (table t) = refused not_built false
+
+-- a scalar has no columns
+abbrev pub removal_answer : Entry → Answer
+removal_answer (cell c) = refused wrong_kind false
+removal_answer (table t) = refused not_built false
+
+abbrev pub statement_result : State → tree.Form → Answer
+statement_result s tree.import_pandas = done s [] false
+statement_result s (tree.bind x e) = then_answer (value_of s e) (λ v. done (with_value s x (named_by e) v) [] false)
+statement_result s (tree.put x step a) =
+    then_answer (given_of s a) (λ g. then_answer (value_of s x) (λ v. then_answer (target_of s step) (λ t. set_answer s (named_by x) (set_result v t g))))
+statement_result s (tree.drop_name n) = then_answer (value_of_name n (s.value n)) (λ v. done (without_name s n) [] false)
+statement_result s (tree.drop_column n x) = then_answer (value_of_name n (s.value n)) (λ v. then_answer (value_of s x) (λ k. removal_answer v))
+statement_result s (tree.print x end) = then_answer (value_of s x) (print_answer s end)

@@ -4,9 +4,9 @@ use Rattle.std.specs.Prelude.{Result, Ok, Err, IfOk}
 use Rattle.meaning.specs.Tree as tree
 use Rattle.meaning.specs.Text.{Text}
 use Rattle.meaning.specs.Table.{Table, place_of}
-use Rattle.meaning.specs.State.{State, with_table}
+use Rattle.meaning.specs.FirstState.{State, with_table}
 use Rattle.meaning.specs.First.{FirstForm, bind_series, set_place, tree_of_first, number_arg}
-use Rattle.meaning.specs.Statement.{done, statement_result}
+use Rattle.meaning.specs.FirstStatement.{done, statement_result}
 use Rattle.script_run.specs.declared.fault.Outcome.{Outcome}
 use Rattle.script_run.specs.declared.fault.StepFault.{StepFault}
 use Rattle.script_run.specs.Answers.{MeansAnswer}

@@ -7,7 +7,7 @@ use Rattle.std.specs.Map.{lookup}
 use Rattle.std.proofs.lemmas.List.Sums.{sum_by-cons}
 use Rattle.indexmap.specs.IndexMap.{insert_entry}
 use Rattle.meaning.specs.Text.{Text, same_text}
-use Rattle.meaning.specs.State.{with_name}
+use Rattle.meaning.specs.FirstState.{with_name}
 use Rattle.script_run.specs.Names.{Bindings, bindings_of, bound, object_of, name_count}
 use Rattle.script_run.proofs.Numbers.{true_false, same_congr, same_sym, nat_eq_self}
 

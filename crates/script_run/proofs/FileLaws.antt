@@ -5,9 +5,9 @@ use Rattle.std.specs.FinMap.{get}
 use Rattle.outside_io.specs.Sink.{AppendsFront}
 use Rattle.outside_io.proofs.Appended.{appended-nil}
 use Rattle.meaning.specs.Text.{Text, Contents}
-use Rattle.meaning.specs.State.{no_names}
-use Rattle.meaning.specs.Script.{FirstStatement, IsScript, most_bytes}
-use Rattle.meaning.specs.Run.{RunResult, IsScriptResult, IsFileResult, IsPathResult, statements_result, with_line, not_first_line, not_found_line, syntax, usage}
+use Rattle.meaning.specs.FirstState.{no_names}
+use Rattle.meaning.specs.FirstScript.{FirstStatement, IsScript, most_bytes}
+use Rattle.meaning.specs.FirstRun.{RunResult, IsScriptResult, IsFileResult, IsPathResult, statements_result, with_line, not_first_line, not_found_line, syntax, usage}
 use Rattle.script_syntax.specs.Parsing.{IsTheScript}
 use Rattle.script_run.specs.Ends.{Ends, EndsByMeaning, EndsWithLine, Is}
 use Rattle.script_run.proofs.RunLaws.{ends_other, nothing_yet}

@@ -7,7 +7,7 @@ use Rattle.std.specs.Map.{lookup}
 use Rattle.indexmap.specs.IndexMap.{insert_entry}
 use Rattle.meaning.specs.Text.{Text}
 use Rattle.meaning.specs.Table.{Table}
-use Rattle.meaning.specs.State.{with_new, with_object, with_table}
+use Rattle.meaning.specs.FirstState.{with_new, with_object, with_table}
 use Rattle.script_run.specs.declared.object.Object.{Object}
 use Rattle.script_run.specs.Objects.{Objects, with_object_at, left_by, names_of, with_more_names, with_fewer_names, with_number, tables_of}
 use Rattle.script_run.specs.Names.{Bindings, bound, bindings_of, object_of, name_count, state_over, AreCounted, AreNamed}

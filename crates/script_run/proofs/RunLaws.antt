@@ -6,10 +6,10 @@ use Rattle.outside_io.proofs.Appended.{appended-appended, appended-nil}
 use Rattle.meaning.specs.Tree as tree
 use Rattle.meaning.specs.Text.{Text}
 use Rattle.meaning.specs.First.{FirstForm, tree_of_first}
-use Rattle.meaning.specs.State.{State}
-use Rattle.meaning.specs.Script.{FirstStatement, tree_of_statement}
-use Rattle.meaning.specs.Statement.{Answer, done, statement_result}
-use Rattle.meaning.specs.Run.{RunResult, statements_result, Ending, finished, fault, usage, syntax, after_text, after_answer, with_line}
+use Rattle.meaning.specs.FirstState.{State}
+use Rattle.meaning.specs.FirstScript.{FirstStatement, tree_of_statement}
+use Rattle.meaning.specs.FirstStatement.{Answer, done, statement_result}
+use Rattle.meaning.specs.FirstRun.{RunResult, statements_result, Ending, finished, fault, usage, syntax, after_text, after_answer, with_line}
 use Rattle.script_syntax.proofs.Injective.{tree_of_first-injective}
 use Rattle.script_run.specs.Answers.{MeansAnswer}
 use Rattle.script_run.specs.Ends.{Ends, EndsAs, EndsEarly, EndsUnread, EndsWithLine, Is, GoesOn, Stops, status_of}

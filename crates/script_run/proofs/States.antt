@@ -3,7 +3,7 @@ use Rattle.std.proofs.Common.{◌≡◌, ℕ, Bool, true, false, nat_eq, Option,
 use Rattle.std.specs.Prelude.{option_and_then, if◌then◌else◌}
 use Rattle.meaning.specs.Text.{Text, same_text}
 use Rattle.meaning.specs.Table.{Table}
-use Rattle.meaning.specs.State.{State, with_new, with_object, with_table}
+use Rattle.meaning.specs.FirstState.{State, with_new, with_object, with_table}
 use Rattle.script_run.specs.Objects.{Tables}
 use Rattle.script_run.specs.Names.{Bindings, bound, object_of, one_object, state_over}
 use Rattle.script_run.proofs.Numbers.{nat_eq_self, nat_eq_sym}

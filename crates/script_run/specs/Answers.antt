@@ -2,10 +2,10 @@
 use Rattle.std.specs.Prelude.{◌≡◌, ℕ, ℤ, false, Option, None}
 use Rattle.cell_core.specs.declared.code.Code.TheVariants.{NoName, OutOfRange}
 use Rattle.meaning.specs.Text.{Text}
-use Rattle.meaning.specs.State.{State}
+use Rattle.meaning.specs.FirstState.{State}
 use Rattle.meaning.specs.Tree as tree
 use Rattle.meaning.specs.First.{FirstForm, tree_of_first}
-use Rattle.meaning.specs.Statement.{Answer, refused, statement_result}
+use Rattle.meaning.specs.FirstStatement.{Answer, refused, statement_result}
 use Rattle.script_run.specs.declared.fault.StepFault.{StepFault}
 use Rattle.script_run.specs.declared.fault.StepFault.TheVariants.{Refused, Input, NoMemory}
 

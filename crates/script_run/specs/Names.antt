@@ -2,7 +2,7 @@
 use Rattle.std.specs.Prelude.{◌≡◌, ℕ, ◌<◌, Bool, false, List, [], ◌∷◌, map, count_by, Option, Some, None, IsSome, if◌then◌else◌, nat_eq, option_and_then, string_bytes}
 use Rattle.std.specs.declared.string.String.{String}
 use Rattle.meaning.specs.Text.{Text, same_text}
-use Rattle.meaning.specs.State.{State}
+use Rattle.meaning.specs.FirstState.{State}
 use Rattle.script_run.specs.Objects.{Objects, Tables, names_of}
 
 -- the number of each name's object, in the order in which the names were first bound

@@ -1,5 +1,5 @@
 -- What names stand for.
-use Rattle.meaning.specs.State.{State}
+use Rattle.meaning.specs.FirstState.{State}
 use Rattle.script_run.specs.Objects.{Tables, objects_of, tables_of}
 use Rattle.script_run.specs.Names.{Bindings, bindings_of, state_over}
 use Rattle.script_run.specs.declared.namespace.Namespace.{Namespace}

@@ -1,7 +1,7 @@
 -- What a session stands for.
 use Rattle.std.specs.Prelude.{◌≡◌, ◌↔◌, ℕ, Some, IsSome}
 use Rattle.meaning.specs.Text.{Text}
-use Rattle.meaning.specs.State.{State}
+use Rattle.meaning.specs.FirstState.{State}
 use Rattle.script_run.specs.Objects.{Tables}
 use Rattle.script_run.specs.Names.{object_of}
 use Rattle.script_run.specs.Namespace.{names_in, tables_in, state_in}

@@ -2,10 +2,10 @@
 ghost use Rattle.std.specs.Prelude.{◌≡◌, ◌≢◌, ◌⊎◌, ◌≤◌, IfErr, OnOk};
 ghost use Rattle.outside_io.specs.Count.{HasRisen};
 ghost use Rattle.meaning.specs.First.{FirstForm, IsFirst, tree_of_first};
-ghost use Rattle.meaning.specs.Statement.{statement_result};
+ghost use Rattle.meaning.specs.FirstStatement.{statement_result};
 ghost use Rattle.script_syntax.specs.View.{form_of};
 ghost use Rattle.script_run.specs.Session.{state_of};
-ghost use Rattle.meaning.specs.Run.{code_text, fault_line};
+ghost use Rattle.meaning.specs.FirstRun.{code_text, fault_line};
 ghost use Rattle.script_run.specs.Ends.{EndsWithLine, GoesOn, Stops};
 
 use crate::ending::end_with;

@@ -27,7 +27,7 @@ impl Namespace {
     ghost use Rattle.std.specs.Prelude.{ℕ};
     ghost use Rattle.meaning.specs.Text.{Text};
     ghost use Rattle.meaning.specs.Table.{Table};
-    ghost use Rattle.meaning.specs.State.{no_names, with_new, with_object, with_table};
+    ghost use Rattle.meaning.specs.FirstState.{no_names, with_new, with_object, with_table};
     ghost use Rattle.script_run.specs.Namespace.{names_in, tables_in, state_in};
 
     // No names.

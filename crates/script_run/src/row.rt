@@ -1,7 +1,7 @@
 // Rows of numbers.
 ghost use Rattle.std.specs.Prelude.{◌≡◌, ◌<◌, IfOk, IfSome};
 ghost use Rattle.meaning.specs.Table.{place_of};
-ghost use Rattle.meaning.specs.Statement.{printed_row};
+ghost use Rattle.meaning.specs.FirstStatement.{printed_row};
 
 use cell_core::{NoMemory, Words};
 use itoa::Buffer;

@@ -1,9 +1,9 @@
 // A run, from the words to the bytes written.
 ghost use Rattle.std.specs.Prelude.{◌≡◌, ◌≢◌, ◌⊎◌, ◌<◌, ◌≤◌, ◌^◌, ℕ, List, length, map, IfSome, IfNone, IsSome, MatchOption, string_bytes};
 ghost use Rattle.outside_io.specs.Count.{HasRisen, raised};
-ghost use Rattle.meaning.specs.Script.{FirstStatement, most_bytes, tree_of_statement};
-ghost use Rattle.meaning.specs.State.{no_names};
-ghost use Rattle.meaning.specs.Run.{not_first_line, not_found_line, IsRunResult, IsScriptResult, IsPathResult, path_of, statements_result, usage, usage_line, with_line};
+ghost use Rattle.meaning.specs.FirstScript.{FirstStatement, most_bytes, tree_of_statement};
+ghost use Rattle.meaning.specs.FirstState.{no_names};
+ghost use Rattle.meaning.specs.FirstRun.{not_first_line, not_found_line, IsRunResult, IsScriptResult, IsPathResult, path_of, statements_result, usage, usage_line, with_line};
 ghost use Rattle.script_syntax.specs.ScriptView.{statements_of};
 ghost use Rattle.script_run.specs.Ends.{Ends, EndsByMeaning, EndsWithLine, Is};
 

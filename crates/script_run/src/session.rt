@@ -1,9 +1,9 @@
 // Sessions.
 ghost use Rattle.std.specs.Prelude.{◌≡◌, ◌<◌, [], length, IfOk, IfErr, OnErr, IsSome, false};
 ghost use Rattle.meaning.specs.Table.{place_of};
-ghost use Rattle.meaning.specs.State.{no_names};
+ghost use Rattle.meaning.specs.FirstState.{no_names};
 ghost use Rattle.meaning.specs.First.{IsFirst, bind_name, bind_series, bind_copy, set_place, print_place};
-ghost use Rattle.meaning.specs.Statement.{done, statement_result};
+ghost use Rattle.meaning.specs.FirstStatement.{done, statement_result};
 ghost use Rattle.script_syntax.specs.View.{form_of};
 ghost use Rattle.script_run.specs.Names.{object_of};
 ghost use Rattle.script_run.specs.Answers.{IsOutOfRange};

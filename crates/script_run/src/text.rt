@@ -1,6 +1,6 @@
 // The line of a fault.
 ghost use Rattle.std.specs.Prelude.{◌≡◌, ◌++◌, IfOk, codes, decimal, string_bytes};
-ghost use Rattle.meaning.specs.Run.{code_text, fault_line, not_found_line};
+ghost use Rattle.meaning.specs.FirstRun.{code_text, fault_line, not_found_line};
 
 use cell_core::Code;
 use std::alloc::{AllocError, Global};

@@ -1,10 +1,10 @@
 -- Which form the tokens of a line spell.
 use Rattle.std.proofs.Common.{◌≡◌, ◌∙◌, sym, ap, subst, refl, ℤ, true, false, List, [], ◌∷◌, map, codes, inl, inr}
 use Rattle.meaning.specs.Text.{Text}
-use Rattle.meaning.specs.Token.{Token, word, mark, equals, open_paren, close_paren, close_bracket}
+use Rattle.meaning.specs.FirstToken.{Token, word, mark, equals, open_paren, close_paren, close_bracket}
 use Rattle.meaning.specs.Tree as tree
 use Rattle.meaning.specs.First.{FirstForm, bind_name, bind_series, bind_copy, set_place, print_place, tree_of_first, number_arg}
-use Rattle.meaning.specs.Grammar.{is_reserved, SpellsNumber, SpellsNumbers, SpellsPlace, Spells}
+use Rattle.meaning.specs.FirstGrammar.{is_reserved, SpellsNumber, SpellsNumbers, SpellsPlace, Spells}
 use Rattle.script_syntax.specs.Reading.{AreListed, series_front}
 use Rattle.script_syntax.proofs.Runs.{not_both}
 use Rattle.script_syntax.proofs.Injective.{map-number_arg-injective}

@@ -1,9 +1,9 @@
 -- The grammar of the first language is unambiguous.
 use Rattle.std.proofs.Common.{◌≡◌, ◌∙◌, sym, ap, subst, refl, ℤ, pos, neg_ℤ, false, List, [], ◌∷◌, codes, inl, inr, ◌⊎◌}
 use Rattle.meaning.specs.Text.{Text}
-use Rattle.meaning.specs.Token.{Token, word, int, mark, Mark, equals, dot, minus, open_paren, close_paren, open_bracket, close_bracket}
+use Rattle.meaning.specs.FirstToken.{Token, word, int, mark, Mark, equals, dot, minus, open_paren, close_paren, open_bracket, close_bracket}
 use Rattle.meaning.specs.First.{FirstForm, bind_name, bind_series, bind_copy, set_place, print_place}
-use Rattle.meaning.specs.Grammar.{is_reserved, SpellsNumber, SpellsMore, SpellsNumbers, SpellsPlace, Spells}
+use Rattle.meaning.specs.FirstGrammar.{is_reserved, SpellsNumber, SpellsMore, SpellsNumbers, SpellsPlace, Spells}
 use Rattle.script_syntax.specs.Reading.{series_front}
 use Rattle.script_syntax.proofs.Runs.{not_both}
 

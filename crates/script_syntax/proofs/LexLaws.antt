@@ -1,6 +1,6 @@
 -- A line is read token by token.
 use Rattle.std.proofs.Common.{◌≡◌, ◌∙◌, ap, subst, refl, ℕ, ◌≤◌, ◌<◌, List, [], ◌∷◌, ◌++◌, length, append_assoc, arith, inl, inr}
-use Rattle.meaning.specs.Token.{Token, is_blank, IsToken, Lexes, skip_blanks}
+use Rattle.meaning.specs.FirstToken.{Token, is_blank, IsToken, Lexes, skip_blanks}
 use Rattle.std.proofs.lemmas.List.{append-nil, map-append}
 use Rattle.script_syntax.specs.declared.token.Token as code
 use Rattle.script_syntax.specs.TokenView.{token_of, tokens_of}

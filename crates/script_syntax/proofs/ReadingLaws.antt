@@ -2,10 +2,10 @@
 use Rattle.std.proofs.Common.{◌≡◌, ◌∙◌, sym, ap, subst, refl, Option, Some, None, Result, Ok, Err, IfOk, MatchOption, ℤ, List, [], ◌∷◌, ◌++◌, map, codes, length, length-append, append_assoc, Bool, IsTrue, ◌==◌, arith}
 use Rattle.std.proofs.lemmas.Bool.{eqb-true}
 use Rattle.std.proofs.lemmas.List.{append-nil, map-append}
-use Rattle.meaning.specs.Token.{Token, word, mark, dot, comma, open_bracket, close_bracket}
+use Rattle.meaning.specs.FirstToken.{Token, word, mark, dot, comma, open_bracket, close_bracket}
 use Rattle.meaning.specs.Tree as tree
 use Rattle.meaning.specs.First.{number_arg}
-use Rattle.meaning.specs.Grammar.{SpellsNumber, SpellsMore, SpellsNumbers, SpellsPlace}
+use Rattle.meaning.specs.FirstGrammar.{SpellsNumber, SpellsMore, SpellsNumbers, SpellsPlace}
 use Rattle.script_syntax.specs.declared.token.Token as code
 use Rattle.script_syntax.specs.TokenView.{token_of, tokens_of}
 use Rattle.script_syntax.specs.Reading.{AreListed, AreNotListed}

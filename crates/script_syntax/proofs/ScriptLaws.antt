@@ -9,11 +9,11 @@ use Rattle.std.proofs.lemmas.List.Splits.{length-slice_split}
 use Rattle.std.proofs.lemmas.List.{append-nil, map-append, length-map}
 use Rattle.std.proofs.lemmas.List.Sums.{count_by-le-length}
 use Rattle.meaning.specs.Text.{Text}
-use Rattle.meaning.specs.Token.{Token, word, mark, equals, open_paren, is_blank, begins_word, begins_with, Lexes, skip_blanks}
+use Rattle.meaning.specs.FirstToken.{Token, word, mark, equals, open_paren, is_blank, begins_word, begins_with, Lexes, skip_blanks}
 use Rattle.meaning.specs.Tree as tree
 use Rattle.meaning.specs.First.{FirstForm, bind_name, bind_series, bind_copy, set_place, print_place}
-use Rattle.meaning.specs.Grammar.{Spells}
-use Rattle.meaning.specs.Script.{most_statements, FirstStatement, tree_of_statement, IsBlankLine, IsStatementLine, AreLines}
+use Rattle.meaning.specs.FirstGrammar.{Spells}
+use Rattle.meaning.specs.FirstScript.{most_statements, FirstStatement, tree_of_statement, IsBlankLine, IsStatementLine, AreLines}
 use Rattle.script_syntax.specs.Parsing.{AreTheStatements, AddsLine, AddsNothing}
 use Rattle.script_syntax.specs.Reading.{series_front}
 use Rattle.script_syntax.proofs.Runs.{true_or_false}

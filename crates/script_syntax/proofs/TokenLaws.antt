@@ -6,7 +6,7 @@ use Rattle.std.proofs.lemmas.Bool.Decides.{nat_tests}
 use Rattle.std.proofs.lemmas.Fmt.{decimal_nonempty, decimal_injective, decimal_digit, first_decimal, decimal-digits_value, parse-decimal}
 use Rattle.std.proofs.lemmas.Str.Parse.{IsNumeralModel, numerals_by_value, parse_digits}
 use Rattle.meaning.specs.Text.{Text}
-use Rattle.meaning.specs.Token.{Token, word, int, mark, Mark, equals, dot, comma, minus, open_paren, close_paren, open_bracket, close_bracket, byte_of, is_digit, begins_word, continues_word, begins_with, IsRun, IsToken}
+use Rattle.meaning.specs.FirstToken.{Token, word, int, mark, Mark, equals, dot, comma, minus, open_paren, close_paren, open_bracket, close_bracket, byte_of, is_digit, begins_word, continues_word, begins_with, IsRun, IsToken}
 use Rattle.script_syntax.proofs.Runs.{both_true, not_both, IsRun-unique}
 
 run_begins : (p q : ℕ → Bool) (front bytes rest : List ℕ) → IsRun p front bytes rest → begins_with q front ≡ true → begins_with q bytes ≡ true

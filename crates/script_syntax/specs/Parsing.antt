@@ -2,7 +2,7 @@
 use Rattle.std.specs.Prelude.{◌≡◌, ℕ, ◌<◌, ◌⊎◌, List, [], ◌∷◌, ◌++◌, length}
 use Rattle.meaning.specs.Tree as tree
 use Rattle.meaning.specs.First.{FirstForm}
-use Rattle.meaning.specs.Script.{most_statements, FirstStatement, tree_of_statement, IsBlankLine, IsStatementLine, AreLines, IsScript}
+use Rattle.meaning.specs.FirstScript.{most_statements, FirstStatement, tree_of_statement, IsBlankLine, IsStatementLine, AreLines, IsScript}
 
 -- the one script that the bytes are
 abbrev pub IsTheScript : List ℕ → List FirstStatement → Type 0

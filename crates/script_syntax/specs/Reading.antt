@@ -1,9 +1,9 @@
 -- What was read from the tokens of a line.
 use Rattle.std.specs.Prelude.{◌≡◌, ℤ, List, ◌∷◌, map, codes, Option, Some, None}
-use Rattle.meaning.specs.Token.{Token, word, mark, dot, open_paren, open_bracket, close_bracket}
+use Rattle.meaning.specs.FirstToken.{Token, word, mark, dot, open_paren, open_bracket, close_bracket}
 use Rattle.meaning.specs.Tree as tree
 use Rattle.meaning.specs.First.{FirstForm, tree_of_first, number_arg}
-use Rattle.meaning.specs.Grammar.{SpellsNumbers, Spells}
+use Rattle.meaning.specs.FirstGrammar.{SpellsNumbers, Spells}
 use Rattle.script_syntax.specs.declared.tree.Form.{Form}
 use Rattle.script_syntax.specs.View.{form_of}
 

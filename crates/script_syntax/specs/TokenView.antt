@@ -1,6 +1,6 @@
 -- The tokens that the code's tokens stand for.
 use Rattle.std.specs.Prelude.{ℕ, List, map}
-use Rattle.meaning.specs.Token as spec
+use Rattle.meaning.specs.FirstToken as spec
 use Rattle.script_syntax.specs.declared.token.Mark.{Mark}
 use Rattle.script_syntax.specs.declared.token.Mark.TheVariants as mark
 use Rattle.script_syntax.specs.declared.token.Token.{Token}

@@ -1,8 +1,8 @@
 // The form that the tokens of a line spell.
 ghost use Rattle.std.specs.Prelude.{◌≡◌, ◌↔◌, [], ◌∷◌, ℤ, List, map, true, false, codes, IfOk, IsTrue};
-ghost use Rattle.meaning.specs.Token as spec;
+ghost use Rattle.meaning.specs.FirstToken as spec;
 ghost use Rattle.meaning.specs.First as first;
-ghost use Rattle.meaning.specs.Grammar as grammar;
+ghost use Rattle.meaning.specs.FirstGrammar as grammar;
 ghost use Rattle.script_syntax.specs.TokenView.{tokens_of};
 ghost use Rattle.script_syntax.specs.View.{form_of, step_of, parts_of};
 ghost use Rattle.script_syntax.specs.Reading.{IsFormOf, series_front};

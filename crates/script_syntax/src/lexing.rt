@@ -1,6 +1,6 @@
 // A line of the first language, as its tokens.
 ghost use Rattle.std.specs.Prelude.{◌≡◌, List, OnOk, IsErrOf};
-ghost use Rattle.meaning.specs.Token as spec;
+ghost use Rattle.meaning.specs.FirstToken as spec;
 ghost use Rattle.script_syntax.specs.TokenView.{token_of, tokens_of};
 
 use crate::fault::ParseFault;

@@ -1,7 +1,7 @@
 // Scripts of the first language.
 ghost use Rattle.std.specs.Prelude.{◌≡◌, ◌≤◌, List, map, length, IfOk, OnOk, IsErrOf};
 ghost use Rattle.std.specs.Str.Lines.{lines};
-ghost use Rattle.meaning.specs.Script.{FirstStatement, IsScript, AreLines, most_statements, tree_of_statement};
+ghost use Rattle.meaning.specs.FirstScript.{FirstStatement, IsScript, AreLines, most_statements, tree_of_statement};
 ghost use Rattle.script_syntax.specs.ScriptView.{statements_of};
 ghost use Rattle.script_syntax.specs.Parsing.{IsTheScript, AreTheStatements, AddsLine, AddsNothing};
 

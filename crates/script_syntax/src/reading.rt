@@ -1,9 +1,9 @@
 // The statements of the first language, from the tokens of a line.
 ghost use Rattle.std.specs.Prelude.{◌≡◌, ◌≤◌, ◌<◌, ◌^◌, ◌∷◌, ◌++◌, ◌↔◌, IsTrue, pos, neg_ℤ, ℤ, List, true, false, IfOk, IfSome, IsNone, MatchOption};
 ghost use Rattle.meaning.specs.Text.{Text};
-ghost use Rattle.meaning.specs.Token as spec;
+ghost use Rattle.meaning.specs.FirstToken as spec;
 ghost use Rattle.meaning.specs.First.{number_arg};
-ghost use Rattle.meaning.specs.Grammar as grammar;
+ghost use Rattle.meaning.specs.FirstGrammar as grammar;
 ghost use Rattle.script_syntax.specs.TokenView.{token_of, tokens_of};
 ghost use Rattle.script_syntax.specs.View.{arg_of, parts_of};
 ghost use Rattle.script_syntax.specs.Reading.{AreListed, AreNotListed, AreNotSomeListed};

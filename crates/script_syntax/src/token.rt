@@ -2,7 +2,7 @@
 ghost use Rattle.std.specs.Prelude.{◌≡◌, ◌<◌, ◌≤◌, ◌^◌, ℕ, decimal, length, true, MatchOption, IfSome, IsNone};
 ghost use Rattle.std.specs.List.{list_all, prefix_len};
 ghost use Rattle.std.specs.Str.{IsAscii};
-ghost use Rattle.meaning.specs.Token as spec;
+ghost use Rattle.meaning.specs.FirstToken as spec;
 ghost use Rattle.script_syntax.specs.TokenView.{mark_of, token_of, BeginsNoToken};
 
 // The greatest whole number that a token may be.

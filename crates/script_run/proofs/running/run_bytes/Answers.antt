@@ -1,4 +1,4 @@
-use Rattle.meaning.specs.Run.{not_first_line, syntax}
+use Rattle.meaning.specs.FirstRun.{not_first_line, syntax}
 use Rattle.script_run.proofs.RunLaws.{ends_with_line}
 use Rattle.script_run.proofs.FileLaws.{ends_script, ends_not_first}
 use Rattle.script_run.proofs.running.run_bytes.Goals as goal

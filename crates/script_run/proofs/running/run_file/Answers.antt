@@ -1,7 +1,7 @@
 use Rattle.script_run.proofs.RunLaws.{ends_with_line}
 use Rattle.std.proofs.Common.{subst}
 use Rattle.script_run.specs.Ends.{Ends}
-use Rattle.meaning.specs.Run.{IsScriptResult, not_found_line, not_first_line, usage, syntax}
+use Rattle.meaning.specs.FirstRun.{IsScriptResult, not_found_line, not_first_line, usage, syntax}
 use Rattle.script_run.proofs.FileLaws.{ends_held, ends_absent, ends_not_first, ends_unread, no_long_script, some-weaker, some-always}
 use Rattle.script_run.proofs.running.run_file.Goals as goal
 

@@ -1,7 +1,7 @@
 use Rattle.std.proofs.Common.{◌∙◌, ◌+◌, ◌++◌, ap, drop, arith}
 use Rattle.outside_io.specs.Sink.{appended}
 use Rattle.outside_io.proofs.Appended.{appended-appended}
-use Rattle.meaning.specs.Run.{after_text, statements_result}
+use Rattle.meaning.specs.FirstRun.{after_text, statements_result}
 use Rattle.script_syntax.specs.View.{statement_of}
 use Rattle.script_run.specs.Session.{state_of}
 use Rattle.script_run.proofs.RunLaws.{statement_at, next-result, ends_after, after-after}

@@ -1,8 +1,8 @@
 use Rattle.std.proofs.Common.{◌≡◌, ◌≤◌, ℕ, List, drop, map}
 use Rattle.outside_io.specs.Sink.{appended}
-use Rattle.meaning.specs.State.{no_names}
-use Rattle.meaning.specs.Script.{FirstStatement, tree_of_statement}
-use Rattle.meaning.specs.Run.{after_text, statements_result}
+use Rattle.meaning.specs.FirstState.{no_names}
+use Rattle.meaning.specs.FirstScript.{FirstStatement, tree_of_statement}
+use Rattle.meaning.specs.FirstRun.{after_text, statements_result}
 use Rattle.script_syntax.specs.ScriptView.{statements_of}
 use Rattle.script_run.specs.Session.{state_of}
 use Rattle.script_run.proofs.running.run_script.Given as goal

@@ -1,5 +1,5 @@
 use Rattle.std.proofs.Common.{◌≡◌, [], ◌∷◌, rules}
-use Rattle.meaning.specs.Token.{mark, close_paren}
+use Rattle.meaning.specs.FirstToken.{mark, close_paren}
 use Rattle.meaning.specs.First.{print_place, tree_of_first}
 use Rattle.script_syntax.specs.TokenView.{tokens_of}
 use Rattle.script_syntax.specs.View.{form_of}

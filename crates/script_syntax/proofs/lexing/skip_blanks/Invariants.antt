@@ -1,5 +1,5 @@
 use Rattle.std.proofs.Common.{◌≡◌, length}
-use Rattle.meaning.specs.Token.{skip_blanks}
+use Rattle.meaning.specs.FirstToken.{skip_blanks}
 use Rattle.script_syntax.proofs.lexing.skip_blanks.Given as goal
 
 abbrev pub invariant-loop-rest : goal.invariant-loop-rest

@@ -1,8 +1,8 @@
 use Rattle.std.proofs.Common.{rules}
-use Rattle.meaning.specs.Token.{Lexes}
-use Rattle.meaning.specs.Script.{IsBlankLine}
+use Rattle.meaning.specs.FirstToken.{Lexes}
+use Rattle.meaning.specs.FirstScript.{IsBlankLine}
 use Rattle.meaning.specs.First.{FirstForm}
-use Rattle.meaning.specs.Grammar.{Spells}
+use Rattle.meaning.specs.FirstGrammar.{Spells}
 use Rattle.script_syntax.specs.TokenView.{tokens_of}
 use Rattle.script_syntax.proofs.ScriptLaws.{nothing_spelled}
 use Rattle.script_syntax.proofs.parsing.add_line.Goals as goal

@@ -1,5 +1,5 @@
 use Rattle.std.proofs.Common.{subst, ℕ, List}
-use Rattle.meaning.specs.Token.{is_digit, IsRun}
+use Rattle.meaning.specs.FirstToken.{is_digit, IsRun}
 use Rattle.script_syntax.proofs.TokenLaws.{run_is_some, no_int}
 use Rattle.script_syntax.proofs.token.int_at.Goals as goal
 

@@ -1,5 +1,5 @@
 use Rattle.std.proofs.Common.{arith}
-use Rattle.meaning.specs.Token.{is_digit}
+use Rattle.meaning.specs.FirstToken.{is_digit}
 use Rattle.script_syntax.proofs.Runs.{prefix_len-le, run_at}
 use Rattle.script_syntax.proofs.token.split_digits.Goals as goal
 

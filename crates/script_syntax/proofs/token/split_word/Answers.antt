@@ -1,5 +1,5 @@
 use Rattle.std.proofs.Common.{arith}
-use Rattle.meaning.specs.Token.{continues_word}
+use Rattle.meaning.specs.FirstToken.{continues_word}
 use Rattle.script_syntax.proofs.Runs.{prefix_len-le, run_at}
 use Rattle.script_syntax.proofs.token.split_word.Goals as goal
 

@@ -1,5 +1,5 @@
 use Rattle.std.proofs.Common.{◌≡◌, false, rules}
-use Rattle.meaning.specs.Token.{begins_word, is_digit, begins_with}
+use Rattle.meaning.specs.FirstToken.{begins_word, is_digit, begins_with}
 use Rattle.script_syntax.proofs.TokenLaws.{no_token_short, no_token}
 use Rattle.script_syntax.proofs.token.token_at.Goals as goal
 

@@ -1,5 +1,5 @@
 use Rattle.std.proofs.Common.{sym, subst, ℕ, List}
-use Rattle.meaning.specs.Token.{continues_word, IsToken, word}
+use Rattle.meaning.specs.FirstToken.{continues_word, IsToken, word}
 use Rattle.script_syntax.proofs.Runs.{IsAscii-run}
 use Rattle.script_syntax.proofs.TokenLaws.{word_is_ascii, run_begins_word}
 use Rattle.script_syntax.proofs.token.word_at.Goals as goal

@@ -1,6 +1,6 @@
 use Rattle.std.proofs.Common.{ap, ◌∙◌, slice_set}
 use Rattle.std.proofs.Math.Facts.{to_z-of_z}
-use Rattle.meaning.specs.State.{with_table}
+use Rattle.meaning.specs.FirstState.{with_table}
 use Rattle.script_run.specs.Objects.{objects_of}
 use Rattle.script_run.specs.Namespace.{names_in, state_in}
 use Rattle.script_run.proofs.Counts.{objects_of-Updates}

@@ -2,8 +2,8 @@ use Rattle.std.proofs.Common.{◌≡◌, [], Some, length, ap, sym, ◌∙◌, s
 use Rattle.std.specs.Prelude.{option_and_then}
 use Rattle.std.proofs.Math.Facts.{to_z-of_z}
 use Rattle.meaning.specs.Table.{place_of}
-use Rattle.meaning.specs.State.{with_table}
-use Rattle.meaning.specs.Statement.{done}
+use Rattle.meaning.specs.FirstState.{with_table}
+use Rattle.meaning.specs.FirstStatement.{done}
 use Rattle.script_run.specs.Namespace.{tables_in, state_in}
 use Rattle.script_run.specs.Session.{state_of}
 use Rattle.script_run.proofs.Answering.{statement_result-set_place}

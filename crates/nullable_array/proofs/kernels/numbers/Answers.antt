@@ -1,0 +1,9 @@
+use Rattle.cell_core.specs.declared.cell.Kind.TheVariants.{Int64}
+use Rattle.nullable_array.specs.Columns.{number_cell}
+use Rattle.nullable_array.proofs.CellRows.{same_column, two_columns}
+use Rattle.nullable_array.proofs.kernels.numbers.Goals as goal
+
+pub returns-in-Some-Some-clause-answer : goal.returns-in-Some-Some-clause-answer
+returns-in-Some-Some-clause-answer c = λ texts.
+    two_columns texts c.args.task _ _ _ _ c.on_numbers.result (same_column Int64 number_cell _ _ _ _ c.in-Some-Some.ensures.count c.in-Some-Some.ensures.rows)
+    (same_column Int64 number_cell _ _ _ _ c.in-Some-Some.ensures'.count c.in-Some-Some.ensures'.rows) (c.on_numbers.ensures.answer texts)

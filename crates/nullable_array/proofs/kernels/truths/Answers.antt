@@ -1,0 +1,9 @@
+use Rattle.cell_core.specs.declared.cell.Kind.TheVariants.{Boolean}
+use Rattle.nullable_array.specs.Columns.{truth_cell}
+use Rattle.nullable_array.proofs.CellRows.{same_column, two_columns}
+use Rattle.nullable_array.proofs.kernels.truths.Goals as goal
+
+pub returns-in-Some-Some-clause-answer : goal.returns-in-Some-Some-clause-answer
+returns-in-Some-Some-clause-answer c = λ texts.
+    two_columns texts c.args.task _ _ _ _ c.on_truths.result (same_column Boolean truth_cell _ _ _ _ c.in-Some-Some.ensures.count c.in-Some-Some.ensures.rows)
+    (same_column Boolean truth_cell _ _ _ _ c.in-Some-Some.ensures'.count c.in-Some-Some.ensures'.rows) (c.on_truths.ensures.answer texts)

@@ -1,0 +1,10 @@
+pub mod Lanes
+pub mod Columns
+pub mod Views
+pub mod Rows
+pub mod Answers
+pub mod Tasks
+pub mod Operations
+pub mod Joins
+pub mod Moves
+pub mod Casts

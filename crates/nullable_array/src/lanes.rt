@@ -1,0 +1,102 @@
+// Values of one type, each present or not: of its own, or borrowed with a stride.
+ghost use Rattle.std.specs.Prelude.{◌≡◌, ◌<◌, ℕ, Bool, false, length, IfOk, OnOk, OnErr, Option};
+ghost use Rattle.nullable_array.specs.Lanes.{LaneFits, lane_place, lane_row, option_at, IsPushed};
+
+use cell_core::NoMemory;
+use std::alloc::{AllocError, Global};
+
+/// Values that are borrowed: `count` of them, the first at `start`, each further one `stride` places on, or back.
+pub(crate) struct Lane<'a, T> {
+    pub(crate) values: &'a [T],
+    pub(crate) present: &'a [bool],
+    pub(crate) start: usize,
+    pub(crate) stride: usize,
+    pub(crate) back: bool,
+    pub(crate) count: usize,
+    pub ghost fits: { LaneFits start stride back count (length values.now) (length present.now) },
+}
+
+impl<T: Copy> Copy for Lane<'_, T> {}
+
+impl<T: Copy> Clone for Lane<'_, T> {
+    fn clone(&self) -> Result<Self, AllocError> {
+        Ok(*self)
+    }
+}
+
+impl<T: Copy> Lane<'_, T> {
+    // Where a row stands among the values.
+    fn place(&self, row: usize) -> usize
+        requires { row < self.now.count }
+        ensures within { result < length self.now.values.now }
+        ensures place { result ≡ lane_place self.now.start self.now.stride self.now.back row }
+    {
+        if self.back {
+            self.start - row * self.stride
+        } else {
+            self.start + row * self.stride
+        }
+    }
+
+    /// The value of a row, where it is present.
+    #[inline(always)]
+    pub(crate) fn get(&self, row: usize) -> Option<T>
+        requires { row < self.now.count }
+        ensures { result ≡ lane_row self.now.values.now self.now.present.now self.now.start self.now.stride self.now.back row }
+    {
+        let place = self.place(row);
+        if self.present[place] {
+            Some(self.values[place])
+        } else {
+            None
+        }
+    }
+}
+
+/// Values of its own, each present or not.
+#[derive(Drop)]
+pub(crate) struct Owned<T> {
+    pub(crate) values: Vec<T>,
+    pub(crate) present: Vec<bool>,
+    pub ghost alike: { length present.items ≡ length values.items },
+}
+
+impl<T: Copy + Drop> Owned<T> {
+    /// No rows. Takes no memory.
+    pub(crate) fn new(alloc: Global) -> Owned<T>
+        ensures { length result.values.items ≡ 0 }
+    {
+        Owned {
+            values: Vec::new(alloc),
+            present: Vec::new(alloc),
+        }
+    }
+
+    /// Adds a row. `NoMemory` leaves the rows as they were.
+    pub(crate) fn push(&mut self, blank: T, value: Option<T>) -> Result<(), NoMemory>
+        ensures ok { OnOk result (IsPushed self.old.values.items self.old.present.items value self.new.values.items self.new.present.items) }
+        ensures err { OnErr result ((self.new.values.items ≡ self.old.values.items) × (self.new.present.items ≡ self.old.present.items)) }
+    {
+        self.present.push(value.is_some())?;
+        if self.values.push(value.unwrap_or(blank)).is_err() {
+            let _ = self.present.pop();
+            return Err(NoMemory);
+        }
+        Ok(())
+    }
+
+    /// All rows, borrowed.
+    pub(crate) fn lane(&self) -> Lane<'_, T>
+        ensures count { result.count ≡ length self.now.values.items }
+        ensures rows { (row : ℕ) → lane_row result.values.now result.present.now result.start result.stride result.back row ≡ option_at self.now.values.items self.now.present.items row }
+    {
+        Lane {
+            values: self.values.as_slice(),
+            present: self.present.as_slice(),
+            start: 0,
+            stride: 1,
+            back: false,
+            count: self.values.len(),
+        }
+    }
+}

@@ -1,0 +1,102 @@
+// The operators, and why a call is refused.
+ghost use Rattle.std.specs.Prelude.{◌≡◌};
+ghost use Rattle.meaning.specs.Operator.{operator_kind, operator_cell};
+ghost use Rattle.nullable_array.specs.Tasks.{operator_of, task_kind, task_cell};
+ghost use Rattle.nullable_array.specs.declared.ops.ArrayFault.TheVariants.{NoMemory as WantOfMemory};
+
+use cell_core::NoMemory;
+
+/// An operator on two operands.
+#[derive(Clone, Copy, Debug, PartialEq, Eq)]
+pub enum Binary {
+    Add,
+    Sub,
+    Mul,
+    FloorDiv,
+    Mod,
+    Eq,
+    Ne,
+    Lt,
+    Le,
+    Gt,
+    Ge,
+    And,
+    Or,
+    Xor,
+}
+
+/// Why a call is refused.
+#[derive(Clone, Copy, Debug, PartialEq, Eq)]
+pub enum ArrayFault {
+    /// The operation doesn't take the kinds.
+    KindMismatch,
+    /// The first row with a zero divisor opposite a present dividend.
+    ZeroDivision(usize),
+    /// The first row whose cell can't be cast.
+    NotCast(usize),
+    /// Memory was refused.
+    NoMemory,
+}
+
+impl From<NoMemory> for ArrayFault {
+    ghost from_gives = { λ _ e. e ≡ WantOfMemory };
+
+    fn from(_: NoMemory) -> ArrayFault {
+        ArrayFault::NoMemory
+    }
+}
+
+/// Which orders of two values pass.
+#[derive(Clone, Copy, Debug)]
+pub(crate) struct Relation {
+    pub(crate) less: bool,
+    pub(crate) equal: bool,
+    pub(crate) greater: bool,
+}
+
+/// What an operator does.
+#[derive(Clone, Copy, Debug)]
+pub(crate) enum Task {
+    Sum,
+    Difference,
+    Product,
+    Quotient,
+    Rest,
+    Compare(Relation),
+    Both,
+    Either,
+    OneOf,
+}
+
+/// What the operator does.
+pub(crate) fn task_of(op: Binary) -> Task
+    ensures kind { operator_kind (operator_of op) ≡ task_kind result }
+    ensures cell { operator_cell (operator_of op) ≡ task_cell result }
+{
+    match op {
+        Binary::Add => Task::Sum,
+        Binary::Sub => Task::Difference,
+        Binary::Mul => Task::Product,
+        Binary::FloorDiv => Task::Quotient,
+        Binary::Mod => Task::Rest,
+        Binary::Eq => Task::Compare(relation_of(false, true, false)),
+        Binary::Ne => Task::Compare(relation_of(true, false, true)),
+        Binary::Lt => Task::Compare(relation_of(true, false, false)),
+        Binary::Le => Task::Compare(relation_of(true, true, false)),
+        Binary::Gt => Task::Compare(relation_of(false, false, true)),
+        Binary::Ge => Task::Compare(relation_of(false, true, true)),
+        Binary::And => Task::Both,
+        Binary::Or => Task::Either,
+        Binary::Xor => Task::OneOf,
+    }
+}
+
+fn relation_of(less: bool, equal: bool, greater: bool) -> Relation
+    ensures { result ≡ record { less = less; equal = equal; greater = greater } }
+{
+    Relation {
+        less,
+        equal,
+        greater,
+    }
+}

@@ -1,0 +1,39 @@
+-- The first piece, by its length, and the pieces after it.
+use Rattle.std.proofs.Common.{◌≡◌, ℕ, suc, ◌+◌, ◌<◌, Bool, true, false, List, [], ◌∷◌, length, take, drop, refl, ap, arith, leb, eqb}
+use Rattle.meaning.specs.Pieces.{Mode, plain, mode_after, opens, closes, choose, into_first, cut, pieces}
+
+-- how long the rest of a piece is, of whose brackets so many were opened and closed
+unfoldable pub rest_len : Mode → ℕ → ℕ → List ℕ → ℕ
+rest_len mode opened closed [] = 0
+rest_len mode opened closed (b ∷ bs) =
+    suc (choose (eqb b 10)
+    (choose (leb opened closed) 0 (rest_len plain opened closed bs))
+    (rest_len (mode_after mode b) (opened + opens mode b) (closed + closes mode b) bs))
+
+abbrev pub IsFirst : Mode → ℕ → ℕ → List ℕ → Type 0
+IsFirst mode opened closed bs = cut mode opened closed bs ≡ take (rest_len mode opened closed bs) bs ∷ pieces (drop (rest_len mode opened closed bs) bs)
+
+by_cases : (ends closes_all : Bool) (x y z : List (List ℕ)) (i j b : ℕ) (bs : List ℕ) → x ≡ (b ∷ take 0 bs) ∷ pieces (drop 0 bs) → y ≡ (b ∷ take i bs) ∷ pieces (drop i bs)
+    → z ≡ (b ∷ take j bs) ∷ pieces (drop j bs)
+    → choose ends (choose closes_all x y) z ≡ take (suc (choose ends (choose closes_all 0 i) j)) (b ∷ bs) ∷ pieces (drop (suc (choose ends (choose closes_all 0 i) j)) (b ∷ bs))
+unfolding choose
+by_cases true true x y z i j b bs p q r = p
+by_cases true false x y z i j b bs p q r = q
+by_cases false closes_all x y z i j b bs p q r = r
+
+cut_first : (mode : Mode) (opened closed b : ℕ) (bs : List ℕ) → IsFirst mode opened closed (b ∷ bs)
+unfolding cut rest_len
+cut_first mode o c b [] = by_cases _ _ _ _ _ _ _ b [] refl refl refl
+cut_first mode o c b (e ∷ es) =
+    by_cases _ _ _ _ _ _ _ b (e ∷ es) refl (ap (into_first b) (cut_first plain o c e es))
+    (ap (into_first b) (cut_first (mode_after mode b) (o + opens mode b) (c + closes mode b) e es))
+
+-- the first piece of bytes, where there are any
+pub pieces_first : (bytes : List ℕ) (n : ℕ) → n ≡ rest_len plain 0 0 bytes → 0 < length bytes → pieces bytes ≡ take n bytes ∷ pieces (drop n bytes)
+pieces_first [] n e some = absurd (omega arith)
+pieces_first (b ∷ bs) n e some = rw e (cut_first plain 0 0 b bs)
+
+pub rest_len-none : (mode : Mode) (opened closed : ℕ) (bs : List ℕ) → length bs < 1 → rest_len mode opened closed bs ≡ 0
+unfolding rest_len
+rest_len-none mode o c [] none = refl
+rest_len-none mode o c (b ∷ bs) none = absurd (omega arith)

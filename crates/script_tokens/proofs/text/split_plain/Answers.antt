@@ -1,0 +1,10 @@
+use Rattle.std.proofs.Common.{arith}
+use Rattle.script_tokens.specs.Quoted.{is_plain}
+use Rattle.script_tokens.proofs.Runs.{prefix_len-le, run_at}
+use Rattle.script_tokens.proofs.text.split_plain.Goals as goal
+
+pub split_at-requires : goal.split_at-requires
+split_at-requires c = omega (arith, prefix_len-le (is_plain c.args.quote) c.args.bytes.now, c.plain_len.ensures)
+
+pub returns : goal.returns
+returns c = run_at (is_plain c.args.quote) c.args.bytes.now _ _ c.plain_len.result c.plain_len.ensures c.split_at.ensures.front c.split_at.ensures.back

@@ -1,0 +1,10 @@
+use Rattle.std.proofs.Common.{arith}
+use Rattle.meaning.specs.Token.{is_digit}
+use Rattle.script_tokens.proofs.Runs.{prefix_len-le, run_at}
+use Rattle.script_tokens.proofs.word.split_digits.Goals as goal
+
+pub split_at-requires : goal.split_at-requires
+split_at-requires c = omega (arith, prefix_len-le is_digit c.args.bytes.now)
+
+pub returns : goal.returns
+returns c = run_at is_digit c.args.bytes.now _ _ c.digits_len.result c.digits_len.ensures c.split_at.ensures.front c.split_at.ensures.back
