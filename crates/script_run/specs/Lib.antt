@@ -4,3 +4,4 @@ pub mod Namespace
 pub mod Session
 pub mod Answers
 pub mod Ends
+pub mod Exit

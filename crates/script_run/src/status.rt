@@ -1,4 +1,6 @@
 // How a run ends.
+ghost use Rattle.std.specs.Prelude.{◌≡◌};
+ghost use Rattle.script_run.specs.Exit.{exit_number};
 
 /// How a run ends. The number of each, from 0 on, is the exit status of the program.
 #[derive(Clone, Copy, Debug, PartialEq, Eq)]
@@ -21,7 +23,9 @@ pub enum Status {
 
 impl Status {
     /// The exit status, 0 to 6.
-    pub fn number(self) -> u8 {
+    pub fn number(self) -> u8
+        ensures { result ≡ exit_number self }
+    {
         match self {
             Status::Done => 0,
             Status::Fault => 1,
