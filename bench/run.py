@@ -3,10 +3,12 @@
 
     python3 bench/run.py PROGRAM [--runs N]
 
-PROGRAM is the built `pdscript`. Each script is made here, written into a folder of its own, and run
-by both: by the program as a script of the first language, and by python3 as the same statements on
-lists. A line for each script gives the medians in milliseconds, the ratio to python3, and the ratio to
-the same kind of script of half its size. Times vary with the machine; the ratios of one run are what
+PROGRAM is the built `pdscript`. Each script is made here and written into a folder of its own. The
+scripts of the first part are run by both, by the program as they stand and by python3 as the same
+statements on lists. Those of the second part are only read: their first statement is refused, or they are
+no scripts, so the program reads them whole and does nothing; beside it `compile` of python3 reads the same
+text. A line for each script gives the medians in milliseconds, the ratio to python3, and the ratio to the
+same kind of script of half its size. Times vary with the machine; the ratios of one run are what
 docs/PERFORMANCE.md quotes.
 """
 import os
@@ -62,16 +64,55 @@ def rebindings(count):
     return "\n".join(lines) + "\n"
 
 
+# A statement that is refused at once: what stands after it is read and not done.
+REFUSED = "print(nothing)\n"
+
+
+def ordinary(most):
+    """Statements as they stand in reports, on lines of about 120 bytes."""
+    rows = [
+        "f%d = pd.DataFrame({'city': ['Oslo', 'Bergen', \"Lom\", pd.NA], 'count': [1, 2, pd.NA, 4], 'open': [True, False, pd.NA, True]})",
+        "g%d = f0.groupby(['city', 'count'], dropna=False)[['open', 'price', 'weight']].agg({'price': 'sum', 'weight': 'max'})  # by city",
+        "h%d = (f0['count'] + 2 * f0['price'] // 3 >= -7) & ~f0['city'].isna() | (f0['weight'] %% 10 == 1) ^ f0['open'].fillna(False)",
+        "f0.loc[f0['count'] == %d, ['price', 'weight']] = f0[['price', 'weight']].rolling(3, min_periods=1).mean().fillna(0).shift(1)",
+        "print(f0.iloc[-5:, 1:3].sort_values(['price', 'weight'], ascending=[False, True]).head(%d).reset_index(drop=True), end='\\n\\n')",
+    ]
+    lines, size, k = [], len(REFUSED), 0
+    while True:
+        line = rows[k % len(rows)] % k
+        size += len(line) + 1
+        if size > most:
+            return REFUSED + "\n".join(lines) + "\n"
+        lines.append(line)
+        k += 1
+
+
+def read_list(most):
+    """One list of numbers of four digits: about 200,000 in 2^20 bytes."""
+    count = (most - len(REFUSED) - 20) // 5
+    return REFUSED + "s = pd.Series([" + ",".join(str(1000 + k % 9000) for k in range(count)) + "])\n"
+
+
+def nested(most):
+    """Arguments of 30 pairs of parentheses, which with the call are the deepest that there may be."""
+    part = "(" * 30 + "1" + ")" * 30
+    line = "x = pd.f(" + ", ".join([part] * 25) + ")"
+    return REFUSED + (line + "\n") * ((most - len(REFUSED)) // (len(line) + 1))
+
+
 def on_lists(script):
     """The same statements on Python's lists."""
     return script.replace("pd.Series(", "(").replace(".iloc[", "[")
 
 
-def median(command, runs):
+COMPILE = "import sys\ntry: compile(open(sys.argv[1]).read(), 's', 'exec')\nexcept (SyntaxError, MemoryError, RecursionError): pass"
+
+
+def median(command, runs, check=True):
     times = []
     for _ in range(runs):
         begun = time.perf_counter()
-        subprocess.run(command, stdout=subprocess.DEVNULL, stderr=subprocess.DEVNULL, check=True)
+        subprocess.run(command, stdout=subprocess.DEVNULL, stderr=subprocess.DEVNULL, check=check)
         times.append(time.perf_counter() - begun)
     return 1000 * statistics.median(times)
 
@@ -90,17 +131,37 @@ def main():
         ("5,000 bindings, half anew", rebindings(5000), None),
         ("10,000 bindings, half anew", rebindings(10000), 7),
     ]
+    readings = [
+        ("ordinary statements, 2^19 bytes", ordinary(MOST_BYTES // 2), None),
+        ("ordinary statements, 2^20 bytes", ordinary(MOST_BYTES), 0),
+        ("one list of numbers, 2^19 bytes", read_list(MOST_BYTES // 2), None),
+        ("one list of numbers, 2^20 bytes", read_list(MOST_BYTES), 2),
+        ("32 levels throughout, 2^19 bytes", nested(MOST_BYTES // 2), None),
+        ("32 levels throughout, 2^20 bytes", nested(MOST_BYTES), 4),
+        ("opening brackets, 2^19", "[" * (MOST_BYTES // 2), None),
+        ("opening brackets, 2^20", "[" * MOST_BYTES, 6),
+        ("pairs of brackets, 2^19 bytes", "[]" * (MOST_BYTES // 4), None),
+        ("pairs of brackets, 2^20 bytes", "[]" * (MOST_BYTES // 2), 8),
+    ]
     print("/bin/true %.2f ms, python3 -c '' %.2f ms" % (median(["/bin/true"], runs), median(["python3", "-c", ""], runs)))
+    print("Run:")
+    measure(program, scripts, runs, lambda path: ["python3", path + ".py"], True)
+    print("Read:")
+    measure(program, readings, runs, lambda path: ["python3", "-c", COMPILE, path], False)
+
+
+def measure(program, scripts, runs, other, check):
+    """A line for each script."""
     print("%-34s %10s %10s %10s %8s %8s" % ("script", "bytes", "pdscript", "python3", "ratio", "to half"))
     done = []
     with tempfile.TemporaryDirectory() as folder:
         for name, script, half in scripts:
-            path, twin = os.path.join(folder, "s"), os.path.join(folder, "s.py")
+            path = os.path.join(folder, "s")
             with open(path, "w") as out:
                 out.write(script)
-            with open(twin, "w") as out:
+            with open(path + ".py", "w") as out:
                 out.write(on_lists(script))
-            ours, theirs = median([program, path], runs), median(["python3", twin], runs)
+            ours, theirs = median([program, path], runs, check), median(other(path), runs)
             done.append(ours)
             growth = "" if half is None else "%.2f" % (ours / done[half])
             print("%-34s %10d %10.2f %10.2f %8.2f %8s" % (name, len(script), ours, theirs, ours / theirs, growth))

@@ -61,15 +61,121 @@ fn a_fault_comes_after_what_was_printed(rt: HostRuntime) -> Result<(), Fail> {
 }
 
 #[test]
-fn print_of_a_number_is_not_in_the_first_language(rt: HostRuntime) -> Result<(), Fail> {
+fn scalars_are_named_dropped_and_printed_with_their_end(rt: HostRuntime) -> Result<(), Fail> {
+    let script =
+        b"x = \"a\\tb\"\nprint(x, end=\"|\")\ny = (x)\ndel x\nprint(y)\nprint(-9223372036854775808)\nprint(1 + 2)\n";
     expect_run(
         &rt,
         rt.alloc(),
-        b"print(1)\n",
+        script,
+        Status::Fault,
+        "a\tb|a\tb\n-9223372036854775808\n",
+        "line 7: TypeError\n",
+    )
+}
+
+#[test]
+fn a_dropped_name_stands_for_nothing(rt: HostRuntime) -> Result<(), Fail> {
+    let script = b"import pandas as pd\nx = True\nprint(x)\nprint(pd.NA)\ndel x\nprint(x)\n";
+    expect_run(
+        &rt,
+        rt.alloc(),
+        script,
+        Status::Fault,
+        "True\n<NA>\n",
+        "line 6: NameError: x\n",
+    )
+}
+
+#[test]
+fn thirty_one_pairs_of_parentheses_are_a_script(rt: HostRuntime) -> Result<(), Fail> {
+    expect_run(
+        &rt,
+        rt.alloc(),
+        b"print((((((((((((((((((((((((((((((((1))))))))))))))))))))))))))))))))\n",
+        Status::Done,
+        "1\n",
+        "",
+    )
+}
+
+#[test]
+fn thirty_two_pairs_of_parentheses_are_no_script(rt: HostRuntime) -> Result<(), Fail> {
+    expect_run(
+        &rt,
+        rt.alloc(),
+        b"print(((((((((((((((((((((((((((((((((1)))))))))))))))))))))))))))))))))\n",
         Status::Syntax,
         "",
-        "not in the first language\n",
+        "line 1: SyntaxError\n",
     )
+}
+
+#[test]
+fn a_function_that_is_not_built(rt: HostRuntime) -> Result<(), Fail> {
+    expect_run(
+        &rt,
+        rt.alloc(),
+        b"print(pd.concat([]))\n",
+        Status::Fault,
+        "",
+        "line 1: NotBuiltError\n",
+    )
+}
+
+#[test]
+fn a_function_that_is_none_of_pandas(rt: HostRuntime) -> Result<(), Fail> {
+    expect_run(
+        &rt,
+        rt.alloc(),
+        b"print(pd.moon())\n",
+        Status::Fault,
+        "",
+        "line 1: AttributeError: moon\n",
+    )
+}
+
+#[test]
+fn a_chained_setting_is_warned_of_and_changes_no_name(rt: HostRuntime) -> Result<(), Fail> {
+    let script =
+        b"a = pd.Series([1, 2])\na.copy().iloc[0] = 5\nprint(a.iloc[0])\n(a).iloc[0] = 6\nprint(a.iloc[0])\na.copy().iloc[2] = 5\n";
+    expect_run(
+        &rt,
+        rt.alloc(),
+        script,
+        Status::Fault,
+        "1\n6\n",
+        "line 2: warning: ChainedAssignmentError\nline 6: warning: ChainedAssignmentError\nline 6: IndexError: position 2, length 2\n",
+    )
+}
+
+#[test]
+fn the_syntax_line_is_that_of_the_first_piece_that_is_not_right(
+    rt: HostRuntime,
+) -> Result<(), Fail> {
+    expect_run(
+        &rt,
+        rt.alloc(),
+        b"a = pd.Series([1,\n2)\n",
+        Status::Syntax,
+        "",
+        "line 1: SyntaxError\n",
+    )?;
+    expect_run(
+        &rt,
+        rt.alloc(),
+        b"a = 1\na = pd.Series([1,\n",
+        Status::Syntax,
+        "",
+        "line 2: SyntaxError\n",
+    )
+}
+
+#[test]
+fn lists_go_over_lines_and_comments(rt: HostRuntime) -> Result<(), Fail> {
+    let script =
+        b"# a list\ns = pd.Series([  # it's open\n  1,\n\n  2,\n])\nprint(len(s), end='')\n";
+    expect_run(&rt, rt.alloc(), script, Status::Done, "2", "")
 }
 
 #[test]
@@ -95,7 +201,7 @@ fn a_number_beyond_64_bits_is_refused(rt: HostRuntime) -> Result<(), Fail> {
         script,
         Status::Syntax,
         "",
-        "not in the first language\n",
+        "line 1: SyntaxError\n",
     )
 }
 
@@ -114,7 +220,7 @@ fn a_blank_before_a_statement_is_refused(rt: HostRuntime) -> Result<(), Fail> {
         script,
         Status::Syntax,
         "",
-        "not in the first language\n",
+        "line 2: SyntaxError\n",
     )
 }
 
@@ -127,7 +233,7 @@ fn a_carriage_return_alone_is_refused(rt: HostRuntime) -> Result<(), Fail> {
         script,
         Status::Syntax,
         "",
-        "not in the first language\n",
+        "line 1: SyntaxError\n",
     )
 }
 
@@ -140,7 +246,7 @@ fn a_reserved_word_is_no_name(rt: HostRuntime) -> Result<(), Fail> {
         script,
         Status::Syntax,
         "",
-        "not in the first language\n",
+        "line 1: SyntaxError\n",
     )
 }
 
@@ -153,6 +259,6 @@ fn bytes_that_are_no_text_are_refused(rt: HostRuntime) -> Result<(), Fail> {
         script,
         Status::Syntax,
         "",
-        "not in the first language\n",
+        "line 2: SyntaxError\n",
     )
 }

@@ -1,6 +1,5 @@
 // Words that are no run, scripts at the limits, and files and sinks that fail.
 use crate::harness::{AMPLE, files_with, run_words};
-use cell_core::NoMemory;
 use outside_io::MemFiles;
 use script_run::Status;
 use std::alloc::{AllocError, Global};
@@ -64,28 +63,34 @@ fn repeated(alloc: Global, text: &[u8], times: usize) -> Result<Vec<u8>, AllocEr
     Ok(all)
 }
 
-// The status of the script.
-fn status_of(alloc: Global, script: &[u8]) -> Result<Status, NoMemory> {
-    let mut files = files_with(alloc, script)?;
-    Ok(run_words(alloc, &["pdscript", "s"], &mut files, AMPLE, AMPLE)?.status)
+// The script ends with this status and these bytes of errors.
+fn expect_end(
+    rt: &(impl Abort + AllocGlobal),
+    script: &[u8],
+    status: Status,
+    errors: &str,
+) -> Result<(), Fail> {
+    let mut files = files_with(rt.alloc(), script)?;
+    let ran = run_words(rt.alloc(), &["pdscript", "s"], &mut files, AMPLE, AMPLE)?;
+    assert_eq!(rt; ran.status, status);
+    assert_eq!(rt; ran.errors.written(), errors.as_bytes());
+    Ok(())
 }
 
 #[test]
 fn a_script_has_at_most_a_mebibyte(rt: HostRuntime) -> Result<(), Fail> {
     let script = repeated(rt.alloc(), b" ", 1 << 20)?;
-    assert_eq!(rt; status_of(rt.alloc(), &script)?, Status::Done);
+    expect_end(&rt, &script, Status::Done, "")?;
     let script = repeated(rt.alloc(), b" ", (1 << 20) + 1)?;
-    assert_eq!(rt; status_of(rt.alloc(), &script)?, Status::Syntax);
-    Ok(())
+    expect_end(&rt, &script, Status::Syntax, "script too large\n")
 }
 
 #[test]
 fn a_script_has_at_most_ten_thousand_statements(rt: HostRuntime) -> Result<(), Fail> {
     let script = repeated(rt.alloc(), b"a = pd.Series([1])\n", 10_000)?;
-    assert_eq!(rt; status_of(rt.alloc(), &script)?, Status::Done);
+    expect_end(&rt, &script, Status::Done, "")?;
     let script = repeated(rt.alloc(), b"a = pd.Series([1])\n", 10_001)?;
-    assert_eq!(rt; status_of(rt.alloc(), &script)?, Status::Syntax);
-    Ok(())
+    expect_end(&rt, &script, Status::Syntax, "line 10001: SyntaxError\n")
 }
 
 #[test]
@@ -122,6 +127,20 @@ fn a_full_error_stream_ends_the_run(rt: HostRuntime) -> Result<(), Fail> {
         assert_eq!(rt; ran.status, Status::Output, "room {room}");
         assert_eq!(rt; ran.output.written(), OUTPUT);
         assert_eq!(rt; ran.errors.written(), &ERRORS[..room]);
+    }
+    Ok(())
+}
+
+// A warning and a fault's line are written byte by byte, up to the full stream.
+#[test]
+fn a_full_error_stream_ends_at_a_warning_too(rt: HostRuntime) -> Result<(), Fail> {
+    let script = b"a = pd.Series([1])\na.copy().iloc[0] = 2\nprint(a.iloc[0])\nprint(b)\n";
+    let errors = b"line 2: warning: ChainedAssignmentError\nline 4: NameError: b\n";
+    for room in [0, 1, 39, 40, 41, 59] {
+        let mut files = files_with(rt.alloc(), script)?;
+        let ran = run_words(rt.alloc(), &["pdscript", "s"], &mut files, AMPLE, room)?;
+        assert_eq!(rt; ran.status, Status::Output, "room {room}");
+        assert_eq!(rt; ran.errors.written(), &errors[..room]);
     }
     Ok(())
 }

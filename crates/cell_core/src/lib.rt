@@ -24,7 +24,7 @@ mod tuple;
 mod words;
 
 pub use cell::{Cell, Kind, Label, Side, TextId};
-pub use code::Code;
+pub use code::{Code, Fault, Reason};
 pub use dict::TextDict;
 pub use grid::{Grid, Rows, Shape};
 pub use lists::{Cells, Gaps, ListOf, Places, Tuples};
@@ -32,3 +32,6 @@ pub use memory::NoMemory;
 pub use numbers::Numbers;
 pub use tuple::Tuple;
 pub use words::Words;
+
+#[cfg(test)]
+mod tests;

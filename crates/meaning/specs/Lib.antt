@@ -2,16 +2,12 @@ pub mod Text
 pub mod Cell
 pub mod Column
 pub mod Table
+pub mod Block
 pub mod Tree
 pub mod Operator
 pub mod Cast
-pub mod First
-pub mod FirstToken
-pub mod FirstGrammar
-pub mod FirstScript
-pub mod FirstState
-pub mod FirstStatement
-pub mod FirstRun
+pub mod Reduce
+pub mod Cumulate
 pub mod Depth
 pub mod Token
 pub mod Grammar
@@ -19,6 +15,7 @@ pub mod Pieces
 pub mod Script
 pub mod Fault
 pub mod FaultText
+pub mod FaultOf
 pub mod Value
 pub mod State
 pub mod Method

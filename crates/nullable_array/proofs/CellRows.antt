@@ -1,5 +1,5 @@
 -- From rows of values to columns of cells.
-use Rattle.std.proofs.Common.{◌≡◌, ℕ, zero, suc, ◌+◌, ◌<◌, ◌≤◌, arith, Bool, List, [], ◌∷◌, ◌++◌, length, map, refl, sym, ap, subst, ◌∙◌, Option, Some, None, option_map, Result, Ok, Err}
+use Rattle.std.proofs.Common.{◌≡◌, ℕ, zero, suc, ◌+◌, ◌<◌, ◌≤◌, arith, Bool, List, [], ◌∷◌, ◌++◌, length, map, refl, sym, ap, subst, ◌∙◌, Option, Some, None, option_map, Result, Ok, Err, OnOk}
 use Rattle.std.specs.List.{range_with_len}
 use Rattle.cell_core.specs.declared.cell.Cell.{Cell}
 use Rattle.cell_core.specs.declared.cell.Kind.{Kind}
@@ -171,3 +171,9 @@ pushed_column kind cell values present o values' present' c pushed is =
     (map-range_with_len_more (λ k. cell (option_at values' present' k)) 0 (length values) (length values) (omega arith)
     ∙ ap (λ l. l ++ cell (option_at values' present' (length values)) ∷ []) (range-same (λ k. cell (option_at values' present' k)) (λ k. cell (option_at values present k)) 0 (length values) (λ k le lt. ap cell (pushed.before k (omega arith))))
     ∙ ap (λ (x : Cell). tabulate (length values) (λ k. cell (option_at values present k)) ++ x ∷ []) (ap cell pushed.last ∙ is))
+
+-- the same after a push that may be refused
+pub pushed_answer : {U E T : Type 0} (r : Result U E) (kind : Kind) (cell : Option T → Cell) (values : List T) (present : List Bool) (o : Option T) (values' : List T) (present' : List Bool) (c : Cell) (whole : CellColumn) → OnOk r (IsPushed values present o values' present')
+    → cell o ≡ c → column_with kind cell (length values) (option_at values present) ≡ whole → OnOk r (column_with kind cell (length values') (option_at values' present') ≡ record { kind = whole.kind; cells = whole.cells ++ c ∷ [] })
+pushed_answer (Ok u) kind cell values present o values' present' c whole pushed is e = pushed_column kind cell values present o values' present' c pushed is ∙ ap (λ (w : CellColumn). record { kind = w.kind; cells = w.cells ++ c ∷ [] }) e
+pushed_answer (Err x) kind cell values present o values' present' c whole pushed is e = pushed

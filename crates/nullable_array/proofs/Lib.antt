@@ -6,3 +6,9 @@ pub mod TextRows
 pub mod Scalars
 pub mod MoveLaws
 pub mod CastLaws
+pub mod FoldLaws
+pub mod RunningLaws
+pub mod DistinctLaws
+pub mod StrideLaws
+pub mod BlockLaws
+pub mod TruthLaws

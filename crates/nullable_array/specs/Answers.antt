@@ -1,5 +1,7 @@
 -- What a call answers.
 use Rattle.std.specs.Prelude.{◌≡◌, ℕ, List, Result, Ok, Err}
+use Rattle.cell_core.specs.declared.cell.Cell.{Cell}
+use Rattle.meaning.specs.Cell.{CellValue, datum}
 use Rattle.meaning.specs.Column.{ColumnValue, ColumnFault, kind_mismatch, zero_division, not_cast}
 use Rattle.nullable_array.specs.declared.ops.ArrayFault.{ArrayFault}
 use Rattle.nullable_array.specs.declared.ops.ArrayFault.TheVariants.{KindMismatch, ZeroDivision, NotCast, NoMemory}
@@ -16,3 +18,9 @@ IsRefusal NoMemory whole = Unit {0}
 abbrev pub Answers : List (List ℕ) → Result CellColumn ArrayFault → Result ColumnValue ColumnFault → Type 0
 Answers texts (Ok column) whole = whole ≡ Ok (column_value texts column)
 Answers texts (Err fault) whole = IsRefusal fault whole
+
+-- the same of a cell
+abbrev pub AnswersCell : List (List ℕ) → Result Cell ArrayFault → Result CellValue ColumnFault → Type 0
+AnswersCell texts (Ok c) whole = whole ≡ Ok (datum texts c)
+AnswersCell texts (Err NoMemory) whole = ⊥
+AnswersCell texts (Err fault) whole = IsRefusal fault whole

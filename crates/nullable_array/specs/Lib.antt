@@ -8,3 +8,6 @@ pub mod Operations
 pub mod Joins
 pub mod Moves
 pub mod Casts
+pub mod Folds
+pub mod Distincts
+pub mod Blocks

@@ -174,17 +174,24 @@ impl Column {
     pub fn as_ref(&self) -> ColRef<'_>
         ensures { result ≡ self.now }
     {
-        match &self.lanes {
-            Kept::Ints(rows) => ColRef {
-                lanes: Borrowed::Ints(rows.lane()),
-            },
-            Kept::Truths(rows) => ColRef {
-                lanes: Borrowed::Truths(rows.lane()),
-            },
-            Kept::Texts(rows) => ColRef {
-                lanes: Borrowed::Texts(rows.lane()),
-            },
-        }
+        whole(&self.lanes)
+    }
+}
+
+/// All cells that are kept, borrowed.
+pub(crate) fn whole(lanes: &Kept) -> ColRef<'_>
+    ensures { result ≡ kept_column lanes.now }
+{
+    match lanes {
+        Kept::Ints(rows) => ColRef {
+            lanes: Borrowed::Ints(rows.lane()),
+        },
+        Kept::Truths(rows) => ColRef {
+            lanes: Borrowed::Truths(rows.lane()),
+        },
+        Kept::Texts(rows) => ColRef {
+            lanes: Borrowed::Texts(rows.lane()),
+        },
     }
 }
 
@@ -200,7 +207,7 @@ fn push_kept(lanes: &mut Kept, cell: Cell) -> Result<(), NoMemory>
     }
 }
 
-fn number_in(cell: Cell) -> Option<i64>
+pub(crate) fn number_in(cell: Cell) -> Option<i64>
     requires { holds Int64 (datum [] cell) ≡ true }
     ensures { number_cell result ≡ cell }
 {
@@ -211,7 +218,7 @@ fn number_in(cell: Cell) -> Option<i64>
     }
 }
 
-fn truth_in(cell: Cell) -> Option<bool>
+pub(crate) fn truth_in(cell: Cell) -> Option<bool>
     requires { holds Boolean (datum [] cell) ≡ true }
     ensures { truth_cell result ≡ cell }
 {
@@ -222,7 +229,7 @@ fn truth_in(cell: Cell) -> Option<bool>
     }
 }
 
-fn text_in(cell: Cell) -> Option<TextId>
+pub(crate) fn text_in(cell: Cell) -> Option<TextId>
     requires { holds string (datum [] cell) ≡ true }
     ensures { text_cell result ≡ cell }
 {
@@ -259,7 +266,8 @@ impl ColRef<'_> {
     /// The cell of a row, counted from 0. Takes no memory.
     pub fn cell(&self, row: usize) -> Cell
         requires { row < length self.now.cells }
-        ensures { slice_get self.now.cells row ≡ Some result }
+        ensures cell { slice_get self.now.cells row ≡ Some result }
+        ensures held { (texts : List (List ℕ)) → holds self.now.kind (datum texts result) ≡ true }
     {
         match &self.lanes {
             Borrowed::Ints(lane) => cell_of_number(lane.get(row)),
@@ -270,7 +278,8 @@ impl ColRef<'_> {
 }
 
 pub(crate) fn cell_of_number(value: Option<i64>) -> Cell
-    ensures { result ≡ number_cell value }
+    ensures cell { result ≡ number_cell value }
+    ensures held { (texts : List (List ℕ)) → holds Int64 (datum texts result) ≡ true }
 {
     match value {
         None => Cell::Na,

@@ -1,5 +1,5 @@
 // Values of one type, each present or not: of its own, or borrowed with a stride.
-ghost use Rattle.std.specs.Prelude.{◌≡◌, ◌<◌, ℕ, Bool, false, length, IfOk, OnOk, OnErr, Option};
+ghost use Rattle.std.specs.Prelude.{◌≡◌, ◌<◌, ℕ, Bool, false, length, slice_set, unwrap_or, is_some, IfOk, OnOk, OnErr, Option, None};
 ghost use Rattle.nullable_array.specs.Lanes.{LaneFits, lane_place, lane_row, option_at, IsPushed};
 
 use cell_core::NoMemory;
@@ -25,8 +25,8 @@ impl<T: Copy> Clone for Lane<'_, T> {
 }
 
 impl<T: Copy> Lane<'_, T> {
-    // Where a row stands among the values.
-    fn place(&self, row: usize) -> usize
+    /// Where a row stands among the values.
+    pub(crate) fn place(&self, row: usize) -> usize
         requires { row < self.now.count }
         ensures within { result < length self.now.values.now }
         ensures place { result ≡ lane_place self.now.start self.now.stride self.now.back row }
@@ -70,6 +70,26 @@ impl<T: Copy + Drop> Owned<T> {
             values: Vec::new(alloc),
             present: Vec::new(alloc),
         }
+    }
+
+    /// So many rows without values.
+    pub(crate) fn missing(alloc: Global, blank: T, count: usize) -> Result<Owned<T>, NoMemory>
+        ensures count { IfOk result (λ o. length o.values.items ≡ count) }
+        ensures rows { IfOk result (λ o. (row : ℕ) → option_at o.values.items o.present.items row ≡ None) }
+    {
+        let values = vec![in alloc; blank; count]?;
+        let present = vec![in alloc; false; count]?;
+        Ok(Owned { values, present })
+    }
+
+    /// Puts a value, or none, at a row. Takes no memory.
+    pub(crate) fn put(&mut self, blank: T, row: usize, value: Option<T>)
+        requires { row < length self.old.values.items }
+        ensures values { self.new.values.items ≡ slice_set self.old.values.items row (unwrap_or value blank) }
+        ensures present { self.new.present.items ≡ slice_set self.old.present.items row (is_some value) }
+    {
+        self.present[row] = value.is_some();
+        self.values[row] = value.unwrap_or(blank);
     }
 
     /// Adds a row. `NoMemory` leaves the rows as they were.

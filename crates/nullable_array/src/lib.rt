@@ -12,20 +12,32 @@
 //! ```
 #![tactic(auto)]
 
+mod blocks;
 mod casts;
 mod columns;
+mod cumulations;
+mod distinct_cells;
 mod floor;
+mod folds;
 mod kernels;
 mod lanes;
 mod moves;
 mod operators;
 mod ops;
+mod reductions;
 mod rows;
 mod sources;
+mod strides;
+#[cfg(test)]
+mod tests;
 mod texts;
 
+pub use blocks::Block;
 pub use casts::cast;
 pub use columns::{ColRef, Column};
+pub use cumulations::cumulate;
+pub use distinct_cells::distinct;
 pub use kernels::{binary, invert, with_scalar};
 pub use moves::{shift, take};
-pub use ops::{ArrayFault, Binary};
+pub use ops::{ArrayFault, Binary, Cumulation, Reduction};
+pub use reductions::reduce;

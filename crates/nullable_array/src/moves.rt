@@ -192,13 +192,13 @@ fn shift_rows<T: Value, A: Source<T>>(
     copied(alloc, &moved)
 }
 
-fn distance(periods: i64) -> usize
+pub(crate) fn distance(periods: i64) -> usize
     ensures { result ≡ distance_of periods }
 {
     periods.unsigned_abs() as usize
 }
 
-fn is_below_zero(periods: i64) -> bool
+pub(crate) fn is_below_zero(periods: i64) -> bool
     ensures { result ≡ is_ahead periods }
 {
     periods < 0

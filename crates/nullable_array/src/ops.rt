@@ -25,6 +25,25 @@ pub enum Binary {
     Xor,
 }
 
+/// What is made of all present cells of a column.
+#[derive(Clone, Copy, Debug, PartialEq, Eq)]
+pub enum Reduction {
+    Sum,
+    Min,
+    Max,
+    Any,
+    All,
+    Count,
+}
+
+/// What is made at each row of the present cells up to it.
+#[derive(Clone, Copy, Debug, PartialEq, Eq)]
+pub enum Cumulation {
+    Sum,
+    Min,
+    Max,
+}
+
 /// Why a call is refused.
 #[derive(Clone, Copy, Debug, PartialEq, Eq)]
 pub enum ArrayFault {

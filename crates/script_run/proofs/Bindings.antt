@@ -1,91 +1,101 @@
--- Names that are bound.
-use Rattle.std.proofs.Common.{◌≡◌, ℕ, suc, ◌+◌, ◌<◌, Bool, true, false, cond, nat_eq, List, [], ◌∷◌, map, length, Option, Some, None, refl, sym, ◌∙◌, ap, arith, string_bytes}
+-- Names that get values and lose them.
+use Rattle.std.proofs.Common.{◌≡◌, ℕ, Bool, true, false, ◌||◌, List, [], ◌∷◌, map, Option, Some, None, refl, sym, ◌∙◌, ap, string_bytes}
 use Rattle.std.specs.Prelude.{if◌then◌else◌}
 use Rattle.std.specs.declared.string.String.{String}
 use Rattle.std.specs.String.{string_eq}
-use Rattle.std.specs.Map.{lookup}
-use Rattle.std.proofs.lemmas.List.Sums.{sum_by-cons}
-use Rattle.indexmap.specs.IndexMap.{insert_entry}
+use Rattle.std.specs.List.{list_any}
+use Rattle.std.specs.Map.{lookup, values_of}
+use Rattle.indexmap.specs.IndexMap.{insert_entry, shift_remove_entry}
 use Rattle.meaning.specs.Text.{Text, same_text}
-use Rattle.meaning.specs.FirstState.{with_name}
-use Rattle.script_run.specs.Names.{Bindings, bindings_of, bound, object_of, name_count}
+use Rattle.meaning.specs.State.{with_name}
+use Rattle.script_run.specs.declared.value.Value.{Value}
+use Rattle.script_run.specs.declared.value.Value.TheVariants.{Object}
+use Rattle.script_run.specs.Bindings.{Bindings, bindings_of, bound, unbound, value_at, is_named, is_object}
 use Rattle.script_run.proofs.Numbers.{true_false, same_congr, same_sym, nat_eq_self}
 
--- 1 where it is this object
-abbrev pub one_at : Option ℕ → ℕ → ℕ
-one_at None id = 0
-one_at (Some o) id = cond (nat_eq o id) 1 0
-
-pub bindings_of-insert_entry : {Y : Type 0} (es : List (String Y × ℕ)) (k : String Y) (id : ℕ) → bindings_of (insert_entry string_eq es k id) ≡ bound (bindings_of es) (string_bytes k) id
-bindings_of-insert_entry [] k id = refl
-bindings_of-insert_entry (e ∷ es) k id = go (bindings_of-insert_entry es k id) (string_eq k e.0)
+pub bindings_of-insert_entry : {Y : Type 0} (es : List (String Y × Value)) (k : String Y) (v : Value) → bindings_of (insert_entry string_eq es k v) ≡ bound (bindings_of es) (string_bytes k) v
+bindings_of-insert_entry [] k v = refl
+bindings_of-insert_entry (e ∷ es) k v = go (bindings_of-insert_entry es k v) (string_eq k e.0)
   where
-    go : bindings_of (insert_entry string_eq es k id) ≡ bound (bindings_of es) (string_bytes k) id → (b : Bool)
-        → bindings_of (if b then (e.0, id) ∷ es else e ∷ insert_entry string_eq es k id) ≡ (if b then (string_bytes e.0, id) ∷ bindings_of es else (string_bytes e.0, e.1) ∷ bound (bindings_of es) (string_bytes k) id)
+    go : bindings_of (insert_entry string_eq es k v) ≡ bound (bindings_of es) (string_bytes k) v → (b : Bool)
+        → bindings_of (if b then (e.0, v) ∷ es else e ∷ insert_entry string_eq es k v) ≡ (if b then (string_bytes e.0, v) ∷ bindings_of es else (string_bytes e.0, e.1) ∷ bound (bindings_of es) (string_bytes k) v)
     go rest true = refl
     go rest false = ap (λ (r : Bindings). (string_bytes e.0, e.1) ∷ r) rest
 
-pub object_of-bindings_of : {Y : Type 0} (es : List (String Y × ℕ)) (n : Text) → object_of (bindings_of es) n ≡ lookup (λ k. same_text n (string_bytes k)) es
-object_of-bindings_of [] n = refl
-object_of-bindings_of (e ∷ es) n = ap (λ o. if same_text n (string_bytes e.0) then Some e.1 else o) (object_of-bindings_of es n)
-
-pub length-bindings_of : {Y : Type 0} (es : List (String Y × ℕ)) → length (bindings_of es) ≡ length es
-length-bindings_of [] = refl
-length-bindings_of (e ∷ es) = ap suc (length-bindings_of es)
-
-pub names-bound : (bs : Bindings) (x : Text) (id : ℕ) → map (λ b. b.0) (bound bs x id) ≡ with_name (map (λ b. b.0) bs) x
-names-bound [] x id = refl
-names-bound (b ∷ bs) x id = go (names-bound bs x id) (same_text x b.0)
+pub bindings_of-remove_entry : {Y : Type 0} (es : List (String Y × Value)) (x : Text) → bindings_of (shift_remove_entry (λ k. same_text x (string_bytes k)) es) ≡ unbound (bindings_of es) x
+bindings_of-remove_entry [] x = refl
+bindings_of-remove_entry (e ∷ es) x = go (bindings_of-remove_entry es x) (same_text x (string_bytes e.0))
   where
-    go : map (λ b. b.0) (bound bs x id) ≡ with_name (map (λ b. b.0) bs) x → (c : Bool)
-        → map (λ b. b.0) (if c then (b.0, id) ∷ bs else b ∷ bound bs x id) ≡ (if c then b.0 ∷ map (λ b. b.0) bs else b.0 ∷ with_name (map (λ b. b.0) bs) x)
+    go : bindings_of (shift_remove_entry (λ k. same_text x (string_bytes k)) es) ≡ unbound (bindings_of es) x → (b : Bool)
+        → bindings_of (if b then es else e ∷ shift_remove_entry (λ k. same_text x (string_bytes k)) es) ≡ (if b then bindings_of es else (string_bytes e.0, e.1) ∷ unbound (bindings_of es) x)
+    go rest true = refl
+    go rest false = ap (λ (r : Bindings). (string_bytes e.0, e.1) ∷ r) rest
+
+pub value_at-bindings_of : {Y : Type 0} (es : List (String Y × Value)) (n : Text) → value_at (bindings_of es) n ≡ lookup (λ k. same_text n (string_bytes k)) es
+value_at-bindings_of [] n = refl
+value_at-bindings_of (e ∷ es) n = ap (λ (o : Option Value). if same_text n (string_bytes e.0) then Some e.1 else o) (value_at-bindings_of es n)
+
+-- a map's clauses on its entries, as they stand for names
+module _ {Y : Type 0} (es : List (String Y × Value)) (key : String Y) (x : Text) (named : string_bytes key ≡ x) where
+  pub bound_entries : (es' : List (String Y × Value)) (v : Value) → es' ≡ insert_entry string_eq es key v → bindings_of es' ≡ bound (bindings_of es) x v
+  bound_entries es' v e = ap bindings_of e ∙ bindings_of-insert_entry es key v ∙ ap (λ n. bound (bindings_of es) n v) named
+
+  pub left_entry : (left : Option Value) → left ≡ lookup (string_eq key) es → left ≡ value_at (bindings_of es) x
+  left_entry left e = e ∙ sym (value_at-bindings_of es (string_bytes key)) ∙ ap (value_at (bindings_of es)) named
+
+pub names-bound : (bs : Bindings) (x : Text) (v : Value) → map (λ b. b.0) (bound bs x v) ≡ with_name (map (λ b. b.0) bs) x
+names-bound [] x v = refl
+names-bound (b ∷ bs) x v = go (names-bound bs x v) (same_text x b.0)
+  where
+    go : map (λ b. b.0) (bound bs x v) ≡ with_name (map (λ b. b.0) bs) x → (c : Bool)
+        → map (λ b. b.0) (if c then (b.0, v) ∷ bs else b ∷ bound bs x v) ≡ (if c then b.0 ∷ map (λ b. b.0) bs else b.0 ∷ with_name (map (λ b. b.0) bs) x)
     go rest true = refl
     go rest false = ap (λ (r : List Text). b.0 ∷ r) rest
 
--- the name has the object, and the others have their own
-pub object_of-bound : (bs : Bindings) (x : Text) (id : ℕ) (m : Text) → object_of (bound bs x id) m ≡ (if same_text x m then Some id else object_of bs m)
-object_of-bound [] x id m = ap (λ c. if c then Some id else None) (same_sym m x)
-object_of-bound (b ∷ bs) x id m = go (object_of-bound bs x id m) (same_text x b.0) refl
+-- the name has the value, and the others have their own
+pub value_at-bound : (bs : Bindings) (x : Text) (v : Value) (m : Text) → value_at (bound bs x v) m ≡ (if same_text x m then Some v else value_at bs m)
+value_at-bound [] x v m = ap (λ c. if c then Some v else None) (same_sym m x)
+value_at-bound (b ∷ bs) x v m = go (value_at-bound bs x v m) (same_text x b.0) refl
   where
-    there : (p q : Bool) → p ≡ q → (if p then Some id else object_of bs m) ≡ (if q then Some id else if p then Some b.1 else object_of bs m)
+    there : (p q : Bool) → p ≡ q → (if p then Some v else value_at bs m) ≡ (if q then Some v else if p then Some b.1 else value_at bs m)
     there true true e = refl
     there false false e = refl
     there true false e = Prim.cc
     there false true e = Prim.cc
 
-    apart : (p q : Bool) → same_text m b.0 ≡ p → same_text x m ≡ q → same_text x b.0 ≡ false → object_of (bound bs x id) m ≡ (if q then Some id else object_of bs m)
-        → (if p then Some b.1 else object_of (bound bs x id) m) ≡ (if q then Some id else if p then Some b.1 else object_of bs m)
+    apart : (p q : Bool) → same_text m b.0 ≡ p → same_text x m ≡ q → same_text x b.0 ≡ false → value_at (bound bs x v) m ≡ (if q then Some v else value_at bs m)
+        → (if p then Some b.1 else value_at (bound bs x v) m) ≡ (if q then Some v else if p then Some b.1 else value_at bs m)
     apart true true mb xm not_ rest = true_false (same_text x b.0) (same_congr x m b.0 xm ∙ mb) not_
     apart true false mb xm not_ rest = refl
     apart false true mb xm not_ rest = rest
     apart false false mb xm not_ rest = rest
 
-    go : object_of (bound bs x id) m ≡ (if same_text x m then Some id else object_of bs m) → (c : Bool) → same_text x b.0 ≡ c
-        → object_of (if c then (b.0, id) ∷ bs else b ∷ bound bs x id) m ≡ (if same_text x m then Some id else if same_text m b.0 then Some b.1 else object_of bs m)
+    go : value_at (bound bs x v) m ≡ (if same_text x m then Some v else value_at bs m) → (c : Bool) → same_text x b.0 ≡ c
+        → value_at (if c then (b.0, v) ∷ bs else b ∷ bound bs x v) m ≡ (if same_text x m then Some v else if same_text m b.0 then Some b.1 else value_at bs m)
     go rest true is = there (same_text m b.0) (same_text x m) (same_sym m b.0 ∙ sym (same_congr x b.0 m is))
     go rest false is = apart (same_text m b.0) (same_text x m) refl refl is rest
 
-pub count-cons : (b : Text × ℕ) (bs : Bindings) (id : ℕ) → name_count (b ∷ bs) id ≡ one_at (Some b.1) id + name_count bs id
-count-cons b bs id = sum_by-cons (λ b. cond (nat_eq b.1 id) 1 0) b bs
-
--- the object has one name more, and the one that the name stood for has one fewer
-pub count-bound : (bs : Bindings) (x : Text) (v id : ℕ) → name_count (bound bs x v) id + one_at (object_of bs x) id ≡ name_count bs id + one_at (Some v) id
-count-bound [] x v id = omega (arith, count-cons (x, v) [] id)
-count-bound (b ∷ bs) x v id = go (count-bound bs x v id) (same_text x b.0)
+-- a name stands for its object
+pub named_object : (bs : Bindings) (n : Text) (id : ℕ) → value_at bs n ≡ Some (Object id) → is_named bs id ≡ true
+named_object [] n id e = Prim.cc
+named_object (b ∷ bs) n id e = go (named_object bs n id) (same_text n b.0) e
   where
-    go : name_count (bound bs x v) id + one_at (object_of bs x) id ≡ name_count bs id + one_at (Some v) id → (c : Bool)
-        → name_count (if c then (b.0, v) ∷ bs else b ∷ bound bs x v) id + one_at (if c then Some b.1 else object_of bs x) id ≡ name_count (b ∷ bs) id + one_at (Some v) id
-    go rest true = omega (arith, count-cons (b.0, v) bs id, count-cons b bs id)
-    go rest false = omega (arith, rest, count-cons b (bound bs x v) id, count-cons b bs id)
+    right : (c d : Bool) → d ≡ true → (if c then true else d) ≡ true
+    right true d h = refl
+    right false d h = h
 
--- a name of the object is counted
-pub count-object_of : (bs : Bindings) (n : Text) (id : ℕ) → object_of bs n ≡ Some id → 0 < name_count bs id
-count-object_of [] n id e = Prim.cc
-count-object_of (b ∷ bs) n id e = go (count-object_of bs n id) (same_text n b.0) e
+    in_some : Option Value → Bool
+    in_some None = false
+    in_some (Some w) = is_object w id
+
+    go : (value_at bs n ≡ Some (Object id) → is_named bs id ≡ true) → (c : Bool) → (if c then Some b.1 else value_at bs n) ≡ Some (Object id) → (if is_object b.1 id then true else is_named bs id) ≡ true
+    go later true h = ap (λ (o : Option Value). if in_some o then true else is_named bs id) h ∙ ap (λ c. if c then true else is_named bs id) (nat_eq_self id)
+    go later false h = right (is_object b.1 id) _ (later h)
+
+pub any-is_named : {Y : Type 0} (es : List (String Y × Value)) (id : ℕ) → list_any (λ v. is_object v id) (values_of es) ≡ is_named (bindings_of es) id
+any-is_named [] id = refl
+any-is_named (e ∷ es) id = go (is_object e.1 id) (any-is_named es id)
   where
-    go : (object_of bs n ≡ Some id → 0 < name_count bs id) → (c : Bool) → (if c then Some b.1 else object_of bs n) ≡ Some id → 0 < name_count (b ∷ bs) id
-    go rest true is =
-        let same : b.1 ≡ id = Prim.cc in
-        let one : one_at (Some b.1) id ≡ 1 = ap (λ k. one_at (Some k) id) same ∙ ap (λ c. cond c 1 0) (nat_eq_self id) in
-        omega (arith, one, count-cons b bs id)
-    go rest false is = omega (arith, rest is, count-cons b bs id)
+    go : (b : Bool) → list_any (λ v. is_object v id) (values_of es) ≡ is_named (bindings_of es) id → b || list_any (λ v. is_object v id) (values_of es) ≡ (if b then true else is_named (bindings_of es) id)
+    go true rest = refl
+    go false rest = rest

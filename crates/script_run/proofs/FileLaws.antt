@@ -1,14 +1,15 @@
 -- What a run means by the file that its path holds.
-use Rattle.std.proofs.Common.{◌≡◌, ◌<◌, ℕ, List, [], length, Option, Some, None, refl, sym, ◌∙◌, ap, subst, arith, codes, inl, inr, ◌⊎◌}
+use Rattle.std.proofs.Common.{◌≡◌, ◌≤◌, ◌<◌, ℕ, List, [], length, Option, Some, None, refl, sym, ◌∙◌, ap, subst, arith, codes, inl, inr, ◌⊎◌}
 use Rattle.std.specs.Prelude.{IfSome}
 use Rattle.std.specs.FinMap.{get}
 use Rattle.outside_io.specs.Sink.{AppendsFront}
 use Rattle.outside_io.proofs.Appended.{appended-nil}
 use Rattle.meaning.specs.Text.{Text, Contents}
-use Rattle.meaning.specs.FirstState.{no_names}
-use Rattle.meaning.specs.FirstScript.{FirstStatement, IsScript, most_bytes}
-use Rattle.meaning.specs.FirstRun.{RunResult, IsScriptResult, IsFileResult, IsPathResult, statements_result, with_line, not_first_line, not_found_line, syntax, usage}
-use Rattle.script_syntax.specs.Parsing.{IsTheScript}
+use Rattle.meaning.specs.State.{no_names}
+use Rattle.meaning.specs.Tree.{Statement}
+use Rattle.meaning.specs.Script.{most_bytes}
+use Rattle.meaning.specs.Run.{RunResult, IsScriptResult, IsFileResult, IsPathResult, statements_result, with_line, too_large_line, syntax_line, not_found_line, syntax, usage}
+use Rattle.script_syntax.specs.Parsed.{IsTheScript, IsTheSyntaxLine}
 use Rattle.script_run.specs.Ends.{Ends, EndsByMeaning, EndsWithLine, Is}
 use Rattle.script_run.proofs.RunLaws.{ends_other, nothing_yet}
 use Rattle.script_run.specs.declared.status.Status.{Status}
@@ -16,20 +17,31 @@ use Rattle.script_run.specs.declared.status.Status.TheVariants.{Done, Fault, Usa
 
 module _ (status : Status) (out out' err err' : Option (List ℕ)) where
   -- the bytes are one script, whose statements were run
-  pub ends_script : (bytes : List ℕ) (ss : List FirstStatement) → IsTheScript bytes ss → Ends (Is (statements_result no_names ss)) status out out' err err' → Ends (IsScriptResult bytes) status out out' err err'
-  ends_script bytes ss the t = ends_other (Is (statements_result no_names ss)) (IsScriptResult bytes) status out out' err err' (λ r is. inl (ss, the.0, is)) back t
+  pub ends_script : (bytes : List ℕ) (ss : List Statement) → length bytes ≤ most_bytes → IsTheScript bytes ss → Ends (Is (statements_result no_names ss)) status out out' err err' → Ends (IsScriptResult bytes) status out out' err err'
+  ends_script bytes ss small the t = ends_other (Is (statements_result no_names ss)) (IsScriptResult bytes) status out out' err err' (λ r is. inr (inl (small, (ss, the.0, is)))) back t
     where
       back : (r : RunResult) → IsScriptResult bytes r → Is (statements_result no_names ss) r
-      back r (inl run) = run.2 ∙ ap (statements_result no_names) (the.1 run.0 run.1)
-      back r (inr none) = absurd (none.0 ss the.0)
+      back r (inl large) = let large_bytes = large.0 in absurd (omega arith)
+      back r (inr (inl run)) = run.1.2 ∙ ap (statements_result no_names) (the.1 run.1.0 run.1.1)
+      back r (inr (inr none)) = absurd (the.2 none.1.0 none.1.1)
 
-  -- the bytes are no script
-  pub ends_not_first : (bytes : List ℕ) → ((ss : List FirstStatement) → IsScript bytes ss → ⊥) → Ends (Is (with_line not_first_line syntax)) status out out' err err' → Ends (IsScriptResult bytes) status out out' err err'
-  ends_not_first bytes none t = ends_other (Is (with_line not_first_line syntax)) (IsScriptResult bytes) status out out' err err' (λ r is. inr (none, is)) back t
+  -- the bytes are no script, by this line
+  pub ends_syntax : (bytes : List ℕ) (line : ℕ) → length bytes ≤ most_bytes → IsTheSyntaxLine bytes line → Ends (Is (with_line (syntax_line line) syntax)) status out out' err err' → Ends (IsScriptResult bytes) status out out' err err'
+  ends_syntax bytes line small the t = ends_other (Is (with_line (syntax_line line) syntax)) (IsScriptResult bytes) status out out' err err' (λ r is. inr (inr (small, (line, the.0, is)))) back t
     where
-      back : (r : RunResult) → IsScriptResult bytes r → Is (with_line not_first_line syntax) r
-      back r (inl run) = absurd (none run.0 run.1)
-      back r (inr other) = other.1
+      back : (r : RunResult) → IsScriptResult bytes r → Is (with_line (syntax_line line) syntax) r
+      back r (inl large) = let large_bytes = large.0 in absurd (omega arith)
+      back r (inr (inl run)) = absurd (the.2 run.1.0 run.1.1)
+      back r (inr (inr other)) = other.1.2 ∙ ap (λ l. with_line (syntax_line l) syntax) (the.1 other.1.0 other.1.1)
+
+  -- more bytes than a script has
+  pub ends_too_large : (bytes : List ℕ) → most_bytes < length bytes → Ends (Is (with_line too_large_line syntax)) status out out' err err' → Ends (IsScriptResult bytes) status out out' err err'
+  ends_too_large bytes large t = ends_other (Is (with_line too_large_line syntax)) (IsScriptResult bytes) status out out' err err' (λ r is. inl (large, is)) back t
+    where
+      back : (r : RunResult) → IsScriptResult bytes r → Is (with_line too_large_line syntax) r
+      back r (inl only) = only.1
+      back r (inr (inl run)) = let small_bytes = run.0 in absurd (omega arith)
+      back r (inr (inr none)) = let small_bytes = none.0 in absurd (omega arith)
 
   -- the path holds these bytes, or nothing
   pub ends_held : (held : Contents) (path bytes : List ℕ) → get held path ≡ Some bytes → Ends (IsScriptResult bytes) status out out' err err' → Ends (IsPathResult (Some path) held) status out out' err err'
@@ -37,10 +49,6 @@ module _ (status : Status) (out out' err err' : Option (List ℕ)) where
 
   pub ends_absent : (held : Contents) (path : List ℕ) → get held path ≡ None → Ends (Is (with_line (not_found_line path) usage)) status out out' err err' → Ends (IsPathResult (Some path) held) status out out' err err'
   ends_absent held path is t = subst (λ file. Ends (IsFileResult path file) status out out' err err') (sym is) t
-
--- more bytes than a script has are none
-pub no_long_script : (bytes : List ℕ) → most_bytes < length bytes → (ss : List FirstStatement) → IsScript bytes ss → ⊥
-no_long_script bytes longer ss is = omega (arith, is.0)
 
 -- nothing was written but a front of the line for a script that could not be read
 pub ends_unread : (means : RunResult → Type 0) (out err err' : Option (List ℕ)) → AppendsFront err err' (codes "input failed\n") → Ends means Input out out err err'

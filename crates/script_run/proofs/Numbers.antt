@@ -1,5 +1,5 @@
 -- Tests of numbers and texts.
-use Rattle.std.proofs.Common.{◌≡◌, ◌≢◌, ℕ, Bool, true, false, nat_eq, Option, Some, None, arith, IsSome}
+use Rattle.std.proofs.Common.{◌≡◌, ℕ, Bool, true, false, nat_eq, Option, Some, None, arith, IsSome}
 use Rattle.std.proofs.lemmas.Bool.Decides.{nat_tests}
 use Rattle.std.specs.Cmp.Lexicographic.{nat_list_eq_equiv}
 use Rattle.meaning.specs.Text.{Text, same_text}
@@ -7,14 +7,8 @@ use Rattle.meaning.specs.Text.{Text, same_text}
 pub nat_same : (a b : ℕ) → nat_eq a b ≡ true → a ≡ b
 nat_same a b e = grind (arith, nat_tests)
 
-pub nat_other : (a b : ℕ) → nat_eq a b ≡ false → b ≢ a
-nat_other a b e = grind (arith, nat_tests)
-
 pub nat_eq_self : (n : ℕ) → nat_eq n n ≡ true
 nat_eq_self n = grind (arith, nat_tests)
-
-pub nat_eq_sym : (a b : ℕ) → nat_eq a b ≡ nat_eq b a
-nat_eq_sym a b = grind (arith, nat_tests)
 
 pub true_false : {P : Type 0} (b : Bool) → b ≡ true → b ≡ false → P
 true_false true e f = Prim.cc
@@ -30,6 +24,3 @@ same_congr a b c e = nat_list_eq_equiv.congr a b c e
 
 pub same_sym : (a b : Text) → same_text a b ≡ same_text b a
 same_sym a b = nat_list_eq_equiv.symm a b
-
-pub same_self : (a : Text) → same_text a a ≡ true
-same_self a = nat_list_eq_equiv.refl a

@@ -1,86 +1,147 @@
--- What changes of names and tables do to the state.
-use Rattle.std.proofs.Common.{◌≡◌, ℕ, Bool, true, false, nat_eq, Option, Some, None, refl, sym, ◌∙◌, ap}
-use Rattle.std.specs.Prelude.{option_and_then, if◌then◌else◌}
+-- What changes of names, tables and texts do to the state.
+use Rattle.std.proofs.Common.{◌≡◌, ℕ, Bool, true, false, nat_eq, Option, Some, None, refl, sym, ◌∙◌, ap, subst}
+use Rattle.std.specs.Prelude.{if◌then◌else◌, option_map, ◌&&◌}
+use Rattle.cell_core.specs.declared.cell.Cell.{Cell}
+use Rattle.cell_core.specs.declared.cell.Cell.TheVariants as cell
+use Rattle.cell_core.proofs.TextLaws.{datum_stays}
+use Rattle.meaning.specs.Cell.{datum}
 use Rattle.meaning.specs.Text.{Text, same_text}
-use Rattle.meaning.specs.Table.{Table}
-use Rattle.meaning.specs.FirstState.{State, with_new, with_object, with_table}
-use Rattle.script_run.specs.Objects.{Tables}
-use Rattle.script_run.specs.Names.{Bindings, bound, object_of, one_object, state_over}
-use Rattle.script_run.proofs.Numbers.{nat_eq_self, nat_eq_sym}
-use Rattle.script_run.proofs.Bindings.{names-bound, object_of-bound}
+use Rattle.meaning.specs.Value as value
+use Rattle.meaning.specs.Value.{Entry, is_table}
+use Rattle.meaning.specs.State.{State, with_new, with_object}
+use Rattle.meaning.specs.Statement.{with_value}
+use Rattle.script_run.specs.declared.value.Value.{Value}
+use Rattle.script_run.specs.declared.value.Value.TheVariants.{Object, Scalar}
+use Rattle.script_run.specs.Values.{World, entry_of, table_or, IsLive, Keeps}
+use Rattle.script_run.specs.Bindings.{Bindings, bound, value_at, is_named, is_object, one_object, state_over, AreLive, AreGivenTexts, KeepNamed, IsOf}
+use Rattle.script_run.proofs.Numbers.{nat_same, nat_eq_self, true_false}
+use Rattle.script_run.proofs.Bindings.{names-bound, value_at-bound, named_object}
 
 -- two states that answer alike are one
 pub same_state : (s t : State) → s.names ≡ t.names → ((n : Text) → s.value n ≡ t.value n) → ((a b : Text) → s.paired a b ≡ t.paired a b) → s ≡ t
 same_state s t names values pairs = λ i. record { names = names i; value = λ n. values n i; paired = λ a b. pairs a b i }
 
--- the tables of objects that no name stands for don't matter
-pub state-kept : (bs : Bindings) (old new : Tables) → ((m : Text) (k : ℕ) → object_of bs m ≡ Some k → new k ≡ old k) → state_over bs new ≡ state_over bs old
-state-kept bs old new kept = same_state _ _ refl (λ m. values m (object_of bs m) refl) (λ a b. refl)
-  where
-    values : (m : Text) (o : Option ℕ) → object_of bs m ≡ o → option_and_then new o ≡ option_and_then old o
-    values m None e = refl
-    values m (Some k) e = kept m k e
+pub value_live : (bs : Bindings) (w : World) (n : Text) (v : Value) → AreLive bs w.tables → AreGivenTexts bs w.texts → value_at bs n ≡ Some v → IsLive w v
+value_live bs w n (Object id) live given e = live n id e
+value_live bs w n (Scalar cell.Na) live given e = tt
+value_live bs w n (Scalar (cell.Int z)) live given e = tt
+value_live bs w n (Scalar (cell.Bool b)) live given e = tt
+value_live bs w n (Scalar (cell.Text id)) live given e = given n id.0 e
 
--- a name that stands for the object of another
-pub bound-with_object : (bs : Bindings) (tables : Tables) (x n : Text) (id : ℕ) → object_of bs n ≡ Some id → state_over (bound bs x id) tables ≡ with_object (state_over bs tables) x n
-bound-with_object bs tables x n id is = same_state _ _ (names-bound bs x id) values pairs
+pub entry_kept : (v : Value) (old new : World) → IsLive old v → Keeps old new → entry_of new v ≡ entry_of old v
+entry_kept (Object id) old new live keeps = ap (λ t. value.table (table_or t)) (keeps.tables id live)
+entry_kept (Scalar c) old new live keeps = ap value.cell (datum_stays old.texts new.texts c keeps.texts live)
+
+-- the state is a matter of the values of names
+pub state_kept : (bs : Bindings) (old new : World) → ((n : Text) (v : Value) → value_at bs n ≡ Some v → entry_of new v ≡ entry_of old v) → state_over bs new ≡ state_over bs old
+state_kept bs old new kept = same_state _ _ refl (λ n. values n (value_at bs n) refl) (λ a b. refl)
   where
-    values : (m : Text) → option_and_then tables (object_of (bound bs x id) m) ≡ (if same_text x m then option_and_then tables (object_of bs n) else option_and_then tables (object_of bs m))
-    values m = ap (option_and_then tables) (object_of-bound bs x id m) ∙ go (same_text x m)
+    values : (n : Text) (v : Option Value) → value_at bs n ≡ v → option_map (entry_of new) v ≡ option_map (entry_of old) v
+    values n None e = refl
+    values n (Some v) e = ap (λ (x : Entry). Some x) (kept n v e)
+
+-- after what keeps live values the state is the same
+pub state_after : (bs bs' : Bindings) (old new : World) → bs' ≡ bs → AreLive bs old.tables → AreGivenTexts bs old.texts → Keeps old new → state_over bs' new ≡ state_over bs old
+state_after bs bs' old new e live given keeps =
+    ap (λ b. state_over b new) e ∙ state_kept bs old new (λ n v is. entry_kept v old new (value_live bs old n v live given is) keeps)
+
+-- and after a sweep
+pub state_swept : (bs bs' : Bindings) (old new : World) → bs' ≡ bs → new.texts ≡ old.texts → KeepNamed bs old.tables new.tables → state_over bs' new ≡ state_over bs old
+state_swept bs bs' old new e texts kept = ap (λ b. state_over b new) e ∙ state_kept bs old new at
+  where
+    at : (n : Text) (v : Value) → value_at bs n ≡ Some v → entry_of new v ≡ entry_of old v
+    at n (Object id) is = ap (λ t. value.table (table_or t)) (kept id (named_object bs n id is))
+    at n (Scalar c) is = ap (λ t. value.cell (datum t c)) texts
+
+-- a name that gets the value of an expression
+pub bind_state : (bs : Bindings) (x : Text) (o : Option Text) (v : Value) (w : World) → IsOf bs o v → state_over (bound bs x v) w ≡ with_value (state_over bs w) x o (entry_of w v)
+bind_state bs x o v w of = bind o v of
+  where
+    values : (v : Value) (m : Text) → option_map (entry_of w) (value_at (bound bs x v) m) ≡ (if same_text x m then Some (entry_of w v) else option_map (entry_of w) (value_at bs m))
+    values v m = ap (option_map (entry_of w)) (value_at-bound bs x v m) ∙ go (same_text x m)
       where
-        go : (c : Bool) → option_and_then tables (if c then Some id else object_of bs m) ≡ (if c then option_and_then tables (object_of bs n) else option_and_then tables (object_of bs m))
-        go true = ap (option_and_then tables) (sym is)
+        go : (q : Bool) → option_map (entry_of w) (if q then Some v else value_at bs m) ≡ (if q then Some (entry_of w v) else option_map (entry_of w) (value_at bs m))
+        go true = refl
         go false = refl
 
-    both : (s t : Bool) (p q r : Option ℕ) → r ≡ Some id → one_object (if s then Some id else p) (if t then Some id else q) ≡ (if s then (if t then true else one_object r q) else if t then one_object p r else one_object p q)
-    both true true p q r e = nat_eq_self id
-    both true false p q r e = ap (λ o. one_object o q) (sym e)
-    both false true p q r e = ap (one_object p) (sym e)
-    both false false p q r e = refl
+    -- a value that no name stands for, or a scalar
+    Apart : Value → Type 0
+    Apart v = (m : Text) (k : ℕ) → value_at bs m ≡ Some (Object k) → (is_object v k ≡ false) × (one_object (Some (Object k)) (Some v) ≡ false)
 
-    pairs : (a b : Text) → one_object (object_of (bound bs x id) a) (object_of (bound bs x id) b)
-        ≡ (if same_text x a then (if same_text x b then true else one_object (object_of bs n) (object_of bs b)) else if same_text x b then one_object (object_of bs a) (object_of bs n) else one_object (object_of bs a) (object_of bs b))
-    pairs a b =
-        ap (λ o. one_object o (object_of (bound bs x id) b)) (object_of-bound bs x id a) ∙ ap (one_object _) (object_of-bound bs x id b)
-        ∙ both (same_text x a) (same_text x b) (object_of bs a) (object_of bs b) (object_of bs n) is
-
--- a name that stands for an object of its own
-pub bound-with_new : (bs : Bindings) (old new : Tables) (x : Text) (id : ℕ) (t : Table) → new id ≡ Some t → ((m : Text) (k : ℕ) → object_of bs m ≡ Some k → (nat_eq id k ≡ false) × (new k ≡ old k))
-    → state_over (bound bs x id) new ≡ with_new (state_over bs old) x t
-bound-with_new bs old new x id t is apart = same_state _ _ (names-bound bs x id) values pairs
-  where
-    kept : (m : Text) (o : Option ℕ) → object_of bs m ≡ o → option_and_then new o ≡ option_and_then old o
-    kept m None e = refl
-    kept m (Some k) e = (apart m k e).1
-
-    values : (m : Text) → option_and_then new (object_of (bound bs x id) m) ≡ (if same_text x m then Some t else option_and_then old (object_of bs m))
-    values m = ap (option_and_then new) (object_of-bound bs x id m) ∙ go (same_text x m)
+    new_pairs : (v : Value) → Apart v → (a b : Text) → one_object (value_at (bound bs x v) a) (value_at (bound bs x v) b)
+        ≡ (if same_text x a then same_text x b && is_table (entry_of w v) else if same_text x b then false else one_object (value_at bs a) (value_at bs b))
+    new_pairs v apart a b = ap (λ p. one_object p (value_at (bound bs x v) b)) (value_at-bound bs x v a) ∙ ap (one_object _) (value_at-bound bs x v b) ∙ go (same_text x a) (same_text x b)
       where
-        go : (c : Bool) → option_and_then new (if c then Some id else object_of bs m) ≡ (if c then Some t else option_and_then old (object_of bs m))
-        go true = is
-        go false = kept m (object_of bs m) refl
+        self : (v : Value) → one_object (Some v) (Some v) ≡ is_table (entry_of w v)
+        self (Object id) = nat_eq_self id
+        self (Scalar c) = refl
 
-    left : (m : Text) (o : Option ℕ) → object_of bs m ≡ o → one_object (Some id) o ≡ false
-    left m None e = refl
-    left m (Some k) e = (apart m k e).0
+        left : (m : Text) (u : Option Value) → value_at bs m ≡ u → one_object (Some v) u ≡ false
+        left m None e = refl
+        left m (Some (Scalar c)) e = refl
+        left m (Some (Object k)) e = (apart m k e).0
 
-    right : (m : Text) (o : Option ℕ) → object_of bs m ≡ o → one_object o (Some id) ≡ false
-    right m None e = refl
-    right m (Some k) e = nat_eq_sym k id ∙ (apart m k e).0
+        none : (v : Value) → one_object None (Some v) ≡ false
+        none (Object id) = refl
+        none (Scalar c) = refl
 
-    pairs : (a b : Text) → one_object (object_of (bound bs x id) a) (object_of (bound bs x id) b) ≡ (if same_text x a then same_text x b else if same_text x b then false else one_object (object_of bs a) (object_of bs b))
-    pairs a b = ap (λ o. one_object o (object_of (bound bs x id) b)) (object_of-bound bs x id a) ∙ ap (one_object _) (object_of-bound bs x id b) ∙ both (same_text x a) (same_text x b)
+        scalar : (c : Cell) (v : Value) → one_object (Some (Scalar c)) (Some v) ≡ false
+        scalar c (Object id) = refl
+        scalar c (Scalar d) = refl
+
+        right : (m : Text) (u : Option Value) → value_at bs m ≡ u → one_object u (Some v) ≡ false
+        right m None e = none v
+        right m (Some (Scalar c)) e = scalar c v
+        right m (Some (Object k)) e = (apart m k e).1
+
+        go : (p q : Bool) → one_object (if p then Some v else value_at bs a) (if q then Some v else value_at bs b) ≡ (if p then q && is_table (entry_of w v) else if q then false else one_object (value_at bs a) (value_at bs b))
+        go true true = self v
+        go true false = left b (value_at bs b) refl
+        go false true = right a (value_at bs a) refl
+        go false false = refl
+
+    new : (v : Value) → Apart v → state_over (bound bs x v) w ≡ with_new (state_over bs w) x (entry_of w v)
+    new v apart = same_state _ _ (names-bound bs x v) (values v) (new_pairs v apart)
+
+    scalar_apart : (c : Cell) → Apart (Scalar c)
+    scalar_apart c m k e = (refl, refl)
+
+    unnamed_apart : (id : ℕ) → is_named bs id ≡ false → Apart (Object id)
+    unnamed_apart id unnamed m k e = go (nat_eq id k) refl
       where
-        both : (s r : Bool) → one_object (if s then Some id else object_of bs a) (if r then Some id else object_of bs b) ≡ (if s then r else if r then false else one_object (object_of bs a) (object_of bs b))
-        both true true = nat_eq_self id
-        both true false = left b (object_of bs b) refl
-        both false true = right a (object_of bs a) refl
-        both false false = refl
+        other : nat_eq id k ≡ true → nat_eq id k ≡ false
+        other same = true_false (is_named bs k) (named_object bs m k e) (subst (λ j. is_named bs j ≡ false) (nat_same id k same) unnamed)
 
--- an object that gets another table
-pub set-with_table : (bs : Bindings) (old new : Tables) (n : Text) (id : ℕ) (t : Table) → object_of bs n ≡ Some id → ((k : ℕ) → new k ≡ (if nat_eq id k then Some t else old k)) → state_over bs new ≡ with_table (state_over bs old) n t
-set-with_table bs old new n id t is set = same_state _ _ refl (λ m. values (object_of bs n) is (object_of bs m)) (λ a b. refl)
-  where
-    values : (o : Option ℕ) → o ≡ Some id → (p : Option ℕ) → option_and_then new p ≡ (if one_object o p then Some t else option_and_then old p)
-    values o e None = ap (λ o. if one_object o None then Some t else None) (sym e)
-    values o e (Some k) = set k ∙ ap (λ o. if one_object o (Some k) then Some t else old k) (sym e)
+        other' : nat_eq k id ≡ true → nat_eq k id ≡ false
+        other' same = true_false (is_named bs id) (subst (λ j. is_named bs j ≡ true) (nat_same k id same) (named_object bs m k e)) unnamed
+
+        test : (b c : Bool) → b ≡ c → (b ≡ true → b ≡ false) → b ≡ false
+        test true c same f = f refl
+        test false c same f = refl
+
+        go : (b : Bool) → nat_eq id k ≡ b → (nat_eq id k ≡ false) × (nat_eq k id ≡ false)
+        go b same = (test (nat_eq id k) b same other, test (nat_eq k id) (nat_eq k id) refl other')
+
+    object : (n : Text) (id : ℕ) → value_at bs n ≡ Some (Object id) → state_over (bound bs x (Object id)) w ≡ with_object (state_over bs w) x n
+    object n id is = same_state _ _ (names-bound bs x (Object id)) shared pairs
+      where
+        shared : (m : Text) → option_map (entry_of w) (value_at (bound bs x (Object id)) m) ≡ (if same_text x m then option_map (entry_of w) (value_at bs n) else option_map (entry_of w) (value_at bs m))
+        shared m = values (Object id) m ∙ ap (λ (u : Option Value). if same_text x m then option_map (entry_of w) u else option_map (entry_of w) (value_at bs m)) (sym is)
+
+        both : (p q : Bool) (a b r : Option Value) → r ≡ Some (Object id) → one_object (if p then Some (Object id) else a) (if q then Some (Object id) else b) ≡ (if p then (if q then true else one_object r b) else if q then one_object a r else one_object a b)
+        both true true a b r e = nat_eq_self id
+        both true false a b r e = ap (λ (u : Option Value). one_object u b) (sym e)
+        both false true a b r e = ap (one_object a) (sym e)
+        both false false a b r e = refl
+
+        pairs : (a b : Text) → one_object (value_at (bound bs x (Object id)) a) (value_at (bound bs x (Object id)) b)
+            ≡ (if same_text x a then (if same_text x b then true else one_object (value_at bs n) (value_at bs b)) else if same_text x b then one_object (value_at bs a) (value_at bs n) else one_object (value_at bs a) (value_at bs b))
+        pairs a b =
+            ap (λ p. one_object p (value_at (bound bs x (Object id)) b)) (value_at-bound bs x (Object id) a) ∙ ap (one_object _) (value_at-bound bs x (Object id) b)
+            ∙ both (same_text x a) (same_text x b) (value_at bs a) (value_at bs b) (value_at bs n) is
+
+    bind : (o : Option Text) (v : Value) → IsOf bs o v → state_over (bound bs x v) w ≡ with_value (state_over bs w) x o (entry_of w v)
+    bind None (Scalar c) of = new (Scalar c) (scalar_apart c)
+    bind (Some n) (Scalar c) of = new (Scalar c) (scalar_apart c)
+    bind None (Object id) of = new (Object id) (unnamed_apart id of)
+    bind (Some n) (Object id) of = object n id of

@@ -2,9 +2,9 @@
 use Rattle.std.specs.Prelude.{◌≡◌, ◌⊎◌, ℕ, List, ◌++◌, Option, codes}
 use Rattle.outside_io.specs.Sink.{appended, AppendsFront}
 use Rattle.meaning.specs.Text.{Text}
-use Rattle.meaning.specs.FirstRun.{RunResult, Ending, finished, fault, usage, syntax, after_text, after_answer}
-use Rattle.meaning.specs.FirstState.{State}
-use Rattle.meaning.specs.FirstStatement.{Answer}
+use Rattle.meaning.specs.Run.{RunResult, Ending, finished, fault, usage, syntax, after_texts, after_answer}
+use Rattle.meaning.specs.State.{State}
+use Rattle.meaning.specs.Statement.{Answer}
 use Rattle.script_run.specs.declared.status.Status.{Status}
 use Rattle.script_run.specs.declared.status.Status.TheVariants.{Done, Fault, Usage, Syntax, Input, Output, Memory}
 
@@ -42,10 +42,11 @@ Ends means status out out' err err' = EndsAs means status out out' err err'
 abbrev pub Is : RunResult → RunResult → Type 0
 Is one result = result ≡ one
 
--- the statement was done: its text was written, and the run goes on from the new state
+-- the statement was done: what it prints was written, its warning too, and the run goes on from the new state
 abbrev pub GoesOn : Answer → ℕ → State → Option (List ℕ) → Option (List ℕ) → Option (List ℕ) → Option (List ℕ) → Type 0
 GoesOn answer line state out out' err err' =
-    (text : List ℕ) × (out' ≡ appended out text) × (err' ≡ err) × ((go : State → RunResult) → after_answer answer line go ≡ after_text text (go state))
+    (printed : List ℕ) × (warned : List ℕ) × (out' ≡ appended out printed) × (err' ≡ appended err warned)
+    × ((go : State → RunResult) → after_answer answer line go ≡ after_texts printed warned (go state))
 
 -- the run ends at the statement, whatever would have followed it
 abbrev pub Stops : Answer → ℕ → Status → Option (List ℕ) → Option (List ℕ) → Option (List ℕ) → Option (List ℕ) → Type 0
@@ -58,3 +59,7 @@ EndsWithLine line status result err err' = ((result ≡ status) × (err' ≡ app
 -- the run ends as a result that it may have, all of which was written, or for want of memory
 abbrev pub EndsByMeaning : (RunResult → Type 0) → Status → Option (List ℕ) → Option (List ℕ) → Option (List ℕ) → Option (List ℕ) → Type 0
 EndsByMeaning means status out out' err err' = EndsAs means status out out' err err' ⊎ (status ≡ Memory)
+
+-- a line that is no last one could not be written: a front of it was, or nothing for want of memory
+abbrev pub Warned : Status → Text → Option (List ℕ) → Option (List ℕ) → Type 0
+Warned status line err err' = ((status ≡ Output) × AppendsFront err err' line) ⊎ ((status ≡ Memory) × (err' ≡ err))

@@ -1,7 +1,12 @@
-pub mod Objects
-pub mod Names
-pub mod Namespace
+pub mod Values
+pub mod Bindings
+pub mod Faults
+pub mod Adding
+pub mod Seen
+pub mod Parts
+pub mod Work
+pub mod Setting
+pub mod Apart
 pub mod Session
-pub mod Answers
 pub mod Ends
 pub mod Exit

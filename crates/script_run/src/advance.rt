@@ -1,25 +1,28 @@
 // One statement of a run.
-ghost use Rattle.std.specs.Prelude.{◌≡◌, ◌≢◌, ◌⊎◌, ◌≤◌, IfErr, OnOk};
+ghost use Rattle.std.specs.Prelude.{◌≡◌, ◌≢◌, ◌⊎◌, ◌≤◌, ◌++◌, IfErr, OnOk};
 ghost use Rattle.outside_io.specs.Count.{HasRisen};
-ghost use Rattle.meaning.specs.First.{FirstForm, IsFirst, tree_of_first};
-ghost use Rattle.meaning.specs.FirstStatement.{statement_result};
+ghost use Rattle.outside_io.specs.Sink.{appended, AppendsFront};
+ghost use Rattle.meaning.specs.FaultOf.{fault_of};
+ghost use Rattle.meaning.specs.FaultText.{fault_text};
+ghost use Rattle.meaning.specs.Run.{line_about, warning_line};
+ghost use Rattle.meaning.specs.Statement.{statement_result};
 ghost use Rattle.script_syntax.specs.View.{form_of};
 ghost use Rattle.script_run.specs.Session.{state_of};
-ghost use Rattle.meaning.specs.FirstRun.{code_text, fault_line};
-ghost use Rattle.script_run.specs.Ends.{EndsWithLine, GoesOn, Stops};
+ghost use Rattle.script_run.specs.Ends.{EndsWithLine, GoesOn, Stops, Warned};
 
 use crate::ending::end_with;
 use crate::fault::StepFault;
 use crate::file_names::FileNames;
 use crate::session::Session;
 use crate::status::Status;
-use crate::text::line_of_fault;
-use cell_core::Code;
+use crate::text::{line_of_fault, line_of_warning};
+use cell_core::{Fault, TextDict};
 use outside_io::{Files, Sink, write_piece};
 use script_syntax::Statement;
 use std::alloc::Global;
 
-// Does the statement and writes what it prints, or writes its fault and says how the run ends.
+// Does the statement and writes its warning and what it prints, or its warning and its fault, and then says how the
+// run ends.
 pub fn advance<F: Files, O: Sink, E: Sink>(
     alloc: Global,
     session: &mut Session,
@@ -29,13 +32,8 @@ pub fn advance<F: Files, O: Sink, E: Sink>(
     out: &mut O,
     err: &mut E,
 ) -> Result<(), Status>
-    requires { IsFirst (form_of statement.now.form) }
-
-    ensures on { OnOk result ((f : FirstForm) → form_of statement.now.form ≡ tree_of_first f →
-        GoesOn (statement_result (state_of session.old) f) statement.now.line (state_of session.new) (O.written out.old) (O.written out.new) (E.written err.old) (E.written err.new)) }
-    ensures stops { IfErr result (λ status. (f : FirstForm) → form_of statement.now.form ≡ tree_of_first f →
-        Stops (statement_result (state_of session.old) f) statement.now.line status (O.written out.old) (O.written out.new) (E.written err.old) (E.written err.new)) }
-
+    ensures on { OnOk result (GoesOn (statement_result (state_of session.old) (form_of statement.now.form)) statement.now.line (state_of session.new) (O.written out.old) (O.written out.new) (E.written err.old) (E.written err.new)) }
+    ensures stops { IfErr result (λ status. Stops (statement_result (state_of session.old) (form_of statement.now.form)) statement.now.line status (O.written out.old) (O.written out.new) (E.written err.old) (E.written err.new)) }
     ensures causes { IfErr result (λ status. (status ≢ Status.Usage) × (status ≢ Status.Input)) }
     ensures output { IfErr result (λ status. status ≡ Status.Output → HasRisen (O.faults out.old) (O.faults out.new) ⊎ HasRisen (E.faults err.old) (E.faults err.new)) }
     ensures out_faults { O.faults out.old ≤ O.faults out.new }
@@ -44,29 +42,57 @@ pub fn advance<F: Files, O: Sink, E: Sink>(
 {
     match session.step(files, names, statement) {
         Ok(outcome) => {
-            let Ok(()) = write_piece(out, outcome.printed.as_str().as_bytes()) else {
-                return Err(Status::Output);
-            };
-            Ok(())
+            warn(alloc, statement.line, outcome.warned, err)?;
+            show(outcome.printed.as_str(), out)
         }
         Err(StepFault::NoMemory) => Err(Status::Memory),
         Err(StepFault::Input) => unreachable!(),
-        Err(StepFault::Refused { code, .. }) => Err(end_at_fault(
-            alloc,
-            statement.line,
-            &code,
-            err,
-        )),
+        Err(StepFault::Refused { code, warned }) => {
+            warn(alloc, statement.line, warned, err)?;
+            let fault = Fault {
+                line: statement.line,
+                code,
+            };
+            Err(end_at_fault(alloc, session.texts(), &fault, err))
+        }
     }
 }
 
+// Writes what a statement prints.
+fn show<O: Sink>(printed: &str, out: &mut O) -> Result<(), Status>
+    ensures shown { OnOk result (O.written out.new ≡ appended (O.written out.old) printed.now) }
+    ensures front { IfErr result (λ status. (status ≡ Status.Output) × AppendsFront (O.written out.old) (O.written out.new) printed.now × HasRisen (O.faults out.old) (O.faults out.new)) }
+    ensures faults { O.faults out.old ≤ O.faults out.new }
+{
+    match write_piece(out, printed.as_bytes()) {
+        Ok(()) => Ok(()),
+        Err(_) => Err(Status::Output),
+    }
+}
+
+// Writes the warning of a statement that sets an object without a name.
+fn warn<E: Sink>(alloc: Global, line: u64, warned: bool, err: &mut E) -> Result<(), Status>
+    ensures shown { OnOk result (E.written err.new ≡ appended (E.written err.old) (warning_line line warned)) }
+    ensures front { IfErr result (λ status. Warned status (warning_line line warned) (E.written err.old) (E.written err.new)) }
+    ensures output { IfErr result (λ status. status ≡ Status.Output → HasRisen (E.faults err.old) (E.faults err.new)) }
+    ensures faults { E.faults err.old ≤ E.faults err.new }
+{
+    if !warned {
+        return Ok(());
+    }
+    let Ok(text) = line_of_warning(alloc, line) else {
+        return Err(Status::Memory);
+    };
+    show(text.as_str(), err)
+}
+
 // Writes the line of a fault, with which a run ends.
-fn end_at_fault<E: Sink>(alloc: Global, line: u64, code: &Code, err: &mut E) -> Status
-    ensures ended { EndsWithLine (fault_line line (code_text code.now)) Status.Fault result (E.written err.old) (E.written err.new) }
+fn end_at_fault<E: Sink>(alloc: Global, texts: &TextDict, fault: &Fault, err: &mut E) -> Status
+    ensures ended { EndsWithLine (line_about fault.now.line (fault_text (fault_of texts.now fault.now.code))) Status.Fault result (E.written err.old) (E.written err.new) }
     ensures output { result ≡ Status.Output → HasRisen (E.faults err.old) (E.faults err.new) }
     ensures faults { E.faults err.old ≤ E.faults err.new }
 {
-    match line_of_fault(alloc, line, code) {
+    match line_of_fault(alloc, texts, fault) {
         Ok(text) => end_with(err, Status::Fault, text.as_str()),
         Err(_) => Status::Memory,
     }

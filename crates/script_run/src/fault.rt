@@ -1,4 +1,5 @@
 // What a statement answers.
+use crate::value::OpFault;
 use cell_core::{Code, NoMemory, Words};
 
 /// What a statement printed.
@@ -34,5 +35,22 @@ impl From<NoMemory> for StepFault {
 
     fn from(_: NoMemory) -> Self {
         StepFault::NoMemory
+    }
+}
+
+impl From<OpFault> for StepFault {
+    ghost use Rattle.std.specs.Prelude.{◌≡◌};
+    ghost use Rattle.script_run.specs.Faults.{step_fault};
+
+    ghost from_gives = { λ f fault. fault ≡ step_fault f };
+
+    fn from(fault: OpFault) -> Self {
+        match fault {
+            OpFault::Refused(code) => StepFault::Refused {
+                code,
+                warned: false,
+            },
+            OpFault::NoMemory => StepFault::NoMemory,
+        }
     }
 }

@@ -1,38 +1,47 @@
-//! Sessions and runs: what the statements of a script do, and the run from the words of a command
-//! line to the bytes written.
+//! Sessions and runs: what the statements of a script do, and what a run of it prints.
 //!
-//! A [`Session`] keeps names and the Series that they stand for. Two names bound to one object are one
-//! object, `copy()` makes an object of its own, and an object ends when no name stands for it. A
-//! statement that is refused leaves names, objects and their numbers as they were.
+//! A [`Session`] keeps names, each with the scalar or the Series that it stands for. Two names bound to
+//! one object are one object, `copy()` makes an object of its own, and an object ends when no name
+//! stands for it. Each statement does what its meaning says: expressions are evaluated in order, the
+//! first fault refuses the statement, and a statement that is refused leaves names, objects and their
+//! numbers as they were. A form that isn't built yet evaluates its parts and is then refused.
 //!
-//! [`run`] reads the script that the words name, does its statements in a session, and writes what they
-//! print. Where the files tell what they hold, the bytes that it writes and its [`Status`] are those of
-//! a meaning in which each copy is at once a full copy.
+//! [`run`] reads the script that the words of a command line name, does its statements in order, and
+//! writes what they print on one sink, warnings and the first fault on another.
 //!
 //! ```text
-//! let mut files = MemFiles::new(alloc);
-//! files.hold("s", b"a = pd.Series([1, 2])\nprint(a.iloc[-1])\n")?;
-//! let mut out = MemSink::with_room(alloc, 100)?;
-//! let mut err = MemSink::with_room(alloc, 100)?;
-//! // `words` holds "pdscript" and "s"
+//! let mut session = Session::new(alloc);
+//! // `statement` is the tree of `print(len(pd.Series([1, 2])))`
+//! let outcome = session.step(&mut files, &names, &statement)?;
+//! assert_eq!(rt; outcome.printed.as_str(), "2\n");
+//! assert!(rt; session.forget("a") == false);
+//!
 //! let status = run(alloc, &words, &mut files, &mut out, &mut err);
-//! assert_eq!(rt; status, Status::Done);
-//! assert_eq!(rt; out.written(), b"2\n".as_slice());
 //! ```
 #![tactic(auto)]
 
 mod advance;
 mod ending;
+mod evaluating;
 mod fault;
 mod file_names;
-mod namespace;
-mod object;
+mod forms;
+mod given;
+mod key;
+mod literal;
+mod methods;
+mod names;
+mod objects;
 mod row;
 mod running;
 mod session;
+mod statements;
 mod status;
+mod sweeping;
 mod text;
+mod value;
 mod words;
+mod work;
 
 pub use fault::{Outcome, StepFault};
 pub use file_names::{FileName, FileNames};

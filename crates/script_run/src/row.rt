@@ -1,9 +1,10 @@
-// Rows of numbers.
-ghost use Rattle.std.specs.Prelude.{◌≡◌, ◌<◌, IfOk, IfSome};
+// Rows of numbers, and the texts of scalars.
+ghost use Rattle.std.specs.Prelude.{◌≡◌, ◌<◌, ◌++◌, IfOk, IfSome};
 ghost use Rattle.meaning.specs.Table.{place_of};
-ghost use Rattle.meaning.specs.FirstStatement.{printed_row};
+ghost use Rattle.meaning.specs.Cell.{datum};
+ghost use Rattle.meaning.specs.Statement.{cell_text};
 
-use cell_core::{NoMemory, Words};
+use cell_core::{Cell, NoMemory, TextDict, Words};
 use itoa::Buffer;
 use std::alloc::Global;
 
@@ -20,12 +21,33 @@ pub fn row_at(position: i64, count: usize) -> Option<usize>
     }
 }
 
-// The line that shows a number.
-pub fn row_text(alloc: Global, number: i64) -> Result<Words, NoMemory>
-    ensures { IfOk result (λ text. text ≡ printed_row (Some number)) }
+// The text of a scalar.
+pub fn cell_text(alloc: Global, texts: &TextDict, cell: Cell) -> Result<Words, NoMemory>
+    ensures { IfOk result (λ text. text ≡ cell_text (datum texts.now cell)) }
 {
     let mut digits = Buffer::new();
-    let mut text = Words::from_text(alloc, digits.format(number))?;
-    text.push_str("\n")?;
+    Words::from_text(
+        alloc,
+        match cell {
+            Cell::Na => "<NA>",
+            Cell::Int(number) => digits.format(number),
+            Cell::Bool(true) => "True",
+            Cell::Bool(false) => "False",
+            Cell::Text(id) => texts.text(id),
+        },
+    )
+}
+
+// The printed text of a scalar: its text, and then the end.
+pub fn printed_cell(
+    alloc: Global,
+    texts: &TextDict,
+    cell: Cell,
+    end: &str,
+) -> Result<Words, NoMemory>
+    ensures { IfOk result (λ text. text ≡ cell_text (datum texts.now cell) ++ end.now) }
+{
+    let mut text = cell_text(alloc, texts, cell)?;
+    text.push_str(end)?;
     Ok(text)
 }

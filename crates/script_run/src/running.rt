@@ -1,9 +1,9 @@
 // A run, from the words to the bytes written.
 ghost use Rattle.std.specs.Prelude.{◌≡◌, ◌≢◌, ◌⊎◌, ◌<◌, ◌≤◌, ◌^◌, ℕ, List, length, map, IfSome, IfNone, IsSome, MatchOption, string_bytes};
 ghost use Rattle.outside_io.specs.Count.{HasRisen, raised};
-ghost use Rattle.meaning.specs.FirstScript.{FirstStatement, most_bytes, tree_of_statement};
-ghost use Rattle.meaning.specs.FirstState.{no_names};
-ghost use Rattle.meaning.specs.FirstRun.{not_first_line, not_found_line, IsRunResult, IsScriptResult, IsPathResult, path_of, statements_result, usage, usage_line, with_line};
+ghost use Rattle.meaning.specs.Script.{most_bytes};
+ghost use Rattle.meaning.specs.State.{no_names};
+ghost use Rattle.meaning.specs.Run.{not_found_line, syntax_line, too_large_line, IsRunResult, IsScriptResult, IsPathResult, path_of, statements_result, usage, usage_line, with_line};
 ghost use Rattle.script_syntax.specs.ScriptView.{statements_of};
 ghost use Rattle.script_run.specs.Ends.{Ends, EndsByMeaning, EndsWithLine, Is};
 
@@ -12,7 +12,7 @@ use crate::ending::{end_with, say_unread};
 use crate::file_names::FileNames;
 use crate::session::Session;
 use crate::status::Status;
-use crate::text::line_of_absence;
+use crate::text::{line_of_absence, line_of_syntax};
 use crate::words::script_path;
 use outside_io::{Files, ReadFault, Sink, read_whole};
 use script_syntax::{ParseFault, Script, parse};
@@ -90,7 +90,7 @@ fn run_file<F: Files, O: Sink, E: Sink>(
     match read_whole(alloc, files, path, MOST_BYTES) {
         Ok(bytes) => run_bytes(alloc, bytes.as_slice(), files, out, err),
         Err(ReadFault::Absent) => end_absent(alloc, path, err),
-        Err(ReadFault::TooLong) => end_not_first(err),
+        Err(ReadFault::TooLong) => end_too_large(err),
         Err(ReadFault::Failed) => {
             say_unread(err);
             Status::Input
@@ -111,13 +111,25 @@ fn end_absent<E: Sink>(alloc: Global, path: &str, err: &mut E) -> Status
     }
 }
 
-// Ends a run whose bytes are no script.
-fn end_not_first<E: Sink>(err: &mut E) -> Status
-    ensures ended { EndsWithLine not_first_line Status.Syntax result (E.written err.old) (E.written err.new) }
+// Ends a run whose script has too many bytes.
+fn end_too_large<E: Sink>(err: &mut E) -> Status
+    ensures ended { EndsWithLine too_large_line Status.Syntax result (E.written err.old) (E.written err.new) }
     ensures output { result ≡ Status.Output → HasRisen (E.faults err.old) (E.faults err.new) }
     ensures faults { E.faults err.old ≤ E.faults err.new }
 {
-    end_with(err, Status::Syntax, "not in the first language\n")
+    end_with(err, Status::Syntax, "script too large\n")
+}
+
+// Ends a run whose bytes are no script, by the line of its first piece that isn't right.
+fn end_syntax<E: Sink>(alloc: Global, line: u64, err: &mut E) -> Status
+    ensures ended { EndsWithLine (syntax_line line) Status.Syntax result (E.written err.old) (E.written err.new) }
+    ensures output { result ≡ Status.Output → HasRisen (E.faults err.old) (E.faults err.new) }
+    ensures faults { E.faults err.old ≤ E.faults err.new }
+{
+    match line_of_syntax(alloc, line) {
+        Ok(text) => end_with(err, Status::Syntax, text.as_str()),
+        Err(_) => Status::Memory,
+    }
 }
 
 // Runs the script that the bytes are.
@@ -137,12 +149,13 @@ fn run_bytes<F: Files, O: Sink, E: Sink>(
 {
     match parse(alloc, bytes) {
         Ok(script) => run_script(alloc, &script, files, out, err),
-        Err(ParseFault::NotFirst) => end_not_first(err),
+        Err(ParseFault::SyntaxAt(line)) => end_syntax(alloc, line, err),
+        Err(ParseFault::TooLarge) => end_too_large(err),
         Err(ParseFault::NoMemory) => Status::Memory,
     }
 }
 
-// Runs the statements in order, up to the first fault.
+// Does the statements in order, up to the first fault.
 fn run_script<F: Files, O: Sink, E: Sink>(
     alloc: Global,
     script: &Script,
@@ -150,9 +163,7 @@ fn run_script<F: Files, O: Sink, E: Sink>(
     out: &mut O,
     err: &mut E,
 ) -> Status
-    requires { (ss : List FirstStatement) × (statements_of script.now ≡ map tree_of_statement ss) }
-    ensures told { (ss : List FirstStatement) → statements_of script.now ≡ map tree_of_statement ss →
-        Ends (Is (statements_result no_names ss)) result (O.written out.old) (O.written out.new) (E.written err.old) (E.written err.new) }
+    ensures told { Ends (Is (statements_result no_names (statements_of script.now))) result (O.written out.old) (O.written out.new) (E.written err.old) (E.written err.new) }
     ensures causes { (result ≢ Status.Usage) × (result ≢ Status.Input) }
     ensures output { result ≡ Status.Output → HasRisen (O.faults out.old) (O.faults out.new) ⊎ HasRisen (E.faults err.old) (E.faults err.new) }
     ensures out_faults { O.faults out.old ≤ O.faults out.new }

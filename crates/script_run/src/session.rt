@@ -1,37 +1,36 @@
 // Sessions.
-ghost use Rattle.std.specs.Prelude.{◌≡◌, ◌<◌, [], length, IfOk, IfErr, OnErr, IsSome, false};
-ghost use Rattle.meaning.specs.Table.{place_of};
-ghost use Rattle.meaning.specs.FirstState.{no_names};
-ghost use Rattle.meaning.specs.First.{IsFirst, bind_name, bind_series, bind_copy, set_place, print_place};
-ghost use Rattle.meaning.specs.FirstStatement.{done, statement_result};
+ghost use Rattle.std.specs.Prelude.{◌≡◌, None, IfOk, IfErr, OnOk, OnErr, is_some};
+ghost use Rattle.meaning.specs.State.{no_names, without_name};
+ghost use Rattle.meaning.specs.Statement.{done, statement_result};
 ghost use Rattle.script_syntax.specs.View.{form_of};
-ghost use Rattle.script_run.specs.Names.{object_of};
-ghost use Rattle.script_run.specs.Answers.{IsOutOfRange};
+ghost use Rattle.script_run.specs.Values.{tables_of};
+ghost use Rattle.script_run.specs.Bindings.{bindings_of, AreNamed};
+ghost use Rattle.script_run.specs.Apart.{ChangesOneObject};
 
 use crate::fault::{Outcome, StepFault};
 use crate::file_names::FileNames;
-use crate::namespace::Namespace;
-use crate::row::{row_at, row_text};
-use cell_core::{Code, NoMemory, Numbers, Words};
+use crate::work::Work;
+use cell_core::TextDict;
+use indexmap::IndexMap;
 use outside_io::Files;
-use script_syntax::{First, Statement, first_of, numbers_of};
+use script_syntax::{Form, Statement};
+use slab::Slab;
 use std::alloc::Global;
 
-/// Names and the Series that they stand for.
+/// Names, each with the scalar or the Series that it stands for.
 ///
 /// Two names bound to one object are one object, and what is set by one name is seen by the other. An object ends when
 /// no name stands for it. A statement that is refused leaves names, objects and their numbers as they were.
 #[derive(Drop)]
 pub struct Session {
-    alloc: Global,
-    names: Namespace,
+    work: Work,
+    ghost swept: { AreNamed (bindings_of work.names.entries) (tables_of work.objects) },
 }
 
 impl Session {
     ghost use Rattle.std.specs.Prelude.{ℕ};
-    ghost use Rattle.script_run.specs.Namespace.{names_in, tables_in};
-    ghost use Rattle.script_run.specs.Session.{state_of, live_of, LiveAreNamed};
-    ghost use Rattle.script_run.specs.Answers.{IsFaultOf, IsNoName, MeansAnswer, IsStepFault};
+    ghost use Rattle.script_run.specs.Session.{state_of, live_of, texts_of, LiveAreNamed};
+    ghost use Rattle.script_run.specs.Faults.{IsStepFault};
 
     /// A session without names. Takes no memory.
     pub fn new(alloc: Global) -> Session
@@ -40,16 +39,22 @@ impl Session {
         ensures live { LiveAreNamed result }
     {
         Session {
-            alloc,
-            names: Namespace::new(alloc),
+            work: Work {
+                alloc,
+                texts: TextDict::new(alloc),
+                names: IndexMap::new(alloc),
+                objects: Slab::new(alloc),
+                temps: Vec::new(alloc),
+            },
         }
     }
 
-    /// Does one statement, and answers what it printed.
+    /// Does one statement, and answers what it printed and whether it set a place of an object without a name.
     ///
-    /// No statement of the first language reads a file, so `files` and `names` are left alone, and a refusal is never
-    /// [`StepFault::Input`]. The refusals are the first fault of the statement, a name that stands for nothing or a
-    /// position past the rows, and want of memory. After each of them the session is as it was.
+    /// A setting through a name changes the object of that name alone, and a setting of an object without a name
+    /// changes no name's value. The refusals are the first fault of the statement, with the mark of such a setting, and want of memory. After
+    /// each of them the session is as it was. No form that reads a file is built, so `files` and `names` are left
+    /// alone, and a refusal is never [`StepFault::Input`].
     #[allow(unused_variables)]
     pub fn step<F: Files>(
         &mut self,
@@ -57,140 +62,45 @@ impl Session {
         names: &FileNames,
         statement: &Statement,
     ) -> Result<Outcome, StepFault>
-        requires { IsFirst (form_of statement.now.form) }
-        ensures done { IfOk result (λ o. MeansAnswer (state_of self.old) (form_of statement.now.form) (done (state_of self.new) o.printed)) }
-        ensures unwarned { IfOk result (λ o. o.warned ≡ false) }
-        ensures refused { IfErr result (λ fault. IsStepFault fault (MeansAnswer (state_of self.old) (form_of statement.now.form))) }
+        ensures done { IfOk result (λ o. statement_result (state_of self.old) (form_of statement.now.form) ≡ done (state_of self.new) o.printed o.warned) }
+        ensures refused { IfErr result (λ fault. IsStepFault (texts_of self.new) fault (statement_result (state_of self.old) (form_of statement.now.form))) }
         ensures same { OnErr result (state_of self.new ≡ state_of self.old) }
         ensures objects { OnErr result (live_of self.new ≡ live_of self.old) }
         ensures live { LiveAreNamed self.new }
+        ensures apart { OnOk result (ChangesOneObject (form_of statement.now.form) (state_of self.old) (state_of self.new)) }
         ensures files { files.new ≡ files.old }
     {
-        match first_of(&statement.form) {
-            First::BindName(name, other) => self.bind_name(name.as_str(), other.as_str()),
-            First::BindSeries(name, list) => {
-                let numbers = numbers_of(self.alloc, list)?;
-                self.bind_series(name.as_str(), numbers)
-            }
-            First::BindCopy(name, other) => self.bind_copy(name.as_str(), other.as_str()),
-            First::SetPlace(name, position, value) => {
-                self.set_place(name.as_str(), position, value)
-            }
-            First::PrintPlace(name, position) => self.print_place(name.as_str(), position),
-        }
+        self.perform(&statement.form)
     }
 
-    // `name = other`: both are one object.
-    fn bind_name(&mut self, name: &str, other: &str) -> Result<Outcome, StepFault>
-        ensures done { IfOk result (λ o. statement_result (state_of self.old) (bind_name name.now other.now) ≡ done (state_of self.new) o.printed) }
-        ensures unwarned { IfOk result (λ o. o.warned ≡ false) }
-        ensures refused { IfErr result (λ fault. IsFaultOf fault (statement_result (state_of self.old) (bind_name name.now other.now))) }
+    /// Takes a name out, and its object where no other name stands for it. Answers whether the name was there.
+    /// Takes no memory.
+    pub fn forget(&mut self, name: &str) -> bool
+        ensures there { result ≡ is_some ((state_of self.old).value name.now) }
+        ensures state { state_of self.new ≡ without_name (state_of self.old) name.now }
+        ensures live { LiveAreNamed self.new }
+    {
+        self.work.forget(name)
+    }
+
+    /// The texts by number, which the labels of a fault's details name.
+    pub fn texts(&self) -> &TextDict
+        ensures { result.now ≡ texts_of self.now }
+    {
+        &self.work.texts
+    }
+
+    // Does the statement, and ends what it has made and no name stands for.
+    fn perform(&mut self, form: &Form) -> Result<Outcome, StepFault>
+        ensures done { IfOk result (λ o. statement_result (state_of self.old) (form_of form.now) ≡ done (state_of self.new) o.printed o.warned) }
+        ensures refused { IfErr result (λ fault. IsStepFault (texts_of self.new) fault (statement_result (state_of self.old) (form_of form.now))) }
         ensures same { OnErr result (state_of self.new ≡ state_of self.old) }
         ensures objects { OnErr result (live_of self.new ≡ live_of self.old) }
+        ensures live { LiveAreNamed self.new }
     {
-        let id = self.object(other)?;
-        self.names.share(name, id)?;
-        Ok(quiet(self.alloc))
-    }
-
-    // `name = pd.Series([..])`: an object of its own.
-    fn bind_series(&mut self, name: &str, numbers: Numbers) -> Result<Outcome, StepFault>
-        ensures done { IfOk result (λ o. statement_result (state_of self.old) (bind_series name.now numbers) ≡ done (state_of self.new) o.printed) }
-        ensures unwarned { IfOk result (λ o. o.warned ≡ false) }
-        ensures refused { IfErr result (λ fault. IsFaultOf fault (statement_result (state_of self.old) (bind_series name.now numbers))) }
-        ensures same { OnErr result (state_of self.new ≡ state_of self.old) }
-        ensures objects { OnErr result (live_of self.new ≡ live_of self.old) }
-    {
-        self.names.bind(name, numbers)?;
-        Ok(quiet(self.alloc))
-    }
-
-    // `name = other.copy()`: an object of its own with the same numbers.
-    fn bind_copy(&mut self, name: &str, other: &str) -> Result<Outcome, StepFault>
-        ensures done { IfOk result (λ o. statement_result (state_of self.old) (bind_copy name.now other.now) ≡ done (state_of self.new) o.printed) }
-        ensures unwarned { IfOk result (λ o. o.warned ≡ false) }
-        ensures refused { IfErr result (λ fault. IsFaultOf fault (statement_result (state_of self.old) (bind_copy name.now other.now))) }
-        ensures same { OnErr result (state_of self.new ≡ state_of self.old) }
-        ensures objects { OnErr result (live_of self.new ≡ live_of self.old) }
-    {
-        let source = self.object(other)?;
-        let copied = self.names.numbers(source).copy(self.alloc)?;
-        self.names.bind(name, copied)?;
-        Ok(quiet(self.alloc))
-    }
-
-    // `name.iloc[position] = value`.
-    fn set_place(&mut self, name: &str, position: i64, value: i64) -> Result<Outcome, StepFault>
-        ensures done { IfOk result (λ o. statement_result (state_of self.old) (set_place name.now position value) ≡ done (state_of self.new) o.printed) }
-        ensures unwarned { IfOk result (λ o. o.warned ≡ false) }
-        ensures refused { IfErr result (λ fault. IsFaultOf fault (statement_result (state_of self.old) (set_place name.now position value))) }
-        ensures same { OnErr result (state_of self.new ≡ state_of self.old) }
-        ensures objects { OnErr result (live_of self.new ≡ live_of self.old) }
-    {
-        let id = self.object(name)?;
-        let row = row_of(self.names.numbers(id), position)?;
-        self.names.set(id, row, value);
-        Ok(quiet(self.alloc))
-    }
-
-    // `print(name.iloc[position])`.
-    fn print_place(&mut self, name: &str, position: i64) -> Result<Outcome, StepFault>
-        ensures done { IfOk result (λ o. statement_result (state_of self.old) (print_place name.now position) ≡ done (state_of self.new) o.printed) }
-        ensures unwarned { IfOk result (λ o. o.warned ≡ false) }
-        ensures refused { IfErr result (λ fault. IsFaultOf fault (statement_result (state_of self.old) (print_place name.now position))) }
-        ensures same { OnErr result (state_of self.new ≡ state_of self.old) }
-        ensures objects { OnErr result (live_of self.new ≡ live_of self.old) }
-    {
-        let id = self.object(name)?;
-        let numbers = self.names.numbers(id);
-        let row = row_of(numbers, position)?;
-        let printed = row_text(self.alloc, *numbers.at(row))?;
-        Ok(Outcome {
-            printed,
-            warned: false,
-        })
-    }
-
-    // The object of a name, or a NameError.
-    fn object(&self, name: &str) -> Result<usize, StepFault>
-        ensures found { IfOk result (λ id. object_of (names_in self.now.names) name.now ≡ Some id) }
-        ensures live { IfOk result (λ id. IsSome (live_of self.now id)) }
-        ensures refused { IfErr result (λ fault. IsNoName fault name.now (object_of (names_in self.now.names) name.now)) }
-    {
-        match self.names.find(name) {
-            Some(id) => Ok(id),
-            None => Err(StepFault::Refused {
-                code: Code::NoName(Words::from_text(self.alloc, name)?),
-                warned: false,
-            }),
-        }
-    }
-}
-
-// The row of a position, or an IndexError.
-fn row_of(numbers: &Numbers, position: i64) -> Result<usize, StepFault>
-    ensures row { IfOk result (λ row. place_of position (length numbers.now) ≡ Some row) }
-    ensures within { IfOk result (λ row. row < length numbers.now) }
-    ensures refused { IfErr result (λ fault. IsOutOfRange fault position (length numbers.now) (place_of position (length numbers.now))) }
-{
-    let count = numbers.len();
-    match row_at(position, count) {
-        Some(row) => Ok(row),
-        None => Err(StepFault::Refused {
-            code: Code::OutOfRange(position, count as u64),
-            warned: false,
-        }),
-    }
-}
-
-// Nothing printed.
-fn quiet(alloc: Global) -> Outcome
-    ensures printed { result.printed ≡ [] }
-    ensures unwarned { result.warned ≡ false }
-{
-    Outcome {
-        printed: Words::new(alloc),
-        warned: false,
+        let result = self.work.perform(form);
+        self.work.sweep();
+        result
     }
 }
 

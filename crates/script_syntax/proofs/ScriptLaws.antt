@@ -1,188 +1,150 @@
--- A script is read line by line.
-use Rattle.std.proofs.Common.{zero, slice_get, ◌≡◌, ◌∙◌, sym, ap, subst, refl, Result, Err, IsErrOf, ℕ, suc, ◌+◌, ◌≤◌, List, [], ◌∷◌, ◌++◌, map, length, append_assoc, length-append, arith, inl, inr, true, false, ◌==◌, ◌-◌, codes, Some, None, Bor}
-use Rattle.std.specs.List.{slice_split}
-use Rattle.std.specs.Str.Lines.{lines, lines_of_parts}
-use Rattle.std.specs.Str.Iter.{lines_steps}
+-- A script read piece by piece.
+use Rattle.std.proofs.Common.{◌≡◌, ◌≢◌, ℕ, zero, suc, ◌+◌, ◌-◌, ◌<◌, List, [], ◌∷◌, ◌++◌, refl, sym, ◌∙◌, ap, subst, append_assoc, arith, inl, inr, ◌⊎◌, ◌≤◌, length, take, drop, Ok, Err, true, false, nat_eq as eqb}
+use Rattle.std.proofs.lemmas.List.{append-nil}
 use Rattle.std.proofs.lemmas.Bool.Decides.{nat_tests}
-use Rattle.std.proofs.lemmas.Iterator.{YieldsList}
-use Rattle.std.proofs.lemmas.List.Splits.{length-slice_split}
-use Rattle.std.proofs.lemmas.List.{append-nil, map-append, length-map}
-use Rattle.std.proofs.lemmas.List.Sums.{count_by-le-length}
-use Rattle.meaning.specs.Text.{Text}
-use Rattle.meaning.specs.FirstToken.{Token, word, mark, equals, open_paren, is_blank, begins_word, begins_with, Lexes, skip_blanks}
+use Rattle.std.specs.Str.{IsUtf8}
 use Rattle.meaning.specs.Tree as tree
-use Rattle.meaning.specs.First.{FirstForm, bind_name, bind_series, bind_copy, set_place, print_place}
-use Rattle.meaning.specs.FirstGrammar.{Spells}
-use Rattle.meaning.specs.FirstScript.{most_statements, FirstStatement, tree_of_statement, IsBlankLine, IsStatementLine, AreLines}
-use Rattle.script_syntax.specs.Parsing.{AreTheStatements, AddsLine, AddsNothing}
-use Rattle.script_syntax.specs.Reading.{series_front}
-use Rattle.script_syntax.proofs.Runs.{true_or_false}
-use Rattle.script_syntax.proofs.TokenLaws.{word_begins}
-use Rattle.script_syntax.proofs.LexLaws.{Lexes-unique}
-use Rattle.script_syntax.proofs.GrammarLaws.{copy_end, Spells-unique}
+use Rattle.meaning.specs.Pieces.{pieces, cut, plain}
+use Rattle.meaning.specs.Script.{IsBlank, IsStatement, IsRight, ArePieces, IsFirstWrong, most_bytes, most_statements, line_ends}
+use Rattle.script_syntax.specs.View.{form_of}
+use Rattle.script_syntax.specs.PieceRead.{Reads, IsOneStatement, IsPieceRead, IsSettled}
+use Rattle.script_syntax.specs.declared.pieces.PieceRead.{PieceRead}
+use Rattle.script_syntax.specs.declared.pieces.PieceRead.TheVariants.{Blank, Statement, Wrong}
+use Rattle.script_syntax.specs.declared.pieces.ParseFault.{ParseFault}
+use Rattle.script_syntax.specs.declared.pieces.ParseFault.TheVariants.{SyntaxAt, TooLarge, NoMemory}
+use Rattle.script_syntax.specs.Parsed.{IsParsed, IsTheScript, IsTheSyntaxLine}
 
--- ---- one line
+pub reads_nothing : (all : List (List ℕ)) → Reads [] most_statements 1 all all
+reads_nothing all = record { there = λ more is. is; back = λ ss is. (ss, refl, is); wrong = λ at is. is; wrong_back = λ at is. is }
 
-pub IsStatementLine-unique : (f g : FirstForm) (line : List ℕ) → IsStatementLine f line → IsStatementLine g line → f ≡ g
-IsStatementLine-unique f g line (ts, lexed, spelled) (us, lexed', spelled') =
-    Spells-unique f g us (subst (Spells f) (Lexes-unique ts us line lexed lexed') spelled) spelled'
+module _ (piece : List ℕ) (rest : List (List ℕ)) (left line : ℕ) (made : List tree.Statement) (all : List (List ℕ)) (so_far : Reads made left line (piece ∷ rest) all) where
+  -- a blank piece
+  pub reads_blank : IsUtf8 piece → IsBlank piece → ((form : tree.Form) → IsStatement form piece → ⊥) → Reads made left (line + line_ends piece) rest all
+  reads_blank text blank none =
+      record {
+        there = λ more is. so_far.there more (inl (text, blank, is));
+        back = λ ss is. let b = so_far.back ss is in (b.0, b.1, only b.0 b.2);
+        wrong = λ at is. so_far.wrong at (inl (text, blank, is));
+        wrong_back = λ at is. only_wrong at (so_far.wrong_back at is);
+      }
+    where
+      only : (more : List tree.Statement) → ArePieces left line (piece ∷ rest) more → ArePieces left (line + line_ends piece) rest more
+      only more (inl is) = is.2
+      only more (inr is) = absurd (none is.1 is.5)
 
-pub nothing_spelled : (line : List ℕ) (ts : List Token) → Lexes ts line → ((f : FirstForm) → Spells f ts → ⊥) → (f : FirstForm) → IsStatementLine f line → ⊥
-nothing_spelled line ts lexed none f (us, lexed', spelled) = none f (subst (Spells f) (Lexes-unique us ts line lexed' lexed) spelled)
+      only_wrong : (at : ℕ) → IsFirstWrong left line (piece ∷ rest) at → IsFirstWrong left (line + line_ends piece) rest at
+      only_wrong at (inl is) = is.2
+      only_wrong at (inr (inl is)) = absurd (none is.1 is.4)
+      only_wrong at (inr (inr is)) = absurd (is.1 (text, inl blank))
 
--- a statement begins with a word
-spells_word : (f : FirstForm) (ts : List Token) → Spells f ts → (w : Text) × (us : List Token) × (ts ≡ word w ∷ us)
-spells_word (bind_name x n) ts (t, u, (is, plain), (was, plain'), e) = (x, mark equals ∷ u ∷ [], cc)
-spells_word (bind_series x zs) ts (t, vs, (is, plain), e, numbers) = (x, mark equals ∷ series_front vs, cc)
-spells_word (bind_copy x n) ts (t, u, (is, plain), (was, plain'), e) = (x, mark equals ∷ u ∷ copy_end, cc)
-spells_word (set_place n k v) ts (t, vs, ws, (is, plain), e, place, value) = (n, vs, cc)
-spells_word (print_place n k) ts (t, vs, (is, plain), e, place) = (codes "print", mark open_paren ∷ t ∷ vs, cc)
+  -- a piece that is one statement
+  pub reads_statement : (form : tree.Form) → IsOneStatement form piece → 0 < left → Reads (made ++ record { line = line; form = form } ∷ []) (left - 1) (line + line_ends piece) rest all
+  reads_statement form one some =
+      record {
+        there = λ more is. subst (ArePieces most_statements 1 all) (sym (append_assoc made (st ∷ []) more)) (so_far.there (st ∷ more) (inr (left - 1, form, more, counted, one.0, one.1, refl, is)));
+        back = λ ss is. let b = so_far.back ss is in let o = only b.0 b.2 in (o.0, b.1 ∙ ap (λ l. made ++ l) o.1 ∙ sym (append_assoc made (st ∷ []) o.0), o.2);
+        wrong = λ at is. so_far.wrong at (inr (inl (left - 1, form, counted, one.0, one.1, is)));
+        wrong_back = λ at is. only_wrong at (so_far.wrong_back at is);
+      }
+    where
+      st : tree.Statement
+      st = record { line = line; form = form }
 
-letter_is_no_blank : (b : ℕ) → begins_word b ≡ true → is_blank b ≡ false
-letter_is_no_blank b e = grind (arith, nat_tests)
+      counted : left ≡ suc (left - 1)
+      counted = omega arith
 
-word_is_no_blank : (line : List ℕ) → begins_with begins_word line ≡ true → skip_blanks line ≡ [] → ⊥
-word_is_no_blank [] e blank = cc
-word_is_no_blank (b ∷ bs) e blank = let kept = rw (letter_is_no_blank b e) at blank in cc
+      same_left : (fewer : ℕ) → left ≡ suc fewer → fewer ≡ left - 1
+      same_left fewer is = omega arith
 
-begins_with_word : (line : List ℕ) (w : Text) (us : List Token) → Lexes (word w ∷ us) line → begins_with begins_word line ≡ true
-begins_with_word line w us (rest, is, lexed) = word_begins w line rest is
+      only : (ss : List tree.Statement) → ArePieces left line (piece ∷ rest) ss → (more : List tree.Statement) × (ss ≡ st ∷ more) × ArePieces (left - 1) (line + line_ends piece) rest more
+      only ss (inl is) = absurd (one.3 is.1)
+      only ss (inr is) =
+          let here : List tree.Statement → tree.Form → List tree.Statement = λ more f. record { line = line; form = f } ∷ more in
+          (is.2, is.6 ∙ ap (here is.2) (one.2 is.1 is.5), subst (λ n. ArePieces n (line + line_ends piece) rest is.2) (same_left is.0 is.3) is.7)
 
--- a line that holds a statement is not blank
-pub blank_apart_statement : (f : FirstForm) (line : List ℕ) → IsBlankLine line → IsStatementLine f line → ⊥
-blank_apart_statement f line blank (ts, lexed, spelled) =
-    let front = spells_word f ts spelled in
-    word_is_no_blank line (begins_with_word line front.0 front.1 (subst (λ (us : List Token). Lexes us line) front.2 lexed)) blank
+      only_wrong : (at : ℕ) → IsFirstWrong left line (piece ∷ rest) at → IsFirstWrong (left - 1) (line + line_ends piece) rest at
+      only_wrong at (inl is) = absurd (one.3 is.1)
+      only_wrong at (inr (inl is)) = subst (λ n. IsFirstWrong n (line + line_ends piece) rest at) (same_left is.0 is.2) is.5
+      only_wrong at (inr (inr is)) = absurd (is.1 (one.0, inr ((λ none. absurd (omega (arith, none))), (form, one.1))))
 
--- ---- lines
+  -- a piece that isn't right
+  pub reads_wrong : (bytes : List ℕ) → all ≡ pieces bytes → (IsRight left piece → ⊥) → IsTheSyntaxLine bytes line
+  reads_wrong bytes is not_right =
+      subst (λ ps. IsFirstWrong most_statements 1 ps line × ((other : ℕ) → IsFirstWrong most_statements 1 ps other → other ≡ line) × ((ss : List tree.Statement) → ArePieces most_statements 1 ps ss → ⊥)) is (
+        so_far.wrong line (inr (inr (refl, not_right))),
+        λ other w. only other (so_far.wrong_back other w),
+        λ ss s. none (so_far.back ss s).0 (so_far.back ss s).2,
+      )
+    where
+      only : (other : ℕ) → IsFirstWrong left line (piece ∷ rest) other → other ≡ line
+      only other (inl w) = absurd (not_right (w.0, inl w.1))
+      only other (inr (inl w)) = absurd (not_right (w.3, inr ((λ zero_left. absurd (omega (arith, w.2, zero_left))), (w.1, w.4))))
+      only other (inr (inr w)) = w.0
 
--- Of all lines, these are left, and the next one has this number. The statements so far stand before those of the lines left, of which so many may come.
-pub record IsReadTo (all rest : List (List ℕ)) (left number : ℕ) (ss : List FirstStatement) : Type 0 where
-  pub grows : (more : List FirstStatement) → AreLines left number rest more → AreLines most_statements 1 all (ss ++ more)
-  pub only : (others : List FirstStatement) → AreLines most_statements 1 all others → (more : List FirstStatement) × (others ≡ ss ++ more) × AreLines left number rest more
+      none : (ss : List tree.Statement) → ArePieces left line (piece ∷ rest) ss → ⊥
+      none ss (inl s) = not_right (s.0, inl s.1)
+      none ss (inr s) = not_right (s.4, inr ((λ zero_left. absurd (omega (arith, s.3, zero_left))), (s.1, s.5)))
 
-statement_at : ℕ → FirstForm → FirstStatement
-statement_at number form = record { line = number; form = form }
+no_pieces : pieces [] ≡ []
+unfolding cut
+no_pieces = refl
 
-only_blank : (line : List ℕ) (rest : List (List ℕ)) (left number : ℕ) (ss others more : List FirstStatement) → IsBlankLine line → others ≡ ss ++ more
-    → AreLines left number (line ∷ rest) more → (later : List FirstStatement) × (others ≡ ss ++ later) × AreLines left (number + 1) rest later
-only_blank line rest left number ss others more blank e (inl (b, lines)) = (more, e, lines)
-only_blank line rest left number ss others more blank e (inr (fewer, form, later, l, is, f, lines)) = absurd (blank_apart_statement form line blank is)
+-- all was read
+pub reads_all : (made : List tree.Statement) (left line : ℕ) (bytes rest : List ℕ) → rest ≡ [] → Reads made left line (pieces rest) (pieces bytes) → IsTheScript bytes made
+reads_all made left line bytes rest none so_far =
+    let r = subst (λ ps. Reads made left line ps (pieces bytes)) (ap pieces none ∙ no_pieces) so_far in (
+      subst (ArePieces most_statements 1 (pieces bytes)) (append-nil made) (r.there [] refl),
+      λ others is. let b = r.back others is in b.1 ∙ ap (λ l. made ++ l) b.2 ∙ append-nil made,
+      λ line is. r.wrong_back line is,
+    )
 
-read_blank : (line : List ℕ) (all rest : List (List ℕ)) (left number : ℕ) (ss : List FirstStatement) → IsReadTo all (line ∷ rest) left number ss → IsBlankLine line
-    → IsReadTo all rest left (number + 1) ss
-read_blank line all rest left number ss so_far blank = record {
-  grows = λ more lines. so_far.grows more (inl (blank, lines));
-  only = λ others lines. let p = so_far.only others lines in only_blank line rest left number ss others p.0 blank p.1 p.2;
-}
+-- the statement of a piece was added
+pub settled : (piece : List ℕ) (rest : List (List ℕ)) (left line : ℕ) (old new : List tree.Statement) (more : ℕ) (all : List (List ℕ)) (read : PieceRead)
+    → IsPieceRead piece read → IsSettled left line read old new (Ok more) → Reads old left line (piece ∷ rest) all → Reads new more (line + line_ends piece) rest all
+settled piece rest left line old new more all Blank is done r =
+    subst (λ n. Reads new n (line + line_ends piece) rest all) (sym done.0) (
+    subst (λ made. Reads made left (line + line_ends piece) rest all) (sym done.1) (reads_blank piece rest left line old all r is.0 is.1 is.2)
+    )
+settled piece rest left line old new more all (Statement form) is done r =
+    subst (λ n. Reads new n (line + line_ends piece) rest all) (sym done.1) (
+    subst (λ made. Reads made (left - 1) (line + line_ends piece) rest all) (sym done.2) (reads_statement piece rest left line old all r (form_of form) is done.0)
+    )
+settled piece rest left line old new more all Wrong is done r = absurd done
 
-only_statement : (line : List ℕ) (rest : List (List ℕ)) (fewer number : ℕ) (form : FirstForm) (ss others more : List FirstStatement) → IsStatementLine form line → others ≡ ss ++ more
-    → AreLines (suc fewer) number (line ∷ rest) more
-    → (later : List FirstStatement) × (others ≡ (ss ++ record { line = number; form = form } ∷ []) ++ later) × AreLines fewer (number + 1) rest later
-only_statement line rest fewer number form ss others more is e (inl (blank, lines)) = absurd (blank_apart_statement form line blank is)
-only_statement line rest fewer number form ss others more is e (inr (less, other, later, l, was, f, lines)) =
-    let count : less ≡ fewer = omega arith in
-    let same = IsStatementLine-unique other form line was is in
-    let front : more ≡ record { line = number; form = form } ∷ later = f ∙ ap (λ (g : FirstForm). record { line = number; form = g } ∷ later) same in
-    (later, e ∙ ap (λ xs. ss ++ xs) front ∙ sym (append_assoc ss _ later), subst (λ (n : ℕ). AreLines n (number + 1) rest later) count lines)
+-- the piece isn't right, or memory was refused
+pub unsettled : (bytes piece : List ℕ) (rest : List (List ℕ)) (left line : ℕ) (old new : List tree.Statement) (f : ParseFault) (read : PieceRead)
+    → length bytes ≤ most_bytes → IsPieceRead piece read → IsSettled left line read old new (Err f) → Reads old left line (piece ∷ rest) (pieces bytes) → IsParsed bytes (Err f)
+unsettled bytes piece rest left line old new NoMemory read small is done r = tt
+unsettled bytes piece rest left line old new TooLarge read small is done r = absurd (never read done)
+  where
+    never : (read : PieceRead) → IsSettled left line read old new (Err TooLarge) → ⊥
+    never Blank d = d
+    never (Statement form) d = d
+    never Wrong d = d
+unsettled bytes piece rest left line old new (SyntaxAt at) Blank small is done r = absurd done
+unsettled bytes piece rest left line old new (SyntaxAt at) (Statement form) small is done r =
+    (small, subst (IsTheSyntaxLine bytes) (sym done.1) (reads_wrong piece rest left line old (pieces bytes) r bytes refl not_right))
+  where
+    not_right : IsRight left piece → ⊥
+    not_right (text, inl blank) = is.3 blank
+    not_right (text, inr (some, other)) = some done.0
+unsettled bytes piece rest left line old new (SyntaxAt at) Wrong small is done r =
+    (small, subst (IsTheSyntaxLine bytes) (sym done) (reads_wrong piece rest left line old (pieces bytes) r bytes refl not_right))
+  where
+    not_right : IsRight left piece → ⊥
+    not_right (text, inl blank) = (is text).0 blank
+    not_right (text, inr (some, other)) = (is text).1 other.0 other.1
 
-read_statement : (line : List ℕ) (all rest : List (List ℕ)) (fewer number : ℕ) (form : FirstForm) (ss : List FirstStatement) → IsReadTo all (line ∷ rest) (suc fewer) number ss
-    → IsStatementLine form line → IsReadTo all rest fewer (number + 1) (ss ++ record { line = number; form = form } ∷ [])
-read_statement line all rest fewer number form ss so_far is = record {
-  grows = λ more lines. rw append_assoc (so_far.grows (record { line = number; form = form } ∷ more) (inr (fewer, form, more, refl, is, refl, lines)));
-  only = λ others lines. let p = so_far.only others lines in only_statement line rest fewer number form ss others p.0 is p.1 p.2;
-}
+-- the first piece, and the others
+pub reads_first : (made : List tree.Statement) (left line n : ℕ) (bytes front back : List ℕ) (all : List (List ℕ))
+    → pieces bytes ≡ take n bytes ∷ pieces (drop n bytes) → front ≡ take n bytes → back ≡ drop n bytes → Reads made left line (pieces bytes) all → Reads made left line (front ∷ pieces back) all
+reads_first made left line n bytes front back all first is_front is_back r =
+    let ps : pieces bytes ≡ front ∷ pieces back = first ∙ ap (λ f. f ∷ pieces (drop n bytes)) (sym is_front) ∙ ap (λ b. front ∷ pieces b) (sym is_back) in
+    subst (λ ps. Reads made left line ps all) ps r
 
--- The statements of the lines before the rest are these trees.
-pub record HasRead (all rest : List (List ℕ)) (number : ℕ) (trees : List tree.Statement) : Type 0 where
-  pub ss : List FirstStatement
-  pub left : ℕ
-  pub read : IsReadTo all rest left number ss
-  pub seen : trees ≡ map tree_of_statement ss
-  pub count : left + length ss ≡ most_statements
+pub some_bytes : (bytes : List ℕ) → eqb (length bytes) 0 ≡ false → 0 < length bytes
+some_bytes bytes is = grind (arith, nat_tests)
 
-pub has_read_nothing : (all : List (List ℕ)) → HasRead all all 1 []
-has_read_nothing all = record {
-  ss = [];
-  left = most_statements;
-  read = record { grows = λ more lines. lines; only = λ others lines. (others, refl, lines) };
-  seen = refl;
-  count = omega arith;
-}
-
-pub has_read_line : (line : List ℕ) (all rest : List (List ℕ)) (number : ℕ) (old new : List tree.Statement) → HasRead all (line ∷ rest) number old → AddsLine old new line number
-    → HasRead all rest (number + 1) new
-has_read_line line all rest number old new so_far (inl (blank, same)) = record {
-  ss = so_far.ss;
-  left = so_far.left;
-  read = read_blank line all rest so_far.left number so_far.ss so_far.read blank;
-  seen = same ∙ so_far.seen;
-  count = so_far.count;
-}
-has_read_line line all rest number old new so_far (inr (form, fits, is, added)) =
-    let s : FirstStatement = record { line = number; form = form } in
-    let seen = so_far.seen in
-    let left : so_far.left ≡ suc (so_far.left - 1) = omega (arith, so_far.count, ap length seen, length-map so_far.ss tree_of_statement) in
-    record {
-      ss = so_far.ss ++ s ∷ [];
-      left = so_far.left - 1;
-      read = read_statement line all rest (so_far.left - 1) number form so_far.ss (subst (λ (n : ℕ). IsReadTo all (line ∷ rest) n number so_far.ss) left so_far.read) is;
-      seen = added ∙ ap (λ ts. ts ++ tree_of_statement s ∷ []) seen ∙ sym (map-append tree_of_statement so_far.ss (s ∷ []));
-      count = omega (arith, left, so_far.count, length-append so_far.ss (s ∷ []));
-    }
-
-no_statements : (line : List ℕ) (rest : List (List ℕ)) (left number : ℕ) (old : List tree.Statement) (more : List FirstStatement) → AddsNothing old line
-    → left + length old ≡ most_statements → AreLines left number (line ∷ rest) more → ⊥
-no_statements line rest left number old more none count (inl (blank, lines)) = none.0 blank
-no_statements line rest left number old more none count (inr (fewer, form, later, l, is, f, lines)) = none.1 form (omega arith) is
-
-pub has_read_stops : (line : List ℕ) (all rest : List (List ℕ)) (number : ℕ) (old : List tree.Statement) → HasRead all (line ∷ rest) number old → AddsNothing old line
-    → (others : List FirstStatement) → AreLines most_statements 1 all others → ⊥
-has_read_stops line all rest number old so_far none others lines =
-    let p = so_far.read.only others lines in
-    let count : so_far.left + length old ≡ most_statements = omega (arith, so_far.count, ap length so_far.seen, length-map so_far.ss tree_of_statement) in
-    no_statements line rest so_far.left number old p.0 none count p.2
-
-pub has_read_all : (all : List (List ℕ)) (number : ℕ) (trees : List tree.Statement) → HasRead all [] number trees
-    → (ss : List FirstStatement) × AreTheStatements all ss × (trees ≡ map tree_of_statement ss)
-has_read_all all number trees so_far = (
-  so_far.ss,
-  (
-    subst (λ (ss : List FirstStatement). AreLines most_statements 1 all ss) (append-nil so_far.ss) (so_far.read.grows [] refl),
-    λ others lines. let p = so_far.read.only others lines in p.1 ∙ ap (λ xs. so_far.ss ++ xs) p.2 ∙ append-nil so_far.ss,
-  ),
-  so_far.seen,
-)
-
--- ---- what `lines` yields
-
-pub next_line : {s t : _} (rest : List (List ℕ)) (x : Bor (List ℕ)) → YieldsList lines_steps (λ x. x.now) s rest → lines_steps s (Some x) t
-    → (others : List (List ℕ)) × (rest ≡ x.now ∷ others) × YieldsList lines_steps (λ x. x.now) t others
-next_line {s} {t} [] x yields step = absurd (yields.runs x t step)
-next_line {s} {t} (line ∷ others) x yields step =
-    let p = yields.runs.1 x t step in
-    (others, ap (λ l. l ∷ others) (sym p.0), record { runs = p.1 })
-
-pub no_next_line : {s t : _} (rest : List (List ℕ)) → YieldsList lines_steps (λ x. x.now) s rest → lines_steps s None t → rest ≡ []
-no_next_line {s} {t} [] yields step = refl
-no_next_line {s} {t} (line ∷ others) yields step = absurd (yields.runs.0 t step)
-
-length-lines_of_parts : (parts : List (List ℕ)) → length (lines_of_parts parts) ≤ length parts
-length-lines_of_parts [] = omega arith
-length-lines_of_parts (x ∷ []) = elim (true_or_false (length x == 0)) [ inl e ↦ rw e (omega arith) | inr e ↦ rw e (omega arith) ]
-length-lines_of_parts (x ∷ y ∷ more) = let fewer = length-lines_of_parts (y ∷ more) in omega arith
-
--- a text has one line more than bytes at most
-pub length-lines : (bs : List ℕ) → length (lines bs) ≤ length bs + 1
-length-lines bs = omega (arith, length-lines_of_parts (slice_split (λ b. b == 10) bs), length-slice_split (λ b. b == 10) bs, count_by-le-length (λ b. b == 10) bs)
-
--- an error that was passed on, as it came
-pub passed_on : {T U E : Type 0} (r : Result T E) (f e k : E) → r ≡ Err f → f ≡ e → IsErrOf r k → IsErrOf {T = U} (Err e) k
-passed_on r f e k is same told = let equal : e ≡ k = cc in ap Err equal
-
--- each tree of a script that was parsed is that of its statement
-pub parsed_at : (ss : List FirstStatement) (i : ℕ) (s : tree.Statement) → slice_get (map tree_of_statement ss) i ≡ Some s
-    → (f : FirstStatement) × (slice_get ss i ≡ Some f) × (s ≡ tree_of_statement f)
-parsed_at [] i s e = absurd cc
-parsed_at (f ∷ fs) zero s e = (f, refl, cc)
-parsed_at (f ∷ fs) (suc i) s e = parsed_at fs i s e
+pub no_bytes : (bytes : List ℕ) → eqb (length bytes) 0 ≡ true → bytes ≡ []
+no_bytes [] is = refl
+no_bytes (b ∷ bs) is = absurd (grind (arith, nat_tests))

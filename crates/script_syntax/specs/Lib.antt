@@ -1,6 +1,7 @@
 pub mod View
 pub mod ScriptView
-pub mod Shown
-pub mod TokenView
 pub mod Reading
-pub mod Parsing
+pub mod At
+pub mod Found
+pub mod PieceRead
+pub mod Parsed

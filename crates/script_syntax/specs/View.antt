@@ -2,12 +2,11 @@
 use Rattle.std.specs.Prelude.{List, map, Option, Some, None}
 use Rattle.meaning.specs.Text.{Text}
 use Rattle.meaning.specs.Tree as tree
+use Rattle.script_tokens.specs.View.{binary_of}
 use Rattle.script_syntax.specs.declared.literal.Literal.{Literal}
 use Rattle.script_syntax.specs.declared.literal.Literal.TheVariants as literal
 use Rattle.script_syntax.specs.declared.literal.Unary.{Unary}
 use Rattle.script_syntax.specs.declared.literal.Unary.TheVariants as unary
-use Rattle.script_syntax.specs.declared.literal.Binary.{Binary}
-use Rattle.script_syntax.specs.declared.literal.Binary.TheVariants as binary
 use Rattle.script_syntax.specs.declared.literal.Accessor.{Accessor}
 use Rattle.script_syntax.specs.declared.literal.Accessor.TheVariants as accessor
 use Rattle.script_syntax.specs.declared.tree.Expr.{Expr, Row_of-Args-items-2, end_of-Args-items-2, more_of-Args-items-2}
@@ -34,22 +33,6 @@ literal_of literal.Na = tree.na
 abbrev pub unary_of : Unary → tree.Unary
 unary_of unary.Minus = tree.minus
 unary_of unary.Invert = tree.invert
-
-abbrev pub binary_of : Binary → tree.Binary
-binary_of binary.Add = tree.add
-binary_of binary.Sub = tree.sub
-binary_of binary.Mul = tree.mul
-binary_of binary.FloorDiv = tree.floor_div
-binary_of binary.Mod = tree.mod_
-binary_of binary.Eq = tree.eq
-binary_of binary.Ne = tree.ne
-binary_of binary.Lt = tree.lt
-binary_of binary.Le = tree.le
-binary_of binary.Gt = tree.gt
-binary_of binary.Ge = tree.ge
-binary_of binary.And = tree.and
-binary_of binary.Or = tree.or
-binary_of binary.Xor = tree.xor
 
 abbrev pub accessor_of : Accessor → tree.Accessor
 accessor_of accessor.Loc = tree.loc

@@ -1,208 +1,187 @@
-// The form that the tokens of a line spell.
-ghost use Rattle.std.specs.Prelude.{◌≡◌, ◌↔◌, [], ◌∷◌, ℤ, List, map, true, false, codes, IfOk, IsTrue};
-ghost use Rattle.meaning.specs.FirstToken as spec;
-ghost use Rattle.meaning.specs.First as first;
-ghost use Rattle.meaning.specs.FirstGrammar as grammar;
-ghost use Rattle.script_syntax.specs.TokenView.{tokens_of};
-ghost use Rattle.script_syntax.specs.View.{form_of, step_of, parts_of};
-ghost use Rattle.script_syntax.specs.Reading.{IsFormOf, series_front};
-ghost use Rattle.script_syntax.specs.Shown.{AreNumbers};
+// Statements.
+ghost use Rattle.std.specs.Prelude.{◌≡◌};
+ghost use Rattle.meaning.specs.Tree as tree;
+ghost use Rattle.script_syntax.specs.View.{form_of, expr_of, step_of};
+ghost use Rattle.script_tokens.specs.View.{tokens_of};
+ghost use Rattle.script_syntax.specs.Found.{Gives};
+ghost use Rattle.script_syntax.specs.Reading as spec;
 
-use crate::build::{list_of, make_of, method_of};
-use crate::literal::{Accessor, Literal};
-use crate::parts::{ArgList, Args};
-use crate::reading::{after, name, number, number_list, number_part, place};
-use crate::token::{Mark, Token};
-use crate::tree::{Arg, Expr, Form, Step, Sub};
-use cell_core::{NoMemory, Words};
+use crate::front::{after_mark, after_word, begins_minus, expect, name_at, target_at};
+use crate::node::is_target;
+use crate::parsing::{argument_at, expr_at};
+use crate::refusal::Refusal;
+use crate::tree::{Expr, Form, Step};
+use cell_core::Words;
+use script_tokens::{Mark, Token};
 use std::alloc::Global;
 
-// The tokens are the expected ones, and no more.
-fn are_all(expected: &[Token<'_>], tokens: &[Token<'_>]) -> bool
-    ensures { IsTrue result ↔ (tokens_of tokens.now ≡ tokens_of expected.now) }
+const MOST_DEPTH: usize = 32;
+
+// The statement that the tokens spell.
+#[tactic(auto, unfolding(crate::specs::Reading::form_read, crate::specs::Reading::or_else))]
+pub(crate) fn statement(alloc: Global, tokens: &[Token<'_>]) -> Result<Form, Refusal>
+    ensures { Gives form_of result (spec.form_read (tokens_of tokens.now)) }
 {
-    match after(expected, tokens) {
-        Some(rest) => rest.is_empty(),
-        None => false,
+    if let Some(rest) = after_word(tokens, "import") {
+        return imported(rest);
     }
+    if let Some(rest) = after_word(tokens, "del") {
+        return deleted(alloc, rest);
+    }
+    if let Some(rest) = after_word(tokens, "print") {
+        return printed(alloc, rest);
+    }
+    assigned(alloc, tokens)
 }
 
-// `x = n`
-fn name_form(alloc: Global, name: &str, other: &str) -> Result<Form, NoMemory>
-    ensures { IfOk result (λ form. form_of form ≡ first.tree_of_first (first.bind_name name.now other.now)) }
+// `pandas as pd`
+#[tactic(auto, unfolding(crate::specs::Reading::imported, crate::specs::Reading::and_then))]
+fn imported(tokens: &[Token<'_>]) -> Result<Form, Refusal>
+    ensures { Gives form_of result (spec.imported (tokens_of tokens.now)) }
 {
+    let rest = expect_word(tokens, "pandas")?;
+    let rest = expect_word(rest, "as")?;
+    let rest = expect_word(rest, "pd")?;
+    ended(Form::Import, rest)
+}
+
+// What stands after `del`: a name, or a name with a key in brackets.
+#[tactic(auto, unfolding(crate::specs::Reading::deleted, crate::specs::Reading::and_then, crate::specs::Reading::or_else))]
+fn deleted(alloc: Global, tokens: &[Token<'_>]) -> Result<Form, Refusal>
+    ensures { Gives form_of result (spec.deleted (tokens_of tokens.now)) }
+{
+    let Some((name, rest)) = name_at(tokens) else {
+        return Err(Refusal::Syntax);
+    };
     let name = Words::from_text(alloc, name)?;
-    let other = Words::from_text(alloc, other)?;
-    Ok(Form::Bind(name, Expr::Name(other)))
+    let Some(rest) = after_mark(rest, Mark::OpenBracket) else {
+        return ended(Form::DropName(name), rest);
+    };
+    let (key, _, rest) = expr_at(alloc, rest, MOST_DEPTH, 0)?;
+    let rest = expect(rest, Mark::CloseBracket)?;
+    ended(Form::DropColumn(name, key), rest)
 }
 
-// `x = n.copy()`
-fn copy_form(alloc: Global, name: &str, other: &str) -> Result<Form, NoMemory>
-    ensures { IfOk result (λ form. form_of form ≡ first.tree_of_first (first.bind_copy name.now other.now)) }
+// What stands after `print`.
+#[tactic(auto, unfolding(crate::specs::Reading::printed, crate::specs::Reading::and_then))]
+fn printed(alloc: Global, tokens: &[Token<'_>]) -> Result<Form, Refusal>
+    ensures { Gives form_of result (spec.printed (tokens_of tokens.now)) }
 {
+    let rest = expect(tokens, Mark::OpenParen)?;
+    let (expr, _, rest) = expr_at(alloc, rest, MOST_DEPTH, 0)?;
+    let end = end_at(alloc, rest)?;
+    Ok(Form::Print(expr, end))
+}
+
+// What ends a printing: the text after the printed one, a line feed where none is given.
+#[tactic(auto, unfolding(crate::specs::Reading::end_at, crate::specs::Reading::and_then, crate::specs::Reading::or_else))]
+fn end_at(alloc: Global, tokens: &[Token<'_>]) -> Result<Words, Refusal>
+    ensures { Gives (λ end. end) result (spec.end_at (tokens_of tokens.now)) }
+{
+    let Some(rest) = after_mark(tokens, Mark::Comma) else {
+        return closed(alloc, "\n", tokens);
+    };
+    let rest = expect_word(rest, "end")?;
+    let rest = expect(rest, Mark::Equals)?;
+    let (end, rest) = text_at(rest)?;
+    closed(alloc, end, rest)
+}
+
+// The text, after a parenthesis that is the last token.
+#[tactic(auto, unfolding(crate::specs::Reading::closed, crate::specs::Reading::ended, crate::specs::Reading::and_then))]
+fn closed(alloc: Global, end: &str, tokens: &[Token<'_>]) -> Result<Words, Refusal>
+    ensures { Gives (λ end. end) result (spec.closed end.now (tokens_of tokens.now)) }
+{
+    let rest = expect(tokens, Mark::CloseParen)?;
+    match rest {
+        [] => Ok(Words::from_text(alloc, end)?),
+        _ => Err(Refusal::Syntax),
+    }
+}
+
+// A setting, or a binding of a name.
+#[tactic(auto, unfolding(crate::specs::Reading::assigned, crate::specs::Reading::or_else))]
+fn assigned(alloc: Global, tokens: &[Token<'_>]) -> Result<Form, Refusal>
+    ensures { Gives form_of result (spec.assigned (tokens_of tokens.now)) }
+{
+    match target_at(tokens) {
+        Some((name, rest)) => bound_to(alloc, name, rest),
+        None => set(alloc, tokens),
+    }
+}
+
+// What stands after `name =`.
+#[tactic(auto, unfolding(crate::specs::Reading::bound_to, crate::specs::Reading::and_then))]
+fn bound_to(alloc: Global, name: &str, tokens: &[Token<'_>]) -> Result<Form, Refusal>
+    ensures { Gives form_of result (spec.bound_to name.now (tokens_of tokens.now)) }
+{
+    let (expr, _, rest) = expr_at(alloc, tokens, MOST_DEPTH, 0)?;
     let name = Words::from_text(alloc, name)?;
-    let other = Box::new(alloc, Expr::Name(Words::from_text(alloc, other)?))?;
-    let copy = method_of(Words::from_text(alloc, "copy")?, Args::new(alloc));
-    let copy = Box::new(alloc, copy)?;
-    Ok(Form::Bind(name, Expr::After(other, copy)))
+    ended(Form::Bind(name, expr), rest)
 }
 
-// `.iloc[k]`
-fn place_step(position: i64) -> Step
-    ensures { step_of result ≡ first.place_step position }
+// A target with its step, and what it is set to.
+#[tactic(auto, unfolding(crate::specs::Reading::set, crate::specs::Reading::and_then, crate::specs::Reading::pick))]
+fn set(alloc: Global, tokens: &[Token<'_>]) -> Result<Form, Refusal>
+    ensures { Gives form_of result (spec.set (tokens_of tokens.now)) }
 {
-    Step::Access(Accessor::Iloc, Sub::Key(number_part(position)), None)
-}
-
-// `n.iloc[k] = v`
-fn place_form(alloc: Global, name: &str, position: i64, value: i64) -> Result<Form, NoMemory>
-    ensures { IfOk result (λ form. form_of form ≡ first.tree_of_first (first.set_place name.now position value)) }
-{
-    let name = Words::from_text(alloc, name)?;
-    Ok(Form::Put(Expr::Name(name), place_step(position), number_part(value)))
-}
-
-// `print(n.iloc[k])`
-fn print_form(alloc: Global, name: &str, position: i64) -> Result<Form, NoMemory>
-    ensures { IfOk result (λ form. form_of form ≡ first.tree_of_first (first.print_place name.now position)) }
-{
-    let name = Box::new(alloc, Expr::Name(Words::from_text(alloc, name)?))?;
-    let step = Box::new(alloc, place_step(position))?;
-    Ok(Form::Print(Expr::After(name, step), Words::from_text(alloc, "\n")?))
-}
-
-// `x = pd.Series([..])`
-fn series_form(alloc: Global, name: &str, list: ArgList) -> Result<Form, NoMemory>
-    requires { AreNumbers (parts_of list) }
-    ensures { IfOk result (λ form. (zs : List ℤ) × (parts_of list ≡ map first.number_arg zs)
-        × (form_of form ≡ first.tree_of_first (first.bind_series name.now zs))) }
-{
-    let name = Words::from_text(alloc, name)?;
-    let mut args = Args::new(alloc);
-    args.push(None, list_of(list))?;
-    let series = make_of(Words::from_text(alloc, "Series")?, args);
-    Ok(Form::Bind(name, series))
-}
-
-// The form of a name, `=` and the tokens.
-fn binding(alloc: Global, target: &str, tokens: &[Token<'_>]) -> Result<Option<Form>, NoMemory>
-    requires { grammar.is_reserved target.now ≡ false }
-    ensures { IfOk result (λ form.
-        IsFormOf (spec.word target.now ∷ spec.mark spec.equals ∷ tokens_of tokens.now) form) }
-{
-    let front = [
-        Token::Word("pd"),
-        Token::Mark(Mark::Dot),
-        Token::Word("Series"),
-        Token::Mark(Mark::OpenParen),
-        Token::Mark(Mark::OpenBracket),
-    ];
-    if let Some(rest) = after(&front, tokens) {
-        return series_binding(alloc, target, rest);
+    if begins_minus(tokens) {
+        return Err(Refusal::Syntax);
     }
-    let Some((other, rest)) = name(tokens) else {
-        return Ok(None)
-    };
-    name_binding(alloc, target, other, rest)
+    let (target, _, rest) = expr_at(alloc, tokens, MOST_DEPTH, 6)?;
+    let (object, step) = split(target)?;
+    let rest = expect(rest, Mark::Equals)?;
+    let (value, _, rest) = argument_at(alloc, rest, MOST_DEPTH)?;
+    ended(Form::Put(object, step, value), rest)
 }
 
-// The form of a name, `=`, another name and the tokens.
-fn name_binding(
-    alloc: Global,
-    target: &str,
-    other: &str,
-    tokens: &[Token<'_>],
-) -> Result<Option<Form>, NoMemory>
-    requires target { grammar.is_reserved target.now ≡ false }
-    requires other { grammar.is_reserved other.now ≡ false }
-    ensures { IfOk result (λ form.
-        IsFormOf (spec.word target.now ∷ spec.mark spec.equals ∷ spec.word other.now ∷ tokens_of tokens.now) form) }
+// An expression and its last step, where that may be set.
+#[tactic(auto, unfolding(crate::specs::Reading::split, crate::specs::Reading::pick))]
+fn split(target: Expr) -> Result<(Expr, Step), Refusal>
+    ensures { Gives (λ t. (expr_of t.0, step_of t.1)) result (spec.split (expr_of target)) }
 {
-    if tokens.is_empty() {
-        return Ok(Some(name_form(alloc, target, other)?));
+    let Expr::After(object, step) = target else {
+        return Err(Refusal::Syntax);
+    };
+    let object = Box::into_inner(object);
+    let step = Box::into_inner(step);
+    if !is_target(&step) {
+        return Err(Refusal::Syntax);
     }
-    let copy = [
-        Token::Mark(Mark::Dot),
-        Token::Word("copy"),
-        Token::Mark(Mark::OpenParen),
-        Token::Mark(Mark::CloseParen),
-    ];
-    if !are_all(&copy, tokens) {
-        return Ok(None);
-    }
-    Ok(Some(copy_form(alloc, target, other)?))
+    Ok((object, step))
 }
 
-// The form of a name, `=`, the front of a series and the tokens.
-fn series_binding(
-    alloc: Global,
-    target: &str,
-    tokens: &[Token<'_>],
-) -> Result<Option<Form>, NoMemory>
-    requires { grammar.is_reserved target.now ≡ false }
-    ensures { IfOk result (λ form.
-        IsFormOf (spec.word target.now ∷ spec.mark spec.equals ∷ series_front (tokens_of tokens.now)) form) }
+// What must follow this word.
+fn expect_word<'t, 'a>(tokens: &'t [Token<'a>], word: &str) -> Result<&'t [Token<'a>], Refusal>
+    ensures { Gives (λ r. tokens_of r.now) result (spec.after_word word.now (tokens_of tokens.now)) }
 {
-    let Some((list, rest)) = number_list(alloc, tokens)? else {
-        return Ok(None)
-    };
-    if !are_all(&[Token::Mark(Mark::CloseParen)], rest) {
-        return Ok(None);
+    match after_word(tokens, word) {
+        Some(rest) => Ok(rest),
+        None => Err(Refusal::Syntax),
     }
-    Ok(Some(series_form(alloc, target, list)?))
 }
 
-// The form of a name and the tokens, which do not begin with `=`.
-fn setting(alloc: Global, target: &str, tokens: &[Token<'_>]) -> Result<Option<Form>, NoMemory>
-    requires target { grammar.is_reserved target.now ≡ false }
-    requires other { (us : List spec.Token) → tokens_of tokens.now ≡ spec.mark spec.equals ∷ us → ⊥ }
-    ensures { IfOk result (λ form. IsFormOf (spec.word target.now ∷ tokens_of tokens.now) form) }
+// A text, and what follows it.
+#[tactic(auto, unfolding(crate::specs::Reading::text_at))]
+fn text_at<'t, 'a>(tokens: &'t [Token<'a>]) -> Result<(&'t str, &'t [Token<'a>]), Refusal>
+    ensures { Gives (λ t. ((t.0).now, tokens_of (t.1).now)) result (spec.text_at (tokens_of tokens.now)) }
 {
-    let Some((position, rest)) = place(tokens) else {
-        return Ok(None)
+    let [token, rest @ ..] = tokens else {
+        return Err(Refusal::Syntax);
     };
-    let Some(rest) = after(&[Token::Mark(Mark::Equals)], rest) else {
-        return Ok(None)
-    };
-    let Some((value, rest)) = number(rest) else {
-        return Ok(None)
-    };
-    if !rest.is_empty() {
-        return Ok(None);
+    match token {
+        Token::Text(text) => Ok((text.as_str(), rest)),
+        _ => Err(Refusal::Syntax),
     }
-    Ok(Some(place_form(alloc, target, position, value)?))
 }
 
-// The form of `print(` and the tokens.
-fn printing(alloc: Global, tokens: &[Token<'_>]) -> Result<Option<Form>, NoMemory>
-    ensures { IfOk result (λ form.
-        IsFormOf (spec.word (codes "print") ∷ spec.mark spec.open_paren ∷ tokens_of tokens.now) form) }
+// The statement, where no token is left.
+#[tactic(auto, unfolding(crate::specs::Reading::ended))]
+fn ended(form: Form, tokens: &[Token<'_>]) -> Result<Form, Refusal>
+    ensures { Gives form_of result (spec.ended (form_of form) (tokens_of tokens.now)) }
 {
-    let Some((target, rest)) = name(tokens) else {
-        return Ok(None)
-    };
-    let Some((position, rest)) = place(rest) else {
-        return Ok(None)
-    };
-    if !are_all(&[Token::Mark(Mark::CloseParen)], rest) {
-        return Ok(None);
+    match tokens {
+        [] => Ok(form),
+        _ => Err(Refusal::Syntax),
     }
-    Ok(Some(print_form(alloc, target, position)?))
-}
-
-/// The form that the tokens of a line spell, or `None` where they spell none.
-pub(crate) fn spelled_form(alloc: Global, tokens: &[Token<'_>]) -> Result<Option<Form>, NoMemory>
-    ensures { IfOk result (λ form. IsFormOf (tokens_of tokens.now) form) }
-{
-    let print = [Token::Word("print"), Token::Mark(Mark::OpenParen)];
-    if let Some(rest) = after(&print, tokens) {
-        return printing(alloc, rest);
-    }
-    let Some((target, rest)) = name(tokens) else {
-        return Ok(None)
-    };
-    if let Some(bound) = after(&[Token::Mark(Mark::Equals)], rest) {
-        return binding(alloc, target, bound);
-    }
-    setting(alloc, target, rest)
 }

@@ -1,40 +1,43 @@
-//! The script language: the trees of its statements, and the parser of its first part.
+//! The script language: the trees of its statements, and their parser.
 //!
-//! [`parse`] reads the bytes of a script into a [`Script`], whose statements are trees with the
-//! lines that they stand on. The first language has five statements, one a line, from the first
-//! column on; a blank line is none. What each one does is read back by [`first_of`].
+//! [`parse`] cuts a text into pieces, reads each that isn't blank as tokens (the crate `script_tokens`)
+//! and these as one statement. A statement is a tree: a [`Form`] over expressions ([`Expr`]) with their
+//! steps ([`Step`]) and arguments ([`Arg`]). The reader goes down at most 32 forms, and reads no token
+//! twice.
 //!
 //! ```text
-//! let script = parse(alloc, b"x = pd.Series([3, -7])\nx.iloc[0] = 5\nprint(x.iloc[0])\n")?;
-//! let statement = script.statement(1);
-//! match first_of(&statement.form) {
-//!     First::SetPlace(name, position, value) => ..
-//! }
+//! let script = parse(alloc, b"x = pd.Series([1, 2])\nprint(len(x))\n")?;
+//! assert_eq!(rt; script.len(), 2);
+//! assert_eq!(rt; script.statement(1).line, 2);
+//! assert!(rt; matches!(script.statement(1).form, Form::Print(..)));
+//! assert!(rt; matches!(parse(alloc, b"x = (1\n"), Err(ParseFault::SyntaxAt(1))));
 //! ```
 #![tactic(auto)]
 
 mod build;
-mod fault;
-mod first;
 mod forms;
-mod lexing;
+mod front;
 mod literal;
+mod node;
 mod parsing;
 mod parts;
-mod reading;
+mod pieces;
+mod refusal;
 mod script;
-#[cfg(test)]
-mod tests;
-mod token;
 mod tree;
+mod value;
 
 pub use build::{
-    expanding_of, group_of, list_of, make_of, method_of, rolling_of, table_of, tuple_of,
+    access_of, expanding_of, group_of, list_of, make_of, method_of, rolling_of, span_of, table_of,
+    tuple_of,
 };
-pub use fault::ParseFault;
-pub use first::{First, first_of, numbers_of};
-pub use literal::{Accessor, Binary, Literal, Unary};
-pub use parsing::{MOST_BYTES, MOST_STATEMENTS, parse};
+pub use literal::{Accessor, Literal, Unary};
 pub use parts::{ArgList, ArgPairs, Args};
+pub use pieces::{ParseFault, parse};
+pub use refusal::Refusal;
 pub use script::Script;
+pub use script_tokens::Binary;
 pub use tree::{Arg, Expr, Form, Statement, Step, Sub};
+
+#[cfg(test)]
+mod tests;

@@ -23,39 +23,6 @@ pub enum Unary {
     Invert,
 }
 
-/// An operator between two operands.
-#[derive(Clone, Copy, Debug, PartialEq, Eq)]
-pub enum Binary {
-    /// `+`
-    Add,
-    /// `-`
-    Sub,
-    /// `*`
-    Mul,
-    /// `//`
-    FloorDiv,
-    /// `%`
-    Mod,
-    /// `==`
-    Eq,
-    /// `!=`
-    Ne,
-    /// `<`
-    Lt,
-    /// `<=`
-    Le,
-    /// `>`
-    Gt,
-    /// `>=`
-    Ge,
-    /// `&`
-    And,
-    /// `|`
-    Or,
-    /// `^`
-    Xor,
-}
-
 /// What selects by labels or by positions.
 #[derive(Clone, Copy, Debug, PartialEq, Eq)]
 pub enum Accessor {

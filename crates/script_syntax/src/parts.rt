@@ -43,8 +43,7 @@ impl Args {
 
     /// Appends an argument. `NoMemory` leaves the arguments as they were.
     pub fn push(&mut self, name: Option<Words>, arg: Arg) -> Result<(), NoMemory>
-        ensures ok { OnOk result
-            (named_parts_of self.new ≡ named_parts_of self.old ++ named_of (name, arg) ∷ []) }
+        ensures ok { OnOk result (named_parts_of self.new ≡ named_parts_of self.old ++ named_of (name, arg) ∷ []) }
         ensures err { OnErr result (named_parts_of self.new ≡ named_parts_of self.old) }
     {
         self.items.push((name, arg))?;
@@ -53,8 +52,7 @@ impl Args {
 
     /// Takes the last argument out; `None` exactly where there are none.
     pub fn pop(&mut self) -> Option<(Option<Words>, Arg)>
-        ensures { MatchOption result ((named_parts_of self.old ≡ []) × (named_parts_of self.new ≡ []))
-            (λ last. named_parts_of self.old ≡ named_parts_of self.new ++ named_of last ∷ []) }
+        ensures { MatchOption result ((named_parts_of self.old ≡ []) × (named_parts_of self.new ≡ [])) (λ last. named_parts_of self.old ≡ named_parts_of self.new ++ named_of last ∷ []) }
     {
         self.items.pop()
     }
@@ -105,8 +103,7 @@ impl ArgList {
 
     /// Takes the last part out; `None` exactly where there are none.
     pub fn pop(&mut self) -> Option<Arg>
-        ensures { MatchOption result ((parts_of self.old ≡ []) × (parts_of self.new ≡ []))
-            (λ last. parts_of self.old ≡ parts_of self.new ++ arg_of last ∷ []) }
+        ensures { MatchOption result ((parts_of self.old ≡ []) × (parts_of self.new ≡ [])) (λ last. parts_of self.old ≡ parts_of self.new ++ arg_of last ∷ []) }
     {
         self.items.pop()
     }
@@ -148,8 +145,7 @@ impl ArgPairs {
 
     /// Appends an entry. `NoMemory` leaves the entries as they were.
     pub fn push(&mut self, key: Literal, arg: Arg) -> Result<(), NoMemory>
-        ensures ok { OnOk result
-            (pair_parts_of self.new ≡ pair_parts_of self.old ++ pair_of (key, arg) ∷ []) }
+        ensures ok { OnOk result (pair_parts_of self.new ≡ pair_parts_of self.old ++ pair_of (key, arg) ∷ []) }
         ensures err { OnErr result (pair_parts_of self.new ≡ pair_parts_of self.old) }
     {
         self.items.push((key, arg))?;
@@ -158,8 +154,7 @@ impl ArgPairs {
 
     /// Takes the last entry out; `None` exactly where there are none.
     pub fn pop(&mut self) -> Option<(Literal, Arg)>
-        ensures { MatchOption result ((pair_parts_of self.old ≡ []) × (pair_parts_of self.new ≡ []))
-            (λ last. pair_parts_of self.old ≡ pair_parts_of self.new ++ pair_of last ∷ []) }
+        ensures { MatchOption result ((pair_parts_of self.old ≡ []) × (pair_parts_of self.new ≡ [])) (λ last. pair_parts_of self.old ≡ pair_parts_of self.new ++ pair_of last ∷ []) }
     {
         self.items.pop()
     }

@@ -41,8 +41,7 @@ impl Script {
 
     // Appends a statement. The caller gives the script up where memory is refused.
     pub(crate) fn push(&mut self, statement: Statement) -> Result<(), NoMemory>
-        ensures { OnOk result
-            (statements_of self.new ≡ statements_of self.old ++ statement_of statement ∷ []) }
+        ensures { OnOk result (statements_of self.new ≡ statements_of self.old ++ statement_of statement ∷ []) }
     {
         self.statements.push(statement)?;
         Ok(())

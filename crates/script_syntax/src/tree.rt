@@ -1,7 +1,8 @@
 // Statements, as trees.
-use crate::literal::{Accessor, Binary, Literal, Unary};
+use crate::literal::{Accessor, Literal, Unary};
 use crate::parts::{ArgList, ArgPairs, Args};
 use cell_core::Words;
+use script_tokens::Binary;
 
 /// A statement, and the line of its first token, counted from 1.
 #[derive(Drop)]

@@ -1,66 +1,153 @@
-ghost use Rattle.std.specs.Prelude.{IfOk};
-ghost use Rattle.meaning.specs.First.{IsFirst};
-ghost use Rattle.script_syntax.specs.View.{form_of};
-
 use super::*;
+use cell_core::{Code, NoMemory, Words};
 use outside_io::MemFiles;
-use script_syntax::{Expr, Form};
+use script_syntax::{
+    Accessor, Arg, ArgList, Args, Expr, Literal, Step, Sub, list_of, make_of, method_of,
+};
 use std::test::Fail;
 
-fn numbers(alloc: Global, items: &[i64]) -> Result<Numbers, NoMemory> {
-    let mut numbers = Numbers::new(alloc);
-    for item in items {
-        numbers.push(*item)?;
-    }
-    Ok(numbers)
+fn name(alloc: Global, text: &str) -> Result<Expr, NoMemory> {
+    Ok(Expr::Name(Words::from_text(alloc, text)?))
 }
 
-fn expect_done(answer: Result<Outcome, StepFault>) -> Result<Outcome, &'static str> {
-    answer.map_err(|_| "the statement was refused")
+fn number(value: i64) -> Arg {
+    Arg::Expr(Expr::Literal(Literal::Int(value)))
 }
 
-// The tree of `name = other`.
-fn binding(alloc: Global, name: &str, other: &str) -> Result<Statement, NoMemory>
-    ensures { IfOk result (λ statement. IsFirst (form_of statement.form)) }
-{
-    let name = Words::from_text(alloc, name)?;
-    let other = Words::from_text(alloc, other)?;
-    Ok(Statement {
+// `pd.function([1, 2])`
+fn call(alloc: Global, function: &str) -> Result<Expr, NoMemory> {
+    let mut parts = ArgList::new(alloc);
+    parts.push(number(1))?;
+    parts.push(number(2))?;
+    let mut args = Args::new(alloc);
+    args.push(None, list_of(parts))?;
+    Ok(make_of(Words::from_text(alloc, function)?, args))
+}
+
+fn after(alloc: Global, text: &str, step: Step) -> Result<Expr, NoMemory> {
+    let object = Box::new(alloc, name(alloc, text)?)?;
+    Ok(Expr::After(object, Box::new(alloc, step)?))
+}
+
+fn copied(alloc: Global, text: &str) -> Result<Expr, NoMemory> {
+    let copy = Words::from_text(alloc, "copy")?;
+    after(alloc, text, method_of(copy, Args::new(alloc)))
+}
+
+// `.iloc[1]`
+fn row() -> Step {
+    Step::Access(Accessor::Iloc, Sub::Key(number(1)), None)
+}
+
+fn binding(alloc: Global, text: &str, value: Result<Expr, NoMemory>) -> Result<Form, NoMemory> {
+    Ok(Form::Bind(Words::from_text(alloc, text)?, value?))
+}
+
+// `object.iloc[1] = value`
+fn setting(object: Result<Expr, NoMemory>, value: Arg) -> Result<Form, NoMemory> {
+    Ok(Form::Put(object?, row(), value))
+}
+
+fn printing(alloc: Global, value: Result<Expr, NoMemory>) -> Result<Form, NoMemory> {
+    Ok(Form::Print(value?, Words::from_text(alloc, "|")?))
+}
+
+fn answer(
+    alloc: Global,
+    session: &mut Session,
+    form: Result<Form, NoMemory>,
+) -> Result<Outcome, StepFault> {
+    let statement = Statement {
         line: 1,
-        form: Form::Bind(name, Expr::Name(other)),
-    })
+        form: form?,
+    };
+    let mut files = MemFiles::new(alloc);
+    session.step(&mut files, &FileNames::new(alloc), &statement)
+}
+
+// What the statement prints.
+fn printed(
+    alloc: Global,
+    session: &mut Session,
+    form: Result<Form, NoMemory>,
+) -> Result<Words, &'static str> {
+    match answer(alloc, session, form) {
+        Ok(outcome) => Ok(outcome.printed),
+        Err(_) => Err("the statement was refused"),
+    }
+}
+
+// Why the statement is refused.
+fn refusal(alloc: Global, session: &mut Session, form: Result<Form, NoMemory>) -> &'static str {
+    match answer(alloc, session, form) {
+        Err(StepFault::Refused { code, warned }) => match (code, warned) {
+            (Code::NotBuilt, true) => "warned of and not built",
+            (Code::NotBuilt, false) => "not built",
+            (Code::NoAttribute(_), false) => "no attribute",
+            _ => "another code",
+        },
+        _ => "not refused",
+    }
 }
 
 #[test]
-fn a_shared_object_changes_and_a_copy_stays(rt: HostRuntime) -> Result<(), Fail> {
+fn scalars_are_printed_with_their_end(rt: HostRuntime) -> Result<(), Fail> {
     let alloc = rt.alloc();
     let mut session = Session::new(alloc);
-    expect_done(session.bind_series("a", numbers(alloc, &[1, 2])?))?;
-    expect_done(session.bind_name("b", "a"))?;
-    expect_done(session.bind_copy("c", "a"))?;
-    expect_done(session.set_place("b", -1, -9))?;
-    for (name, want) in [("a", "-9\n"), ("b", "-9\n"), ("c", "2\n")] {
-        let outcome = expect_done(session.print_place(name, 1))?;
-        assert_eq!(rt; outcome.printed.as_str(), want, "at {name}");
-    }
+    let text = Literal::Text(Words::from_text(alloc, "a\tb")?);
+    let line = printed(
+        alloc,
+        &mut session,
+        printing(alloc, Ok(Expr::Literal(text))),
+    )?;
+    assert_eq!(rt; line.as_str(), "a\tb|");
+    let least = Literal::Int(i64::MIN);
+    let line = printed(
+        alloc,
+        &mut session,
+        printing(alloc, Ok(Expr::Literal(least))),
+    )?;
+    assert_eq!(rt; line.as_str(), "-9223372036854775808|");
+    assert_eq!(rt; session.texts().len(), 1);
     Ok(())
 }
 
 #[test]
-fn a_tree_is_done(rt: HostRuntime) -> Result<(), Fail> {
+fn forms_are_refused(rt: HostRuntime) {
     let alloc = rt.alloc();
     let mut session = Session::new(alloc);
-    expect_done(session.bind_series("a", numbers(alloc, &[5])?))?;
-    let statement = binding(alloc, "b", "a")?;
-    let mut files = MemFiles::new(alloc);
-    let mut names = FileNames::new(alloc);
-    names.push(
-        Words::from_text(alloc, "orders")?,
-        Words::from_text(alloc, "o.csv")?,
+    for (function, want) in [("concat", "not built"), ("moon", "no attribute")] {
+        let form = printing(alloc, call(alloc, function));
+        assert_eq!(rt; refusal(alloc, &mut session, form), want, "at {function}");
+    }
+    let chained = setting(call(alloc, "Series"), Arg::Nothing);
+    assert_eq!(rt;
+        refusal(alloc, &mut session, chained),
+        "warned of and not built"
+    );
+}
+
+#[test]
+fn a_setting_reaches_the_names_of_its_object(rt: HostRuntime) -> Result<(), Fail> {
+    let alloc = rt.alloc();
+    let mut session = Session::new(alloc);
+    printed(
+        alloc,
+        &mut session,
+        binding(alloc, "a", call(alloc, "Series")),
     )?;
-    assert_eq!(rt; names.len(), 1);
-    expect_done(session.step(&mut files, &names, &statement))?;
-    let outcome = expect_done(session.print_place("b", 0))?;
-    assert_eq!(rt; outcome.printed.as_str(), "5\n");
+    printed(alloc, &mut session, binding(alloc, "b", name(alloc, "a")))?;
+    printed(alloc, &mut session, binding(alloc, "c", copied(alloc, "a")))?;
+    printed(alloc, &mut session, setting(name(alloc, "b"), number(-9)))?;
+    for (text, want) in [("a", "-9|"), ("b", "-9|"), ("c", "2|")] {
+        let line = printed(
+            alloc,
+            &mut session,
+            printing(alloc, after(alloc, text, row())),
+        )?;
+        assert_eq!(rt; line.as_str(), want, "at {text}");
+    }
+    assert!(rt; session.forget("a"));
+    assert!(rt; !session.forget("a"));
     Ok(())
 }

@@ -1,19 +1,21 @@
-use Rattle.std.proofs.Common.{◌≡◌, ◌∙◌, ap, subst}
-use Rattle.outside_io.specs.Sink.{appended, AppendsFront}
-use Rattle.script_syntax.specs.View.{form_of}
-use Rattle.script_run.specs.Session.{state_of}
-use Rattle.script_run.proofs.RunLaws.{answer-is, goes_on, stops_early}
+use Rattle.std.proofs.lemmas.Result.{err_from_is_err_and}
+use Rattle.meaning.specs.FaultOf.{fault_of}
+use Rattle.script_run.specs.Session.{state_of, texts_of}
+use Rattle.script_run.proofs.RunLaws.{stops_warning, stops_refused_warning, stops_refused}
 use Rattle.script_run.proofs.advance.advance.Goals as goal
 
-pub returns-in_default-clause-stops : goal.returns-in_default-clause-stops
-returns-in_default-clause-stops g c = λ f is.
-    let printed : c.as_bytes.result.now ≡ c.in-Ok.outcome.printed = c.as_bytes.ensures.value ∙ c.as_str.ensures in
-    let front : AppendsFront (g.O.Sink.written c.args.out.now) (g.O.Sink.written c.write_piece.new.sink) c.in-Ok.outcome.printed =
-    subst (AppendsFront (g.O.Sink.written c.args.out.now) (g.O.Sink.written c.write_piece.new.sink)) printed c.in_default.ensures.err in
-    stops_early _ (state_of c.step.new.self) c.in-Ok.outcome.printed c.args.statement.now.line _ _ _ (answer-is (state_of c.args.session.now) (form_of c.args.statement.now.form) _ c.in-Ok.ensures.done f is) front
+pub returns-in_err-warn-in-Ok-clause-stops : goal.returns-in_err-warn-in-Ok-clause-stops
+returns-in_err-warn-in-Ok-clause-stops g c =
+    let p = err_from_is_err_and c.from_residual.result c.from_residual.ensures.1 in
+    rw (p.1, p.2) (stops_warning _ (state_of c.step.new.self) c.in-Ok.outcome.printed c.in-Ok.outcome.warned c.args.statement.now.line c.in_err-warn-in-Ok.field-0.0 _ _ _ c.in-Ok.ensures.done c.in_err-warn-in-Ok.ensures.front)
 
-pub returns-in-Ok-write_piece-clause-on : goal.returns-in-Ok-write_piece-clause-on
-returns-in-Ok-write_piece-clause-on g c = λ f is.
-    let printed : c.as_bytes.result.now ≡ c.in-Ok.outcome.printed = c.as_bytes.ensures.value ∙ c.as_str.ensures in
-    goes_on _ (state_of c.step.new.self) c.in-Ok.outcome.printed c.args.statement.now.line _ _ _ (answer-is (state_of c.args.session.now) (form_of c.args.statement.now.form) _ c.in-Ok.ensures.done f is)
-    (c.in-Ok-write_piece.ensures.ok ∙ ap (appended (g.O.Sink.written c.args.out.now)) printed)
+pub returns-in_err-warn-in-Err-Refused-clause-stops : goal.returns-in_err-warn-in-Err-Refused-clause-stops
+returns-in_err-warn-in-Err-Refused-clause-stops g c =
+    let p = err_from_is_err_and c.from_residual-in_err-warn-in-Err-Refused.result c.from_residual-in_err-warn-in-Err-Refused.ensures.1 in
+    let is = rw c.in-Err-Refused.field-0-is at c.in-Err-Refused.ensures.refused in
+    rw (p.1, p.2) (stops_refused_warning _ (fault_of (texts_of c.step.new.self) c.in-Err-Refused.code) c.in-Err-Refused.warned c.args.statement.now.line c.in_err-warn-in-Err-Refused.field-0.0 _ _ _ is c.in_err-warn-in-Err-Refused.ensures.front)
+
+pub returns-in_ok-warn-in-Err-Refused-clause-stops : goal.returns-in_ok-warn-in-Err-Refused-clause-stops
+returns-in_ok-warn-in-Err-Refused-clause-stops g c =
+    let is = rw c.in-Err-Refused.field-0-is at c.in-Err-Refused.ensures.refused in
+    stops_refused _ (fault_of (texts_of c.step.new.self) c.in-Err-Refused.code) c.in-Err-Refused.warned c.args.statement.now.line c.end_at_fault.result _ _ _ _ is c.in_ok-warn-in-Err-Refused.ensures.shown (rw c.texts.ensures at c.end_at_fault.ensures.ended)

@@ -1,8 +1,8 @@
 use Rattle.script_run.proofs.RunLaws.{ends_with_line}
 use Rattle.std.proofs.Common.{subst}
 use Rattle.script_run.specs.Ends.{Ends}
-use Rattle.meaning.specs.FirstRun.{IsScriptResult, not_found_line, not_first_line, usage, syntax}
-use Rattle.script_run.proofs.FileLaws.{ends_held, ends_absent, ends_not_first, ends_unread, no_long_script, some-weaker, some-always}
+use Rattle.meaning.specs.Run.{IsScriptResult, not_found_line, too_large_line, usage, syntax}
+use Rattle.script_run.proofs.FileLaws.{ends_held, ends_absent, ends_too_large, ends_unread, some-weaker, some-always}
 use Rattle.script_run.proofs.running.run_file.Goals as goal
 
 pub returns-in-Ok-clause-told : goal.returns-in-Ok-clause-told
@@ -19,8 +19,8 @@ returns-in-Err-Absent-clause-told g c =
 pub returns-in-Err-TooLong-clause-told : goal.returns-in-Err-TooLong-clause-told
 returns-in-Err-TooLong-clause-told g c =
     some-weaker (g.F.Files.contents c.args.files.now) _ _ (c.in-Err-TooLong.ensures.told_longer (cc))
-    (λ held (bytes, is, longer). ends_held c.end_not_first.result _ _ _ _ held c.args.path.now bytes is
-    (ends_not_first c.end_not_first.result _ _ _ _ bytes (no_long_script bytes longer) (ends_with_line syntax not_first_line _ _ _ _ c.end_not_first.ensures.ended)))
+    (λ held (bytes, is, longer). ends_held c.end_too_large.result _ _ _ _ held c.args.path.now bytes is
+    (ends_too_large c.end_too_large.result _ _ _ _ bytes longer (ends_with_line syntax too_large_line _ _ _ _ c.end_too_large.ensures.ended)))
 
 pub returns-in-Err-Failed-clause-told : goal.returns-in-Err-Failed-clause-told
 returns-in-Err-Failed-clause-told g c =

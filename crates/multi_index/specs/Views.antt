@@ -1,0 +1,23 @@
+-- What an axis keeps, as its tuples and names.
+use Rattle.std.specs.Prelude.{◌≡◌, ℕ, ◌≤◌, List, length, take, Option}
+use Rattle.cell_core.specs.declared.cell.Label.{Label}
+use Rattle.multi_index.specs.declared.axis.Kept.{Kept}
+use Rattle.multi_index.specs.declared.axis.Kept.TheVariants.{Single, Listed}
+use Rattle.multi_index.specs.declared.axis.Axis.TheInside.{Inside}
+use Rattle.multi_index.specs.Axes.{AxisValue, HaveLevels, single_tuples}
+
+-- the tuples that are kept, in their order
+abbrev pub kept_tuples : Kept → List (List Label)
+kept_tuples (Single index) = single_tuples index
+kept_tuples (Listed tuples) = tuples
+
+-- the axis that is kept
+abbrev pub kept_axis : Inside → AxisValue
+kept_axis axis = record { tuples = kept_tuples axis.rows; names = take axis.levels axis.names }
+
+-- one to four levels, with room for the names of four, and each tuple has a label for each level
+pub record IsAxis (rows : Kept) (names : List (Option Label)) (levels : ℕ) : Type 0 where
+  pub room : length names ≡ 4
+  pub some : 1 ≤ levels
+  pub few : levels ≤ 4
+  pub alike : HaveLevels levels (kept_tuples rows)

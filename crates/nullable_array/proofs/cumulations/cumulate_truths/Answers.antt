@@ -1,0 +1,20 @@
+use Rattle.std.proofs.Common.{ap, sym, ◌∙◌, Ok}
+use Rattle.cell_core.specs.declared.cell.Kind.TheVariants.{Int64, Boolean}
+use Rattle.meaning.specs.Cumulate.{cumulate_column}
+use Rattle.nullable_array.specs.declared.ops.Cumulation.{Cumulation}
+use Rattle.nullable_array.specs.Lanes.{lane_row}
+use Rattle.nullable_array.specs.Columns.{CellColumn, column_value, column_with, number_cell, truth_cell, number_given}
+use Rattle.nullable_array.specs.Folds.{cumulation_of}
+use Rattle.nullable_array.proofs.ColumnLaws.{given-plain}
+use Rattle.nullable_array.proofs.RunningLaws.{truth_sums}
+use Rattle.nullable_array.proofs.cumulations.cumulate_truths.Goals as goal
+
+pub returns-in_ok-run-in-Sum-clause-given : goal.returns-in_ok-run-in-Sum-clause-given
+returns-in_ok-run-in-Sum-clause-given c = λ texts. given-plain texts Int64 number_cell _ _ _ (number_given texts) c.in_ok-run-in-Sum.ensures
+
+pub returns-in_ok-run-in-Sum-clause-answer : goal.returns-in_ok-run-in-Sum-clause-answer
+returns-in_ok-run-in-Sum-clause-answer c = λ texts.
+    let a = c.args.a.now in
+    let row = lane_row a.values.now a.present.now a.start a.stride a.back in
+    ap (λ (o : Cumulation). cumulate_column (cumulation_of o) (column_value texts (column_with Boolean truth_cell a.count row))) c.in-Sum.is
+    ∙ truth_sums texts a.count row ∙ ap (λ (col : CellColumn). Ok (column_value texts col)) (sym c.in_ok-run-in-Sum.ensures)

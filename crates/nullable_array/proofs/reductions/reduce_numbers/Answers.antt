@@ -1,0 +1,11 @@
+use Rattle.std.proofs.Common.{ap, ◌∙◌}
+use Rattle.cell_core.specs.declared.cell.Kind.TheVariants.{Int64}
+use Rattle.meaning.specs.Reduce.{reduction_cell}
+use Rattle.nullable_array.specs.Columns.{CellColumn, column_value, number_cell}
+use Rattle.nullable_array.specs.Folds.{reduction_of}
+use Rattle.nullable_array.proofs.CellRows.{same_column}
+use Rattle.nullable_array.proofs.reductions.reduce_numbers.Goals as goal
+
+pub returns-in-Some-clause-value : goal.returns-in-Some-clause-value
+returns-in-Some-clause-value c = λ texts.
+    c.reduced_numbers.ensures.value texts ∙ ap (λ (col : CellColumn). reduction_cell (reduction_of c.args.op) (column_value texts col).cells) (same_column Int64 number_cell _ _ _ _ c.in-Some.ensures.count c.in-Some.ensures.rows)

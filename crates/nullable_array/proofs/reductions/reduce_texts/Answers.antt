@@ -1,0 +1,71 @@
+use Rattle.std.proofs.Common.{◌≡◌, refl, ap, sym, subst, ◌∙◌, pos, ◌+ℤ◌, Ok, rules, FitsSigned}
+use Rattle.std.specs.Int.{int_wrap, w64}
+use Rattle.std.proofs.Math.Facts.{to_z-of_z}
+use Rattle.std.specs.Ordering.{nat_cmp}
+use Rattle.std.specs.Cmp.Lexicographic.{slice_cmp}
+use Rattle.cell_core.specs.declared.cell.Cell.{Cell}
+use Rattle.cell_core.specs.declared.cell.TextId.{TextId}
+use Rattle.cell_core.specs.declared.cell.Kind.TheVariants.{Text as string}
+use Rattle.meaning.specs.Cell.{datum, text_of, IsGiven, int_cell}
+use Rattle.meaning.specs.Reduce.{reduce_column}
+use Rattle.nullable_array.specs.declared.ops.Reduction.{Reduction}
+use Rattle.nullable_array.specs.Lanes.{lane_row}
+use Rattle.nullable_array.specs.Columns.{column_value, column_with, text_cell}
+use Rattle.nullable_array.specs.Folds.{reduction_of, sum_step}
+use Rattle.nullable_array.proofs.ColumnLaws.{given-row}
+use Rattle.nullable_array.proofs.FoldLaws.{folded_seen, least_seen, greatest_seen, least_kept, greatest_kept}
+use Rattle.nullable_array.proofs.reductions.reduce_texts.Goals as goal
+
+pub returns-in-Min-clause-answer : goal.returns-in-Min-clause-answer
+returns-in-Min-clause-answer c =
+    let texts = c.args.dict.now in
+    let a = c.args.a.now in
+    let n = a.count in
+    let row = lane_row a.values.now a.present.now a.start a.stride a.back in
+    let cmp = λ (x y : TextId). slice_cmp nat_cmp (text_of texts x) (text_of texts y) in
+    let back = λ (r : Reduction) (is : c.args.op ≡ r). ap (λ (o : Reduction). reduce_column (reduction_of o) (column_value texts (column_with string text_cell n row))) is in
+    back _ c.in-Min.is ∙ ap Ok (least_seen texts text_cell cmp refl (λ x. refl) (λ b x. refl) (λ x y. refl) n row ∙ sym (ap (datum texts) (c.cell_of_text.ensures ∙ ap text_cell c.fold_rows.ensures)))
+
+pub returns-in-Min-clause-given : goal.returns-in-Min-clause-given
+returns-in-Min-clause-given c =
+    let texts = c.args.dict.now in
+    let a = c.args.a.now in
+    let n = a.count in
+    let row = lane_row a.values.now a.present.now a.start a.stride a.back in
+    let cmp = λ (x y : TextId). slice_cmp nat_cmp (text_of texts x) (text_of texts y) in
+    let back = λ (r : Reduction) (is : c.args.op ≡ r). ap (λ (o : Reduction). reduce_column (reduction_of o) (column_value texts (column_with string text_cell n row))) is in
+    subst (λ (x : Cell). IsGiven texts x) (sym (c.cell_of_text.ensures ∙ ap text_cell c.fold_rows.ensures)) (least_kept (λ o. IsGiven texts (text_cell o)) tt cmp n row (λ k lt. given-row texts n (λ j. text_cell (row j)) c.requires k lt))
+
+pub returns-in-Max-clause-answer : goal.returns-in-Max-clause-answer
+returns-in-Max-clause-answer c =
+    let texts = c.args.dict.now in
+    let a = c.args.a.now in
+    let n = a.count in
+    let row = lane_row a.values.now a.present.now a.start a.stride a.back in
+    let cmp = λ (x y : TextId). slice_cmp nat_cmp (text_of texts x) (text_of texts y) in
+    let back = λ (r : Reduction) (is : c.args.op ≡ r). ap (λ (o : Reduction). reduce_column (reduction_of o) (column_value texts (column_with string text_cell n row))) is in
+    back _ c.in-Max.is ∙ ap Ok (greatest_seen texts text_cell cmp refl (λ x. refl) (λ b x. refl) (λ x y. refl) n row ∙ sym (ap (datum texts) (c.cell_of_text-in-Max.ensures ∙ ap text_cell c.fold_rows-in-Max.ensures)))
+
+pub returns-in-Max-clause-given : goal.returns-in-Max-clause-given
+returns-in-Max-clause-given c =
+    let texts = c.args.dict.now in
+    let a = c.args.a.now in
+    let n = a.count in
+    let row = lane_row a.values.now a.present.now a.start a.stride a.back in
+    let cmp = λ (x y : TextId). slice_cmp nat_cmp (text_of texts x) (text_of texts y) in
+    let back = λ (r : Reduction) (is : c.args.op ≡ r). ap (λ (o : Reduction). reduce_column (reduction_of o) (column_value texts (column_with string text_cell n row))) is in
+    subst (λ (x : Cell). IsGiven texts x) (sym (c.cell_of_text-in-Max.ensures ∙ ap text_cell c.fold_rows-in-Max.ensures)) (greatest_kept (λ o. IsGiven texts (text_cell o)) tt cmp n row (λ k lt. given-row texts n (λ j. text_cell (row j)) c.requires k lt))
+
+pub returns-in-Count-clause-answer : goal.returns-in-Count-clause-answer
+returns-in-Count-clause-answer c =
+    let texts = c.args.dict.now in
+    let a = c.args.a.now in
+    let n = a.count in
+    let row = lane_row a.values.now a.present.now a.start a.stride a.back in
+    let cmp = λ (x y : TextId). slice_cmp nat_cmp (text_of texts x) (text_of texts y) in
+    let back = λ (r : Reduction) (is : c.args.op ≡ r). ap (λ (o : Reduction). reduce_column (reduction_of o) (column_value texts (column_with string text_cell n row))) is in
+    let fits : FitsSigned w64 c.fold_rows-in-Count.result = search rules in
+    back _ c.in-Count.is ∙ ap Ok (sym (ap (datum texts) c.cell_of_number.ensures.cell ∙ ap int_cell (to_z-of_z fits) ∙ ap int_cell (c.fold_rows-in-Count.ensures ∙ sym (folded_seen texts text_cell (λ m x. int_wrap w64 (m +ℤ pos 1)) (λ s x. sum_step s (pos 1)) (λ s. s) refl (λ x. refl) (λ s x. refl) (pos 0) n row))))
+
+pub returns-in-Count-clause-given : goal.returns-in-Count-clause-given
+returns-in-Count-clause-given c = subst (λ (x : Cell). IsGiven c.args.dict.now x) (sym c.cell_of_number.ensures.cell) tt

@@ -1,0 +1,15 @@
+-- The values of rows that are present, and how many truth values there are among them.
+use Rattle.std.specs.Prelude.{ℕ, ◌+◌, Bool, true, false, ◌&&◌, ◌||◌, List, [], ◌∷◌, Option, Some, None, if◌then◌else◌}
+use Rattle.nullable_array.specs.Folds.{folded}
+
+abbrev pub present_values : {T : Type 0} → List (Option T) → List T
+present_values [] = []
+present_values (None ∷ rows) = present_values rows
+present_values (Some x ∷ rows) = x ∷ present_values rows
+
+-- how many different truth values there are, where this is whether one is True and whether all are
+abbrev pub truths_told : Bool → Bool → ℕ
+truths_told some all = (if some then 1 else 0) + (if all then 0 else 1)
+
+abbrev pub truths_of : ℕ → (ℕ → Option Bool) → ℕ
+truths_of count row = truths_told (folded (λ s x. s || x) false count row) (folded (λ s x. s && x) true count row)

@@ -1,0 +1,107 @@
+// Reductions of columns.
+ghost use Rattle.std.specs.Prelude.{◌≡◌, ◌<◌, ℕ, List, Option, IfOk};
+ghost use Rattle.cell_core.specs.declared.cell.Kind.TheVariants.{Int64, Boolean, Text as string};
+ghost use Rattle.meaning.specs.Cell.{datum, AreGiven, IsGiven};
+ghost use Rattle.meaning.specs.Reduce.{reduction_cell, reduce_column};
+ghost use Rattle.nullable_array.specs.Columns.{column_value, column_with, number_cell, truth_cell, text_cell};
+ghost use Rattle.nullable_array.specs.Views.{borrowed_column};
+ghost use Rattle.nullable_array.specs.Folds.{reduction_of};
+ghost use Rattle.nullable_array.specs.Answers.{AnswersCell};
+
+use crate::columns::{Borrowed, ColRef, cell_of_number, cell_of_text, cell_of_truth};
+use crate::folds::{AllTrue, AnyTrue, Greatest, HowMany, Least, Total, fold_rows};
+use crate::lanes::Lane;
+use crate::operators::{ByNumber, ByText, ByTruth};
+use crate::ops::{ArrayFault, Reduction};
+use crate::rows::Source;
+use cell_core::{Cell, TextDict, TextId};
+
+/// What a reduction makes of the present cells: a sum or a count wraps and is 0 where there is none, `any` is then
+/// False and `all` True, and a least or greatest cell is NA.
+///
+/// `KindMismatch` comes exactly where the reduction doesn't take the kind: a text has no sum and is neither true nor
+/// false. Takes no memory.
+pub fn reduce(dict: &TextDict, op: Reduction, a: ColRef<'_>) -> Result<Cell, ArrayFault>
+    requires { AreGiven dict.now a.cells }
+    ensures given { IfOk result (IsGiven dict.now) }
+    ensures answer { AnswersCell dict.now result (reduce_column (reduction_of op) (column_value dict.now a.entry)) }
+{
+    match &a.lanes {
+        Borrowed::Ints(lane) => Ok(reduce_numbers(op, lane)),
+        Borrowed::Truths(lane) => Ok(reduce_truths(op, lane)),
+        Borrowed::Texts(lane) => reduce_texts(dict, op, lane),
+    }
+}
+
+fn reduce_numbers(op: Reduction, a: &Lane<'_, i64>) -> Cell
+    ensures given { (texts : List (List ℕ)) → IsGiven texts result }
+    ensures value { (texts : List (List ℕ)) → datum texts result ≡ reduction_cell (reduction_of op) (column_value texts (borrowed_column (Borrowed.Ints a.now))).cells }
+{
+    match a.dense() {
+        Some(side) => reduced_numbers(op, &side),
+        None => reduced_numbers(op, a),
+    }
+}
+
+fn reduce_truths(op: Reduction, a: &Lane<'_, bool>) -> Cell
+    ensures given { (texts : List (List ℕ)) → IsGiven texts result }
+    ensures value { (texts : List (List ℕ)) → datum texts result ≡ reduction_cell (reduction_of op) (column_value texts (borrowed_column (Borrowed.Truths a.now))).cells }
+{
+    match a.dense() {
+        Some(side) => reduced_truths(op, &side),
+        None => reduced_truths(op, a),
+    }
+}
+
+fn reduced_numbers<A: Source<i64>>(op: Reduction, a: &A) -> Cell
+    ensures given { (texts : List (List ℕ)) → IsGiven texts result }
+    ensures value { (texts : List (List ℕ)) → datum texts result ≡ reduction_cell (reduction_of op) (column_value texts (column_with Int64 number_cell (A.count_of a.now) (A.row_of a.now))).cells }
+{
+    match op {
+        Reduction::Sum => cell_of_number(Some(fold_rows(&Total, 0, a))),
+        Reduction::Min => cell_of_number(fold_rows(&Least { order: ByNumber }, None, a)),
+        Reduction::Max => cell_of_number(fold_rows(&Greatest { order: ByNumber }, None, a)),
+        Reduction::Any => Cell::Bool(fold_rows(&AnyTrue, false, a)),
+        Reduction::All => Cell::Bool(fold_rows(&AllTrue, true, a)),
+        Reduction::Count => cell_of_number(Some(fold_rows(&HowMany, 0, a))),
+    }
+}
+
+fn reduced_truths<A: Source<bool>>(op: Reduction, a: &A) -> Cell
+    ensures given { (texts : List (List ℕ)) → IsGiven texts result }
+    ensures value { (texts : List (List ℕ)) → datum texts result ≡ reduction_cell (reduction_of op) (column_value texts (column_with Boolean truth_cell (A.count_of a.now) (A.row_of a.now))).cells }
+{
+    match op {
+        Reduction::Sum => cell_of_number(Some(fold_rows(&Total, 0, a))),
+        Reduction::Min => cell_of_truth(fold_rows(&Least { order: ByTruth }, None, a)),
+        Reduction::Max => cell_of_truth(fold_rows(&Greatest { order: ByTruth }, None, a)),
+        Reduction::Any => Cell::Bool(fold_rows(&AnyTrue, false, a)),
+        Reduction::All => Cell::Bool(fold_rows(&AllTrue, true, a)),
+        Reduction::Count => cell_of_number(Some(fold_rows(&HowMany, 0, a))),
+    }
+}
+
+fn reduce_texts(dict: &TextDict, op: Reduction, a: &Lane<'_, TextId>) -> Result<Cell, ArrayFault>
+    requires { AreGiven dict.now (borrowed_column (Borrowed.Texts a.now)).cells }
+    ensures given { IfOk result (IsGiven dict.now) }
+    ensures answer { AnswersCell dict.now result (reduce_column (reduction_of op) (column_value dict.now (borrowed_column (Borrowed.Texts a.now)))) }
+{
+    match op {
+        Reduction::Min => Ok(cell_of_text(fold_rows(
+            &Least {
+                order: ByText { dict },
+            },
+            None,
+            a,
+        ))),
+        Reduction::Max => Ok(cell_of_text(fold_rows(
+            &Greatest {
+                order: ByText { dict },
+            },
+            None,
+            a,
+        ))),
+        Reduction::Count => Ok(cell_of_number(Some(fold_rows(&HowMany, 0, a)))),
+        Reduction::Sum | Reduction::Any | Reduction::All => Err(ArrayFault::KindMismatch),
+    }
+}

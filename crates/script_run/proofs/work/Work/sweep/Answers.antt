@@ -1,0 +1,13 @@
+use Rattle.script_run.specs.Work.{names_in, tables_in}
+use Rattle.script_run.proofs.Binding.{swept_live, swept_noted}
+use Rattle.script_run.proofs.work.Work.sweep.Goals as goal
+
+pub invariant_of-self : goal.invariant_of-self
+invariant_of-self c =
+    let s = c.args.self.now in
+    record {
+      unique = s.unique;
+      live = swept_live (names_in s) (tables_in s) _ c.sweep.ensures.kept s.live;
+      given = s.given;
+      noted = swept_noted (names_in s) _ _ c.sweep.ensures.named;
+    }

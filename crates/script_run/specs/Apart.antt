@@ -1,0 +1,15 @@
+-- A setting changes one object alone.
+use Rattle.std.specs.Prelude.{◌≡◌, false, Option, Some, None}
+use Rattle.meaning.specs.Text.{Text, same_text}
+use Rattle.meaning.specs.State.{State}
+use Rattle.meaning.specs.Expression.{named_by}
+use Rattle.meaning.specs.Tree as tree
+
+-- A setting through a name changes the values of that name and of the names of its object alone, and a setting on an object without a name changes nothing.
+abbrev pub IsSetApart : Option Text → State → State → Type 0
+IsSetApart None old new = new ≡ old
+IsSetApart (Some n) old new = (m : Text) → same_text n m ≡ false → old.paired n m ≡ false → new.value m ≡ old.value m
+
+abbrev pub ChangesOneObject : tree.Form → State → State → Type 0
+ChangesOneObject (tree.put x step a) old new = IsSetApart (named_by x) old new
+ChangesOneObject form old new = Unit {0}

@@ -1,0 +1,51 @@
+-- A piece is blank, or it is one statement, or neither.
+use Rattle.std.proofs.Common.{◌≡◌, ◌↔◌, ℕ, ◌<◌, Bool, true, false, List, [], ◌∷◌, length, Option, Some, None, refl, sym, ◌∙◌, subst, arith}
+use Rattle.std.specs.Prelude.{IsTrue, MatchOption}
+use Rattle.std.specs.Str.{IsUtf8}
+use Rattle.meaning.specs.Token.{Token, mark, equals, Lexes}
+use Rattle.meaning.specs.Tree.{Form, after, import_pandas, bind, put, drop_name, drop_column, print}
+use Rattle.meaning.specs.Grammar.{SpellsForm, IsShallow}
+use Rattle.meaning.specs.Script.{IsBlank, IsStatement}
+use Rattle.script_tokens.proofs.BlankLaws.{Lexes-blank}
+use Rattle.script_tokens.proofs.LexLaws.{Lexes-unique}
+use Rattle.script_syntax.specs.Reading.{form_read}
+use Rattle.script_syntax.specs.PieceRead.{IsOneStatement}
+use Rattle.script_syntax.proofs.Shorter.{expr_shorter}
+use Rattle.script_syntax.proofs.Law.{form_sound, form_complete}
+
+no_form : (form : Form) → SpellsForm form [] → ⊥
+no_form import_pandas s = absurd cc
+no_form (bind n x) (vs, e, h, s) = absurd cc
+no_form (put x p a) (vs, m, t, s, u) = omega (arith, expr_shorter (after x p) 7 [] (mark equals ∷ vs) s)
+no_form (drop_name n) (e, h) = absurd cc
+no_form (drop_column n x) (vs, e, h, s) = absurd cc
+no_form (print x end) (vs, ws, e, s, t) = absurd cc
+
+pub blank_is_none : (piece : List ℕ) → IsBlank piece → (form : Form) → IsStatement form piece → ⊥
+blank_is_none piece blank form (ts, l, s, d) = no_form form (subst (SpellsForm form) (Lexes-blank ts piece blank l) s)
+
+pub no_statement : (ts : List Token) (piece : List ℕ) → Lexes ts piece → form_read ts ≡ None → (form : Form) → IsStatement form piece → ⊥
+no_statement ts piece l none form (us, m, s, d) =
+    let read = form_complete form ts (subst (SpellsForm form) (Lexes-unique us ts piece m l) s) d in
+    absurd cc
+
+pub one_statement : (form : Form) (ts : List Token) (piece : List ℕ) → IsUtf8 piece → (IsBlank piece → ⊥) → Lexes ts piece → form_read ts ≡ Some form → IsOneStatement form piece
+one_statement form ts piece text filled l read =
+    let sound = form_sound ts form read in
+    (text, (ts, l, sound.0, sound.1), only, filled)
+  where
+    only : (other : Form) → IsStatement other piece → other ≡ form
+    only other (us, m, s, d) =
+        let again = form_complete other ts (subst (SpellsForm other) (Lexes-unique us ts piece m l) s) d in
+        cc
+
+-- a piece that was found to be filled isn't blank
+pub filled_of : (blank : Bool) (piece : List ℕ) → (IsTrue blank ↔ IsBlank piece) → blank ≡ false → IsBlank piece → ⊥
+filled_of blank piece means false_ is =
+    let yes = means.1 is in
+    cc
+
+-- the tokens that were found are those of the piece that the text is
+pub lexes_of : {A : Type 0} (found : Option A) (x : A) (view : A → List Token) (text piece : List ℕ) (None' : Type 0) → found ≡ Some x → MatchOption found None' (λ y. Lexes (view y) text)
+    → text ≡ piece → Lexes (view x) piece
+lexes_of found x view text piece None' is lexes same = subst (Lexes (view x)) same (subst (λ o. MatchOption o None' (λ y. Lexes (view y) text)) is lexes)

@@ -1,0 +1,521 @@
+-- What is read is in the grammar, and no deeper than was allowed.
+use Rattle.std.proofs.Common.{◌≡◌, ℕ, zero, suc, ◌+◌, ◌<◌, ◌≤◌, max, Bool, true, false, List, [], ◌∷◌, length, Option, Some, None, is_some, refl, sym, ap, subst, ◌∙◌, arith, inl, inr, ◌⊎◌}
+use Rattle.std.specs.Prelude.{codes}
+use Rattle.std.proofs.lemmas.Bool.{leb-false, leb-true, eqb-true}
+use Rattle.meaning.specs.Text.{Text}
+use Rattle.meaning.specs.Token.{Token, word, int, text, op, mark, Mark, equals, dot, comma, colon, tilde, open_paren, close_paren, open_bracket, close_bracket, open_brace, close_brace}
+use Rattle.meaning.specs.Tree as tree
+use Rattle.meaning.specs.Tree.{Unary, Binary, sub, Accessor, Literal, Expr, Step, Sub, OptionalSub, OptionalArg, OptionalExpr, Arg, ArgList, Args, ArgPairs, name, literal, unary, binary, after, len, make, paren, item, access, method, group, rolling, expanding, key, span, no_sub, some_sub, no_arg, some_arg, no_expr, some_expr, expr, many, row, table, nothing, no_args, more_args, no_named, more_named, no_pairs, more_pairs}
+use Rattle.meaning.specs.Depth.{depth, step_depth, sub_depth, optional_sub_depth, optional_arg_depth, optional_expr_depth, arg_depth, list_depth, args_depth, pairs_depth}
+use Rattle.meaning.specs.Grammar.{level, left_level, accessor_word, IsItem, IsMethodName, MayFollow, SpellsLiteral, SpellsKeyword, SpellsExpr, SpellsStep, SpellsSecond, SpellsBrackets, SpellsSub, SpellsBound, SpellsStride, SpellsArg, SpellsRow, SpellsItems, SpellsMoreItems, SpellsArgs, SpellsMoreArgs, SpellsPairs, SpellsMorePairs}
+use Rattle.script_syntax.specs.Reading.{Read, Reader, and_then, or_else, pick, after_mark, after_word, name_at, dotted_at, call_at, len_at, maker_at, operator_at, sign_at, begins_step, ends_bound, literal_at, accessor_at, Call, plain, grouped, rolled, expanded, call_of, is_item, as_item, past_comma, keyword_for, key_at, guard, item_at, bracketed, enclosed, items, named_at, arguments, entry_at, pairs, all_arguments, atom, bound, stride, span_after, sub_from, sub_at, second, subscripts, brackets, named_call, called, call, dotted, step_from, step, steps, postfix, signed, operators, expr_with, expr_from, unparted, opened, argument_with, expr_at, argument_at}
+use Rattle.script_syntax.proofs.Tools.{bind_some, or_cases, chosen, first, other, some_same, moved, guard_some}
+use Rattle.script_syntax.proofs.Takes.{mark_takes, word_takes, name_takes, dotted_takes, call_takes, len_takes, maker_takes, operator_takes, SignIs, sign_takes, literal_takes, accessor_takes, CallIs, call_of_takes, item_is, as_item_takes, comma_takes, keyword_for_takes, key_takes, no_operator, level_small, left_within, mark_reads, above}
+use Rattle.script_syntax.proofs.Shorter.{expr_shorter, lower}
+
+-- what a reader found
+abbrev pub IsExpr : ℕ → ℕ → List Token → Expr × List Token → Type 0
+IsExpr room l ts y = SpellsExpr y.0 l ts y.1 × (depth y.0 ≤ room)
+
+abbrev pub Stops : ℕ → List Token → Type 0
+Stops l us = 1 ≤ l → operator_at l us ≡ None
+
+abbrev pub IsArg : ℕ → List Token → Arg × List Token → Type 0
+IsArg room ts y = SpellsArg y.0 ts y.1 × (arg_depth y.0 ≤ room)
+
+abbrev IsStep : ℕ → List Token → Step × List Token → Type 0
+IsStep room ts y = SpellsStep y.0 ts y.1 × (step_depth y.0 ≤ room)
+
+abbrev IsSub : ℕ → List Token → Sub × List Token → Type 0
+IsSub room ts y = SpellsSub y.0 ts y.1 × (sub_depth y.0 ≤ room)
+
+abbrev IsItems : ℕ → Mark → List Token → ArgList × List Token → Type 0
+IsItems room close ts y = SpellsItems y.0 close ts y.1 × (list_depth y.0 ≤ room)
+
+-- the name of the first argument may follow
+abbrev pub FirstFollows : Bool → Args → Type 0
+FirstFollows after_name no_named = Unit {0}
+FirstFollows after_name (more_named n a rest) = MayFollow after_name n
+
+abbrev IsArgs : ℕ → List Token → Args × List Token → Type 0
+IsArgs room ts y = SpellsArgs y.0 ts y.1 × (args_depth y.0 ≤ room)
+
+abbrev IsPairs : ℕ → List Token → ArgPairs × List Token → Type 0
+IsPairs room ts y = SpellsPairs y.0 ts y.1 × (pairs_depth y.0 ≤ room)
+
+module _ (room : ℕ) (inner : ℕ → Reader Expr) (argument : Reader Arg)
+    (inner_sound : (l : ℕ) (ts : List Token) (y : Expr × List Token) → l ≤ 6 → inner l ts ≡ Some y → IsExpr room l ts y × Stops l y.1)
+    (argument_sound : (ts : List Token) (y : Arg × List Token) → argument ts ≡ Some y → IsArg room ts y) where
+  item_sound : (ts : List Token) (y : Arg × List Token) → item_at room inner argument ts ≡ Some y → IsArg room ts y × IsItem y.0
+  unfolding item_at
+  item_sound ts y e =
+      let a = bind_some _ _ _ e in
+      let i = as_item_takes a.0.0 a.0.1 y a.2 in
+      subst (λ (p : Arg × List Token). IsArg room ts p × IsItem p.0) i.0 (argument_sound ts a.0 a.1, i.1)
+
+  bracketed_sound : (ts : List Token) (y : Arg × List Token) → bracketed room inner argument ts ≡ Some y → SpellsArg y.0 ts (mark close_bracket ∷ y.1) × (arg_depth y.0 ≤ room)
+  unfolding bracketed
+  bracketed_sound ts y e =
+      let a = bind_some _ _ _ e in
+      let u = bind_some _ _ _ a.2 in
+      let s = argument_sound ts a.0 a.1 in
+      moved (λ (p : Arg × List Token). SpellsArg p.0 ts (mark close_bracket ∷ p.1) × (arg_depth p.0 ≤ room)) u.2
+      (subst (λ (r : List Token). SpellsArg a.0.0 ts r) (mark_takes close_bracket a.0.1 u.0 u.1) s.0, s.1)
+
+  enclosed_sound : (ts : List Token) (y : Expr × List Token) → enclosed room inner argument ts ≡ Some y → SpellsExpr y.0 0 ts (mark close_paren ∷ y.1) × (depth y.0 ≤ room)
+  unfolding enclosed
+  enclosed_sound ts y e =
+      let x = bind_some _ _ _ e in
+      let u = bind_some _ _ _ x.2 in
+      let s = inner_sound 0 ts x.0 (omega arith) x.1 in
+      moved (λ (p : Expr × List Token). SpellsExpr p.0 0 ts (mark close_paren ∷ p.1) × (depth p.0 ≤ room)) u.2
+      (subst (λ (r : List Token). SpellsExpr x.0.0 0 ts r) (mark_takes close_paren x.0.1 u.0 u.1) s.0.0, s.0.1)
+
+  -- ---- lists
+
+  items_closed : (close : Mark) (n : ℕ) (ts us : List Token) (y : ArgList × List Token) → after_mark close ts ≡ Some us → items room inner argument close n ts ≡ Some y → (no_args, us) ≡ y
+  unfolding items
+  items_closed close zero ts us y h e = absurd cc
+  items_closed close (suc n) ts us y h e = elim (or_cases _ _ _ _ e) [ inl (h', k) ↦ absurd cc | inr (vs, h', k) ↦ let i : vs ≡ us = cc in let j : (no_args, vs) ≡ y = some_same k in cc ]
+
+  items_go_on : (close : Mark) (n : ℕ) (ts us : List Token) (y : ArgList × List Token) → past_comma close ts ≡ Some us → items room inner argument close n us ≡ Some y → SpellsItems y.0 close us y.1 → SpellsMoreItems y.0 close ts y.1
+  items_go_on close n ts us y c e s = elim (comma_takes close ts us c) [
+    | inl k ↦ after_comma y.0 y.1 k s
+    | inr (i, vs, k) ↦ subst (λ (p : ArgList × List Token). SpellsMoreItems p.0 close ts p.1) (items_closed close n us vs y (mark_reads close us vs k) e) (inl (i ∙ k))
+  ]
+    where
+      after_comma : (r : ArgList) (vs : List Token) → ts ≡ mark comma ∷ us → SpellsItems r close us vs → SpellsMoreItems r close ts vs
+      after_comma no_args vs k s = inr (k ∙ ap (λ (x : List Token). mark comma ∷ x) s)
+      after_comma (more_args a r) vs k s = (us, s.0, k, s.1, s.2, s.3)
+
+  items_sound : (close : Mark) (n : ℕ) (ts : List Token) (y : ArgList × List Token) → items room inner argument close n ts ≡ Some y → IsItems room close ts y
+  unfolding items
+  items_sound close zero ts y e = absurd cc
+  items_sound close (suc n) ts y e = elim (or_cases _ _ _ _ e) [
+    | inl (h, k) ↦
+        let a = bind_some _ _ _ k in
+        let c = bind_some _ _ _ a.2 in
+        let r = bind_some _ _ _ c.2 in
+        let s = item_sound ts a.0 a.1 in
+        let t = items_sound close n c.0 r.0 r.1 in
+        moved (IsItems room close ts) r.2 ((a.0.1, s.1, s.0.0, items_go_on close n a.0.1 c.0 r.0 c.1 r.1 t.0), omega (arith, s.0.1, t.1))
+    | inr (us, h, k) ↦ moved (IsItems room close ts) k (mark_takes close ts us h, omega arith)
+  ]
+
+  named_sound : (after_name : Bool) (ts : List Token) (y : (Option Text × Arg) × List Token) → named_at room inner argument after_name ts ≡ Some y
+      → (vs : List Token) × SpellsKeyword (y.0).0 ts vs × SpellsArg (y.0).1 vs y.1 × MayFollow after_name (y.0).0 × (arg_depth (y.0).1 ≤ room)
+  unfolding named_at
+  named_sound after_name ts y e =
+      let k = bind_some _ _ _ e in
+      let a = bind_some _ _ _ k.2 in
+      let t = keyword_for_takes after_name ts k.0 k.1 in
+      let s = argument_sound k.0.1 a.0 a.1 in
+      moved (λ (y : (Option Text × Arg) × List Token). (vs : List Token) × SpellsKeyword (y.0).0 ts vs × SpellsArg (y.0).1 vs y.1 × MayFollow after_name (y.0).0 × (arg_depth (y.0).1 ≤ room)) a.2
+      (k.0.1, t.0, s.0, t.1, s.1)
+
+  arguments_closed : (after_name : Bool) (n : ℕ) (ts us : List Token) (y : Args × List Token) → after_mark close_paren ts ≡ Some us → arguments room inner argument after_name n ts ≡ Some y → (no_named, us) ≡ y
+  unfolding arguments
+  arguments_closed after_name zero ts us y h e = absurd cc
+  arguments_closed after_name (suc n) ts us y h e = elim (or_cases _ _ _ _ e) [ inl (h', k) ↦ absurd cc | inr (vs, h', k) ↦ let i : vs ≡ us = cc in let j : (no_named, vs) ≡ y = some_same k in cc ]
+
+  arguments_go_on : (after_name : Bool) (n : ℕ) (ts us : List Token) (y : Args × List Token) → past_comma close_paren ts ≡ Some us → arguments room inner argument after_name n us ≡ Some y
+      → SpellsArgs y.0 us y.1 → FirstFollows after_name y.0 → SpellsMoreArgs y.0 after_name ts y.1
+  arguments_go_on after_name n ts us y c e s f = elim (comma_takes close_paren ts us c) [
+    | inl k ↦ after_comma y.0 y.1 k s f
+    | inr (i, vs, k) ↦ subst (λ (p : Args × List Token). SpellsMoreArgs p.0 after_name ts p.1) (arguments_closed after_name n us vs y (mark_reads close_paren us vs k) e) (inl (i ∙ k))
+  ]
+    where
+      after_comma : (r : Args) (vs : List Token) → ts ≡ mark comma ∷ us → SpellsArgs r us vs → FirstFollows after_name r → SpellsMoreArgs r after_name ts vs
+      after_comma no_named vs k s f = inr (k ∙ ap (λ (x : List Token). mark comma ∷ x) s)
+      after_comma (more_named n a r) vs k s f = (us, s.0, s.1, k, f, s.2, s.3, s.4)
+
+  arguments_sound : (after_name : Bool) (n : ℕ) (ts : List Token) (y : Args × List Token) → arguments room inner argument after_name n ts ≡ Some y → IsArgs room ts y × FirstFollows after_name y.0
+  unfolding arguments
+  arguments_sound after_name zero ts y e = absurd cc
+  arguments_sound after_name (suc n) ts y e = elim (or_cases _ _ _ _ e) [
+    | inl (h, k) ↦
+        let a = bind_some _ _ _ k in
+        let c = bind_some _ _ _ a.2 in
+        let r = bind_some _ _ _ c.2 in
+        let s = named_sound after_name ts a.0 a.1 in
+        let t = arguments_sound (is_some (a.0.0).0) n c.0 r.0 r.1 in
+        moved (λ (y : Args × List Token). IsArgs room ts y × FirstFollows after_name y.0) r.2
+        (((s.0, a.0.1, s.1, s.2, arguments_go_on (is_some (a.0.0).0) n a.0.1 c.0 r.0 c.1 r.1 t.0.0 t.1), omega (arith, s.4, t.0.1)), s.3)
+    | inr (us, h, k) ↦ moved (λ (y : Args × List Token). IsArgs room ts y × FirstFollows after_name y.0) k ((mark_takes close_paren ts us h, omega arith), tt)
+  ]
+
+  all_sound : (ts : List Token) (y : Args × List Token) → all_arguments room inner argument ts ≡ Some y → IsArgs room ts y
+  unfolding all_arguments
+  all_sound ts y e = (arguments_sound false _ ts y e).0
+
+  entry_sound : (ts : List Token) (y : (Literal × Arg) × List Token) → entry_at room inner argument ts ≡ Some y
+      → (vs : List Token) × SpellsLiteral (y.0).0 ts (mark colon ∷ vs) × SpellsArg (y.0).1 vs y.1 × (arg_depth (y.0).1 ≤ room)
+  unfolding entry_at
+  entry_sound ts y e =
+      let k = bind_some _ _ _ e in
+      let a = bind_some _ _ _ k.2 in
+      let s = argument_sound k.0.1 a.0 a.1 in
+      moved (λ (y : (Literal × Arg) × List Token). (vs : List Token) × SpellsLiteral (y.0).0 ts (mark colon ∷ vs) × SpellsArg (y.0).1 vs y.1 × (arg_depth (y.0).1 ≤ room)) a.2
+      (k.0.1, key_takes ts k.0 k.1, s.0, s.1)
+
+  pairs_closed : (n : ℕ) (ts us : List Token) (y : ArgPairs × List Token) → after_mark close_brace ts ≡ Some us → pairs room inner argument n ts ≡ Some y → (no_pairs, us) ≡ y
+  unfolding pairs
+  pairs_closed zero ts us y h e = absurd cc
+  pairs_closed (suc n) ts us y h e = elim (or_cases _ _ _ _ e) [ inl (h', k) ↦ absurd cc | inr (vs, h', k) ↦ let i : vs ≡ us = cc in let j : (no_pairs, vs) ≡ y = some_same k in cc ]
+
+  pairs_go_on : (n : ℕ) (ts us : List Token) (y : ArgPairs × List Token) → past_comma close_brace ts ≡ Some us → pairs room inner argument n us ≡ Some y → SpellsPairs y.0 us y.1 → SpellsMorePairs y.0 ts y.1
+  pairs_go_on n ts us y c e s = elim (comma_takes close_brace ts us c) [
+    | inl k ↦ after_comma y.0 y.1 k s
+    | inr (i, vs, k) ↦ subst (λ (p : ArgPairs × List Token). SpellsMorePairs p.0 ts p.1) (pairs_closed n us vs y (mark_reads close_brace us vs k) e) (inl (i ∙ k))
+  ]
+    where
+      after_comma : (r : ArgPairs) (vs : List Token) → ts ≡ mark comma ∷ us → SpellsPairs r us vs → SpellsMorePairs r ts vs
+      after_comma no_pairs vs k s = inr (k ∙ ap (λ (x : List Token). mark comma ∷ x) s)
+      after_comma (more_pairs v a r) vs k s = (us, s.0, s.1, k, s.2, s.3, s.4)
+
+  pairs_sound : (n : ℕ) (ts : List Token) (y : ArgPairs × List Token) → pairs room inner argument n ts ≡ Some y → IsPairs room ts y
+  unfolding pairs
+  pairs_sound zero ts y e = absurd cc
+  pairs_sound (suc n) ts y e = elim (or_cases _ _ _ _ e) [
+    | inl (h, k) ↦
+        let a = bind_some _ _ _ k in
+        let c = bind_some _ _ _ a.2 in
+        let r = bind_some _ _ _ c.2 in
+        let s = entry_sound ts a.0 a.1 in
+        let t = pairs_sound n c.0 r.0 r.1 in
+        moved (IsPairs room ts) r.2 ((s.0, a.0.1, s.1, s.2, pairs_go_on n a.0.1 c.0 r.0 c.1 r.1 t.0), omega (arith, s.3, t.1))
+    | inr (us, h, k) ↦ moved (IsPairs room ts) k (mark_takes close_brace ts us h, omega arith)
+  ]
+
+  -- ---- atoms
+
+  abbrev IsNamedCall : List Token → (Text × Args) × List Token → Type 0
+  IsNamedCall ts y = (vs : List Token) × (ts ≡ mark dot ∷ word (y.0).0 ∷ mark open_paren ∷ vs) × IsMethodName (y.0).0 × SpellsArgs (y.0).1 vs y.1 × (args_depth (y.0).1 ≤ room)
+
+  named_call_sound : (ts : List Token) (y : (Text × Args) × List Token) → named_call room inner argument ts ≡ Some y → IsNamedCall ts y
+  unfolding named_call
+  named_call_sound ts y e =
+      let n = bind_some _ _ _ e in
+      let r = bind_some _ _ _ n.2 in
+      let t = call_takes ts n.0 n.1 in
+      let s = all_sound n.0.1 r.0 r.1 in
+      moved (IsNamedCall ts) r.2 (n.0.1, t.0, t.1, s.0, s.1)
+
+  atom_sound : (ts : List Token) (y : Expr × List Token) → atom room inner argument ts ≡ Some y → IsExpr (suc room) 7 ts y
+  unfolding atom
+  atom_sound ts y e = elim (or_cases _ _ _ _ e) [
+    | inr (n, h, k) ↦ moved (IsExpr (suc room) 7 ts) k (name_takes ts n h, omega arith)
+    | inl (h, k) ↦ elim (or_cases _ _ _ _ k) [
+      | inr (us, h', k') ↦
+          let x = bind_some _ _ _ k' in
+          let s = enclosed_sound us x.0 x.1 in
+          moved (IsExpr (suc room) 7 ts) x.2 ((us, mark_takes open_paren ts us h', s.0), omega (arith, s.1))
+      | inl (h', k') ↦ elim (or_cases _ _ _ _ k') [
+        | inr (us, i, j) ↦
+            let x = bind_some _ _ _ j in
+            let s = enclosed_sound us x.0 x.1 in
+            moved (IsExpr (suc room) 7 ts) x.2 ((us, len_takes ts us i, s.0), omega (arith, s.1))
+        | inl (i, j) ↦ elim (or_cases _ _ _ _ j) [
+          | inr (n, i', j') ↦
+              let r = bind_some _ _ _ j' in
+              let t = maker_takes ts n i' in
+              let s = all_sound n.1 r.0 r.1 in
+              moved (IsExpr (suc room) 7 ts) r.2 ((n.1, t.0, t.1, s.0), omega (arith, s.1))
+          | inl (i', j') ↦ let v = bind_some _ _ _ j' in moved (IsExpr (suc room) 7 ts) v.2 (literal_takes ts v.0 v.1, omega arith)
+        ]
+      ]
+    ]
+  ]
+
+  -- ---- subscripts
+
+  bound_sound : (ts : List Token) (y : OptionalArg × List Token) → bound room inner argument ts ≡ Some y → SpellsBound y.0 ts y.1 × (optional_arg_depth y.0 ≤ room)
+  unfolding bound
+  bound_sound ts y e = elim (chosen _ _ _ _ e) [
+    | inl (h, k) ↦ moved (λ (y : OptionalArg × List Token). SpellsBound y.0 ts y.1 × (optional_arg_depth y.0 ≤ room)) k (refl, omega arith)
+    | inr (h, k) ↦
+        let a = bind_some _ _ _ k in
+        let s = item_sound ts a.0 a.1 in
+        moved (λ (y : OptionalArg × List Token). SpellsBound y.0 ts y.1 × (optional_arg_depth y.0 ≤ room)) a.2 ((s.1, s.0.0), s.0.1)
+  ]
+
+  abbrev IsStride : List Token → OptionalExpr × List Token → Type 0
+  IsStride ts y = SpellsStride y.0 ts y.1 × (optional_expr_depth y.0 ≤ room)
+
+  stride_sound : (ts : List Token) (y : OptionalExpr × List Token) → stride room inner argument ts ≡ Some y → IsStride ts y
+  unfolding stride
+  stride_sound ts y e = elim (or_cases _ _ _ _ e) [
+    | inl (h, k) ↦ moved (IsStride ts) k (inl refl, omega arith)
+    | inr (us, h, k) ↦ elim (chosen _ _ _ _ k) [
+      | inl (h', k') ↦ moved (IsStride ts) k' (inr (mark_takes colon ts us h), omega arith)
+      | inr (h', k') ↦
+          let x = bind_some _ _ _ k' in
+          let s = inner_sound 0 us x.0 (omega arith) x.1 in
+          moved (IsStride ts) x.2 ((us, mark_takes colon ts us h, s.0.0), s.0.1)
+    ]
+  ]
+
+  span_sound : (from : OptionalArg) (ts us : List Token) (y : Sub × List Token) → SpellsBound from ts (mark colon ∷ us) → optional_arg_depth from ≤ room → span_after room inner argument from us ≡ Some y → IsSub room ts y
+  unfolding span_after
+  span_sound from ts us y f d e =
+      let to = bind_some _ _ _ e in
+      let by = bind_some _ _ _ to.2 in
+      let s = bound_sound us to.0 to.1 in
+      let t = stride_sound to.0.1 by.0 by.1 in
+      moved (IsSub room ts) by.2 ((us, to.0.1, f, s.0, t.0), omega (arith, d, s.1, t.1))
+
+  sub_from_sound : (ts : List Token) (a : Arg × List Token) (y : Sub × List Token) → IsArg room ts a → sub_from room inner argument a.0 a.1 ≡ Some y → IsSub room ts y
+  unfolding sub_from
+  sub_from_sound ts a y s e = elim (or_cases _ _ _ _ e) [
+    | inl (h, k) ↦ moved (IsSub room ts) k s
+    | inr (us, h, k) ↦
+        let c = first _ _ _ k in
+        span_sound (some_arg a.0) ts us y (item_is a.0 c.0, subst (λ (r : List Token). SpellsArg a.0 ts r) (mark_takes colon a.1 us h) s.0) s.1 c.1
+  ]
+
+  sub_sound : (ts : List Token) (y : Sub × List Token) → sub_at room inner argument ts ≡ Some y → IsSub room ts y
+  unfolding sub_at
+  sub_sound ts y e = elim (or_cases _ _ _ _ e) [
+    | inl (h, k) ↦ let a = bind_some _ _ _ k in sub_from_sound ts a.0 y (argument_sound ts a.0 a.1) a.2
+    | inr (us, h, k) ↦ span_sound no_arg ts us y (mark_takes colon ts us h) (omega arith) k
+  ]
+
+  abbrev IsSecond : List Token → OptionalSub × List Token → Type 0
+  IsSecond ts y = SpellsSecond y.0 ts y.1 × (optional_sub_depth y.0 ≤ room)
+
+  second_sound : (ts : List Token) (y : OptionalSub × List Token) → second room inner argument ts ≡ Some y → IsSecond ts y
+  unfolding second
+  second_sound ts y e = elim (or_cases _ _ _ _ e) [
+    | inl (h, k) ↦ let u = bind_some _ _ _ k in moved (IsSecond ts) u.2 (mark_takes close_bracket ts u.0 u.1, omega arith)
+    | inr (us, h, k) ↦
+        let s = bind_some _ _ _ k in
+        let u = bind_some _ _ _ s.2 in
+        let t = sub_sound us s.0 s.1 in
+        moved (IsSecond ts) u.2 ((us, mark_takes comma ts us h, subst (λ (r : List Token). SpellsSub s.0.0 us r) (mark_takes close_bracket s.0.1 u.0 u.1) t.0), t.1)
+  ]
+
+  -- ---- steps
+
+  subscripts_sound : (by : Accessor) (ts us : List Token) (y : Step × List Token) → ts ≡ mark dot ∷ word (accessor_word by) ∷ mark open_bracket ∷ us → subscripts room inner argument by us ≡ Some y → IsStep room ts y
+  unfolding subscripts
+  subscripts_sound by ts us y f e =
+      let s = bind_some _ _ _ e in
+      let t = bind_some _ _ _ s.2 in
+      let i = sub_sound us s.0 s.1 in
+      let j = second_sound s.0.1 t.0 t.1 in
+      moved (IsStep room ts) t.2 ((us, f, s.0.1, i.0, j.0), omega (arith, i.1, j.1))
+
+  abbrev IsBrackets : List Token → OptionalArg × List Token → Type 0
+  IsBrackets ts y = SpellsBrackets y.0 ts y.1 × (optional_arg_depth y.0 ≤ room)
+
+  brackets_sound : (ts : List Token) (y : OptionalArg × List Token) → brackets room inner argument ts ≡ Some y → IsBrackets ts y
+  unfolding brackets
+  brackets_sound ts y e = elim (or_cases _ _ _ _ e) [
+    | inl (h, k) ↦ moved (IsBrackets ts) k (refl, omega arith)
+    | inr (us, h, k) ↦
+        let a = bind_some _ _ _ k in
+        let s = bracketed_sound us a.0 a.1 in
+        moved (IsBrackets ts) a.2 ((us, mark_takes open_bracket ts us h, s.0), s.1)
+  ]
+
+  called_sound : (c : Call) (w : Text) (ts us : List Token) (r : Args × List Token) (y : Step × List Token) → CallIs c w → ts ≡ mark dot ∷ word w ∷ mark open_paren ∷ us → IsArgs room us r
+      → called room inner argument c w r.0 r.1 ≡ Some y → IsStep room ts y
+  unfolding called
+  called_sound plain w ts us r y c f s e = moved (IsStep room ts) e ((us, f, c, s.0), s.1)
+  called_sound grouped w ts us r y c f s e =
+      let b = bind_some _ _ _ e in
+      let t = brackets_sound r.1 b.0 b.1 in
+      let q = bind_some _ _ _ b.2 in
+      let n = named_call_sound b.0.1 q.0 q.1 in
+      moved (IsStep room ts) q.2 ((us, r.1, b.0.1, f ∙ ap (λ (v : Text). mark dot ∷ word v ∷ mark open_paren ∷ us) c, s.0, t.0, n.0, n.1, n.2, n.3), omega (arith, s.1, t.1, n.4))
+  called_sound rolled w ts us r y c f s e =
+      let q = bind_some _ _ _ e in
+      let n = named_call_sound r.1 q.0 q.1 in
+      moved (IsStep room ts) q.2 ((us, r.1, f ∙ ap (λ (v : Text). mark dot ∷ word v ∷ mark open_paren ∷ us) c, s.0, n.0, n.1, n.2, n.3), omega (arith, s.1, n.4))
+  called_sound expanded w ts us r y c f s e =
+      let q = bind_some _ _ _ e in
+      let n = named_call_sound r.1 q.0 q.1 in
+      moved (IsStep room ts) q.2 ((us, r.1, f ∙ ap (λ (v : Text). mark dot ∷ word v ∷ mark open_paren ∷ us) c, s.0, n.0, n.1, n.2, n.3), omega (arith, s.1, n.4))
+
+  call_sound : (w : Text) (ts us : List Token) (y : Step × List Token) → ts ≡ mark dot ∷ word w ∷ mark open_paren ∷ us → call room inner argument w us ≡ Some y → IsStep room ts y
+  unfolding call
+  call_sound w ts us y f e =
+      let c = bind_some _ _ _ e in
+      let r = bind_some _ _ _ c.2 in
+      called_sound c.0 w ts us r.0 y (call_of_takes w c.0 c.1) f (all_sound us r.0 r.1) r.2
+
+  dotted_sound : (w : Text) (ts us : List Token) (y : Step × List Token) → ts ≡ mark dot ∷ word w ∷ us → dotted room inner argument w us ≡ Some y → IsStep room ts y
+  unfolding dotted
+  dotted_sound w ts us y f e = elim (or_cases _ _ _ _ e) [
+    | inl (h, k) ↦
+        let v = bind_some _ _ _ k in
+        let by = bind_some _ _ _ v.2 in
+        subscripts_sound by.0 ts v.0 y
+        (f ∙ ap (λ (r : List Token). mark dot ∷ word w ∷ r) (mark_takes open_bracket us v.0 v.1) ∙ ap (λ (u : Text). mark dot ∷ word u ∷ mark open_bracket ∷ v.0) (accessor_takes w by.0 by.1)) by.2
+    | inr (vs, h, k) ↦ call_sound w ts vs y (f ∙ ap (λ (r : List Token). mark dot ∷ word w ∷ r) (mark_takes open_paren us vs h)) k
+  ]
+
+  step_from_sound : (by : OptionalArg) (ts us : List Token) (y : Step × List Token) → SpellsBrackets by ts us → optional_arg_depth by ≤ room → step_from room inner argument by us ≡ Some y → IsStep room ts y
+  unfolding step_from
+  step_from_sound no_arg ts us y s d e =
+      let w = bind_some _ _ _ e in
+      dotted_sound w.0.0 ts w.0.1 y (s ∙ dotted_takes us w.0 w.1) w.2
+  step_from_sound (some_arg a) ts us y s d e = moved (IsStep room ts) e (s, d)
+
+  step_sound : (ts : List Token) (y : Step × List Token) → step room inner argument ts ≡ Some y → IsStep room ts y
+  unfolding step
+  step_sound ts y e =
+      let b = bind_some _ _ _ e in
+      let s = brackets_sound ts b.0 b.1 in
+      step_from_sound b.0.0 ts b.0.1 y s.0 s.1 b.2
+
+  steps_sound : (n : ℕ) (x : Expr) (ts us : List Token) (y : Expr × List Token) → IsExpr (suc room) 7 ts (x, us) → steps room inner argument n x us ≡ Some y → IsExpr (suc room) 7 ts y
+  unfolding steps
+  steps_sound zero x ts us y s e = moved (IsExpr (suc room) 7 ts) e s
+  steps_sound (suc n) x ts us y s e = elim (chosen _ _ _ _ e) [
+    | inl (h, k) ↦
+        let p = bind_some _ _ _ k in
+        let q = bind_some _ _ _ p.2 in
+        let g = guard_some _ _ _ _ q.1 in
+        let t = step_sound us p.0 p.1 in
+        steps_sound n q.0.0 ts q.0.1 y (subst (IsExpr (suc room) 7 ts) g.0 ((us, s.0, t.0), g.1)) q.2
+    | inr (h, k) ↦ moved (IsExpr (suc room) 7 ts) k s
+  ]
+
+  postfix_sound : (ts : List Token) (y : Expr × List Token) → postfix room inner argument ts ≡ Some y → IsExpr (suc room) 7 ts y
+  unfolding postfix
+  postfix_sound ts y e =
+      let p = bind_some _ _ _ e in
+      steps_sound _ p.0.0 ts p.0.1 y (atom_sound ts p.0 p.1) p.2
+
+  unary_sound : (o : Unary) (x : Expr) (ts us vs : List Token) → SignIs o ts us → SpellsExpr x 6 us vs → SpellsExpr (unary o x) 6 ts vs
+  unary_sound tree.minus x ts us vs o s = (omega arith, us, o.0, o.1, s)
+  unary_sound tree.invert x ts us vs o s = (omega arith, us, o, s)
+
+  unary_depth : (o : Unary) (x : Expr) → depth (unary o x) ≡ suc (depth x)
+  unary_depth o x = refl
+
+  signed_sound : (ts : List Token) (y : Expr × List Token) → signed room inner argument ts ≡ Some y → IsExpr (suc room) 6 ts y
+  unfolding signed
+  signed_sound ts y e = elim (or_cases _ _ _ _ e) [
+    | inl (h, k) ↦ let s = postfix_sound ts y k in (lower y.0 6 7 ts y.1 (omega arith) s.0, s.1)
+    | inr (o, h, k) ↦
+        let p = bind_some _ _ _ k in
+        let x = inner_sound 6 o.1 p.0 (omega arith) p.1 in
+        moved (IsExpr (suc room) 6 ts) p.2 (unary_sound o.0 p.0.0 ts o.1 p.0.1 (sign_takes ts o h) x.0.0, omega (arith, x.0.1))
+  ]
+
+  -- ---- operators
+
+  not_above : (m : ℕ) (o : Binary) (ts : List Token) → operator_at (suc m) (op o ∷ ts) ≡ None → level o ≤ m
+  unfolding operator_at
+  not_above m o ts e = elim (chosen _ _ _ _ e) [ inl (h, k) ↦ absurd cc | inr (h, k) ↦ let t = leb-false _ _ h in omega arith ]
+
+  room_left : (us : List Token) (o : Binary) (vs ws rs : List Token) (n : ℕ) → us ≡ op o ∷ vs → ws ≡ rs → length ws < length vs → length us ≤ suc n → length rs ≤ n
+  room_left us o vs ws rs n e f lt few = omega (arith, ap length e, ap length f)
+
+  abbrev Ended : ℕ → List Token → Expr × List Token → Type 0
+  Ended l ts y = IsExpr (suc room) l ts y × Stops l y.1
+
+  -- What is read so far has level m, and no operator above m follows, so one that follows has it for its left side.
+  operators_sound : (n l m : ℕ) (x : Expr) (ts us : List Token) (y : Expr × List Token) → length us ≤ n → 1 ≤ m → l ≤ m → operator_at (suc m) us ≡ None
+      → IsExpr (suc room) m ts (x, us) → operators room inner argument n l x us ≡ Some y → Ended l ts y
+  unfolding operators operator_at
+  operators_sound zero l m x ts [] y few low le stop s e = moved (Ended l ts) e ((lower x l m ts [] le s.0, s.1), λ h. refl)
+  operators_sound zero l m x ts (u ∷ us) y few low le stop s e = absurd (omega arith)
+  operators_sound (suc n) l m x ts us y few low le stop s e = elim (or_cases _ _ _ _ e) [
+    | inl (h, k) ↦ moved (Ended l ts) k ((lower x l m ts us le s.0, s.1), λ i. h)
+    | inr (o, h, k) ↦
+        let p = bind_some _ _ _ k in
+        let q = bind_some _ _ _ p.2 in
+        let g = guard_some _ _ _ _ q.1 in
+        let t = operator_takes l us o h in
+        let small = level_small o.0 in
+        let r = inner_sound (suc (level o.0)) o.1 p.0 (omega arith) p.1 in
+        let below : level o.0 ≤ m = not_above m o.0 o.1 (subst (λ (r : List Token). operator_at (suc m) r ≡ None) t.0 stop) in
+        let rest : p.0.1 ≡ q.0.1 = ap (λ (z : Expr × List Token). z.1) g.0 in
+        let left : SpellsExpr x (left_level o.0) ts (op o.0 ∷ o.1) = lower x (left_level o.0) m ts (op o.0 ∷ o.1) (left_within o.0 m low below) (subst (λ (r : List Token). SpellsExpr x m ts r) t.0 s.0) in
+        let whole : IsExpr (suc room) (level o.0) ts q.0 = subst (IsExpr (suc room) (level o.0) ts) g.0 ((omega arith, o.1, left, r.0.0), g.1) in
+        elim (chosen _ _ _ _ q.2) [
+          | inl (z, j) ↦
+              let zero_level : level o.0 ≡ 0 = eqb-true _ _ z in
+              moved (Ended l ts) j ((lower q.0.0 l (level o.0) ts q.0.1 t.1 whole.0, whole.1), λ i. absurd (omega (arith, t.1)))
+          | inr (z, j) ↦
+              operators_sound n l (level o.0) q.0.0 ts q.0.1 y
+              (room_left us o.0 o.1 p.0.1 q.0.1 n t.0 rest (expr_shorter p.0.0 _ o.1 p.0.1 r.0.0) few)
+              (above (level o.0) z) t.1
+              (subst (λ (r : List Token). operator_at (suc (level o.0)) r ≡ None) rest (r.1 (omega arith))) whole j
+        ]
+  ]
+
+  expr_with_sound : (l : ℕ) (ts : List Token) (y : Expr × List Token) → l ≤ 6 → expr_with room inner argument l ts ≡ Some y → Ended l ts y
+  unfolding expr_with
+  expr_with_sound l ts y le e =
+      let p = bind_some _ _ _ e in
+      operators_sound (length p.0.1) l 6 p.0.0 ts p.0.1 y (omega arith) (omega arith) le (no_operator 7 p.0.1 (omega arith)) (signed_sound ts p.0 p.1) p.2
+
+  from_sound : (x : Expr) (ts us : List Token) (y : Expr × List Token) → IsExpr (suc room) 7 ts (x, us) → expr_from room inner argument x us ≡ Some y → IsExpr (suc room) 0 ts y
+  unfolding expr_from
+  from_sound x ts us y s e =
+      let p = bind_some _ _ _ e in
+      let a = steps_sound _ x ts us p.0 s p.1 in
+      (operators_sound (length p.0.1) 0 6 p.0.0 ts p.0.1 y (omega arith) (omega arith) (omega arith) (no_operator 7 p.0.1 (omega arith)) (lower p.0.0 6 7 ts p.0.1 (omega arith) a.0, a.1) p.2).0
+
+  -- ---- arguments
+
+  unparted_sound : (a : Arg) (ts us vs : List Token) (y : Arg × List Token) → ts ≡ mark open_paren ∷ us → IsArg room us (a, vs) → unparted room inner argument a vs ≡ Some y → IsArg (suc room) ts y
+  unfolding unparted
+  unparted_sound (expr x) ts us vs y f s e =
+      let p = bind_some _ _ _ e in
+      let q = bind_some _ _ _ p.2 in
+      let z = from_sound (paren x) ts p.0 q.0 ((us, f, subst (λ (r : List Token). SpellsExpr x 0 us r) (mark_takes close_paren vs p.0 p.1) s.0), omega (arith, s.1)) q.1 in
+      moved (IsArg (suc room) ts) q.2 z
+  unparted_sound _ ts us vs y f s e = absurd cc
+
+  opened_sound : (ts us : List Token) (a y : Arg × List Token) → ts ≡ mark open_paren ∷ us → IsArg room us a → opened room inner argument a.0 a.1 ≡ Some y → IsArg (suc room) ts y
+  unfolding opened
+  opened_sound ts us a y f s e = elim (or_cases _ _ _ _ e) [
+    | inl (h, k) ↦ unparted_sound a.0 ts us a.1 y f s k
+    | inr (vs, h, k) ↦
+        let c = first _ _ _ k in
+        let q = bind_some _ _ _ c.1 in
+        let t = items_sound close_paren _ vs q.0 q.1 in
+        moved (IsArg (suc room) ts) q.2
+        ((us, f, (vs, item_is a.0 c.0, subst (λ (r : List Token). SpellsArg a.0 us r) (mark_takes comma a.1 vs h) s.0, t.0)), omega (arith, s.1, t.1))
+  ]
+
+  argument_with_sound : (ts : List Token) (y : Arg × List Token) → argument_with room inner argument ts ≡ Some y → IsArg (suc room) ts y
+  unfolding argument_with
+  argument_with_sound ts y e = elim (or_cases _ _ _ _ e) [
+    | inr (us, h, k) ↦ let a = bind_some _ _ _ k in opened_sound ts us a.0 y (mark_takes open_paren ts us h) (argument_sound us a.0 a.1) a.2
+    | inl (h, k) ↦ elim (or_cases _ _ _ _ k) [
+      | inr (us, h', k') ↦
+          let r = bind_some _ _ _ k' in
+          let s = items_sound close_bracket _ us r.0 r.1 in
+          moved (IsArg (suc room) ts) r.2 ((us, mark_takes open_bracket ts us h', s.0), omega (arith, s.1))
+      | inl (h', k') ↦ elim (or_cases _ _ _ _ k') [
+        | inr (us, i, j) ↦
+            let r = bind_some _ _ _ j in
+            let s = pairs_sound _ us r.0 r.1 in
+            moved (IsArg (suc room) ts) r.2 ((us, mark_takes open_brace ts us i, s.0), omega (arith, s.1))
+        | inl (i, j) ↦ elim (or_cases _ _ _ _ j) [
+          | inr (us, i', j') ↦ moved (IsArg (suc room) ts) j' (word_takes (codes "None") ts us i', omega arith)
+          | inl (i', j') ↦
+              let p = bind_some _ _ _ j' in
+              let x = expr_with_sound 0 ts p.0 (omega arith) p.1 in
+              moved (IsArg (suc room) ts) p.2 x.0
+        ]
+      ]
+    ]
+  ]
+
+mutual
+  unfolding expr_at argument_at
+
+  pub expr_sound : (room l : ℕ) (ts : List Token) (y : Expr × List Token) → l ≤ 6 → expr_at room l ts ≡ Some y → IsExpr room l ts y × Stops l y.1
+  expr_sound zero l ts y le e = absurd cc
+  expr_sound (suc room) l ts y le e = expr_with_sound room (expr_at room) (argument_at room) (expr_sound room) (argument_sound room) l ts y le e
+
+  pub argument_sound : (room : ℕ) (ts : List Token) (y : Arg × List Token) → argument_at room ts ≡ Some y → IsArg room ts y
+  argument_sound zero ts y e = absurd cc
+  argument_sound (suc room) ts y e = argument_with_sound room (expr_at room) (argument_at room) (expr_sound room) (argument_sound room) ts y e

@@ -1,0 +1,15 @@
+use Rattle.std.proofs.Common.{length, ◌+◌, ◌≤◌}
+use Rattle.meaning.specs.Pieces.{pieces}
+use Rattle.script_syntax.specs.ScriptView.{statements_of}
+use Rattle.script_syntax.specs.PieceRead.{Reads}
+use Rattle.script_syntax.proofs.pieces.parse_pieces.Given as goal
+
+abbrev pub invariant-pieces : goal.invariant-pieces
+invariant-pieces l =
+    record {
+      reads : Reads (statements_of l.script) l.left l.line (pieces l.rest) (pieces l.bytes);
+      few : l.line + length l.rest ≤ length l.bytes + 1;
+    }
+
+abbrev pub decreases-pieces : goal.decreases-pieces
+decreases-pieces l = length l.rest
