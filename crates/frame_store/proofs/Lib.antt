@@ -1,0 +1,5 @@
+pub mod PartLaws
+pub mod ColumnLaws
+pub mod ValueLaws
+pub mod HeldLaws
+pub mod ObjectLaws

@@ -1,0 +1,77 @@
+-- The tables of objects.
+use Rattle.std.proofs.Common.{◌≡◌, ◌∙◌, ℕ, zero, suc, ◌<◌, List, [], ◌∷◌, length, refl, ap, sym, arith, nat_eq, Bool, true, false, if◌then◌else◌, Option, Some, None, IsSome}
+use Rattle.std.specs.Prelude.{◌≢◌, Result, Ok, Err, IfOk, is_some, slice_index_or, slice_set}
+use Rattle.std.proofs.lemmas.List.{length-set}
+use Rattle.std.proofs.lemmas.Bool.Decides.{nat_tests}
+use Rattle.table_meaning.specs.Table.{NumberedTable}
+use Rattle.frame_store.specs.declared.object.ObjId.{ObjId}
+use Rattle.frame_store.specs.Objects.{Tables, with_object, table_or}
+
+nat_same : (a b : ℕ) → nat_eq a b ≡ true → a ≡ b
+nat_same a b e = grind (arith, nat_tests)
+
+nat_eq_next : (i k : ℕ) → nat_eq (suc i) (suc k) ≡ nat_eq i k
+nat_eq_next i k = grind (arith, nat_tests)
+
+nat_eq_zero : (k : ℕ) → nat_eq 0 (suc k) ≡ false
+nat_eq_zero k = grind (arith, nat_tests)
+
+nat_eq_none : (k : ℕ) → nat_eq (suc k) 0 ≡ false
+nat_eq_none k = grind (arith, nat_tests)
+
+-- an item of a list in which one is replaced
+get-set : {X : Type 0} (xs : List X) (d x : X) (i k : ℕ) → i < length xs → slice_index_or (slice_set xs i x) k d ≡ (if nat_eq i k then x else slice_index_or xs k d)
+get-set [] d x i k lt = absurd (omega arith)
+get-set (y ∷ xs) d x zero zero lt = refl
+get-set (y ∷ xs) d x zero (suc k) lt = ap (λ t. if t then x else slice_index_or xs k d) (sym (nat_eq_zero k))
+get-set (y ∷ xs) d x (suc i) zero lt = ap (λ t. if t then x else y) (sym (nat_eq_none i))
+get-set (y ∷ xs) d x (suc i) (suc k) lt = get-set xs d x i k (omega arith) ∙ ap (λ t. if t then x else slice_index_or xs k d) (sym (nat_eq_next i k))
+
+-- two changes at different numbers
+either_first : {X : Type 0} (a b : Bool) (x y z : X) → (a ≡ true → b ≡ true → ⊥) → (if a then x else (if b then y else z)) ≡ (if b then y else (if a then x else z))
+either_first true true x y z apart = absurd (apart refl refl)
+either_first true false x y z apart = refl
+either_first false b x y z apart = refl
+
+some_within : {X : Type 0} (xs : List (Option X)) (i : ℕ) → IsSome (slice_index_or xs i None) → i < length xs
+some_within [] i live = cc
+some_within (y ∷ xs) zero live = omega arith
+some_within (y ∷ xs) (suc i) live = let later : i < length xs = some_within xs i live in omega arith
+
+-- the table of one object is changed
+pub table_changed : (slots : List (Option NumberedTable)) (on : ℕ) (old new : NumberedTable) (change : NumberedTable → NumberedTable)
+    → IsSome (slice_index_or slots on None) → slice_index_or slots on None ≡ Some old → new ≡ change old
+    → (λ id. slice_index_or (slice_set slots on (Some new)) id None) ≡ with_object (λ id. slice_index_or slots id None) on (Some (change (table_or (slice_index_or slots on None))))
+table_changed slots on old new change live at is = λ j id. same id j
+  where
+    same : (id : ℕ) → slice_index_or (slice_set slots on (Some new)) id None ≡ (if nat_eq on id then Some (change (table_or (slice_index_or slots on None))) else slice_index_or slots id None)
+    same id =
+        get-set slots None (Some new) on id (some_within slots on live)
+        ∙ ap (λ t. if nat_eq on id then Some t else slice_index_or slots id None) (is ∙ ap change (sym (ap table_or at)))
+
+-- an object gets the table of another one, which ended
+pub table_moved : (old mid : List (Option NumberedTable)) (on by : ℕ) (table : NumberedTable)
+    → IsSome (slice_index_or old on None) → IsSome (slice_index_or old by None) → on ≢ by → slice_index_or old by None ≡ Some table → mid ≡ slice_set old by None
+    → (λ id. slice_index_or (slice_set mid on (Some table)) id None) ≡ with_object (with_object (λ id. slice_index_or old id None) on (slice_index_or old by None)) by None
+table_moved old mid on by table live there different at removed = λ j id. same id j
+  where
+    here : on < length mid
+    here = omega (arith, some_within old on live, ap (λ (l : List (Option NumberedTable)). length l) removed, length-set old by None)
+
+    kept : (id : ℕ) → slice_index_or mid id None ≡ (if nat_eq by id then None else slice_index_or old id None)
+    kept id = ap (λ (l : List (Option NumberedTable)). slice_index_or l id None) removed ∙ get-set old None None by id (some_within old by there)
+
+    same : (id : ℕ) → slice_index_or (slice_set mid on (Some table)) id None ≡ (if nat_eq by id then None else (if nat_eq on id then slice_index_or old by None else slice_index_or old id None))
+    same id =
+        get-set mid None (Some table) on id here
+        ∙ ap (λ t. if nat_eq on id then Some table else t) (kept id)
+        ∙ either_first (nat_eq on id) (nat_eq by id) (Some table) None (slice_index_or old id None) (λ a b. different (nat_same on id a ∙ sym (nat_same by id b)))
+        ∙ ap (λ t. if nat_eq by id then None else (if nat_eq on id then t else slice_index_or old id None)) (sym at)
+
+nat_eq_self : (n : ℕ) → nat_eq n n ≡ true
+nat_eq_self n = grind (arith, nat_tests)
+
+-- an object that has got a table is live
+pub added_is_live : {E : Type 0} (r : Result ObjId E) (old new : Tables) (t : NumberedTable) → IfOk r (λ id. new ≡ with_object old id.0 (Some t)) → IfOk r (λ id. IsSome (new id.0))
+added_is_live (Err e) old new t added = added
+added_is_live (Ok id) old new t added = ap is_some (ap (λ (f : Tables). f id.0) added ∙ ap (λ b. if b then Some t else old id.0) (nat_eq_self id.0))

@@ -1,0 +1,8 @@
+use Rattle.std.proofs.Common.{◌≡◌, take, map, All}
+use Rattle.cell_core.specs.declared.cell.Cell.TheVariants.{Na}
+use Rattle.table_meaning.specs.Change.{cut_columns}
+use Rattle.frame_store.specs.Parts.{block_column, IsSingle}
+use Rattle.frame_store.proofs.columns.cut.Given as goal
+
+abbrev pub invariant-loop-k : goal.invariant-loop-k
+invariant-loop-k l = (map block_column l.made.items ≡ cut_columns Na (map block_column l.blocks) l.rows (take l.k l.places)) × All IsSingle l.made.items

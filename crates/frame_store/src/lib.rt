@@ -1,0 +1,38 @@
+//! Objects and their tables.
+//!
+//! A [`Store`] keeps a whole table for each live object. A new object is added from its axis, its
+//! headings and its blocks, or derived as rows and columns of another; the table of an object may
+//! then be changed in place. Contracts see the store as a finite map from live objects to tables:
+//! each call changes the table of the named object alone, and a refusal, which is want of memory,
+//! leaves every table as it was.
+//!
+//! In this stage each object keeps columns of its own, one to a block, and `derive` copies them.
+//!
+//! ```text
+//! let mut price = Column::new(alloc, Kind::Int64);
+//! price.push(Cell::Int(7))?;
+//! let mut headings = Headings::new(alloc, None);
+//! headings.push(Some(Label::Text(name)))?;
+//! let mut blocks = Blocks::new(alloc);
+//! blocks.push(price.into_block())?;
+//! let mut store = Store::new(alloc);
+//! let id = store.add(Shape::Series, Axis::range(alloc, 1)?, headings, blocks)?;
+//! let first = store.read(id).cell(0, 0);
+//! ```
+#![tactic(auto)]
+
+mod blocks;
+mod columns;
+mod headings;
+mod object;
+mod store;
+mod table;
+mod values;
+
+pub use blocks::Blocks;
+pub use headings::Headings;
+pub use object::{ObjId, ObjRef};
+pub use store::Store;
+
+#[cfg(test)]
+mod tests;

@@ -1,0 +1,177 @@
+// The table that an object keeps.
+ghost use Rattle.std.specs.Prelude.{◌≡◌, ◌*◌, ◌<◌, ◌≤◌, map, length, All, Some, IsSome, IfOk, OnOk, OnErr, slice_index_or, None};
+ghost use Rattle.cell_core.specs.declared.cell.Cell.TheVariants.{Na};
+ghost use Rattle.cell_core.specs.declared.grid.Shape.TheVariants.{Frame};
+ghost use Rattle.cell_core.specs.Grids.{AreRowsBelow};
+ghost use Rattle.table_meaning.specs.Table.{column_at};
+ghost use Rattle.table_meaning.specs.Change.{put_at, cut_columns, with_column, without_column, with_labels, with_values};
+ghost use Rattle.table_meaning.specs.Valid.{AreHeadings, IsWhole};
+ghost use Rattle.frame_store.specs.Parts.{block_column, IsSingle, HaveRows, AreHeld, table_with, axis_of, count_of};
+
+use crate::blocks::Blocks;
+use crate::columns::{cut, put_at};
+use crate::headings::Headings;
+use crate::values::put_values;
+use cell_core::{Cells, Label, NoMemory, Places, Rows, Shape};
+use multi_index::Axis;
+use nullable_array::{Block, ColRef};
+use std::alloc::Global;
+use std::marker::Model;
+
+/// A table whose columns are its own, one to a block.
+#[derive(Drop)]
+pub(crate) struct Table {
+    shape: Shape,
+    axis: Axis,
+    columns_name: Option<Label>,
+    headings: Vec<Option<Label>>,
+    blocks: Vec<Block>,
+}
+
+impl Model for Table {
+    ghost use Rattle.table_meaning.specs.Table.{NumberedTable};
+
+    ghost Value = { NumberedTable };
+
+    ghost use Rattle.frame_store.specs.Views.{kept_table, IsKept};
+
+    ghost view = { kept_table };
+
+    ghost invariant = { IsKept };
+}
+
+impl Table {
+    /// The table of these parts. Takes no memory.
+    pub(crate) fn new(shape: Shape, axis: Axis, headings: Headings, blocks: Blocks) -> Table
+        requires single { All IsSingle blocks }
+        requires whole { IsWhole (table_with shape axis headings (map block_column blocks)) }
+        ensures { result ≡ table_with shape axis headings (map block_column blocks) }
+    {
+        Table {
+            shape,
+            axis,
+            columns_name: headings.columns_name,
+            headings: headings.labels,
+            blocks: blocks.items,
+        }
+    }
+
+    pub(crate) fn shape(&self) -> Shape
+        ensures { result ≡ self.now.shape }
+    {
+        self.shape
+    }
+
+    pub(crate) fn axis(&self) -> &Axis
+        ensures { result.now ≡ axis_of self.now }
+    {
+        &self.axis
+    }
+
+    pub(crate) fn columns_name(&self) -> Option<Label>
+        ensures { result ≡ self.now.columns_name }
+    {
+        self.columns_name
+    }
+
+    /// The table itself, whose parts fit one another.
+    pub(crate) fn whole(&self) -> &Table
+        ensures same { result.now ≡ self.now }
+        ensures whole { IsWhole result.now }
+    {
+        let _ = &self.axis;
+        self
+    }
+
+    pub(crate) fn columns(&self) -> usize
+        ensures { result ≡ length self.now.columns }
+    {
+        self.blocks.len()
+    }
+
+    pub(crate) fn heading(&self, column: usize) -> Option<Label>
+        requires { column < length self.now.columns }
+        ensures value { result ≡ slice_index_or self.now.headings column None }
+        ensures named { self.now.shape ≡ Frame → IsSome result }
+    {
+        self.headings[column]
+    }
+
+    pub(crate) fn column(&self, column: usize) -> ColRef<'_>
+        requires { column < length self.now.columns }
+        ensures column { column_at self.now.columns column ≡ record { kind = result.kind; cells = result.cells } }
+        ensures rows { length result.cells ≡ length self.now.labels }
+    {
+        self.blocks[column].column(0)
+    }
+
+    /// How many cells there are, or 2^64 - 1 where there are more.
+    pub(crate) fn cells(&self) -> u64
+        ensures { result ≡ count_of self.now }
+    {
+        self.axis.len().saturating_mul(self.blocks.len()) as u64
+    }
+
+    /// The columns at these places and rows, each in a block of its own.
+    pub(crate) fn cut_to(
+        &self,
+        alloc: Global,
+        rows: Rows,
+        places: &Places,
+    ) -> Result<Blocks, NoMemory>
+        requires rows { AreRowsBelow rows (length self.now.labels) }
+        requires places { All (λ place. place < length self.now.columns) places.now }
+        ensures columns { IfOk result (λ cut. map block_column cut ≡ cut_columns Na self.now.columns rows places.now) }
+        ensures single { IfOk result (λ cut. All IsSingle cut) }
+    {
+        let items = cut(alloc, self.blocks.as_slice(), rows, places, self.axis.len())?;
+        Ok(Blocks { items })
+    }
+
+    pub(crate) fn set_cells(&mut self, rows: &Places, places: &Places, values: &Cells)
+        requires rows { All (λ row. row < length self.old.labels) rows.now }
+        requires places { All (λ place. place < length self.old.columns) places.now }
+        requires values { length values.now ≡ length rows.now * length places.now }
+        requires held { AreHeld self.old.columns places.now values.now }
+        ensures { self.new ≡ with_values self.old rows.now places.now values.now }
+    {
+        put_values(&mut self.blocks, self.axis.len(), rows, places, values);
+    }
+
+    /// `NoMemory` leaves the table as it was.
+    pub(crate) fn put_column(
+        &mut self,
+        column: usize,
+        heading: Option<Label>,
+        block: Block,
+    ) -> Result<(), NoMemory>
+        requires column { column ≤ length self.old.columns }
+        requires single { IsSingle block }
+        requires rows { length (block_column block).cells ≡ length self.old.labels }
+        requires headings { AreHeadings self.old.shape self.old.columns_name (put_at self.old.headings column heading) }
+        ensures ok { OnOk result (self.new ≡ with_column self.old column heading (block_column block)) }
+        ensures err { OnErr result (self.new ≡ self.old) }
+    {
+        self.headings.reserve(1)?;
+        self.blocks.reserve(1)?;
+        put_at(&mut self.headings, column, heading);
+        put_at(&mut self.blocks, column, block);
+        Ok(())
+    }
+
+    pub(crate) fn remove_column(&mut self, column: usize)
+        requires column { column < length self.old.columns }
+        requires headings { AreHeadings self.old.shape self.old.columns_name (without_column self.old column).headings }
+        ensures { self.new ≡ without_column self.old column }
+    {
+        self.headings.remove(column);
+        self.blocks.remove(column);
+    }
+
+    pub(crate) fn replace_axis(&mut self, axis: Axis)
+        requires { HaveRows (length axis.tuples) self.old.columns }
+        ensures { self.new ≡ with_labels self.old axis.tuples axis.names }
+    {
+        self.axis = axis;
+    }
+}

@@ -1,0 +1,27 @@
+-- Tables whose parts fit one another.
+use Rattle.std.specs.Prelude.{◌≡◌, ◌≢◌, ◌≤◌, true, List, length, Option, None, IsSome, All, AllPairs}
+use Rattle.cell_core.specs.declared.grid.Shape.{Shape}
+use Rattle.cell_core.specs.declared.grid.Shape.TheVariants.{Series, Frame}
+use Rattle.meaning.specs.Cell.{holds}
+use Rattle.table_meaning.specs.Table.{TableOf, Table}
+
+-- a Series has one column, and its columns no name; the columns of a frame have labels, which differ
+pub record AreHeadings {L : Type 0} (shape : Shape) (columns_name : Option L) (headings : List (Option L)) : Type 0 where
+  pub single : shape ≡ Series → length headings ≡ 1
+  pub nameless : shape ≡ Series → columns_name ≡ None
+  pub labelled : shape ≡ Frame → All IsSome headings
+  pub different : shape ≡ Frame → AllPairs (λ a b. a ≢ b) headings
+
+-- each column has a heading and a cell for each row
+pub record IsWhole {L C : Type 0} (t : TableOf L C) : Type 0 where
+  pub headed : length t.headings ≡ length t.columns
+  pub filled : All (λ c. length c.cells ≡ length t.labels) t.columns
+  pub headings : AreHeadings t.shape t.columns_name t.headings
+
+-- one to four levels, a label for each level of each row, and cells that their column's kind holds
+pub record IsValid (t : Table) : Type 0 where
+  pub some : 1 ≤ length t.level_names
+  pub few : length t.level_names ≤ 4
+  pub levels : All (λ tuple. length tuple ≡ length t.level_names) t.labels
+  pub whole : IsWhole t
+  pub held : All (λ c. All (λ cell. holds c.kind cell ≡ true) c.cells) t.columns
