@@ -2,3 +2,4 @@ pub mod Parts
 pub mod Views
 pub mod Grids
 pub mod Objects
+pub mod Arguments

@@ -21,15 +21,21 @@
 //! ```
 #![tactic(auto)]
 
+mod arguments;
 mod blocks;
 mod columns;
+mod fault;
 mod headings;
 mod object;
 mod store;
 mod table;
 mod values;
 
+pub use arguments::{
+    Argument, Chain, Entries, Item, Items, Named, NamedList, Selector, Subscript, Value,
+};
 pub use blocks::Blocks;
+pub use fault::OpFault;
 pub use headings::Headings;
 pub use object::{ObjId, ObjRef};
 pub use store::Store;

@@ -1,3 +1,4 @@
 pub mod Table
 pub mod Change
 pub mod Valid
+pub mod Value

@@ -1,0 +1,60 @@
+-- Arguments of forms as plain values, in which an object is its table and a text is the text itself.
+use Rattle.std.specs.Prelude.{ℕ, List, map, Option}
+use Rattle.cell_core.specs.declared.cell.Label.{Label}
+use Rattle.meaning.specs.Text.{Text}
+use Rattle.meaning.specs.Cell.{LabelValue, datum, label_datum}
+use Rattle.table_meaning.specs.Table.{table_value}
+use Rattle.table_meaning.specs.Value as value
+use Rattle.table_meaning.specs.Value.{Entry, Given, GivenList, GivenPairs, GivenSub, NamedGiven}
+use Rattle.frame_store.specs.Objects.{Tables, table_at}
+use Rattle.frame_store.specs.declared.arguments.Value.{Value}
+use Rattle.frame_store.specs.declared.arguments.Value.TheVariants.{Object, Scalar}
+use Rattle.frame_store.specs.declared.arguments.Argument.{Argument, Nothing, One, Row, Many, Table', Row_of-Entries-pairs-2, end_of-Entries-pairs-2, more_of-Entries-pairs-2}
+use Rattle.frame_store.specs.declared.arguments.Item.{Item, One as OneItem, Row' as RowItem', Row_of-Item, end_of-Item, more_of-Item}
+use Rattle.frame_store.specs.declared.arguments.Named.{Named}
+use Rattle.frame_store.specs.declared.arguments.Subscript.{Subscript}
+use Rattle.frame_store.specs.declared.arguments.Subscript.TheVariants.{Key, Span}
+
+abbrev pub entry_of : Tables → List Text → Value → Entry
+entry_of tables texts (Object id) = value.table (table_value texts (table_at tables id.0))
+entry_of tables texts (Scalar c) = value.cell (datum texts c)
+
+abbrev mutual
+  pub item_of : Tables → List Text → Item → Given
+  item_of tables texts (OneItem v) = value.one (entry_of tables texts v)
+  item_of tables texts (RowItem' shape row) = value.row (items_row tables texts row)
+
+  pub items_row : Tables → List Text → {m : _} → Row_of-Item m → GivenList
+  items_row tables texts end_of-Item = value.no_given
+  items_row tables texts (more_of-Item a rest) = value.more_given (item_of tables texts a) (items_row tables texts rest)
+
+abbrev pub items_of : Tables → List Text → List Item → GivenList
+items_of tables texts items = value.given_list (map (item_of tables texts) items)
+
+abbrev mutual
+  pub argument_of : Tables → List Text → Argument → Given
+  argument_of tables texts Nothing = value.nothing
+  argument_of tables texts (One v) = value.one (entry_of tables texts v)
+  argument_of tables texts (Row l) = value.row (items_of tables texts l.items.items)
+  argument_of tables texts (Many l) = value.many (items_of tables texts l.items.items)
+  argument_of tables texts (Table' shape row) = value.entries (entries_row tables texts row)
+
+  pub entries_row : Tables → List Text → {m : _} → Row_of-Entries-pairs-2 m → GivenPairs
+  entries_row tables texts end_of-Entries-pairs-2 = value.no_entries
+  entries_row tables texts (more_of-Entries-pairs-2 label a rest) = value.more_entries (label_datum texts label) (argument_of tables texts a) (entries_row tables texts rest)
+
+abbrev pub pair_of : Tables → List Text → Label × Argument → LabelValue × Given
+pair_of tables texts e = (label_datum texts e.0, argument_of tables texts e.1)
+
+abbrev pub entries_of : Tables → List Text → List (Label × Argument) → GivenPairs
+entries_of tables texts pairs = value.given_pairs (map (pair_of tables texts) pairs)
+
+abbrev pub named_of : Tables → List Text → Named → NamedGiven
+named_of tables texts g = record { name = g.name; value = argument_of tables texts g.value }
+
+abbrev pub arguments_of : Tables → List Text → List Named → List NamedGiven
+arguments_of tables texts gs = map (named_of tables texts) gs
+
+abbrev pub subscript_of : Tables → List Text → Subscript → GivenSub
+subscript_of tables texts (Key a) = value.key_given (argument_of tables texts a)
+subscript_of tables texts (Span from to by) = value.span_given (argument_of tables texts from) (argument_of tables texts to) (argument_of tables texts by)

@@ -1,0 +1,50 @@
+-- Values of a script's expressions, and evaluated arguments and subscripts.
+use Rattle.std.specs.Prelude.{Bool, true, false, List, [], ◌∷◌, Option}
+use Rattle.meaning.specs.Text.{Text}
+use Rattle.meaning.specs.Cell.{CellValue, LabelValue}
+use Rattle.table_meaning.specs.Table.{Table}
+
+-- a scalar or a whole table
+pub data Entry : Type 0 where
+  cell : CellValue → Entry
+  table : Table → Entry
+
+abbrev pub is_table : Entry → Bool
+is_table (cell c) = false
+is_table (table t) = true
+
+-- an evaluated argument: None, a value, the parts of a tuple or a list, or the pairs of a dict
+mutual
+  pub data Given : Type 0 where
+    nothing : Given
+    one : Entry → Given
+    row : GivenList → Given
+    many : GivenList → Given
+    entries : GivenPairs → Given
+
+  pub data GivenList : Type 0 where
+    no_given : GivenList
+    more_given : Given → GivenList → GivenList
+
+  pub data GivenPairs : Type 0 where
+    no_entries : GivenPairs
+    more_entries : LabelValue → Given → GivenPairs → GivenPairs
+
+-- an argument of a call, with its name if it has one
+pub record NamedGiven : Type 0 where
+  pub name : Option Text
+  pub value : Given
+
+-- evaluated subscripts: a key, or the ends and the step of a slice, None where they are left out
+pub data GivenSub : Type 0 where
+  key_given : Given → GivenSub
+  span_given : Given → Given → Given → GivenSub
+
+-- a list of parts, and a list of pairs
+abbrev pub given_list : List Given → GivenList
+given_list [] = no_given
+given_list (x ∷ xs) = more_given x (given_list xs)
+
+abbrev pub given_pairs : List (LabelValue × Given) → GivenPairs
+given_pairs [] = no_entries
+given_pairs (x ∷ xs) = more_entries x.0 x.1 (given_pairs xs)
