@@ -1,0 +1,343 @@
+-- How the arguments of a call are bound to a signature, and the refusals that all calls share.
+use Rattle.std.specs.Prelude.{ℕ, ◌+◌, ◌==◌, ℤ, pos, Bool, true, false, not, ◌&&◌, ◌||◌, List, [], ◌∷◌, length, slice_get, nat_eq, nat_lt, codes, Option, Some, None, if◌then◌else◌}
+use Rattle.std.specs.List.{position_or_len, list_any}
+use Rattle.std.specs.Ordering.{is_eq, int_eq}
+use Rattle.cell_core.specs.declared.grid.Shape.{Shape}
+use Rattle.cell_core.specs.declared.grid.Shape.TheVariants.{Series, Frame}
+use Rattle.meaning.specs.Text.{Text, same_text}
+use Rattle.meaning.specs.Cell.{CellValue, na_cell, int_cell, truth_cell, text_cell, LabelValue, label_cmp}
+use Rattle.table_meaning.specs.Value.{Entry, cell, table, Given, GivenList, GivenPairs, NamedGiven, nothing, one, row, many, entries, no_given, more_given, no_entries, more_entries}
+use Rattle.form_meaning.specs.declared.Form.{Form}
+use Rattle.form_meaning.specs.declared.Form.TheVariants as form
+use Rattle.form_meaning.specs.declared.Omitted.{Omitted}
+use Rattle.form_meaning.specs.declared.Omitted.TheVariants as omitted
+use Rattle.form_meaning.specs.declared.Listed.{Listed}
+use Rattle.form_meaning.specs.declared.Listed.TheVariants as listed
+use Rattle.form_meaning.specs.declared.Parameter.{Parameter}
+use Rattle.form_meaning.specs.Signature.{spelled, default_text}
+
+-- what a part of a list is
+abbrev pub is_scalar : Given → Bool
+is_scalar (one (cell c)) = true
+is_scalar (one (table t)) = false
+is_scalar nothing = false
+is_scalar (row parts) = false
+is_scalar (many parts) = false
+is_scalar (entries pairs) = false
+
+abbrev pub is_object : Given → Bool
+is_object (one (cell c)) = false
+is_object (one (table t)) = true
+is_object nothing = false
+is_object (row parts) = false
+is_object (many parts) = false
+is_object (entries pairs) = false
+
+abbrev pub each : (Given → Bool) → GivenList → Bool
+each test no_given = true
+each test (more_given g rest) = test g && each test rest
+
+abbrev pub count_of : GivenList → ℕ
+count_of no_given = 0
+count_of (more_given g rest) = count_of rest + 1
+
+-- a scalar, or a tuple of scalars alone
+abbrev pub is_key : Given → Bool
+is_key (row parts) = each is_scalar parts
+is_key (one (cell c)) = true
+is_key (one (table t)) = false
+is_key nothing = false
+is_key (many parts) = false
+is_key (entries pairs) = false
+
+-- a tuple of so many scalars
+abbrev pub is_tuple_of : ℕ → Given → Bool
+is_tuple_of n (row parts) = nat_eq (count_of parts) n && each is_scalar parts
+is_tuple_of n (one v) = false
+is_tuple_of n nothing = false
+is_tuple_of n (many parts) = false
+is_tuple_of n (entries pairs) = false
+
+-- scalars alone, or tuples of two scalars or more, all as long as the first
+abbrev pub are_alike : Given → GivenList → Bool
+are_alike (row parts) rest = nat_lt 1 (count_of parts) && each is_scalar parts && each (is_tuple_of (count_of parts)) rest
+are_alike (one (cell c)) rest = each is_scalar rest
+are_alike (one (table t)) rest = false
+are_alike nothing rest = false
+are_alike (many parts) rest = false
+are_alike (entries pairs) rest = false
+
+abbrev pub are_row_labels : GivenList → Bool
+are_row_labels no_given = true
+are_row_labels (more_given g rest) = are_alike g rest
+
+abbrev pub is_truth : CellValue → Bool
+is_truth (truth_cell b) = true
+is_truth c = false
+
+abbrev pub is_whole : CellValue → Bool
+is_whole (int_cell z) = true
+is_whole c = false
+
+abbrev pub is_text : CellValue → Bool
+is_text (text_cell t) = true
+is_text c = false
+
+abbrev pub same_label : LabelValue → LabelValue → Bool
+same_label a b = is_eq (label_cmp a b)
+
+-- the key stands among the pairs
+abbrev pub has_key : LabelValue → GivenPairs → Bool
+has_key k no_entries = false
+has_key k (more_entries key v rest) = same_label k key || has_key k rest
+
+-- each value that isn't replaced by a later one of the same key
+abbrev pub each_value : (Given → Bool) → GivenPairs → Bool
+each_value test no_entries = true
+each_value test (more_entries key v rest) = (has_key key rest || test v) && each_value test rest
+
+-- whether None, a scalar, an object, a list or a dict has the form
+abbrev pub none_has : Form → Bool
+none_has form.ScalarOrNone = true
+none_has form.Names = true
+none_has f = false
+
+abbrev pub scalar_has : Form → CellValue → Bool
+scalar_has form.Truth c = is_truth c
+scalar_has form.Whole c = is_whole c
+scalar_has form.Text c = is_text c
+scalar_has form.Scalar c = true
+scalar_has form.ScalarOrNone c = true
+scalar_has form.Labels c = true
+scalar_has form.SomeLabels c = true
+scalar_has form.Names c = true
+scalar_has form.Level c = is_whole c || is_text c
+scalar_has f c = false
+
+abbrev pub is_frame : Shape → Bool
+is_frame Series = false
+is_frame Frame = true
+
+abbrev pub object_has : Form → Shape → Bool
+object_has form.Frame s = is_frame s
+object_has f s = false
+
+abbrev pub list_has : Form → GivenList → Bool
+list_has form.Scalars parts = each is_scalar parts
+list_has form.Labels parts = each is_scalar parts
+list_has form.SomeLabels parts = nat_lt 0 (count_of parts) && each is_scalar parts
+list_has form.Keys parts = each is_key parts
+list_has form.RowLabels parts = are_row_labels parts
+list_has form.Names parts = each is_scalar parts
+list_has form.Objects parts = each is_object parts
+list_has f parts = false
+
+abbrev pub is_given_text : Given → Bool
+is_given_text (one (cell c)) = is_text c
+is_given_text (one (table t)) = false
+is_given_text nothing = false
+is_given_text (row parts) = false
+is_given_text (many parts) = false
+is_given_text (entries pairs) = false
+
+abbrev pub dict_has : Form → GivenPairs → Bool
+dict_has form.Dict pairs = true
+dict_has form.TextDict pairs = each_value is_given_text pairs
+dict_has f pairs = false
+
+-- None is taken where it is the default, and counts as not given
+abbrev pub none_stands : Omitted → Bool
+none_stands omitted.None = true
+none_stands o = false
+
+-- whether a parameter takes an argument
+abbrev pub takes : Parameter → Given → Bool
+takes p nothing = none_stands p.omitted || none_has p.form
+takes p (one (cell c)) = scalar_has p.form c
+takes p (one (table t)) = object_has p.form t.shape
+takes p (row parts) = false
+takes p (many parts) = list_has p.form parts
+takes p (entries pairs) = dict_has p.form pairs
+
+abbrev pub kind_names : List Text
+kind_names = codes "Int64" ∷ codes "boolean" ∷ codes "string" ∷ []
+
+abbrev pub how_names : List Text
+how_names = codes "inner" ∷ codes "left" ∷ codes "right" ∷ codes "outer" ∷ []
+
+abbrev pub join_names : List Text
+join_names = codes "inner" ∷ codes "outer" ∷ []
+
+abbrev pub validation_names : List Text
+validation_names =
+    codes "one_to_one" ∷ codes "one_to_many" ∷ codes "many_to_one" ∷ codes "many_to_many" ∷ codes "1:1" ∷ codes "1:m" ∷ codes "m:1" ∷ codes "m:m" ∷ []
+
+abbrev pub aggregation_names : List Text
+aggregation_names = codes "sum" ∷ codes "min" ∷ codes "max" ∷ codes "count" ∷ codes "first" ∷ codes "last" ∷ []
+
+abbrev pub backend_names : List Text
+backend_names = codes "numpy_nullable" ∷ []
+
+abbrev pub is_among : List Text → CellValue → Bool
+is_among names (text_cell t) = list_any (same_text t) names
+is_among names c = false
+
+abbrev pub is_axis : CellValue → Bool
+is_axis (int_cell z) = int_eq z (pos 0) || int_eq z (pos 1)
+is_axis c = false
+
+-- whether a scalar is among the listed values
+abbrev pub lists_scalar : Listed → CellValue → Bool
+lists_scalar listed.Any c = true
+lists_scalar listed.KindNames c = is_among kind_names c
+lists_scalar listed.KindNameDict c = true
+lists_scalar listed.Backends c = is_among backend_names c
+lists_scalar listed.Hows c = is_among how_names c
+lists_scalar listed.Joins c = is_among join_names c
+lists_scalar listed.Validations c = is_among validation_names c
+lists_scalar listed.Aggregations c = is_among aggregation_names c
+lists_scalar listed.Axes c = is_axis c
+
+abbrev pub is_kind_name : Given → Bool
+is_kind_name (one (cell c)) = is_among kind_names c
+is_kind_name (one (table t)) = false
+is_kind_name nothing = false
+is_kind_name (row parts) = false
+is_kind_name (many parts) = false
+is_kind_name (entries pairs) = false
+
+abbrev pub lists_dict : Listed → GivenPairs → Bool
+lists_dict listed.KindNameDict pairs = each_value is_kind_name pairs
+lists_dict l pairs = true
+
+-- whether an argument is among the listed values
+abbrev pub lists : Listed → Given → Bool
+lists l nothing = true
+lists l (one (cell c)) = lists_scalar l c
+lists l (one (table t)) = true
+lists l (row parts) = true
+lists l (many parts) = true
+lists l (entries pairs) = lists_dict l pairs
+
+-- the place of the parameter that an argument goes to, after k arguments without a name
+abbrev pub goes_to : List Parameter → ℕ → Option Text → ℕ
+goes_to ps k None = k
+goes_to ps k (Some n) = position_or_len (λ p. same_text (spelled p.name) n) ps
+
+abbrev pub counted : ℕ → Option Text → ℕ
+counted k None = k + 1
+counted k (Some n) = k
+
+-- the first argument that goes to a place
+abbrev pub given_at : List Parameter → ℕ → List NamedGiven → ℕ → Option Given
+given_at ps k [] place = None
+given_at ps k (g ∷ gs) place = if nat_eq (goes_to ps k g.name) place then Some g.value else given_at ps (counted k g.name) gs place
+
+abbrev pub is_given : Option Given → Bool
+is_given None = false
+is_given (Some a) = true
+
+abbrev pub taken_by : Option Parameter → Given → Bool
+taken_by None a = false
+taken_by (Some p) a = takes p a
+
+abbrev pub listed_by : Option Parameter → Given → Bool
+listed_by None a = true
+listed_by (Some p) a = lists p.listed a
+
+-- an argument goes to a parameter that takes it, and none of those after it goes there
+abbrev pub fits : List Parameter → ℕ → NamedGiven → List NamedGiven → Bool
+fits ps k g gs =
+    if taken_by (slice_get ps (goes_to ps k g.name)) g.value
+    then not (is_given (given_at ps (counted k g.name) gs (goes_to ps k g.name)))
+    else false
+
+-- so does each
+abbrev pub fit : List Parameter → ℕ → List NamedGiven → Bool
+fit ps k [] = true
+fit ps k (g ∷ gs) = if fits ps k g gs then fit ps (counted k g.name) gs else false
+
+-- each argument is among the values that its parameter lists
+abbrev pub are_listed : List Parameter → ℕ → List NamedGiven → Bool
+are_listed ps k [] = true
+are_listed ps k (g ∷ gs) = if listed_by (slice_get ps (goes_to ps k g.name)) g.value then are_listed ps (counted k g.name) gs else false
+
+-- what stands where an argument isn't given
+abbrev pub stands_for : Omitted → Given
+stands_for omitted.Required = nothing
+stands_for omitted.None = nothing
+stands_for (omitted.Number z) = one (cell (int_cell z))
+stands_for (omitted.Truth b) = one (cell (truth_cell b))
+stands_for (omitted.Text t) = one (cell (text_cell (default_text t)))
+
+abbrev pub stand_in : Option Parameter → Given
+stand_in None = nothing
+stand_in (Some p) = stands_for p.omitted
+
+abbrev pub or_stand_in : Option Given → Option Parameter → Given
+or_stand_in (Some a) p = a
+or_stand_in None p = stand_in p
+
+-- the argument at a place of the signature
+abbrev pub argument_at : List Parameter → List NamedGiven → ℕ → Given
+argument_at ps gs place = or_stand_in (given_at ps 0 gs place) (slice_get ps place)
+
+-- the arguments at the places from one on, as many as there are parameters left
+abbrev pub arguments_from : List Parameter → List NamedGiven → ℕ → List Parameter → List Given
+arguments_from ps gs place [] = []
+arguments_from ps gs place (p ∷ rest) = argument_at ps gs place ∷ arguments_from ps gs (place + 1) rest
+
+abbrev pub may_be_omitted : Omitted → Bool
+may_be_omitted omitted.Required = false
+may_be_omitted o = true
+
+-- no parameter from a place on lacks its argument
+abbrev pub none_missing : List Parameter → List NamedGiven → ℕ → List Parameter → Bool
+none_missing ps gs place [] = true
+none_missing ps gs place (p ∷ rest) =
+    if (if is_given (given_at ps 0 gs place) then true else may_be_omitted p.omitted) then none_missing ps gs (place + 1) rest else false
+
+-- what all calls share: a TypeError, then a ValueError, or the arguments in the order of the signature
+pub data Bound : Type 0 where
+  not_taken : Bound
+  not_listed : Bound
+  bound : List Given → Bound
+
+abbrev pub bound_of : List Parameter → List NamedGiven → Bound
+bound_of ps gs =
+    if fit ps 0 gs
+    then (if none_missing ps gs 0 ps
+    then (if are_listed ps 0 gs then bound (arguments_from ps gs 0 ps) else not_listed)
+    else not_taken)
+    else not_taken
+
+-- what an argument is
+abbrev pub scalar_in : Given → Option CellValue
+scalar_in (one (cell c)) = Some c
+scalar_in (one (table t)) = None
+scalar_in nothing = None
+scalar_in (row parts) = None
+scalar_in (many parts) = None
+scalar_in (entries pairs) = None
+
+abbrev pub whole_in : Given → Option ℤ
+whole_in (one (cell (int_cell z))) = Some z
+whole_in g = None
+
+abbrev pub truth_in : Given → Option Bool
+truth_in (one (cell (truth_cell b))) = Some b
+truth_in g = None
+
+abbrev pub list_in : Given → Option GivenList
+list_in (many parts) = Some parts
+list_in (one v) = None
+list_in nothing = None
+list_in (row parts) = None
+list_in (entries pairs) = None
+
+abbrev pub dict_in : Given → Option GivenPairs
+dict_in (entries pairs) = Some pairs
+dict_in (one v) = None
+dict_in nothing = None
+dict_in (row parts) = None
+dict_in (many parts) = None

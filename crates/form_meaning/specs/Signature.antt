@@ -1,0 +1,213 @@
+-- The signatures of the methods of a Series and of a frame, and of the functions of `pd`.
+use Rattle.std.specs.Prelude.{ℤ, pos, negsuc, Bool, true, false, List, [], ◌∷◌, codes, Option, Some, None, if◌then◌else◌}
+use Rattle.cell_core.specs.declared.grid.Shape.{Shape}
+use Rattle.cell_core.specs.declared.grid.Shape.TheVariants.{Series, Frame}
+use Rattle.meaning.specs.Text.{Text, same_text}
+use Rattle.form_meaning.specs.declared.Method.{Method}
+use Rattle.form_meaning.specs.declared.Method.TheVariants as method
+use Rattle.form_meaning.specs.declared.Function.{Function}
+use Rattle.form_meaning.specs.declared.Function.TheVariants as function
+use Rattle.form_meaning.specs.declared.ParameterName.{ParameterName}
+use Rattle.form_meaning.specs.declared.ParameterName.TheVariants as name
+use Rattle.form_meaning.specs.declared.Form.{Form}
+use Rattle.form_meaning.specs.declared.Form.TheVariants as form
+use Rattle.form_meaning.specs.declared.Omitted.{Omitted}
+use Rattle.form_meaning.specs.declared.Omitted.TheVariants as omitted
+use Rattle.form_meaning.specs.declared.DefaultText.{DefaultText}
+use Rattle.form_meaning.specs.declared.DefaultText.TheVariants as default
+use Rattle.form_meaning.specs.declared.Listed.{Listed}
+use Rattle.form_meaning.specs.declared.Listed.TheVariants as listed
+use Rattle.form_meaning.specs.declared.Parameter.{Parameter}
+
+-- a parameter that must be given, and one that may be left out
+abbrev pub needed : ParameterName → Form → Parameter
+needed n f = record { name = n; form = f; omitted = omitted.Required; listed = listed.Any }
+
+abbrev pub optional : ParameterName → Form → Omitted → Parameter
+optional n f o = record { name = n; form = f; omitted = o; listed = listed.Any }
+
+-- the same where the values are listed
+abbrev pub among : Listed → Parameter → Parameter
+among l p = record { name = p.name; form = p.form; omitted = p.omitted; listed = l }
+
+abbrev pub parameters_of : Method → List Parameter
+parameters_of method.Copy = optional name.Deep form.Truth (omitted.Truth true) ∷ []
+parameters_of method.Head = optional name.N form.Whole (omitted.Number (pos 5)) ∷ []
+parameters_of method.Tail = optional name.N form.Whole (omitted.Number (pos 5)) ∷ []
+parameters_of method.Isna = []
+parameters_of method.Notna = []
+parameters_of method.Fillna = needed name.Value form.Scalar ∷ []
+parameters_of method.Dropna = []
+parameters_of method.Isin = needed name.Values form.Scalars ∷ []
+parameters_of method.Astype = among listed.KindNames (needed name.Dtype form.Text) ∷ []
+parameters_of method.DuplicatedSeries = []
+parameters_of method.DuplicatedFrame = optional name.Subset form.Labels omitted.None ∷ []
+parameters_of method.Shift = optional name.Periods form.Whole (omitted.Number (pos 1)) ∷ []
+parameters_of method.Cumsum = []
+parameters_of method.Cummin = []
+parameters_of method.Cummax = []
+parameters_of method.Sum = []
+parameters_of method.Min = []
+parameters_of method.Max = []
+parameters_of method.Any = []
+parameters_of method.All = []
+parameters_of method.Count = []
+parameters_of method.Nunique = []
+parameters_of method.SortValuesSeries = optional name.Ascending form.Truth (omitted.Truth true) ∷ []
+parameters_of method.SortValuesFrame = needed name.By form.Labels ∷ optional name.Ascending form.Truth (omitted.Truth true) ∷ []
+parameters_of method.SortIndex = optional name.Ascending form.Truth (omitted.Truth true) ∷ []
+parameters_of method.ReindexSeries = needed name.Index form.Keys ∷ []
+parameters_of method.ReindexFrame = optional name.Index form.Keys omitted.None ∷ optional name.Columns form.Scalars omitted.None ∷ []
+parameters_of method.RenameSeries = needed name.Name form.ScalarOrNone ∷ []
+parameters_of method.RenameFrame = needed name.Columns form.Dict ∷ []
+parameters_of method.RenameAxis = needed name.Names form.Names ∷ []
+parameters_of method.SetIndex = needed name.Keys form.SomeLabels ∷ []
+parameters_of method.ResetIndex = optional name.DropLabels form.Truth (omitted.Truth false) ∷ []
+parameters_of method.DropColumns = needed name.Columns form.Labels ∷ []
+parameters_of method.Droplevel = needed name.Level form.Level ∷ []
+parameters_of method.Swaplevel = optional name.I form.Level (omitted.Number (negsuc 1)) ∷ optional name.J form.Level (omitted.Number (negsuc 0)) ∷ []
+parameters_of method.Xs = needed name.Key form.Scalar ∷ optional name.Level form.Level (omitted.Number (pos 0)) ∷ []
+parameters_of method.ToFrame = []
+parameters_of method.ToCsv = optional name.Index form.Truth (omitted.Truth true) ∷ []
+parameters_of method.Groupby =
+    needed name.By form.SomeLabels ∷ optional name.Sort form.Truth (omitted.Truth true) ∷ optional name.Dropna form.Truth (omitted.Truth true)
+    ∷ optional name.AsIndex form.Truth (omitted.Truth true) ∷ []
+parameters_of method.Rolling = needed name.Window form.Whole ∷ optional name.MinPeriods form.Whole omitted.None ∷ []
+parameters_of method.Expanding = optional name.MinPeriods form.Whole (omitted.Number (pos 1)) ∷ []
+parameters_of method.Merge =
+    needed name.Right form.Frame ∷ among listed.Hows (optional name.How form.Text (omitted.Text default.Inner)) ∷ optional name.On form.SomeLabels omitted.None
+    ∷ among listed.Validations (optional name.Validate form.Text omitted.None) ∷ []
+parameters_of method.Stack = []
+parameters_of method.Unstack = optional name.Level form.Level (omitted.Number (negsuc 0)) ∷ []
+parameters_of method.Pivot = needed name.Columns form.Scalar ∷ needed name.Index form.SomeLabels ∷ needed name.Values form.Scalar ∷ []
+parameters_of method.PivotTable =
+    needed name.Values form.Scalar ∷ needed name.Index form.SomeLabels ∷ needed name.Columns form.Scalar
+    ∷ among listed.Aggregations (needed name.Aggfunc form.Text) ∷ []
+parameters_of method.Melt = optional name.IdVars form.Labels omitted.None ∷ optional name.ValueVars form.Labels omitted.None ∷ []
+
+abbrev pub function_parameters : Function → List Parameter
+function_parameters function.Series =
+    needed name.Values form.Scalars ∷ optional name.Index form.RowLabels omitted.None ∷ optional name.Name form.Scalar omitted.None
+    ∷ among listed.KindNames (optional name.Dtype form.Text omitted.None) ∷ []
+function_parameters function.DataFrame = needed name.Columns form.Dict ∷ optional name.Index form.RowLabels omitted.None ∷ []
+function_parameters function.ReadCsv =
+    needed name.Name form.Text ∷ among listed.Backends (optional name.DtypeBackend form.Text (omitted.Text default.NumpyNullable))
+    ∷ among listed.KindNameDict (optional name.Dtype form.TextDict omitted.None) ∷ []
+function_parameters function.Concat =
+    needed name.Objects form.Objects ∷ among listed.Axes (optional name.Axis form.Whole (omitted.Number (pos 0)))
+    ∷ among listed.Joins (optional name.Join form.Text (omitted.Text default.Outer)) ∷ optional name.IgnoreIndex form.Truth (omitted.Truth false)
+    ∷ optional name.Keys form.Scalars omitted.None ∷ []
+
+-- how a parameter's name is written
+abbrev pub spelled : ParameterName → Text
+spelled name.Aggfunc = codes "aggfunc"
+spelled name.AsIndex = codes "as_index"
+spelled name.Ascending = codes "ascending"
+spelled name.Axis = codes "axis"
+spelled name.By = codes "by"
+spelled name.Columns = codes "columns"
+spelled name.Deep = codes "deep"
+spelled name.DropLabels = codes "drop"
+spelled name.Dropna = codes "dropna"
+spelled name.Dtype = codes "dtype"
+spelled name.DtypeBackend = codes "dtype_backend"
+spelled name.How = codes "how"
+spelled name.I = codes "i"
+spelled name.IdVars = codes "id_vars"
+spelled name.IgnoreIndex = codes "ignore_index"
+spelled name.Index = codes "index"
+spelled name.J = codes "j"
+spelled name.Join = codes "join"
+spelled name.Key = codes "key"
+spelled name.Keys = codes "keys"
+spelled name.Level = codes "level"
+spelled name.MinPeriods = codes "min_periods"
+spelled name.N = codes "n"
+spelled name.Name = codes "name"
+spelled name.Names = codes "names"
+spelled name.Objects = codes "objects"
+spelled name.On = codes "on"
+spelled name.Periods = codes "periods"
+spelled name.Right = codes "right"
+spelled name.Sort = codes "sort"
+spelled name.Subset = codes "subset"
+spelled name.Validate = codes "validate"
+spelled name.Value = codes "value"
+spelled name.ValueVars = codes "value_vars"
+spelled name.Values = codes "values"
+spelled name.Window = codes "window"
+
+abbrev pub default_text : DefaultText → Text
+default_text default.Inner = codes "inner"
+default_text default.Outer = codes "outer"
+default_text default.NumpyNullable = codes "numpy_nullable"
+
+-- the method of a Series and that of a frame
+abbrev pub either : Shape → Method → Method → Option Method
+either Series s f = Some s
+either Frame s f = Some f
+
+abbrev pub series_alone : Shape → Method → Option Method
+series_alone Series m = Some m
+series_alone Frame m = None
+
+abbrev pub frame_alone : Shape → Method → Option Method
+frame_alone Series m = None
+frame_alone Frame m = Some m
+
+-- the method that a name means on a Series or a frame; the forms of groups and windows among them
+abbrev pub method_named : Shape → Text → Option Method
+method_named s t =
+    if same_text t (codes "copy") then Some method.Copy
+    else if same_text t (codes "head") then Some method.Head
+    else if same_text t (codes "tail") then Some method.Tail
+    else if same_text t (codes "isna") then Some method.Isna
+    else if same_text t (codes "notna") then Some method.Notna
+    else if same_text t (codes "fillna") then Some method.Fillna
+    else if same_text t (codes "dropna") then Some method.Dropna
+    else if same_text t (codes "isin") then Some method.Isin
+    else if same_text t (codes "astype") then Some method.Astype
+    else if same_text t (codes "duplicated") then either s method.DuplicatedSeries method.DuplicatedFrame
+    else if same_text t (codes "shift") then Some method.Shift
+    else if same_text t (codes "cumsum") then Some method.Cumsum
+    else if same_text t (codes "cummin") then Some method.Cummin
+    else if same_text t (codes "cummax") then Some method.Cummax
+    else if same_text t (codes "sum") then Some method.Sum
+    else if same_text t (codes "min") then Some method.Min
+    else if same_text t (codes "max") then Some method.Max
+    else if same_text t (codes "any") then Some method.Any
+    else if same_text t (codes "all") then Some method.All
+    else if same_text t (codes "count") then Some method.Count
+    else if same_text t (codes "nunique") then Some method.Nunique
+    else if same_text t (codes "sort_values") then either s method.SortValuesSeries method.SortValuesFrame
+    else if same_text t (codes "sort_index") then Some method.SortIndex
+    else if same_text t (codes "reindex") then either s method.ReindexSeries method.ReindexFrame
+    else if same_text t (codes "rename") then either s method.RenameSeries method.RenameFrame
+    else if same_text t (codes "rename_axis") then Some method.RenameAxis
+    else if same_text t (codes "set_index") then frame_alone s method.SetIndex
+    else if same_text t (codes "reset_index") then Some method.ResetIndex
+    else if same_text t (codes "drop") then frame_alone s method.DropColumns
+    else if same_text t (codes "droplevel") then Some method.Droplevel
+    else if same_text t (codes "swaplevel") then Some method.Swaplevel
+    else if same_text t (codes "xs") then Some method.Xs
+    else if same_text t (codes "to_frame") then series_alone s method.ToFrame
+    else if same_text t (codes "to_csv") then Some method.ToCsv
+    else if same_text t (codes "groupby") then frame_alone s method.Groupby
+    else if same_text t (codes "rolling") then Some method.Rolling
+    else if same_text t (codes "expanding") then Some method.Expanding
+    else if same_text t (codes "merge") then frame_alone s method.Merge
+    else if same_text t (codes "stack") then frame_alone s method.Stack
+    else if same_text t (codes "unstack") then series_alone s method.Unstack
+    else if same_text t (codes "pivot") then frame_alone s method.Pivot
+    else if same_text t (codes "pivot_table") then frame_alone s method.PivotTable
+    else if same_text t (codes "melt") then frame_alone s method.Melt
+    else None
+
+-- the function that a name means
+abbrev pub function_named : Text → Option Function
+function_named t =
+    if same_text t (codes "Series") then Some function.Series
+    else if same_text t (codes "DataFrame") then Some function.DataFrame
+    else if same_text t (codes "read_csv") then Some function.ReadCsv
+    else if same_text t (codes "concat") then Some function.Concat
+    else None
