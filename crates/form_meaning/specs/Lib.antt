@@ -1,2 +1,9 @@
 pub mod Signature
 pub mod Binding
+pub mod Finish
+pub mod Infix
+pub mod Select
+pub mod Set
+pub mod Make
+pub mod Methods
+pub mod Calls

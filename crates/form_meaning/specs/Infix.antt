@@ -1,0 +1,179 @@
+-- Operators on scalars and tables.
+use Rattle.std.specs.Prelude.{ℕ, pos, Bool, true, false, ◌&&◌, List, [], ◌∷◌, map, length, replicate, is_some, Option, Some, None, Result, Ok, Err, if◌then◌else◌}
+use Rattle.std.specs.List.{list_all}
+use Rattle.cell_core.specs.declared.cell.Kind.{Kind}
+use Rattle.cell_core.specs.declared.cell.Kind.TheVariants.{Boolean}
+use Rattle.cell_core.specs.declared.grid.Shape.{Shape}
+use Rattle.cell_core.specs.declared.grid.Shape.TheVariants.{Series, Frame}
+use Rattle.meaning.specs.Cell.{CellValue, int_cell, LabelValue}
+use Rattle.meaning.specs.Column.{ColumnValue}
+use Rattle.meaning.specs.Operator.{operator_kind, binary_column, scalar_column, invert_column}
+use Rattle.meaning.specs.Tree.{Binary, sub}
+use Rattle.meaning.specs.Fault.{FaultValue, wrong_kind, bad_value, levels, limit, not_built, then_value}
+use Rattle.table_meaning.specs.Table.{ColumnOf, Table, column_at}
+use Rattle.table_meaning.specs.Value.{Entry, cell, table}
+use Rattle.form_meaning.specs.Binding.{same_label}
+use Rattle.form_meaning.specs.Finish.{within_limits, same_heading, value_of_column, made_column, try_all, with_columns}
+
+-- lists of equal labels
+abbrev pub same_tuple : List LabelValue → List LabelValue → Bool
+same_tuple [] [] = true
+same_tuple (a ∷ as') (b ∷ bs) = same_label a b && same_tuple as' bs
+same_tuple a b = false
+
+-- lists of equal tuples: the rows of two axes meet by position
+abbrev pub same_tuples : List (List LabelValue) → List (List LabelValue) → Bool
+same_tuples [] [] = true
+same_tuples (a ∷ as') (b ∷ bs) = same_tuple a b && same_tuples as' bs
+same_tuples a b = false
+
+abbrev pub same_headings : List (Option LabelValue) → List (Option LabelValue) → Bool
+same_headings [] [] = true
+same_headings (a ∷ as') (b ∷ bs) = same_heading a b && same_headings as' bs
+same_headings a b = false
+
+-- the labels of the rows are the labels of the columns, in their order
+abbrev pub are_headings : List (List LabelValue) → List (Option LabelValue) → Bool
+are_headings [] [] = true
+are_headings ((l ∷ []) ∷ ls) (h ∷ hs) = same_heading (Some l) h && are_headings ls hs
+are_headings ls hs = false
+
+-- a name that both have
+abbrev pub common_name : Option LabelValue → Option LabelValue → Option LabelValue
+common_name a b = if same_heading a b then a else None
+
+-- two columns that meet, cell by cell
+abbrev pub Meeting : Type 0
+Meeting = ColumnValue × ColumnValue
+
+abbrev pub swapped : Meeting → Meeting
+swapped m = (m.1, m.0)
+
+-- the operator takes the kinds
+abbrev pub meets : Binary → Meeting → Bool
+meets op m = is_some (operator_kind op m.0.kind m.1.kind)
+
+abbrev pub met : Binary → Meeting → Result (ColumnOf CellValue) FaultValue
+met op m = made_column (binary_column op m.0 m.1)
+
+-- The table whose columns are what the operator makes of these. Kinds are tested first, the limits next, a divisor of 0 last.
+abbrev pub infix_table : Binary → Table → List Meeting → Result Entry FaultValue
+infix_table op t meetings =
+    if list_all (meets op) meetings
+    then (if within_limits (length t.labels) (length meetings) then then_value (try_all (met op) meetings) (λ columns. Ok (table (with_columns t columns))) else Err limit)
+    else Err wrong_kind
+
+-- each column with the scalar in each row
+abbrev pub with_scalar : CellValue → ColumnOf CellValue → Meeting
+with_scalar c a = (value_of_column a, scalar_column (value_of_column a) c)
+
+-- each column with the column at its place
+abbrev pub beside : List (ColumnOf CellValue) → List (ColumnOf CellValue) → List Meeting
+beside (a ∷ as') (b ∷ bs) = (value_of_column a, value_of_column b) ∷ beside as' bs
+beside as' bs = []
+
+-- a cell in so many rows
+abbrev pub spread : Kind → ℕ → CellValue → ColumnValue
+spread kind count c = record { kind = kind; cells = replicate count c }
+
+-- each column with the cell at its place, which stands in each row
+abbrev pub across : ℕ → Kind → List (ColumnOf CellValue) → List CellValue → List Meeting
+across count kind (a ∷ as') (c ∷ cs) = (value_of_column a, spread kind count c) ∷ across count kind as' cs
+across count kind as' cs = []
+
+-- the meetings, the other way round where this is so
+abbrev pub turned : Bool → List Meeting → List Meeting
+turned false meetings = meetings
+turned true meetings = map swapped meetings
+
+abbrev pub scalar_infix : Binary → Bool → Table → CellValue → Result Entry FaultValue
+scalar_infix op left t c = infix_table op t (turned left (map (with_scalar c) t.columns))
+
+-- where the numbers of levels differ, after the test of the kinds
+abbrev pub on_levels : Bool → Bool → Result Entry FaultValue → Result Entry FaultValue
+on_levels false equal rest = Err wrong_kind
+on_levels true false rest = Err (bad_value levels)
+on_levels true true rest = rest
+
+abbrev pub same_count : {A B : Type 0} → List A → List B → Bool
+same_count [] [] = true
+same_count (a ∷ as') (b ∷ bs) = same_count as' bs
+same_count a b = false
+
+abbrev pub has_one : {A : Type 0} → List A → Bool
+has_one [] = false
+has_one (a ∷ []) = true
+has_one (a ∷ b ∷ as') = false
+
+abbrev pub rows_infix : Binary → Table → Table → Table → Result Entry FaultValue
+rows_infix op a b t =
+    on_levels (list_all (meets op) (beside a.columns b.columns)) (same_count a.level_names b.level_names) (infix_table op t (beside a.columns b.columns))
+
+-- the heading of a Series
+abbrev pub first_heading : List (Option LabelValue) → Option LabelValue
+first_heading [] = None
+first_heading (h ∷ hs) = h
+
+-- two Series, or two frames, whose labels are equal; the rest isn't built yet
+abbrev pub series_infix : Binary → Table → Table → Result Entry FaultValue
+series_infix op a b =
+    if same_tuples a.labels b.labels
+    then rows_infix op a b record a { headings = common_name (first_heading a.headings) (first_heading b.headings) ∷ [] }
+    else Err not_built
+
+abbrev pub frame_infix : Binary → Table → Table → Result Entry FaultValue
+frame_infix op a b =
+    if same_tuples a.labels b.labels && same_headings a.headings b.headings
+    then rows_infix op a b record a { columns_name = common_name a.columns_name b.columns_name }
+    else Err not_built
+
+-- a frame's columns with a Series' cells, which lie across them
+abbrev pub across_series : Bool → Table → Table → List Meeting
+across_series left f s = turned left (across (length f.labels) (column_at s.columns 0).kind f.columns (column_at s.columns 0).cells)
+
+-- a frame with a Series whose labels are the labels of its columns: each row meets the Series
+abbrev pub across_infix : Binary → Bool → Table → Table → Result Entry FaultValue
+across_infix op left f s =
+    if are_headings s.labels f.headings
+    then on_levels (list_all (meets op) (across_series left f s)) (has_one s.level_names) (infix_table op f (across_series left f s))
+    else Err not_built
+
+abbrev pub table_infix : Binary → Shape → Shape → Table → Table → Result Entry FaultValue
+table_infix op Series Series a b = series_infix op a b
+table_infix op Series Frame a b = across_infix op true b a
+table_infix op Frame Series a b = across_infix op false a b
+table_infix op Frame Frame a b = frame_infix op a b
+
+abbrev pub infix_result : Binary → Entry → Entry → Result Entry FaultValue
+infix_result op (cell a) (cell b) = Err wrong_kind
+infix_result op (cell a) (table t) = scalar_infix op true t a
+infix_result op (table t) (cell b) = scalar_infix op false t b
+infix_result op (table a) (table b) = table_infix op a.shape b.shape a b
+
+-- 0 minus each cell
+abbrev pub negated : Entry → Result Entry FaultValue
+negated (cell c) = Err wrong_kind
+negated (table t) = scalar_infix sub true t (int_cell (pos 0))
+
+abbrev pub is_boolean : Kind → Bool
+is_boolean Boolean = true
+is_boolean kind = false
+
+abbrev pub is_truth_column : ColumnOf CellValue → Bool
+is_truth_column c = is_boolean c.kind
+
+abbrev pub inverted_column : ColumnOf CellValue → Result (ColumnOf CellValue) FaultValue
+inverted_column c = made_column (invert_column (value_of_column c))
+
+-- each truth value turned
+abbrev pub inverted : Entry → Result Entry FaultValue
+inverted (cell c) = Err wrong_kind
+inverted (table t) =
+    if list_all is_truth_column t.columns
+    then (if within_limits (length t.labels) (length t.columns) then then_value (try_all inverted_column t.columns) (λ columns. Ok (table (with_columns t columns))) else Err limit)
+    else Err wrong_kind
+
+-- `-x` where this is so, else `~x`
+abbrev pub sign_result : Bool → Entry → Result Entry FaultValue
+sign_result true v = negated v
+sign_result false v = inverted v

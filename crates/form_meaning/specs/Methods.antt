@@ -1,0 +1,200 @@
+-- What each method answers for its arguments, as far as it is built.
+use Rattle.std.specs.Prelude.{ℤ, pos, Bool, true, false, not, List, [], ◌∷◌, map, Option, Some, None, option_map, unwrap_or, Result, Ok, Err, if◌then◌else◌}
+use Rattle.std.specs.List.{list_any, list_all}
+use Rattle.cell_core.specs.declared.cell.Kind.{Kind}
+use Rattle.cell_core.specs.declared.cell.Kind.TheVariants.{Int64, Boolean, Text as string}
+use Rattle.cell_core.specs.declared.grid.Shape.{Shape}
+use Rattle.cell_core.specs.declared.grid.Shape.TheVariants.{Series, Frame}
+use Rattle.meaning.specs.Cell.{CellValue, na_cell, int_cell, truth_cell, LabelValue, int, holds}
+use Rattle.meaning.specs.Column.{ColumnFault, shifted}
+use Rattle.meaning.specs.Cast.{cast_column}
+use Rattle.meaning.specs.Operator.{cell_label}
+use Rattle.meaning.specs.Reduce as reduction
+use Rattle.meaning.specs.Reduce.{Reduction, is_present, same_cell, reduce_column, distinct_count}
+use Rattle.meaning.specs.Cumulate as cumulation
+use Rattle.meaning.specs.Cumulate.{Cumulation, cumulate_column}
+use Rattle.meaning.specs.Fault.{FaultValue, wrong_kind, not_built, then_value}
+use Rattle.table_meaning.specs.Table.{ColumnOf, Table, column_at}
+use Rattle.table_meaning.specs.Value.{Entry, cell, Given}
+use Rattle.form_meaning.specs.declared.Method.{Method}
+use Rattle.form_meaning.specs.declared.Method.TheVariants as method
+use Rattle.form_meaning.specs.Binding.{is_scalar, same_label, scalar_in, whole_in, list_in, dict_in}
+use Rattle.form_meaning.specs.Finish.{limited, finished, value_of_column, fault_of_column, made_column, try_all, with_columns}
+use Rattle.form_meaning.specs.Select.{cells_of}
+use Rattle.form_meaning.specs.Make.{on, kind_given, pairs_in}
+
+-- each column by itself, or the first fault
+abbrev pub each_column : (ColumnOf CellValue → Result (ColumnOf CellValue) FaultValue) → Table → Result Entry FaultValue
+each_column f t = then_value (try_all f t.columns) (λ columns. limited (with_columns t columns))
+
+-- the cells of a column by themselves
+abbrev pub mapped : Kind → (CellValue → CellValue) → ColumnOf CellValue → Result (ColumnOf CellValue) FaultValue
+mapped kind f c = Ok record { kind = kind; cells = map f c.cells }
+
+abbrev pub is_missing : CellValue → CellValue
+is_missing c = truth_cell (not (is_present c))
+
+abbrev pub is_there : CellValue → CellValue
+is_there c = truth_cell (is_present c)
+
+-- a scalar in place of NA
+abbrev pub filled : CellValue → CellValue → CellValue
+filled value na_cell = value
+filled value c = c
+
+abbrev pub holds_value : CellValue → ColumnOf CellValue → Bool
+holds_value value c = holds c.kind value
+
+-- every column's kind is tested, also where nothing is missing
+abbrev pub fillna : Table → CellValue → Result Entry FaultValue
+fillna t value =
+    if list_all (holds_value value) t.columns
+    then each_column (λ c. mapped c.kind (filled value) c) t
+    else Err wrong_kind
+
+-- the cell is in the list: NA is where the list has NA
+abbrev pub is_in : List CellValue → CellValue → CellValue
+is_in values c = truth_cell (list_any (same_cell c) values)
+
+abbrev pub shifted_column : ℤ → ColumnOf CellValue → Result (ColumnOf CellValue) FaultValue
+shifted_column periods c = Ok record { kind = c.kind; cells = shifted na_cell c.cells periods }
+
+abbrev pub cast_as : Kind → ColumnOf CellValue → Result (ColumnOf CellValue) FaultValue
+cast_as kind c = made_column (cast_column kind (value_of_column c))
+
+abbrev pub cumulated : Cumulation → ColumnOf CellValue → Result (ColumnOf CellValue) FaultValue
+cumulated op c = made_column (cumulate_column op (value_of_column c))
+
+-- what is made of all cells of a column
+pub data Summary : Type 0 where
+  reduced : Reduction → Summary
+  distinct : Summary
+
+abbrev pub made_cell : Result CellValue ColumnFault → Result CellValue FaultValue
+made_cell (Ok c) = Ok c
+made_cell (Err fault) = Err (fault_of_column fault)
+
+abbrev pub summary_cell : Summary → ColumnOf CellValue → Result CellValue FaultValue
+summary_cell (reduced op) c = made_cell (reduce_column op (value_of_column c))
+summary_cell distinct c = Ok (int_cell (pos (distinct_count c.cells)))
+
+-- the kind of a summary of columns of the kind
+abbrev pub summary_kind : Summary → Kind → Kind
+summary_kind (reduced reduction.sum) kind = Int64
+summary_kind (reduced reduction.min) kind = kind
+summary_kind (reduced reduction.max) kind = kind
+summary_kind (reduced reduction.any) kind = Boolean
+summary_kind (reduced reduction.all) kind = Boolean
+summary_kind (reduced reduction.count) kind = Int64
+summary_kind distinct kind = Int64
+
+abbrev pub same_kind : Kind → Kind → Bool
+same_kind Int64 Int64 = true
+same_kind Boolean Boolean = true
+same_kind string string = true
+same_kind a b = false
+
+-- the summaries' kind: whole numbers where there is no column
+abbrev pub kind_for : Summary → List (ColumnOf CellValue) → Kind
+kind_for op [] = summary_kind op Int64
+kind_for op (c ∷ cs) = summary_kind op c.kind
+
+abbrev pub gives_kind : Summary → Kind → ColumnOf CellValue → Bool
+gives_kind op kind c = same_kind (summary_kind op c.kind) kind
+
+abbrev pub label_or : Option LabelValue → LabelValue → LabelValue
+label_or None l = l
+label_or (Some l) other = l
+
+-- a Series of the summaries over the labels of the columns
+abbrev pub summary_series : Table → Kind → List CellValue → Table
+summary_series t kind cells =
+    record {
+      shape = Series;
+      columns_name = None;
+      level_names = t.columns_name ∷ [];
+      labels = map (λ h. label_or h (int (pos 0)) ∷ []) t.headings;
+      headings = None ∷ [];
+      columns = record { kind = kind; cells = cells } ∷ [];
+    }
+
+-- a Series gives a scalar; a frame gives a Series, and its summaries must be of one kind
+abbrev pub summary_of : Shape → Summary → Table → Result Entry FaultValue
+summary_of Series op t = then_value (summary_cell op (column_at t.columns 0)) (λ c. Ok (cell c))
+summary_of Frame op t =
+    then_value (try_all (summary_cell op) t.columns) (λ cells.
+    if list_all (gives_kind op (kind_for op t.columns)) t.columns then limited (summary_series t (kind_for op t.columns) cells) else Err wrong_kind)
+
+abbrev pub summary : Summary → Table → Result Entry FaultValue
+summary op t = summary_of t.shape op t
+
+-- the name is set, or taken away
+abbrev pub renamed_series : Table → Option LabelValue → Table
+renamed_series t name = record t { headings = name ∷ [] }
+
+abbrev pub is_scalar_pair : LabelValue × Given → Bool
+is_scalar_pair p = is_scalar p.1
+
+-- the new label of one, if it has one
+abbrev pub new_label : List (LabelValue × Given) → LabelValue → Option LabelValue
+new_label [] l = None
+new_label (p ∷ ps) l = if same_label p.0 l then option_map cell_label (scalar_in p.1) else new_label ps l
+
+abbrev pub renamed_heading : List (LabelValue × Given) → Option LabelValue → Option LabelValue
+renamed_heading pairs None = None
+renamed_heading pairs (Some l) = Some (unwrap_or (new_label pairs l) l)
+
+-- labels from a dict; those that it doesn't name stay
+abbrev pub renamed_frame : Table → List (LabelValue × Given) → Result Entry FaultValue
+renamed_frame t pairs = if list_all is_scalar_pair pairs then finished (record t { headings = map (renamed_heading pairs) t.headings }) else Err wrong_kind
+
+-- a frame of the one column, which has the name, or 0
+abbrev pub as_frame : Table → Table
+as_frame t = record t { shape = Frame; headings = map (λ h. Some (label_or h (int (pos 0)))) t.headings }
+
+abbrev pub answer_for : Method → List Given → Table → Result Entry FaultValue
+answer_for method.Copy gs t = limited t
+answer_for method.Isna gs t = each_column (mapped Boolean is_missing) t
+answer_for method.Notna gs t = each_column (mapped Boolean is_there) t
+answer_for method.Fillna (value ∷ []) t = on (scalar_in value) (fillna t)
+answer_for method.Isin (values ∷ []) t = on (list_in values) (λ parts. each_column (mapped Boolean (is_in (cells_of parts))) t)
+answer_for method.Astype (dtype ∷ []) t = on (kind_given (scalar_in dtype)) (λ kind. each_column (cast_as kind) t)
+answer_for method.Shift (periods ∷ []) t = on (whole_in periods) (λ z. each_column (shifted_column z) t)
+answer_for method.Cumsum gs t = each_column (cumulated cumulation.sum) t
+answer_for method.Cummin gs t = each_column (cumulated cumulation.min) t
+answer_for method.Cummax gs t = each_column (cumulated cumulation.max) t
+answer_for method.Sum gs t = summary (reduced reduction.sum) t
+answer_for method.Min gs t = summary (reduced reduction.min) t
+answer_for method.Max gs t = summary (reduced reduction.max) t
+answer_for method.Any gs t = summary (reduced reduction.any) t
+answer_for method.All gs t = summary (reduced reduction.all) t
+answer_for method.Count gs t = summary (reduced reduction.count) t
+answer_for method.Nunique gs t = summary distinct t
+answer_for method.RenameSeries (name ∷ []) t = limited (renamed_series t (option_map cell_label (scalar_in name)))
+answer_for method.RenameFrame (columns ∷ []) t = on (dict_in columns) (λ pairs. renamed_frame t (pairs_in pairs))
+answer_for method.ToFrame gs t = limited (as_frame t)
+answer_for m gs t = Err not_built
+
+-- whether the method is built; one that isn't answers so before its arguments are looked at
+abbrev pub is_built : Method → Bool
+is_built method.Copy = true
+is_built method.Isna = true
+is_built method.Notna = true
+is_built method.Fillna = true
+is_built method.Isin = true
+is_built method.Astype = true
+is_built method.Shift = true
+is_built method.Cumsum = true
+is_built method.Cummin = true
+is_built method.Cummax = true
+is_built method.Sum = true
+is_built method.Min = true
+is_built method.Max = true
+is_built method.Any = true
+is_built method.All = true
+is_built method.Count = true
+is_built method.Nunique = true
+is_built method.RenameSeries = true
+is_built method.RenameFrame = true
+is_built method.ToFrame = true
+is_built m = false
