@@ -3,3 +3,4 @@ pub mod Views
 pub mod Grids
 pub mod Objects
 pub mod Arguments
+pub mod Shown

@@ -39,6 +39,7 @@ pub use fault::OpFault;
 pub use headings::Headings;
 pub use object::{ObjId, ObjRef};
 pub use store::Store;
+pub use table::Table;
 
 #[cfg(test)]
 mod tests;

@@ -1,9 +1,13 @@
 // Objects by number, and their tables to be read.
-ghost use Rattle.std.specs.Prelude.{◌≡◌};
+ghost use Rattle.std.specs.Prelude.{◌≡◌, ◌<◌, length};
+ghost use Rattle.table_meaning.specs.Table.{column_at};
 ghost use Rattle.frame_store.specs.Grids.{grid_of};
+ghost use Rattle.frame_store.specs.Parts.{axis_of};
 
 use crate::table::Table;
 use cell_core::{Cell, Grid, Kind, Label, Shape};
+use multi_index::Axis;
+use nullable_array::ColRef;
 use std::marker::Model;
 
 /// The number of an object of a store.
@@ -22,6 +26,24 @@ impl<'a> Model for ObjRef<'a> {
     ghost Value = { NumberedTable };
 
     ghost view = { λ r. r.table.now };
+}
+
+impl ObjRef<'_> {
+    /// The axis of the rows. Takes no memory.
+    pub fn axis(&self) -> &Axis
+        ensures { result.now ≡ axis_of self.now }
+    {
+        self.table.axis()
+    }
+
+    /// A column, counted from 0. Takes no memory.
+    pub fn column(&self, column: usize) -> ColRef<'_>
+        requires { column < length self.now.columns }
+        ensures column { column_at self.now.columns column ≡ record { kind = result.kind; cells = result.cells } }
+        ensures rows { length result.cells ≡ length self.now.labels }
+    {
+        self.table.column(column)
+    }
 }
 
 impl Grid for ObjRef<'_> {

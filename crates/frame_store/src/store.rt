@@ -56,9 +56,17 @@ impl Store {
         ensures ok { IfOk result (λ id. tables self.new ≡ with_object (tables self.old) id.0 (Some (table_with shape axis headings (map block_column blocks)))) }
         ensures err { OnErr result (tables self.new ≡ tables self.old) }
     {
-        let key = self
-            .objects
-            .insert(Table::new(shape, axis, headings, blocks))?;
+        self.insert(Table::new(shape, axis, headings, blocks))
+    }
+
+    /// A new object with the table. The number that it gets is that of no live object. `NoMemory`
+    /// leaves the store as it was.
+    pub fn insert(&mut self, table: Table) -> Result<ObjId, NoMemory>
+        ensures fresh { IfOk result (λ id. tables self.old id.0 ≡ None) }
+        ensures ok { IfOk result (λ id. tables self.new ≡ with_object (tables self.old) id.0 (Some table)) }
+        ensures err { OnErr result (tables self.new ≡ tables self.old) }
+    {
+        let key = self.objects.insert(table)?;
         Ok(ObjId(key as u64))
     }
 

@@ -18,9 +18,10 @@ use nullable_array::{Block, ColRef};
 use std::alloc::Global;
 use std::marker::Model;
 
-/// A table whose columns are its own, one to a block.
+/// A whole table: its axis, its headings, and its columns, one to a block. It becomes an object by
+/// [`Store::insert`](crate::Store::insert).
 #[derive(Drop)]
-pub(crate) struct Table {
+pub struct Table {
     shape: Shape,
     axis: Axis,
     columns_name: Option<Label>,
@@ -41,8 +42,9 @@ impl Model for Table {
 }
 
 impl Table {
-    /// The table of these parts. Takes no memory.
-    pub(crate) fn new(shape: Shape, axis: Axis, headings: Headings, blocks: Blocks) -> Table
+    /// The table of these parts: the axis has a tuple for each row, the headings an entry for each
+    /// column, and each block is one column, in their order. Takes no memory.
+    pub fn new(shape: Shape, axis: Axis, headings: Headings, blocks: Blocks) -> Table
         requires single { All IsSingle blocks }
         requires whole { IsWhole (table_with shape axis headings (map block_column blocks)) }
         ensures { result ≡ table_with shape axis headings (map block_column blocks) }

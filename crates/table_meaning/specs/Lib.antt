@@ -2,3 +2,4 @@ pub mod Table
 pub mod Change
 pub mod Valid
 pub mod Value
+pub mod Settled
