@@ -52,6 +52,17 @@ impl Index {
         })
     }
 
+    /// An index of its own with the same labels. `NoMemory` is the only refusal.
+    pub fn copy(&self, alloc: Global) -> Result<Index, NoMemory>
+        ensures { IfOk result (λ index. index ≡ self.now) }
+    {
+        let labels = match &self.labels {
+            Kept::Below(n) => Kept::Below(*n),
+            Kept::Listed(labels) => Kept::Listed(labels.to_vec(alloc)?),
+        };
+        Ok(Index { labels })
+    }
+
     /// How many labels there are. Takes no memory.
     pub fn len(&self) -> usize
         ensures { result ≡ length self.now }

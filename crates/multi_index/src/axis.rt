@@ -67,6 +67,22 @@ impl Axis {
         })
     }
 
+    /// An axis of its own with the same tuples and names. `NoMemory` is the only refusal.
+    pub fn copy(&self, alloc: Global) -> Result<Axis, NoMemory>
+        ensures { IfOk result (λ axis. axis ≡ self.now) }
+    {
+        let rows = match &self.rows {
+            Kept::Single(index) => Kept::Single(index.copy(alloc)?),
+            Kept::Listed(tuples) => Kept::Listed(copy_of(alloc, tuples)?),
+        };
+        let names = self.names;
+        Ok(Axis {
+            rows,
+            names,
+            levels: self.levels,
+        })
+    }
+
     /// How many rows there are. Takes no memory.
     pub fn len(&self) -> usize
         ensures { result ≡ length self.now.tuples }
