@@ -3,3 +3,4 @@ pub mod ColumnLaws
 pub mod ValueLaws
 pub mod HeldLaws
 pub mod ObjectLaws
+pub mod RowLaws
