@@ -5,8 +5,8 @@ use Rattle.std.specs.Ordering.{is_eq, int_eq}
 use Rattle.cell_core.specs.declared.grid.Shape.{Shape}
 use Rattle.cell_core.specs.declared.grid.Shape.TheVariants.{Series, Frame}
 use Rattle.meaning.specs.Text.{Text, same_text}
-use Rattle.meaning.specs.Cell.{CellValue, int_cell, truth_cell, text_cell, LabelValue, label_cmp}
-use Rattle.table_meaning.specs.Value.{cell, table, Given, GivenList, GivenPairs, NamedGiven, nothing, one, row, many, entries, no_given, more_given, no_entries, more_entries}
+use Rattle.meaning.specs.Cell.{CellValue, na_cell, int_cell, truth_cell, text_cell, LabelValue, label_cmp}
+use Rattle.table_meaning.specs.Value.{cell, table, Given, GivenList, GivenPairs, NamedGiven, nothing, one, row, many, entries, no_given, more_given, no_entries, more_entries, scalar_in}
 use Rattle.form_meaning.specs.declared.Form.{Form}
 use Rattle.form_meaning.specs.declared.Form.TheVariants as form
 use Rattle.form_meaning.specs.declared.Omitted.{Omitted}
@@ -311,33 +311,33 @@ bound_of ps gs =
     else not_taken)
     else not_taken
 
--- what an argument is
-abbrev pub scalar_in : Given → Option CellValue
-scalar_in (one (cell c)) = Some c
-scalar_in (one (table t)) = None
-scalar_in nothing = None
-scalar_in (row parts) = None
-scalar_in (many parts) = None
-scalar_in (entries pairs) = None
+-- the whole number, the truth value and the text that a scalar is
+abbrev pub whole_of : Option CellValue → Option ℤ
+whole_of (Some (int_cell z)) = Some z
+whole_of (Some (truth_cell b)) = None
+whole_of (Some (text_cell t)) = None
+whole_of (Some na_cell) = None
+whole_of None = None
+
+abbrev pub truth_of : Option CellValue → Option Bool
+truth_of (Some (truth_cell b)) = Some b
+truth_of (Some (int_cell z)) = None
+truth_of (Some (text_cell t)) = None
+truth_of (Some na_cell) = None
+truth_of None = None
+
+abbrev pub text_of : Option CellValue → Option Text
+text_of (Some (text_cell t)) = Some t
+text_of (Some (int_cell z)) = None
+text_of (Some (truth_cell b)) = None
+text_of (Some na_cell) = None
+text_of None = None
 
 abbrev pub whole_in : Given → Option ℤ
-whole_in (one (cell (int_cell z))) = Some z
-whole_in g = None
+whole_in g = whole_of (scalar_in g)
 
 abbrev pub truth_in : Given → Option Bool
-truth_in (one (cell (truth_cell b))) = Some b
-truth_in g = None
+truth_in g = truth_of (scalar_in g)
 
-abbrev pub list_in : Given → Option GivenList
-list_in (many parts) = Some parts
-list_in (one v) = None
-list_in nothing = None
-list_in (row parts) = None
-list_in (entries pairs) = None
-
-abbrev pub dict_in : Given → Option GivenPairs
-dict_in (entries pairs) = Some pairs
-dict_in (one v) = None
-dict_in nothing = None
-dict_in (row parts) = None
-dict_in (many parts) = None
+abbrev pub text_in : Given → Option Text
+text_in g = text_of (scalar_in g)

@@ -15,10 +15,10 @@ use Rattle.meaning.specs.Cumulate as cumulation
 use Rattle.meaning.specs.Cumulate.{Cumulation, cumulate_column}
 use Rattle.meaning.specs.Fault.{FaultValue, wrong_kind, not_built, then_value}
 use Rattle.table_meaning.specs.Table.{ColumnOf, Table, column_at}
-use Rattle.table_meaning.specs.Value.{Entry, cell, Given}
+use Rattle.table_meaning.specs.Value.{Entry, cell, Given, scalar_in, list_in, dict_in}
 use Rattle.form_meaning.specs.declared.Method.{Method}
 use Rattle.form_meaning.specs.declared.Method.TheVariants as method
-use Rattle.form_meaning.specs.Binding.{is_scalar, same_label, scalar_in, whole_in, list_in, dict_in}
+use Rattle.form_meaning.specs.Binding.{is_scalar, same_label, whole_in}
 use Rattle.form_meaning.specs.Finish.{limited, finished, value_of_column, fault_of_column, made_column, try_all, with_columns}
 use Rattle.form_meaning.specs.Select.{cells_of}
 use Rattle.form_meaning.specs.Make.{on, kind_given, pairs_in}

@@ -11,8 +11,8 @@ use Rattle.meaning.specs.Tree.{Accessor}
 use Rattle.meaning.specs.Fault.{FaultValue, wrong_kind, bad_value, length_of, not_built, then_value}
 use Rattle.table_meaning.specs.Table.{ColumnOf, Table, column_at}
 use Rattle.table_meaning.specs.Change.{with_column, without_column, with_cell}
-use Rattle.table_meaning.specs.Value.{Entry, cell, table, Given, GivenList, GivenSub, nothing, one, row, many, entries}
-use Rattle.form_meaning.specs.Binding.{each, is_scalar, scalar_in}
+use Rattle.table_meaning.specs.Value.{Entry, cell, table, Given, GivenList, GivenSub, nothing, one, row, many, entries, scalar_in}
+use Rattle.form_meaning.specs.Binding.{each, is_scalar}
 use Rattle.form_meaning.specs.Finish.{limited_table, default_labels, missing_column}
 use Rattle.form_meaning.specs.Infix.{same_tuples}
 use Rattle.form_meaning.specs.Select.{place_of_label, column_place, cells_of, row_place, position_of}

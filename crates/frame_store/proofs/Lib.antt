@@ -4,3 +4,4 @@ pub mod ValueLaws
 pub mod HeldLaws
 pub mod ObjectLaws
 pub mod Settling
+pub mod RowLaws

@@ -1,5 +1,5 @@
 -- Arguments of forms as plain values, in which an object is its table and a text is the text itself.
-use Rattle.std.specs.Prelude.{ℕ, List, map, Option}
+use Rattle.std.specs.Prelude.{List, [], ◌∷◌, map, IsSome}
 use Rattle.cell_core.specs.declared.cell.Label.{Label}
 use Rattle.meaning.specs.Text.{Text}
 use Rattle.meaning.specs.Cell.{LabelValue, datum, label_datum}
@@ -58,3 +58,45 @@ arguments_of tables texts gs = map (named_of tables texts) gs
 abbrev pub subscript_of : Tables → List Text → Subscript → GivenSub
 subscript_of tables texts (Key a) = value.key_given (argument_of tables texts a)
 subscript_of tables texts (Span from to by) = value.span_given (argument_of tables texts from) (argument_of tables texts to) (argument_of tables texts by)
+
+-- each object that is handed in is live
+abbrev pub IsLive : Tables → Value → Type 0
+IsLive tables (Object id) = IsSome (tables id.0)
+IsLive tables (Scalar c) = Unit {0}
+
+abbrev mutual
+  pub IsLiveItem : Tables → Item → Type 0
+  IsLiveItem tables (OneItem v) = IsLive tables v
+  IsLiveItem tables (RowItem' shape row) = IsLiveRow tables row
+
+  pub IsLiveRow : Tables → {m : _} → Row_of-Item m → Type 0
+  IsLiveRow tables end_of-Item = Unit {0}
+  IsLiveRow tables (more_of-Item a rest) = IsLiveItem tables a × IsLiveRow tables rest
+
+abbrev pub AreLiveItems : Tables → List Item → Type 0
+AreLiveItems tables [] = Unit {0}
+AreLiveItems tables (item ∷ rest) = IsLiveItem tables item × AreLiveItems tables rest
+
+abbrev mutual
+  pub IsLiveArgument : Tables → Argument → Type 0
+  IsLiveArgument tables Nothing = Unit {0}
+  IsLiveArgument tables (One v) = IsLive tables v
+  IsLiveArgument tables (Row l) = AreLiveItems tables l.items.items
+  IsLiveArgument tables (Many l) = AreLiveItems tables l.items.items
+  IsLiveArgument tables (Table' shape row) = AreLiveEntries tables row
+
+  pub AreLiveEntries : Tables → {m : _} → Row_of-Entries-pairs-2 m → Type 0
+  AreLiveEntries tables end_of-Entries-pairs-2 = Unit {0}
+  AreLiveEntries tables (more_of-Entries-pairs-2 label a rest) = IsLiveArgument tables a × AreLiveEntries tables rest
+
+abbrev pub AreLivePairs : Tables → List (Label × Argument) → Type 0
+AreLivePairs tables [] = Unit {0}
+AreLivePairs tables (pair ∷ rest) = IsLiveArgument tables pair.1 × AreLivePairs tables rest
+
+abbrev pub AreLive : Tables → List Named → Type 0
+AreLive tables [] = Unit {0}
+AreLive tables (g ∷ rest) = IsLiveArgument tables g.value × AreLive tables rest
+
+abbrev pub IsLiveSubscript : Tables → Subscript → Type 0
+IsLiveSubscript tables (Key a) = IsLiveArgument tables a
+IsLiveSubscript tables (Span from to by) = IsLiveArgument tables from × IsLiveArgument tables to × IsLiveArgument tables by

@@ -25,6 +25,7 @@ mod arguments;
 mod blocks;
 mod columns;
 mod fault;
+mod given;
 mod headings;
 mod object;
 mod store;

@@ -1,5 +1,5 @@
 -- Values of a script's expressions, and evaluated arguments and subscripts.
-use Rattle.std.specs.Prelude.{Bool, true, false, List, [], ◌∷◌, Option}
+use Rattle.std.specs.Prelude.{Bool, true, false, List, [], ◌∷◌, Option, Some, None}
 use Rattle.meaning.specs.Text.{Text}
 use Rattle.meaning.specs.Cell.{CellValue, LabelValue}
 use Rattle.table_meaning.specs.Table.{Table}
@@ -48,3 +48,41 @@ given_list (x ∷ xs) = more_given x (given_list xs)
 abbrev pub given_pairs : List (LabelValue × Given) → GivenPairs
 given_pairs [] = no_entries
 given_pairs (x ∷ xs) = more_entries x.0 x.1 (given_pairs xs)
+
+-- what an argument is
+abbrev pub scalar_in : Given → Option CellValue
+scalar_in (one (cell c)) = Some c
+scalar_in (one (table t)) = None
+scalar_in nothing = None
+scalar_in (row parts) = None
+scalar_in (many parts) = None
+scalar_in (entries pairs) = None
+
+abbrev pub object_in : Given → Option Table
+object_in (one (table t)) = Some t
+object_in (one (cell c)) = None
+object_in nothing = None
+object_in (row parts) = None
+object_in (many parts) = None
+object_in (entries pairs) = None
+
+abbrev pub tuple_in : Given → Option GivenList
+tuple_in (row parts) = Some parts
+tuple_in (one v) = None
+tuple_in nothing = None
+tuple_in (many parts) = None
+tuple_in (entries pairs) = None
+
+abbrev pub list_in : Given → Option GivenList
+list_in (many parts) = Some parts
+list_in (one v) = None
+list_in nothing = None
+list_in (row parts) = None
+list_in (entries pairs) = None
+
+abbrev pub dict_in : Given → Option GivenPairs
+dict_in (entries pairs) = Some pairs
+dict_in (one v) = None
+dict_in nothing = None
+dict_in (row parts) = None
+dict_in (many parts) = None

@@ -1,0 +1,8 @@
+//! The table of signatures.
+#![tactic(auto)]
+
+mod table;
+
+pub use table::{
+    default_text, function_named, function_parameters, method_named, parameters, spelled,
+};
