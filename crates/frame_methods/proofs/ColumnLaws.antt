@@ -1,0 +1,130 @@
+-- Columns that are made one by one.
+use Rattle.std.proofs.Common.{◌≡◌, ◌∙◌, refl, ap, sym, subst, ℕ, suc, ◌+◌, ◌<◌, List, [], ◌∷◌, ◌++◌, map, drop, length, append_assoc, append-nil, length-append, All, Result, Ok, Err, slice_index_or, slice_get, Some, arith}
+use Rattle.std.proofs.lemmas.List.{map-append}
+use Rattle.std.proofs.lemmas.List.Elements.{All-append, All-cons, All-nil}
+use Rattle.std.proofs.lemmas.Option.{slice_get-get_or}
+use Rattle.cell_core.specs.declared.cell.Cell.{Cell}
+use Rattle.meaning.specs.Text.{Text}
+use Rattle.meaning.specs.Cell.{CellValue, IsLonger, AreGiven}
+use Rattle.meaning.specs.Fault.{FaultValue, then_value}
+use Rattle.nullable_array.specs.Columns.{CellColumn}
+use Rattle.nullable_array.specs.Blocks.{CellBlock}
+use Rattle.table_meaning.specs.Settled.{IsSettled}
+use Rattle.table_meaning.specs.Table.{ColumnOf, NumberedTable, column_value, column_at, no_column, table_value}
+use Rattle.form_meaning.specs.Finish.{try_all}
+use Rattle.frame_store.specs.Parts.{block_column, single_block, IsSingle, HaveRows}
+use Rattle.frame_store.specs.Shown.{columns_value, cells_value}
+use Rattle.frame_store.proofs.Settling.{settled_later, seen_later, cells_settled, cells_given, column_settled, columns_settled, columns_given, columns_part, longer_self, longer_twice}
+use Rattle.frame_methods.specs.Columns.{table_column, with_front, IsFront, MakesColumn, MakesColumns}
+use Rattle.meaning.specs.FaultOf.{fault_of}
+use Rattle.frame_store.specs.declared.fault.OpFault.{OpFault}
+use Rattle.frame_store.specs.declared.fault.OpFault.TheVariants.{Refused, NoMemory}
+use Rattle.frame_methods.proofs.Lists.{drop_next}
+
+-- what was given stays so
+pub given_later : (old new : List Text) (cells : List Cell) → IsLonger old new → AreGiven old cells → AreGiven new cells
+given_later old new cells longer given = cells_given new cells (settled_later cells_value old new cells longer (cells_settled old cells given))
+
+front_twice : {B : Type 0} (made : List B) (y : B) (rest : Result (List B) FaultValue) → with_front (made ++ y ∷ []) rest ≡ with_front made (then_value rest (λ ys. Ok (y ∷ ys)))
+front_twice made y (Ok ys) = ap Ok (append_assoc made (y ∷ []) ys)
+front_twice made y (Err fault) = refl
+
+abbrev first_then : {A B : Type 0} → (A → Result B FaultValue) → List A → Result B FaultValue → Result (List B) FaultValue
+first_then f xs first = then_value first (λ y. then_value (try_all f xs) (λ ys. Ok (y ∷ ys)))
+
+-- one item more is made
+front_next : {A B : Type 0} (f : A → Result B FaultValue) (made : List B) (x : A) (y : B) (xs : List A) (whole : Result (List B) FaultValue)
+    → with_front made (try_all f (x ∷ xs)) ≡ whole → f x ≡ Ok y → with_front (made ++ y ∷ []) (try_all f xs) ≡ whole
+front_next f made x y xs whole so_far is = front_twice made y (try_all f xs) ∙ ap (λ r. with_front made (first_then f xs r)) (sym is) ∙ so_far
+
+-- or it is the first fault
+front_fails : {A B : Type 0} (f : A → Result B FaultValue) (made : List B) (x : A) (fault : FaultValue) (xs : List A) (whole : Result (List B) FaultValue)
+    → with_front made (try_all f (x ∷ xs)) ≡ whole → f x ≡ Err fault → whole ≡ Err fault
+front_fails f made x fault xs whole so_far is = sym so_far ∙ ap (λ r. with_front made (first_then f xs r)) is
+
+-- the column at a place, and those after it
+at_place : (columns : List (ColumnOf Cell)) (place : ℕ) (a : ColumnOf Cell) → place < length columns → column_at columns place ≡ a → drop place columns ≡ a ∷ drop (place + 1) columns
+at_place columns place a lt is =
+    let here : slice_get columns place ≡ Some a = slice_get-get_or columns place no_column lt ∙ ap Some is in
+    let next : suc place ≡ place + 1 = omega arith in
+    drop_next columns place a here ∙ ap (λ k. a ∷ drop k columns) next
+
+pub front_begins : (f : ColumnOf CellValue → Result (ColumnOf CellValue) FaultValue) (dict : List Text) (columns : List (ColumnOf Cell)) (rows : ℕ) (made : List CellBlock) → made ≡ []
+    → IsFront f dict dict columns rows 0 made
+front_begins f dict columns rows made is = subst (IsFront f dict dict columns rows 0) (sym is) record {
+  longer = longer_self dict;
+  given = All-nil (λ c. AreGiven dict c.cells);
+  single = All-nil IsSingle;
+  filled = All-nil (λ (c : ColumnOf Cell). length c.cells ≡ rows);
+  count = refl;
+  answer = nothing_before (try_all f (columns_value dict columns));
+}
+  where
+    nothing_before : (r : Result (List (ColumnOf CellValue)) FaultValue) → with_front [] r ≡ r
+    nothing_before (Ok ys) = refl
+    nothing_before (Err fault) = refl
+
+one_more : (P : ColumnOf Cell → Type 0) (made : List CellBlock) (b : CellBlock) → All P (map block_column made) → P (block_column b) → All P (map block_column (made ++ b ∷ []))
+one_more P made b all here =
+    subst (All P) (sym (map-append block_column made (b ∷ []))) (All-append P (map block_column made) (block_column b ∷ []) all (All-cons P (block_column b) [] here (All-nil P)))
+
+abbrev placed_front : (ColumnOf CellValue → Result (ColumnOf CellValue) FaultValue) → List (ColumnOf CellValue) → List (ColumnOf CellValue) → Result (List (ColumnOf CellValue)) FaultValue
+placed_front f made rest = with_front made (try_all f rest)
+
+pub front_step : (f : ColumnOf CellValue → Result (ColumnOf CellValue) FaultValue) (first dict dict' : List Text) (columns : List (ColumnOf Cell)) (rows place : ℕ) (made made' : List CellBlock) (a new : CellColumn)
+    → IsFront f first dict columns rows place made → place < length columns → column_at columns place ≡ table_column a → IsLonger dict dict' → AreGiven dict' new.cells → length new.cells ≡ rows
+    → made' ≡ made ++ single_block (table_column new) ∷ [] → f (column_value first (table_column a)) ≡ Ok (column_value dict' (table_column new))
+    → IsFront f first dict' columns rows (place + 1) made'
+front_step f first dict dict' columns rows place made made' a new so_far lt at longer given full more is = subst (IsFront f first dict' columns rows (place + 1)) (sym more) record {
+  longer = longer_twice first dict dict' so_far.longer longer;
+  given = one_more (λ c. AreGiven dict' c.cells) made (single_block (table_column new)) (λ k d lt. given_later dict dict' (slice_index_or (map block_column made) k d).cells longer (so_far.given k d lt)) given;
+  single = All-append IsSingle made (single_block (table_column new) ∷ []) so_far.single (All-cons IsSingle (single_block (table_column new)) [] refl (All-nil IsSingle));
+  filled = one_more (λ c. length c.cells ≡ rows) made (single_block (table_column new)) so_far.filled full;
+  count = length-append made (single_block (table_column new) ∷ []) ∙ ap (λ n. n + 1) so_far.count;
+  answer =
+    let seen : columns_value dict' (map block_column made) ≡ columns_value dict (map block_column made)
+      = seen_later columns_value dict dict' (map block_column made) longer (columns_settled dict (map block_column made) so_far.given) in
+    let all : columns_value dict' (map block_column (made ++ single_block (table_column new) ∷ [])) ≡ columns_value dict (map block_column made) ++ column_value dict' (table_column new) ∷ []
+      = ap (columns_value dict') (map-append block_column made (single_block (table_column new) ∷ []))
+      ∙ map-append (column_value dict') (map block_column made) (table_column new ∷ [])
+      ∙ ap (λ l. l ++ column_value dict' (table_column new) ∷ []) seen in
+    let rest : columns_value first (drop place columns) ≡ column_value first (table_column a) ∷ columns_value first (drop (place + 1) columns)
+      = ap (columns_value first) (at_place columns place (table_column a) lt at) in
+    ap (λ l. placed_front f l (columns_value first (drop (place + 1) columns))) all
+    ∙ front_next f (columns_value dict (map block_column made)) (column_value first (table_column a)) (column_value dict' (table_column new)) (columns_value first (drop (place + 1) columns)) (try_all f (columns_value first columns))
+        (ap (placed_front f (columns_value dict (map block_column made))) (sym rest) ∙ so_far.answer) is;
+}
+
+pub front_refused : (f : ColumnOf CellValue → Result (ColumnOf CellValue) FaultValue) (first dict : List Text) (columns : List (ColumnOf Cell)) (rows place : ℕ) (made : List CellBlock) (a : CellColumn) (fault : FaultValue)
+    → IsFront f first dict columns rows place made → place < length columns → column_at columns place ≡ table_column a → f (column_value first (table_column a)) ≡ Err fault
+    → try_all f (columns_value first columns) ≡ Err fault
+front_refused f first dict columns rows place made a fault so_far lt at is =
+    front_fails f (columns_value dict (map block_column made)) (column_value first (table_column a)) fault (columns_value first (drop (place + 1) columns)) (try_all f (columns_value first columns))
+      (ap (λ l. placed_front f (columns_value dict (map block_column made)) (columns_value first l)) (sym (at_place columns place (table_column a) lt at)) ∙ so_far.answer) is
+
+drop_all : {X : Type 0} (xs : List X) → drop (length xs) xs ≡ []
+drop_all [] = refl
+drop_all (x ∷ xs) = drop_all xs
+
+pub front_ends : (f : ColumnOf CellValue → Result (ColumnOf CellValue) FaultValue) (first dict : List Text) (columns : List (ColumnOf Cell)) (rows place : ℕ) (made : List CellBlock)
+    → IsFront f first dict columns rows place made → place ≡ length columns → try_all f (columns_value first columns) ≡ Ok (columns_value dict (map block_column made))
+front_ends f first dict columns rows place made so_far is =
+    sym so_far.answer ∙ ap (λ l. placed_front f (columns_value dict (map block_column made)) (columns_value first l)) (ap (λ k. drop k columns) is ∙ drop_all columns)
+    ∙ ap Ok (append-nil (columns_value dict (map block_column made)))
+
+-- the column at a place was given
+pub place_given : (dict : List Text) (t : NumberedTable) (place : ℕ) (a : CellColumn) → IsSettled table_value dict t → place < length t.columns → column_at t.columns place ≡ table_column a → AreGiven dict a.cells
+place_given dict t place a settled lt is = subst (λ (c : ColumnOf Cell). AreGiven dict c.cells) is (columns_given dict t.columns (columns_part dict t settled) place no_column lt)
+
+-- what is made of it at the later dictionary is what is made of it at the first one
+pub same_answer : {A : Type 0} (answer : List Text → ColumnOf CellValue → A) (first dict : List Text) (a : CellColumn) → IsLonger first dict → AreGiven first a.cells → answer dict ≡ answer first
+    → answer first (column_value first (table_column a)) ≡ answer dict (column_value dict (table_column a))
+same_answer answer first dict a longer given stays =
+    ap (answer first) (sym (seen_later column_value first dict (table_column a) longer (column_settled first (table_column a) given)))
+    ∙ ap (λ g. g (column_value dict (table_column a))) (sym stays)
+
+-- a refused column is a refused list of columns
+pub refused_columns : (dict : List Text) (fault : OpFault) (one : Result (ColumnOf CellValue) FaultValue) (all : Result (List (ColumnOf CellValue)) FaultValue)
+    → ((e : FaultValue) → one ≡ Err e → all ≡ Err e) → MakesColumn dict (Err fault) one → MakesColumns dict (Err fault) all
+refused_columns dict (Refused code) one all same is = same (fault_of dict code) is
+refused_columns dict NoMemory one all same is = tt

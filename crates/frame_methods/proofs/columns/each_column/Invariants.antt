@@ -1,0 +1,7 @@
+use Rattle.std.proofs.Common.{◌≡◌, length}
+use Rattle.frame_methods.specs.Columns.{IsFront}
+use Rattle.frame_methods.proofs.columns.each_column.Given as goal
+
+-- the columns so far
+abbrev pub invariant-loop-place : goal.invariant-loop-place
+invariant-loop-place g l = IsFront (g.O.ColumnOp.answer l.op l.fn.dict) l.fn.dict l.dict l.on.columns (length l.on.labels) l.place l.made

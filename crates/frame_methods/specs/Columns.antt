@@ -1,0 +1,44 @@
+-- Columns that are made one by one.
+use Rattle.std.specs.Prelude.{◌≡◌, ℕ, List, ◌++◌, map, drop, length, All, Result, Ok, Err}
+use Rattle.cell_core.specs.declared.cell.Cell.{Cell}
+use Rattle.meaning.specs.Text.{Text}
+use Rattle.meaning.specs.Cell.{CellValue, IsLonger, AreGiven}
+use Rattle.meaning.specs.Fault.{FaultValue, then_value}
+use Rattle.meaning.specs.FaultOf.{fault_of}
+use Rattle.nullable_array.specs.Columns.{CellColumn}
+use Rattle.table_meaning.specs.Table.{ColumnOf, column_value}
+use Rattle.frame_store.specs.declared.fault.OpFault.{OpFault}
+use Rattle.frame_store.specs.declared.fault.OpFault.TheVariants.{Refused, NoMemory}
+use Rattle.frame_store.specs.Shown.{columns_value}
+use Rattle.frame_store.specs.Parts.{block_column, IsSingle, HaveRows}
+use Rattle.form_meaning.specs.Finish.{try_all}
+use Rattle.nullable_array.specs.Blocks.{CellBlock}
+
+-- a column of a kernel as a column of a table
+abbrev pub table_column : CellColumn → ColumnOf Cell
+table_column c = record { kind = c.kind; cells = c.cells }
+
+-- the column that is made is the one that is meant, or its fault is
+abbrev pub MakesColumn : List Text → Result CellColumn OpFault → Result (ColumnOf CellValue) FaultValue → Type 0
+MakesColumn texts (Ok c) meant = meant ≡ Ok (column_value texts (table_column c))
+MakesColumn texts (Err (Refused code)) meant = meant ≡ Err (fault_of texts code)
+MakesColumn texts (Err NoMemory) meant = Unit {0}
+
+-- the same of a list of columns, each of which is a block
+abbrev pub MakesColumns : List Text → Result (List CellBlock) OpFault → Result (List (ColumnOf CellValue)) FaultValue → Type 0
+MakesColumns texts (Ok blocks) meant = meant ≡ Ok (columns_value texts (map block_column blocks))
+MakesColumns texts (Err (Refused code)) meant = meant ≡ Err (fault_of texts code)
+MakesColumns texts (Err NoMemory) meant = Unit {0}
+
+-- these, and then what the others come to
+abbrev pub with_front : {B : Type 0} → List B → Result (List B) FaultValue → Result (List B) FaultValue
+with_front made rest = then_value rest (λ ys. Ok (made ++ ys))
+
+-- the columns before a place are made, and with what the others come to they are the whole
+pub record IsFront (f : ColumnOf CellValue → Result (ColumnOf CellValue) FaultValue) (first dict : List Text) (columns : List (ColumnOf Cell)) (rows place : ℕ) (made : List CellBlock) : Type 0 where
+  pub longer : IsLonger first dict
+  pub given : All (λ c. AreGiven dict c.cells) (map block_column made)
+  pub single : All IsSingle made
+  pub filled : HaveRows rows (map block_column made)
+  pub count : length made ≡ place
+  pub answer : with_front (columns_value dict (map block_column made)) (try_all f (columns_value first (drop place columns))) ≡ try_all f (columns_value first columns)

@@ -1,0 +1,68 @@
+// Columns that are made one by one.
+ghost use Rattle.std.specs.Prelude.{◌≡◌, ◌<◌, List, map, length, All, Result, IfOk};
+ghost use Rattle.cell_core.specs.declared.cell.Cell.{Cell as OneCell};
+ghost use Rattle.meaning.specs.Text.{Text as OneText};
+ghost use Rattle.meaning.specs.Cell.{CellValue, AreGiven, IsLonger};
+ghost use Rattle.meaning.specs.Fault.{FaultValue};
+ghost use Rattle.table_meaning.specs.Table.{ColumnOf, column_value, table_value};
+ghost use Rattle.table_meaning.specs.Valid.{IsWhole};
+ghost use Rattle.table_meaning.specs.Settled.{IsSettled};
+ghost use Rattle.form_meaning.specs.Finish.{try_all};
+ghost use Rattle.frame_store.specs.Parts.{block_column, IsSingle, HaveRows};
+ghost use Rattle.frame_store.specs.Shown.{columns_value};
+ghost use Rattle.frame_methods.specs.Columns.{table_column, MakesColumn, MakesColumns};
+
+use cell_core::{Grid, TextDict};
+use frame_store::{Blocks, ObjRef, OpFault};
+use nullable_array::{ColRef, Column};
+use std::alloc::Global;
+
+// A column that is made of a column with as many cells.
+pub(crate) trait ColumnOp {
+    ghost answer: { Self → List OneText → ColumnOf CellValue → Result (ColumnOf CellValue) FaultValue };
+
+    // The texts that it was given.
+    ghost given: { Self → List OneText → Type 0 };
+
+    fn column(
+        &self,
+        alloc: Global,
+        dict: &mut TextDict,
+        a: ColRef<'_>,
+    ) -> Result<Column, OpFault>
+        requires own { given self.now dict.old }
+        requires cells { AreGiven dict.old a.cells }
+        ensures longer { IsLonger dict.old dict.new }
+        ensures given { IfOk result (λ c. AreGiven dict.new c.cells) }
+        ensures rows { IfOk result (λ c. length c.cells ≡ length a.entry.cells) }
+        ensures answer { MakesColumn dict.new result (answer self.now dict.old (column_value dict.old (table_column a.entry))) };
+
+    ghost lasts: { (s : Self) (earlier later : List OneText) → IsLonger earlier later → given s earlier → given s later };
+
+    ghost stays: { (s : Self) (earlier later : List OneText) → IsLonger earlier later → given s earlier → answer s later ≡ answer s earlier };
+}
+
+// What is made of each column of a table, each in a block of its own, or the first fault.
+pub(crate) fn each_column<O: ColumnOp>(
+    alloc: Global,
+    dict: &mut TextDict,
+    op: &O,
+    on: &ObjRef<'_>,
+) -> Result<Blocks, OpFault>
+    requires own { O.given op.now dict.old }
+    requires whole { IsWhole on.now }
+    requires settled { IsSettled table_value dict.old on.now }
+    ensures longer { IsLonger dict.old dict.new }
+    ensures given { IfOk result (λ made. All (λ c. AreGiven dict.new c.cells) (map block_column made)) }
+    ensures single { IfOk result (λ made. All IsSingle made) }
+    ensures rows { IfOk result (λ made. HaveRows (length on.now.labels) (map block_column made)) }
+    ensures count { IfOk result (λ made. length made ≡ length on.now.columns) }
+    ensures answer { MakesColumns dict.new result (try_all (O.answer op.now dict.old) (columns_value dict.old on.now.columns)) }
+{
+    let mut made = Blocks::new(alloc);
+    for place in 0..on.columns() {
+        let column = op.column(alloc, dict, on.column(place))?;
+        made.push(column.into_block())?;
+    }
+    Ok(made)
+}

@@ -1,0 +1,9 @@
+//! Constructors and methods of Series and frames.
+#![tactic(auto)]
+
+mod cells;
+mod columns;
+
+
+
+
