@@ -1,5 +1,5 @@
 -- Calls of methods and of the functions of `pd`.
-use Rattle.std.specs.Prelude.{Bool, true, false, List, is_some, Option, Some, None, Result, Err, if◌then◌else◌}
+use Rattle.std.specs.Prelude.{ℕ, nat_eq, ◌&&◌, ◌||◌, Bool, true, false, List, is_some, Option, Some, None, Result, Err, if◌then◌else◌}
 use Rattle.meaning.specs.Text.{Text}
 use Rattle.meaning.specs.Fault.{FaultValue, no_attribute, wrong_kind, bad_value, argument, not_built}
 use Rattle.table_meaning.specs.Table.{Table}
@@ -7,8 +7,9 @@ use Rattle.table_meaning.specs.Value.{Entry, cell, table, Given, GivenList, Name
 use Rattle.form_meaning.specs.declared.Method.{Method}
 use Rattle.form_meaning.specs.declared.Function.{Function}
 use Rattle.form_meaning.specs.declared.Function.TheVariants as function
+use Rattle.form_meaning.specs.declared.Parameter.{Parameter}
 use Rattle.form_meaning.specs.Signature.{parameters_of, function_parameters, method_named, function_named}
-use Rattle.form_meaning.specs.Binding.{Bound, not_taken, not_listed, bound, bound_of, given_at}
+use Rattle.form_meaning.specs.Binding.{Bound, not_taken, not_listed, bound, bound_of, goes_to, counted}
 use Rattle.form_meaning.specs.Methods.{answer_for, is_built}
 use Rattle.form_meaning.specs.Make.{series_result, frame_result}
 
@@ -41,17 +42,21 @@ has_tuple (more_given (one v) rest) = has_tuple rest
 has_tuple (more_given (many parts) rest) = has_tuple rest
 has_tuple (more_given (entries pairs) rest) = has_tuple rest
 
-abbrev pub lists_tuple : Option Given → Bool
-lists_tuple None = false
-lists_tuple (Some (many parts)) = has_tuple parts
-lists_tuple (Some nothing) = false
-lists_tuple (Some (one v)) = false
-lists_tuple (Some (row parts)) = false
-lists_tuple (Some (entries pairs)) = false
+abbrev pub lists_tuple : Given → Bool
+lists_tuple (many parts) = has_tuple parts
+lists_tuple nothing = false
+lists_tuple (one v) = false
+lists_tuple (row parts) = false
+lists_tuple (entries pairs) = false
 
--- Labels of several levels aren't built: a list as the index, which is the second argument, that holds a tuple.
+-- an argument that goes to the second parameter, the index, is a list that holds a tuple
+abbrev pub levels_among : List Parameter → ℕ → List NamedGiven → Bool
+levels_among ps k [] = false
+levels_among ps k (g ∷ gs) = (nat_eq (goes_to ps k g.name) 1 && lists_tuple g.value) || levels_among ps (counted k g.name) gs
+
+-- labels of several levels aren't built
 abbrev pub has_levels : Function → List NamedGiven → Bool
-has_levels f gs = lists_tuple (given_at (function_parameters f) 0 gs 1)
+has_levels f gs = levels_among (function_parameters f) 0 gs
 
 abbrev pub constructed : Function → List Given → Result Entry FaultValue
 constructed function.Series gs = series_result gs

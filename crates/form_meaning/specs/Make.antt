@@ -72,6 +72,7 @@ series_of values index name kind =
 
 abbrev pub series_result : List Given → Result Entry FaultValue
 series_result (values ∷ index ∷ name ∷ dtype ∷ []) = on (list_in values) (λ parts. series_of parts (list_in index) (option_map cell_label (scalar_in name)) (kind_given (scalar_in dtype)))
+-- no other number of arguments is bound
 series_result gs = Err wrong_kind
 
 -- the pairs with one more: a key that stands already keeps its place and gets the later value
@@ -106,10 +107,13 @@ abbrev pub all_of_length : ℕ → List (ColumnOf CellValue) → Result Entry Fa
 all_of_length expected [] rest = rest
 all_of_length expected (c ∷ cs) rest = of_length expected (length c.cells) (all_of_length expected cs rest)
 
+abbrev pub labels_given : Option GivenList → List (List LabelValue)
+labels_given None = []
+labels_given (Some parts) = single_labels (cells_of parts)
+
 -- the frame of these columns; without columns the rows are those of the index
 abbrev pub frame_with : List LabelValue → List (ColumnOf CellValue) → Option GivenList → Result Entry FaultValue
-frame_with headings [] None = limited (frame_table [] headings [])
-frame_with headings [] (Some parts) = limited (frame_table (single_labels (cells_of parts)) headings [])
+frame_with headings [] index = limited (frame_table (labels_given index) headings [])
 frame_with headings (c ∷ cs) index = all_of_length (length c.cells) cs (with_index (length c.cells) index (λ labels. limited (frame_table labels headings (c ∷ cs))))
 
 -- `pd.DataFrame`: lists of scalars, mixed kinds, lengths, and the number of labels are tested in this order

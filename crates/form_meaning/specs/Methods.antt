@@ -31,26 +31,20 @@ each_column f t = then_value (try_all f t.columns) (λ columns. limited (with_co
 abbrev pub mapped : Kind → (CellValue → CellValue) → ColumnOf CellValue → Result (ColumnOf CellValue) FaultValue
 mapped kind f c = Ok record { kind = kind; cells = map f c.cells }
 
-abbrev pub is_missing : CellValue → CellValue
-is_missing c = truth_cell (not (is_present c))
+abbrev pub missing_mark : CellValue → CellValue
+missing_mark c = truth_cell (not (is_present c))
 
-abbrev pub is_there : CellValue → CellValue
-is_there c = truth_cell (is_present c)
+abbrev pub present_mark : CellValue → CellValue
+present_mark c = truth_cell (is_present c)
 
 -- a scalar in place of NA
 abbrev pub filled : CellValue → CellValue → CellValue
 filled value na_cell = value
 filled value c = c
 
-abbrev pub holds_value : CellValue → ColumnOf CellValue → Bool
-holds_value value c = holds c.kind value
-
 -- every column's kind is tested, also where nothing is missing
-abbrev pub fillna : Table → CellValue → Result Entry FaultValue
-fillna t value =
-    if list_all (holds_value value) t.columns
-    then each_column (λ c. mapped c.kind (filled value) c) t
-    else Err wrong_kind
+abbrev pub filled_column : CellValue → ColumnOf CellValue → Result (ColumnOf CellValue) FaultValue
+filled_column value c = if holds c.kind value then mapped c.kind (filled value) c else Err wrong_kind
 
 -- the cell is in the list: NA is where the list has NA
 abbrev pub is_in : List CellValue → CellValue → CellValue
@@ -106,7 +100,7 @@ abbrev pub label_or : Option LabelValue → LabelValue → LabelValue
 label_or None l = l
 label_or (Some l) other = l
 
--- a Series of the summaries over the labels of the columns
+-- a Series of the summaries over the labels of the columns; 0 would stand for a label that is missing, which no frame has
 abbrev pub summary_series : Table → Kind → List CellValue → Table
 summary_series t kind cells =
     record {
@@ -154,9 +148,9 @@ as_frame t = record t { shape = Frame; headings = map (λ h. Some (label_or h (i
 
 abbrev pub answer_for : Method → List Given → Table → Result Entry FaultValue
 answer_for method.Copy gs t = limited t
-answer_for method.Isna gs t = each_column (mapped Boolean is_missing) t
-answer_for method.Notna gs t = each_column (mapped Boolean is_there) t
-answer_for method.Fillna (value ∷ []) t = on (scalar_in value) (fillna t)
+answer_for method.Isna gs t = each_column (mapped Boolean missing_mark) t
+answer_for method.Notna gs t = each_column (mapped Boolean present_mark) t
+answer_for method.Fillna (value ∷ []) t = on (scalar_in value) (λ c. each_column (filled_column c) t)
 answer_for method.Isin (values ∷ []) t = on (list_in values) (λ parts. each_column (mapped Boolean (is_in (cells_of parts))) t)
 answer_for method.Astype (dtype ∷ []) t = on (kind_given (scalar_in dtype)) (λ kind. each_column (cast_as kind) t)
 answer_for method.Shift (periods ∷ []) t = on (whole_in periods) (λ z. each_column (shifted_column z) t)
@@ -173,6 +167,7 @@ answer_for method.Nunique gs t = summary distinct t
 answer_for method.RenameSeries (name ∷ []) t = limited (renamed_series t (option_map cell_label (scalar_in name)))
 answer_for method.RenameFrame (columns ∷ []) t = on (dict_in columns) (λ pairs. renamed_frame t (pairs_in pairs))
 answer_for method.ToFrame gs t = limited (as_frame t)
+-- no other number of arguments is bound, and no other method is built
 answer_for m gs t = Err not_built
 
 -- whether the method is built; one that isn't answers so before its arguments are looked at

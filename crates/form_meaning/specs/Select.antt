@@ -50,7 +50,7 @@ columns_frame t places = record t { headings = map (heading_at t) places; column
 abbrev pub columns_result : Table → List LabelValue → Result Entry FaultValue
 columns_result t ls = then_value (try_all (column_place t) ls) (λ places. finished (columns_frame t places))
 
--- the labels that the parts of a list are, where these are scalars
+-- the scalars among the parts of a list
 abbrev pub cells_of : GivenList → List CellValue
 cells_of no_given = []
 cells_of (more_given (one (cell c)) rest) = c ∷ cells_of rest

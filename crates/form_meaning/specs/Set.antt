@@ -55,7 +55,7 @@ has_no_rows (a ∷ as') = false
 abbrev pub scalar_set : Table → LabelValue → CellValue → Result Table FaultValue
 scalar_set t l c = put_result t l record { kind = scalar_kind Int64 c; cells = replicate (length t.labels) c }
 
--- a list goes by rows; it gives its length to a frame without rows
+-- a list goes by rows; a frame without rows gets the labels 0, 1 and so on
 abbrev pub column_set : Table → LabelValue → ColumnOf CellValue → Result Table FaultValue
 column_set t l c =
     if has_no_rows t.labels && not (has_no_rows c.cells)
