@@ -1,5 +1,5 @@
 -- Calls of methods and of the functions of `pd`.
-use Rattle.std.specs.Prelude.{ℕ, nat_eq, ◌&&◌, ◌||◌, Bool, true, false, List, is_some, Option, Some, None, Result, Err, if◌then◌else◌}
+use Rattle.std.specs.Prelude.{ℕ, nat_eq, ◌&&◌, ◌||◌, Bool, true, false, List, [], ◌∷◌, is_some, Option, Some, None, Result, Err, if◌then◌else◌}
 use Rattle.meaning.specs.Text.{Text}
 use Rattle.meaning.specs.Fault.{FaultValue, no_attribute, wrong_kind, bad_value, argument, not_built}
 use Rattle.table_meaning.specs.Table.{Table}

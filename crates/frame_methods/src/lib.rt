@@ -3,6 +3,7 @@
 
 mod cells;
 mod columns;
+mod column_ops;
 
 
 

@@ -1,0 +1,171 @@
+-- What is made of a column, with texts.
+use Rattle.std.proofs.Common.{◌≡◌, ◌∙◌, refl, ap, sym, subst, ℕ, suc, ◌+◌, ◌-◌, ◌<◌, ℤ, pos, negsuc, nat_lt, Bool, true, false, List, [], ◌∷◌, ◌++◌, map, length, All, Result, Ok, Err, Option, Some, None, slice_index_or, if◌then◌else◌, arith}
+use Rattle.std.specs.List.{range_with_len}
+use Rattle.std.proofs.lemmas.List.{length-map}
+use Rattle.std.proofs.lemmas.List.FromFn.{length-map-range_with_len}
+use Rattle.std.proofs.lemmas.List.Elements.{All-map}
+use Rattle.std.proofs.lemmas.Simd.{map-map}
+use Rattle.std.proofs.Math.ListN.{get_or-map}
+use Rattle.cell_core.specs.declared.cell.Cell.{Cell}
+use Rattle.cell_core.specs.declared.cell.Cell.TheVariants as cell
+use Rattle.cell_core.specs.declared.cell.Kind.{Kind}
+use Rattle.cell_core.specs.declared.cell.Kind.TheVariants.{Int64, Boolean, Text as string}
+use Rattle.cell_core.specs.declared.code.Code.TheVariants.{WrongKind, ZeroDivide, BadValue}
+use Rattle.cell_core.specs.declared.code.Reason.TheVariants.{Cast}
+use Rattle.meaning.specs.Text.{Text}
+use Rattle.meaning.specs.Cell.{CellValue, na_cell, datum, holds, IsGiven, AreGiven}
+use Rattle.meaning.specs.Column.{ColumnValue, ColumnFault, kind_mismatch, zero_division, not_cast, before_rows, then_rows, try_each, column_of, tabulate, shifted, shifted_row}
+use Rattle.meaning.specs.Cast.{cast_cell, cast_column}
+use Rattle.meaning.specs.Cumulate as cumulation
+use Rattle.meaning.specs.Cumulate.{Cumulation, running, cumulation_cell, cumulation_takes, cumulate_column}
+use Rattle.meaning.specs.Fault.{FaultValue, wrong_kind}
+use Rattle.meaning.specs.FaultOf.{fault_of}
+use Rattle.nullable_array.specs.Columns.{CellColumn}
+use Rattle.nullable_array.specs.Columns as kernel
+use Rattle.nullable_array.specs.Answers.{IsRefusal}
+use Rattle.nullable_array.specs.declared.ops.ArrayFault.{ArrayFault}
+use Rattle.nullable_array.specs.declared.ops.ArrayFault.TheVariants.{KindMismatch, ZeroDivision, NotCast, NoMemory as OutOfMemory}
+use Rattle.table_meaning.specs.Table.{ColumnOf, column_value}
+use Rattle.form_meaning.specs.Finish.{made_column}
+use Rattle.form_meaning.specs.Methods.{filled, filled_column, mapped, shifted_column}
+use Rattle.frame_store.specs.declared.fault.OpFault.{OpFault}
+use Rattle.frame_store.specs.declared.fault.OpFault.TheVariants.{Refused, NoMemory}
+use Rattle.frame_store.specs.Shown.{cells_value}
+use Rattle.frame_store.proofs.Settling.{settled_by, cells_settled, cells_given}
+use Rattle.frame_methods.specs.Cells.{missing_mark, filled_cell}
+use Rattle.frame_methods.specs.Columns.{table_column, MakesColumn, IsFaultOf}
+use Rattle.frame_methods.specs.Marks.{mark_of, marked_column}
+
+-- cells by themselves
+map_values : (f : CellValue → CellValue) (made : Cell → Cell) (texts : List Text) → ((c : Cell) → f (datum texts c) ≡ datum texts (made c)) → (cs : List Cell) → map f (map (datum texts) cs) ≡ map (datum texts) (map made cs)
+map_values f made texts same [] = refl
+map_values f made texts same (c ∷ cs) = λ j. same c j ∷ map_values f made texts same cs j
+
+mark_value : (missing : Bool) (texts : List Text) (c : Cell) → mark_of missing (datum texts c) ≡ datum texts (missing_mark missing c)
+mark_value true texts cell.Na = refl
+mark_value true texts (cell.Int z) = refl
+mark_value true texts (cell.Bool b) = refl
+mark_value true texts (cell.Text id) = refl
+mark_value false texts cell.Na = refl
+mark_value false texts (cell.Int z) = refl
+mark_value false texts (cell.Bool b) = refl
+mark_value false texts (cell.Text id) = refl
+
+mark_given : (missing : Bool) (texts : List Text) (c : Cell) → IsGiven texts (missing_mark missing c)
+mark_given missing texts cell.Na = tt
+mark_given missing texts (cell.Int z) = tt
+mark_given missing texts (cell.Bool b) = tt
+mark_given missing texts (cell.Text id) = tt
+
+pub marked_answer : (missing : Bool) (texts : List Text) (a new : CellColumn) → new ≡ record { kind = Boolean; cells = map (missing_mark missing) a.cells }
+    → marked_column missing (column_value texts (table_column a)) ≡ Ok (column_value texts (table_column new))
+marked_answer missing texts a new is =
+    (λ j. Ok record { kind = Boolean; cells = map_values (mark_of missing) (missing_mark missing) texts (mark_value missing texts) a.cells j })
+    ∙ ap (λ n. Ok (column_value texts (table_column n))) (sym is)
+
+pub marked_given : (missing : Bool) (texts : List Text) (a new : CellColumn) → new ≡ record { kind = Boolean; cells = map (missing_mark missing) a.cells } → AreGiven texts new.cells
+marked_given missing texts a new is =
+    subst (λ (n : CellColumn). AreGiven texts n.cells) (sym is) (All-map (IsGiven texts) (missing_mark missing) a.cells (λ k d lt. mark_given missing texts (slice_index_or a.cells k d)))
+
+fill_value : (value : Cell) (texts : List Text) (c : Cell) → filled (datum texts value) (datum texts c) ≡ datum texts (filled_cell value c)
+fill_value value texts cell.Na = refl
+fill_value value texts (cell.Int z) = refl
+fill_value value texts (cell.Bool b) = refl
+fill_value value texts (cell.Text id) = refl
+
+fill_given : (value : Cell) (texts : List Text) (c : Cell) → IsGiven texts value → IsGiven texts c → IsGiven texts (filled_cell value c)
+fill_given value texts cell.Na given here = given
+fill_given value texts (cell.Int z) given here = tt
+fill_given value texts (cell.Bool b) given here = tt
+fill_given value texts (cell.Text id) given here = here
+
+abbrev filled_cells : Cell → List Cell → Kind → CellColumn
+filled_cells value cells kind = record { kind = kind; cells = map (filled_cell value) cells }
+
+pub filled_answer : (value : Cell) (texts : List Text) (kind : Kind) (a new : CellColumn) → kind ≡ a.kind → holds kind (datum texts value) ≡ true → new ≡ record { kind = kind; cells = map (filled_cell value) a.cells }
+    → filled_column (datum texts value) (column_value texts (table_column a)) ≡ Ok (column_value texts (table_column new))
+filled_answer value texts kind a new same fits is =
+    ap (λ b. if b then mapped a.kind (filled (datum texts value)) (column_value texts (table_column a)) else Err wrong_kind) (ap (λ k. holds k (datum texts value)) (sym same) ∙ fits)
+    ∙ (λ j. Ok record { kind = a.kind; cells = map_values (filled (datum texts value)) (filled_cell value) texts (fill_value value texts) a.cells j })
+    ∙ ap (λ n. Ok (column_value texts (table_column n))) (ap (filled_cells value a.cells) (sym same) ∙ sym is)
+
+pub filled_given : (value : Cell) (texts : List Text) (kind : Kind) (a new : CellColumn) → IsGiven texts value → AreGiven texts a.cells → new ≡ record { kind = kind; cells = map (filled_cell value) a.cells } → AreGiven texts new.cells
+filled_given value texts kind a new given all is =
+    subst (λ (n : CellColumn). AreGiven texts n.cells) (sym is)
+      (All-map (IsGiven texts) (filled_cell value) a.cells (λ k d lt. fill_given value texts (slice_index_or a.cells k d) given (all k d lt)))
+
+-- a shift
+map_same : {A B : Type 0} (f g : A → B) → ((x : A) → f x ≡ g x) → (xs : List A) → map f xs ≡ map g xs
+map_same f g same [] = refl
+map_same f g same (x ∷ xs) = λ j. same x j ∷ map_same f g same xs j
+
+either_value : (texts : List Text) (b : Bool) (c : Cell) → (if b then na_cell else datum texts c) ≡ datum texts (if b then cell.Na else c)
+either_value texts true c = refl
+either_value texts false c = refl
+
+shifted_at : (texts : List Text) (cs : List Cell) (z : ℤ) (i : ℕ) → shifted_row na_cell (map (datum texts) cs) z i ≡ datum texts (shifted_row cell.Na cs z i)
+shifted_at texts cs (pos n) i = ap (λ c. if nat_lt i n then na_cell else c) (get_or-map (datum texts) cs (i - n) cell.Na) ∙ either_value texts (nat_lt i n) (slice_index_or cs (i - n) cell.Na)
+shifted_at texts cs (negsuc n) i = get_or-map (datum texts) cs (i + suc n) cell.Na
+
+shifted_values : (texts : List Text) (cs : List Cell) (z : ℤ) → shifted na_cell (map (datum texts) cs) z ≡ map (datum texts) (shifted cell.Na cs z)
+shifted_values texts cs z =
+    ap (λ n. tabulate n (shifted_row na_cell (map (datum texts) cs) z)) (length-map cs (datum texts))
+    ∙ map_same (shifted_row na_cell (map (datum texts) cs) z) (λ i. datum texts (shifted_row cell.Na cs z i)) (shifted_at texts cs z) (range_with_len 0 (length cs))
+    ∙ sym (map-map (datum texts) (shifted_row cell.Na cs z) (range_with_len 0 (length cs)))
+
+pub shifted_answer : (z : ℤ) (texts : List Text) (a new : CellColumn) → new.kind ≡ a.kind → new.cells ≡ shifted cell.Na a.cells z → shifted_column z (column_value texts (table_column a)) ≡ Ok (column_value texts (table_column new))
+shifted_answer z texts a new kind cells = λ j. Ok record { kind = sym kind j; cells = (shifted_values texts a.cells z ∙ ap (map (datum texts)) (sym cells)) j }
+
+pub shifted_given : (z : ℤ) (texts : List Text) (a new : CellColumn) → AreGiven texts a.cells → new.cells ≡ shifted cell.Na a.cells z → AreGiven texts new.cells
+shifted_given z texts a new given cells =
+    subst (AreGiven texts) (sym cells)
+      (cells_given texts (shifted cell.Na a.cells z) (settled_by cells_value cells_value (λ vs. shifted na_cell vs z) texts a.cells (shifted cell.Na a.cells z) (λ ts. shifted_values ts a.cells z) (cells_settled texts a.cells given)))
+
+pub shifted_rows : (z : ℤ) (a new : CellColumn) → new.cells ≡ shifted cell.Na a.cells z → length new.cells ≡ length a.cells
+shifted_rows z a new cells = ap length cells ∙ length-map-range_with_len (shifted_row cell.Na a.cells z) 0 (length a.cells)
+
+-- a cast
+before_length : {C : Type 0} (c : C) (rest : Result (List C) ℕ) (n : ℕ) → ((ys : List C) → rest ≡ Ok ys → length ys ≡ n) → (ys : List C) → before_rows c rest ≡ Ok ys → length ys ≡ suc n
+before_length c (Ok rest) n same ys is = let here : c ∷ rest ≡ ys = cc in ap length (sym here) ∙ ap suc (same rest refl)
+before_length c (Err row) n same ys is = cc
+
+then_length : {C : Type 0} (o : Option C) (row : ℕ) (rest : Result (List C) ℕ) (n : ℕ) → ((ys : List C) → rest ≡ Ok ys → length ys ≡ n) → (ys : List C) → then_rows o row rest ≡ Ok ys → length ys ≡ suc n
+then_length None row rest n same ys is = cc
+then_length (Some c) row rest n same ys is = before_length c rest n same ys is
+
+each_length : {A C : Type 0} (f : A → Option C) (row : ℕ) (xs : List A) (ys : List C) → try_each f row xs ≡ Ok ys → length ys ≡ length xs
+each_length f row [] ys is = let here : [] ≡ ys = cc in ap length (sym here)
+each_length f row (x ∷ xs) ys is = then_length (f x) row (try_each f (suc row) xs) (length xs) (each_length f (suc row) xs) ys is
+
+column_cells : (kind : Kind) (refuse : ℕ → ColumnFault) (made : Result (List CellValue) ℕ) (col : ColumnValue) → column_of kind refuse made ≡ Ok col → made ≡ Ok col.cells
+column_cells kind refuse (Ok cells) col is = let same : record { kind = kind; cells = cells } ≡ col = cc in ap (λ (v : ColumnValue). Ok v.cells) same
+column_cells kind refuse (Err row) col is = cc
+
+pub cast_rows : (kind : Kind) (old new : List Text) (a made : CellColumn) → cast_column kind (kernel.column_value old a) ≡ Ok (kernel.column_value new made) → length made.cells ≡ length a.cells
+cast_rows kind old new a made is =
+    sym (length-map made.cells (datum new))
+    ∙ each_length (cast_cell kind) 0 (map (datum old) a.cells) (map (datum new) made.cells) (column_cells kind not_cast (try_each (cast_cell kind) 0 (map (datum old) a.cells)) (kernel.column_value new made) is)
+    ∙ length-map a.cells (datum old)
+
+-- a cumulation
+running_length : (f : List CellValue → CellValue) (before cs : List CellValue) → length (running f before cs) ≡ length cs
+running_length f before [] = refl
+running_length f before (c ∷ cs) = ap suc (running_length f (before ++ c ∷ []) cs)
+
+cumulated_cells : (op : Cumulation) (takes : Bool) (cells : List CellValue) (col : ColumnValue) → (if takes then Ok record { kind = Int64; cells = running (cumulation_cell op) [] cells } else Err kind_mismatch) ≡ Ok col → col.cells ≡ running (cumulation_cell op) [] cells
+cumulated_cells op true cells col is = let same : record { kind = Int64; cells = running (cumulation_cell op) [] cells } ≡ col = cc in ap (λ (v : ColumnValue). v.cells) (sym same)
+cumulated_cells op false cells col is = cc
+
+pub cumulated_rows : (op : Cumulation) (texts : List Text) (a made : CellColumn) → cumulate_column op (kernel.column_value texts a) ≡ Ok (kernel.column_value texts made) → length made.cells ≡ length a.cells
+cumulated_rows op texts a made is =
+    sym (length-map made.cells (datum texts))
+    ∙ ap length (cumulated_cells op (cumulation_takes op a.kind) (map (datum texts) a.cells) (kernel.column_value texts made) is)
+    ∙ running_length (cumulation_cell op) [] (map (datum texts) a.cells)
+    ∙ length-map a.cells (datum texts)
+
+-- a kernel that makes no column
+pub op_refused : (texts : List Text) (fault : OpFault) (array : ArrayFault) (whole : Result ColumnValue ColumnFault) → IsFaultOf fault array → IsRefusal array whole → MakesColumn texts (Err fault) (made_column whole)
+op_refused texts fault KindMismatch whole is refused = subst (λ f. MakesColumn texts (Err f) (made_column whole)) (sym is) (ap made_column refused)
+op_refused texts fault (ZeroDivision row) whole is refused = subst (λ f. MakesColumn texts (Err f) (made_column whole)) (sym is) (ap made_column refused)
+op_refused texts fault (NotCast row) whole is refused = subst (λ f. MakesColumn texts (Err f) (made_column whole)) (sym is) (ap made_column refused)
+op_refused texts fault OutOfMemory whole is refused = subst (λ f. MakesColumn texts (Err f) (made_column whole)) (sym is) tt

@@ -1,0 +1,206 @@
+// What is made of a column.
+ghost use Rattle.std.specs.Prelude.{◌≡◌, List, length, IfOk, true, false, if◌then◌else◌};
+ghost use Rattle.meaning.specs.Text.{Text as OneText};
+ghost use Rattle.meaning.specs.Cell.{AreGiven, IsGiven, IsLonger, holds, datum};
+ghost use Rattle.meaning.specs.Column.{ColumnFault};
+ghost use Rattle.table_meaning.specs.Table.{column_value};
+ghost use Rattle.form_meaning.specs.Finish.{made_column};
+ghost use Rattle.form_meaning.specs.Methods.{filled_column, shifted_column, cast_as, cumulated};
+ghost use Rattle.nullable_array.specs.Answers.{IsRefusal};
+ghost use Rattle.nullable_array.specs.Folds.{cumulation_of};
+ghost use Rattle.frame_methods.specs.Columns.{table_column, MakesColumn, IsFaultOf};
+ghost use Rattle.frame_methods.specs.Marks.{marked_column};
+
+use crate::cells::{Fill, Mark, map_cells};
+use crate::columns::ColumnOp;
+use cell_core::{Cell, Code, Kind, Reason, TextDict};
+use frame_store::OpFault;
+use nullable_array::{ArrayFault, ColRef, Column, Cumulation, cast, cumulate, shift};
+use std::alloc::Global;
+
+// Whether each cell is missing, or whether it is there.
+#[derive(Drop)]
+pub(crate) struct Marked {
+    pub(crate) missing: bool,
+}
+
+impl ColumnOp for Marked {
+    ghost answer = { λ s _. marked_column s.missing };
+
+    ghost given = { λ _ _. Unit {0} };
+
+    fn column(
+        &self,
+        alloc: Global,
+        dict: &mut TextDict,
+        a: ColRef<'_>,
+    ) -> Result<Column, OpFault>
+        requires own { Unit {0} }
+        requires cells { AreGiven dict.old a.cells }
+        ensures longer { IsLonger dict.old dict.new }
+        ensures given { IfOk result (λ c. AreGiven dict.new c.cells) }
+        ensures rows { IfOk result (λ c. length c.cells ≡ length a.entry.cells) }
+        ensures answer { MakesColumn dict.new result (marked_column self.now.missing (column_value dict.old (table_column a.entry))) }
+    {
+        let mark = Mark {
+            missing: self.missing,
+        };
+        Ok(map_cells(alloc, &mark, Kind::Boolean, a)?)
+    }
+
+    ghost lasts = { λ _ _ _ _ _. tt };
+
+    ghost stays = { λ s _ _ _ _ i. marked_column s.missing };
+}
+
+// A cell in place of each missing one.
+#[derive(Drop)]
+pub(crate) struct Filled {
+    pub(crate) value: Cell,
+}
+
+impl ColumnOp for Filled {
+    ghost use Rattle.frame_methods.specs.Marks.{filled_stays, filled_lasts};
+
+    ghost answer = { λ s texts. filled_column (datum texts s.value) };
+
+    ghost given = { λ s texts. IsGiven texts s.value };
+
+    fn column(
+        &self,
+        alloc: Global,
+        dict: &mut TextDict,
+        a: ColRef<'_>,
+    ) -> Result<Column, OpFault>
+        requires own { IsGiven dict.old self.now.value }
+        requires cells { AreGiven dict.old a.cells }
+        ensures longer { IsLonger dict.old dict.new }
+        ensures given { IfOk result (λ c. AreGiven dict.new c.cells) }
+        ensures rows { IfOk result (λ c. length c.cells ≡ length a.entry.cells) }
+        ensures answer { MakesColumn dict.new result (filled_column (datum dict.old self.now.value) (column_value dict.old (table_column a.entry))) }
+    {
+        let kind = a.kind();
+        if !kind.holds(self.value) {
+            return Err(OpFault::Refused(Code::WrongKind));
+        }
+        Ok(map_cells(alloc, &Fill { value: self.value }, kind, a)?)
+    }
+
+    ghost lasts = { λ s earlier later. filled_lasts s.value earlier later };
+
+    ghost stays = { λ s earlier later. filled_stays s.value earlier later };
+}
+
+// The cells some rows further down, or up where the number is below 0.
+#[derive(Drop)]
+pub(crate) struct Shifted {
+    pub(crate) periods: i64,
+}
+
+impl ColumnOp for Shifted {
+    ghost answer = { λ s _. shifted_column s.periods };
+
+    ghost given = { λ _ _. Unit {0} };
+
+    fn column(
+        &self,
+        alloc: Global,
+        dict: &mut TextDict,
+        a: ColRef<'_>,
+    ) -> Result<Column, OpFault>
+        requires own { Unit {0} }
+        requires cells { AreGiven dict.old a.cells }
+        ensures longer { IsLonger dict.old dict.new }
+        ensures given { IfOk result (λ c. AreGiven dict.new c.cells) }
+        ensures rows { IfOk result (λ c. length c.cells ≡ length a.entry.cells) }
+        ensures answer { MakesColumn dict.new result (shifted_column self.now.periods (column_value dict.old (table_column a.entry))) }
+    {
+        Ok(shift(alloc, a, self.periods)?)
+    }
+
+    ghost lasts = { λ _ _ _ _ _. tt };
+
+    ghost stays = { λ s _ _ _ _ i. shifted_column s.periods };
+}
+
+// The cells as cells of a kind.
+#[derive(Drop)]
+pub(crate) struct Cast {
+    pub(crate) kind: Kind,
+}
+
+impl ColumnOp for Cast {
+    ghost answer = { λ s _. cast_as s.kind };
+
+    ghost given = { λ _ _. Unit {0} };
+
+    fn column(
+        &self,
+        alloc: Global,
+        dict: &mut TextDict,
+        a: ColRef<'_>,
+    ) -> Result<Column, OpFault>
+        requires own { Unit {0} }
+        requires cells { AreGiven dict.old a.cells }
+        ensures longer { IsLonger dict.old dict.new }
+        ensures given { IfOk result (λ c. AreGiven dict.new c.cells) }
+        ensures rows { IfOk result (λ c. length c.cells ≡ length a.entry.cells) }
+        ensures answer { MakesColumn dict.new result (cast_as self.now.kind (column_value dict.old (table_column a.entry))) }
+    {
+        match cast(alloc, dict, a, self.kind) {
+            Ok(column) => Ok(column),
+            Err(fault) => Err(op_fault(fault)),
+        }
+    }
+
+    ghost lasts = { λ _ _ _ _ _. tt };
+
+    ghost stays = { λ s _ _ _ _ i. cast_as s.kind };
+}
+
+// The sums, least or greatest cells up to each row.
+#[derive(Drop)]
+pub(crate) struct Cumulated {
+    pub(crate) op: Cumulation,
+}
+
+impl ColumnOp for Cumulated {
+    ghost answer = { λ s _. cumulated (cumulation_of s.op) };
+
+    ghost given = { λ _ _. Unit {0} };
+
+    fn column(
+        &self,
+        alloc: Global,
+        dict: &mut TextDict,
+        a: ColRef<'_>,
+    ) -> Result<Column, OpFault>
+        requires own { Unit {0} }
+        requires cells { AreGiven dict.old a.cells }
+        ensures longer { IsLonger dict.old dict.new }
+        ensures given { IfOk result (λ c. AreGiven dict.new c.cells) }
+        ensures rows { IfOk result (λ c. length c.cells ≡ length a.entry.cells) }
+        ensures answer { MakesColumn dict.new result (cumulated (cumulation_of self.now.op) (column_value dict.old (table_column a.entry))) }
+    {
+        match cumulate(alloc, self.op, a) {
+            Ok(column) => Ok(column),
+            Err(fault) => Err(op_fault(fault)),
+        }
+    }
+
+    ghost lasts = { λ _ _ _ _ _. tt };
+
+    ghost stays = { λ s _ _ _ _ i. cumulated (cumulation_of s.op) };
+}
+
+// Why a kernel makes no column, as the fault of a form.
+pub(crate) fn op_fault(fault: ArrayFault) -> OpFault
+    ensures { IsFaultOf result fault }
+{
+    match fault {
+        ArrayFault::KindMismatch => OpFault::Refused(Code::WrongKind),
+        ArrayFault::ZeroDivision(_) => OpFault::Refused(Code::ZeroDivide),
+        ArrayFault::NotCast(_) => OpFault::Refused(Code::BadValue(Reason::Cast)),
+        ArrayFault::NoMemory => OpFault::NoMemory,
+    }
+}
