@@ -1,5 +1,6 @@
 // A list of labels.
 ghost use Rattle.std.specs.Prelude.{◌≡◌, ◌^◌, ◌<◌, ◌≤◌, length, slice_get, Some, IfOk};
+ghost use Rattle.std.specs.Bool.{Decides};
 ghost use Rattle.index_core.specs.Ranges.{range_labels};
 
 use cell_core::{Label, NoMemory};
@@ -82,5 +83,31 @@ impl Index {
             Kept::Below(_) => Label::Int(place as i64),
             Kept::Listed(labels) => labels[place],
         }
+    }
+
+    /// Whether the other index has the same labels at the same places. Texts are compared by their
+    /// numbers, and two ranges by their lengths alone. Takes no memory.
+    pub fn same_labels(&self, other: &Index) -> bool
+        ensures { Decides result (self.now ≡ other.now) }
+    {
+        match (&self.labels, &other.labels) {
+            (Kept::Below(m), Kept::Below(n)) => m == n,
+            _ => self.same_places(other),
+        }
+    }
+
+    // The same, label by label.
+    fn same_places(&self, other: &Index) -> bool
+        ensures { Decides result (self.now ≡ other.now) }
+    {
+        if self.len() != other.len() {
+            return false;
+        }
+        for place in 0..self.len() {
+            if self.label(place) != other.label(place) {
+                return false;
+            }
+        }
+        true
     }
 }

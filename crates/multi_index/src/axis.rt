@@ -1,5 +1,6 @@
 // Tuples of labels by row, and the names of their levels.
 ghost use Rattle.std.specs.Prelude.{◌≡◌, ◌^◌, ◌<◌, ◌≤◌, length, slice_get, Some, IfOk, All};
+ghost use Rattle.std.specs.Bool.{Decides};
 ghost use Rattle.multi_index.specs.Axes.{HaveLevels, nameless_axis, range_axis, label_at, with_name, taken_axis};
 
 use cell_core::{Label, NoMemory, Places, TextDict, Tuple, Tuples};
@@ -122,6 +123,51 @@ impl Axis {
     {
         let names = &self.names;
         names[level]
+    }
+
+    /// Whether the other axis has the same tuples at the same rows, whatever the names of the levels
+    /// are. Texts are compared by their numbers, and two ranges by their lengths alone. Takes no memory.
+    pub fn same_labels(&self, other: &Axis) -> bool
+        ensures { Decides result (self.now.tuples ≡ other.now.tuples) }
+    {
+        match (&self.rows, &other.rows) {
+            (Kept::Single(a), Kept::Single(b)) => a.same_labels(b),
+            _ => self.same_rows(other),
+        }
+    }
+
+    // The same, row by row. Without rows, axes of different levels have the same tuples as well.
+    fn same_rows(&self, other: &Axis) -> bool
+        ensures { Decides result (self.now.tuples ≡ other.now.tuples) }
+    {
+        if self.len() != other.len() {
+            return false;
+        }
+        if self.levels() != other.levels() {
+            return self.len() == 0;
+        }
+        for row in 0..self.len() {
+            if !self.same_row(other, row) {
+                return false;
+            }
+        }
+        true
+    }
+
+    // Whether the tuples of a row are the same.
+    fn same_row(&self, other: &Axis, row: usize) -> bool
+        requires row { row < length self.now.tuples }
+        requires other { row < length other.now.tuples }
+        requires levels { length self.now.names ≡ length other.now.names }
+        requires alike { HaveLevels (length self.now.names) other.now.tuples }
+        ensures { Decides result (slice_get self.now.tuples row ≡ slice_get other.now.tuples row) }
+    {
+        for level in 0..self.levels() {
+            if self.label(row, level) != other.label(row, level) {
+                return false;
+            }
+        }
+        true
     }
 
     /// Gives a level another name, or none. Takes no memory.

@@ -1,0 +1,68 @@
+-- The object that is made of a table.
+use Rattle.std.proofs.Common.{◌≡◌, ◌∙◌, ℕ, true, List, ◌++◌, ap, sym, subst, arith, nat_eq, if◌then◌else◌, Some, None, option_map, Result, Ok, Err}
+use Rattle.std.specs.Prelude.{is_some, IfOk}
+use Rattle.std.proofs.lemmas.Bool.Decides.{nat_tests}
+use Rattle.cell_core.specs.Texts.{IsLonger}
+use Rattle.meaning.specs.Text.{Text}
+use Rattle.meaning.specs.Fault.{FaultValue}
+use Rattle.table_meaning.specs.Settled.{IsSettled}
+use Rattle.table_meaning.specs.Table.{NumberedTable, table_value}
+use Rattle.table_meaning.specs.Value as value
+use Rattle.table_meaning.specs.Value.{Entry}
+use Rattle.frame_store.specs.declared.arguments.Value.{Value}
+use Rattle.frame_store.specs.declared.arguments.Value.TheVariants.{Object}
+use Rattle.frame_store.specs.declared.object.ObjId.{ObjId}
+use Rattle.frame_store.specs.declared.fault.OpFault.{OpFault}
+use Rattle.frame_store.specs.declared.fault.OpFault.TheVariants.{Refused, NoMemory}
+use Rattle.frame_store.specs.Objects.{Tables, with_object}
+use Rattle.frame_store.specs.Shown.{Shown, shown, with_shown, table_in, Makes, FormAnswers}
+use Rattle.frame_store.proofs.Settling.{settled_later, seen_later, shown_with, settled_with}
+
+nat_eq_self : (n : ℕ) → nat_eq n n ≡ true
+nat_eq_self n = grind (arith, nat_tests)
+
+-- objects that stay are seen as before, and stay settled
+pub kept_settled : (earlier texts : List Text) (tables tables' : Tables) → IsLonger earlier texts → IsSettled shown earlier tables → tables' ≡ tables → IsSettled shown texts tables'
+kept_settled earlier texts tables tables' longer settled same = λ more.
+    ap (λ (t : Tables). shown (texts ++ more) t) same ∙ settled_later shown earlier texts tables longer settled more ∙ ap (λ (t : Tables). shown texts t) (sym same)
+
+-- a new object is settled
+pub added_settled : (earlier texts : List Text) (tables tables' : Tables) (id : ℕ) (t : NumberedTable) → IsLonger earlier texts → IsSettled shown earlier tables → IsSettled table_value texts t → tables' ≡ with_object tables id (Some t)
+    → IsSettled shown texts tables'
+added_settled earlier texts tables tables' id t longer settled here added = settled_with texts tables tables' id t (settled_later shown earlier texts tables longer settled) here added
+
+-- a refusal
+pub refused : (earlier texts : List Text) (tables tables' : Tables) (made : Result NumberedTable OpFault) (result : Result Value OpFault) (fault : OpFault) (meant : Result Entry FaultValue)
+    → made ≡ Err fault → result ≡ Err fault → IsLonger earlier texts → IsSettled shown earlier tables → tables' ≡ tables → Makes texts made meant → FormAnswers texts result meant (shown earlier tables) (shown texts tables')
+refused earlier texts tables tables' made result fault meant was is longer settled same makes =
+    subst (λ (r : Result Value OpFault). FormAnswers texts r meant (shown earlier tables) (shown texts tables')) (sym is) (go fault (subst (λ (m : Result NumberedTable OpFault). Makes texts m meant) was makes))
+  where
+    kept : shown texts tables' ≡ shown earlier tables
+    kept = ap (λ (t : Tables). shown texts t) same ∙ seen_later shown earlier texts tables longer settled
+
+    go : (f : OpFault) → Makes texts (Err f) meant → FormAnswers texts (Err f) meant (shown earlier tables) (shown texts tables')
+    go (Refused code) m = (m, kept)
+    go NoMemory m = kept
+
+-- want of memory
+pub out_of_memory : (earlier texts : List Text) (tables tables' : Tables) (result : Result Value OpFault) (meant : Result Entry FaultValue)
+    → result ≡ Err NoMemory → IsLonger earlier texts → IsSettled shown earlier tables → tables' ≡ tables → FormAnswers texts result meant (shown earlier tables) (shown texts tables')
+out_of_memory earlier texts tables tables' result meant is longer settled same =
+    subst (λ (r : Result Value OpFault). FormAnswers texts r meant (shown earlier tables) (shown texts tables')) (sym is) (ap (λ (t : Tables). shown texts t) same ∙ seen_later shown earlier texts tables longer settled)
+
+-- the new object
+pub added : (earlier texts : List Text) (tables tables' : Tables) (made : Result NumberedTable OpFault) (id : ObjId) (t : NumberedTable) (meant : Result Entry FaultValue)
+    → made ≡ Ok t → tables id.0 ≡ None → tables' ≡ with_object tables id.0 (Some t) → IsLonger earlier texts → IsSettled shown earlier tables → Makes texts made meant
+    → FormAnswers texts (Ok (Object id)) meant (shown earlier tables) (shown texts tables')
+added earlier texts tables tables' made id t meant was fresh put longer settled makes =
+    let here : meant ≡ Ok (value.table (table_value texts t)) = subst (λ (m : Result NumberedTable OpFault). Makes texts m meant) was makes in
+    let grown : shown texts tables' ≡ with_shown (shown earlier tables) id.0 (Some (table_value texts t)) = shown_with earlier texts tables tables' id.0 t longer settled put in
+    let at : shown texts tables' id.0 ≡ Some (table_value texts t) =
+    ap (λ (f : Shown). f id.0) grown ∙ ap (λ b. if b then Some (table_value texts t) else shown earlier tables id.0) (nat_eq_self id.0) in (
+      here ∙ ap (λ o. Ok (value.table (table_in o))) (sym at),
+      (ap (option_map (table_value earlier)) fresh, ap is_some at, grown ∙ ap (with_shown (shown earlier tables) id.0) (sym at)),
+    )
+
+-- the table that was made
+pub made_settled : (texts : List Text) (made : Result NumberedTable OpFault) (t : NumberedTable) → made ≡ Ok t → IfOk made (λ t. IsSettled table_value texts t) → IsSettled table_value texts t
+made_settled texts made t was settled = subst (λ (m : Result NumberedTable OpFault). IfOk m (λ t. IsSettled table_value texts t)) was settled

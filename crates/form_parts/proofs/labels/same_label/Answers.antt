@@ -1,0 +1,8 @@
+use Rattle.std.proofs.Common.{◌≡◌, rules}
+use Rattle.std.specs.Bool.{Decides}
+use Rattle.form_parts.proofs.LabelLaws.{same_by_number}
+use Rattle.form_parts.proofs.labels.same_label.Goals as goal
+
+pub returns : goal.returns
+returns c = let is : Decides c.eq.result (c.args.a ≡ c.args.b) = search rules in
+    same_by_number _ _ _ _ c.len.ensures.distinct c.requires.a c.requires.b is

@@ -1,0 +1,22 @@
+//! What the forms on objects have in common: the limits of new tables, the parts that a new table
+//! takes over from another, equality of labels, and the new object itself.
+//!
+//! A form makes a [`Table`](frame_store::Table) and hands it to [`placed`], which gives it an object.
+//!
+//! ```text
+//! if !within_limits(on.rows(), on.columns()) {
+//!     return Err(OpFault::Refused(Code::Limit));
+//! }
+//! let headings = headings_of(alloc, on)?;
+//! let made = table_under(alloc, on, headings, blocks)?;
+//! placed(store, dict, Ok(made))
+//! ```
+#![tactic(auto)]
+
+mod labels;
+mod objects;
+mod parts;
+
+pub use labels::{same_heading, same_label};
+pub use objects::placed;
+pub use parts::{headings_named, headings_of, table_under, within_limits};

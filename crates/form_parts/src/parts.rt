@@ -1,0 +1,57 @@
+// The parts that a new table takes over from another.
+ghost use Rattle.std.specs.Prelude.{◌≡◌, map, All, Option, IfOk};
+ghost use Rattle.table_meaning.specs.Valid.{IsWhole};
+ghost use Rattle.frame_store.specs.Parts.{block_column, IsSingle, table_with, axis_of};
+ghost use Rattle.form_meaning.specs.Finish as finish;
+
+use cell_core::{Grid, Label, NoMemory};
+use frame_store::{Blocks, Headings, ObjRef, Table};
+use std::alloc::Global;
+
+/// Whether a new table may have so many rows and columns: at most 2^26 rows, 2^16 columns, and
+/// 2^26 cells. Takes no memory.
+pub fn within_limits(rows: usize, columns: usize) -> bool
+    ensures { result ≡ finish.within_limits rows columns }
+{
+    rows <= 1 << 26 && columns <= 1 << 16 && rows * columns <= 1 << 26
+}
+
+/// The headings of a table, for another one. `NoMemory` is the only refusal.
+pub fn headings_of(alloc: Global, on: &ObjRef<'_>) -> Result<Headings, NoMemory>
+    requires { IsWhole on.now }
+    ensures { IfOk result (λ made. made ≡ record { columns_name = on.now.columns_name; labels = on.now.headings }) }
+{
+    headings_named(alloc, on, on.columns_name())
+}
+
+/// The same with another name of the columns, or none. `NoMemory` is the only refusal.
+pub fn headings_named(
+    alloc: Global,
+    on: &ObjRef<'_>,
+    columns_name: Option<Label>,
+) -> Result<Headings, NoMemory>
+    requires { IsWhole on.now }
+    ensures { IfOk result (λ made. made ≡ record { columns_name = columns_name; labels = on.now.headings }) }
+{
+    let mut headings = Headings::new(alloc, columns_name);
+    for column in 0..on.columns() {
+        headings.push(on.heading(column))?;
+    }
+    Ok(headings)
+}
+
+/// A table of the same shape and with the same axis, under these headings and of these columns.
+/// `NoMemory` is the only refusal.
+pub fn table_under(
+    alloc: Global,
+    on: &ObjRef<'_>,
+    headings: Headings,
+    blocks: Blocks,
+) -> Result<Table, NoMemory>
+    requires single { All IsSingle blocks }
+    requires whole { IsWhole (table_with on.now.shape (axis_of on.now) headings (map block_column blocks)) }
+    ensures { IfOk result (λ made. made ≡ table_with on.now.shape (axis_of on.now) headings (map block_column blocks)) }
+{
+    let axis = on.axis().copy(alloc)?;
+    Ok(Table::new(on.shape(), axis, headings, blocks))
+}

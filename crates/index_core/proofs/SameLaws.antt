@@ -1,0 +1,31 @@
+-- Lists that are the same place by place.
+use Rattle.std.proofs.Common.{◌≡◌, ◌∙◌, ℕ, suc, ◌<◌, Bool, true, List, [], ◌∷◌, length, refl, ap, sym, arith, Option, Some, None}
+use Rattle.std.specs.Prelude.{slice_get}
+use Rattle.std.specs.Bool.{Decides}
+use Rattle.cell_core.specs.declared.cell.Label.{Label}
+use Rattle.index_core.specs.Ranges.{range_labels}
+use Rattle.index_core.proofs.RangeLaws.{length-range_labels}
+
+pub holds : {P : Type 0} → P → Decides true P
+holds p = (λ e. p, λ q. refl)
+
+module _ {X : Type 0} where
+  abbrev some_or : X → Option X → X
+  some_or d None = d
+  some_or d (Some x) = x
+
+  pub all_same : (xs ys : List X) → length xs ≡ length ys → ((k : ℕ) → k < length xs → slice_get xs k ≡ slice_get ys k) → xs ≡ ys
+  all_same [] [] e h = refl
+  all_same [] (y ∷ ys) e h = absurd (omega arith)
+  all_same (x ∷ xs) [] e h = absurd (omega arith)
+  all_same (x ∷ xs) (y ∷ ys) e h =
+      let first : x ≡ y = ap (some_or x) (h 0 (omega arith)) in
+      let rest : xs ≡ ys = all_same xs ys (omega arith) (λ k lt. h (suc k) (omega arith)) in
+      λ i. first i ∷ rest i
+
+-- two ranges
+pub ranges_same : (a b : List Label) (m n : ℕ) (r : Bool) → range_labels m ≡ a → range_labels n ≡ b → Decides r (m ≡ n) → Decides r (a ≡ b)
+ranges_same a b m n r e f is = (
+  λ t. sym e ∙ ap range_labels (is.0 t) ∙ f,
+  λ same. is.1 (sym (length-range_labels m) ∙ ap length (e ∙ same ∙ sym f) ∙ length-range_labels n),
+)

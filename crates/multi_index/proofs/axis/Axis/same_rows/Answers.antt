@@ -1,0 +1,14 @@
+use Rattle.std.proofs.Common.{◌≡◌, length, subst, arith}
+use Rattle.multi_index.specs.Axes.{HaveLevels}
+use Rattle.index_core.proofs.SameLaws.{holds, all_same}
+use Rattle.multi_index.proofs.axis.Axis.same_rows.Goals as goal
+
+pub same_row-requires-clause-alike : goal.same_row-requires-clause-alike
+same_row-requires-clause-alike c =
+    let same : c.levels-2.result ≡ length c.args.self.now.names = omega arith in
+    subst (λ n. HaveLevels n c.args.other.now.tuples) same c.levels-2.ensures.alike
+
+pub returns : goal.returns
+returns c =
+    let same : length c.args.self.now.tuples ≡ length c.args.other.now.tuples = omega arith in
+    holds (all_same _ _ same (λ k lt. c.loop-row.invariant k (omega arith)))
