@@ -1,6 +1,7 @@
 //! The table of signatures.
 #![tactic(auto)]
 
+mod forms;
 mod table;
 
 pub use table::{
