@@ -112,8 +112,7 @@ fn fits(
 
 // Whether each argument goes to a parameter that takes it, and no two go to one.
 fn all_fit(store: &Store, dict: &TextDict, parameters: &[Parameter], args: &[Named]) -> bool
-    requires few { length args.now < 2 ^ 63 }
-    requires live { AreLive (tables store.now) args.now }
+    requires { AreLive (tables store.now) args.now }
     ensures { result ≡ plain.fit parameters.now 0 (arguments_of (tables store.now) dict.now args.now) }
 {
     let mut unnamed = 0;
@@ -144,7 +143,6 @@ fn listed_at(
 
 // Whether each argument is among the values that its parameter lists.
 fn all_listed(dict: &TextDict, parameters: &[Parameter], args: &[Named]) -> bool
-    requires { length args.now < 2 ^ 63 }
     ensures { (live : Tables) → result ≡ plain.are_listed parameters.now 0 (arguments_of live dict.now args.now) }
 {
     let mut unnamed = 0;
@@ -171,7 +169,6 @@ fn may_be_omitted(omitted: Omitted) -> bool
 
 // Whether no parameter lacks its argument.
 fn none_missing(parameters: &[Parameter], args: &[Named]) -> bool
-    requires { length args.now < 2 ^ 63 }
     ensures { (live : Tables) (texts : List Text) → result ≡ plain.none_missing parameters.now (arguments_of live texts args.now) 0 parameters.now }
 {
     let mut place = 0;
@@ -199,8 +196,7 @@ pub fn bind(
     parameters: &[Parameter],
     args: &[Named],
 ) -> Result<(), Unbound>
-    requires few { length args.now < 2 ^ 63 }
-    requires live { AreLive (tables store.now) args.now }
+    requires { AreLive (tables store.now) args.now }
     ensures { let given = arguments_of (tables store.now) dict.now args.now in IsBound result (plain.bound_of parameters.now given) (plain.arguments_from parameters.now given 0 parameters.now) }
 {
     if !all_fit(store, dict, parameters, args) {

@@ -8,7 +8,7 @@ abbrev pub invariant-loop-rest : goal.invariant-loop-rest
 invariant-loop-rest l =
     (plain.fit l.parameters l.unnamed (arguments_of (tables l.store) l.dict l.rest) ≡ plain.fit l.parameters 0 (arguments_of (tables l.store) l.dict l.args))
     × AreLive (tables l.store) l.rest
-    × (l.unnamed + length l.rest < 2 ^ 63)
+    × (l.unnamed + length l.rest < 2 ^ 64)
 
 abbrev pub decreases-loop-rest : goal.decreases-loop-rest
 decreases-loop-rest l = length l.rest
