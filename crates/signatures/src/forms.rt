@@ -34,27 +34,13 @@ fn is_object(item: &Item) -> bool
 fn are_scalars(items: &[Item]) -> bool
     ensures { (live : Tables) (texts : List Text) → result ≡ plain.each plain.is_scalar (items_of live texts items.now) }
 {
-    let mut rest = items;
-    while let [first, after @ ..] = rest {
-        if !is_scalar(first) {
-            return false;
-        }
-        rest = after;
-    }
-    true
+    items.iter().all(is_scalar)
 }
 
 fn are_objects(items: &[Item]) -> bool
     ensures { (live : Tables) (texts : List Text) → result ≡ plain.each plain.is_object (items_of live texts items.now) }
 {
-    let mut rest = items;
-    while let [first, after @ ..] = rest {
-        if !is_object(first) {
-            return false;
-        }
-        rest = after;
-    }
-    true
+    items.iter().all(is_object)
 }
 
 // A scalar, or a tuple of scalars alone.
@@ -71,14 +57,7 @@ fn is_key(item: &Item) -> bool
 fn are_keys(items: &[Item]) -> bool
     ensures { (live : Tables) (texts : List Text) → result ≡ plain.each plain.is_key (items_of live texts items.now) }
 {
-    let mut rest = items;
-    while let [first, after @ ..] = rest {
-        if !is_key(first) {
-            return false;
-        }
-        rest = after;
-    }
-    true
+    items.iter().all(is_key)
 }
 
 // A tuple of so many scalars, of which these are the parts.
@@ -101,14 +80,7 @@ fn is_tuple_of(count: usize, item: &Item) -> bool
 fn are_tuples_of(count: usize, items: &[Item]) -> bool
     ensures { (live : Tables) (texts : List Text) → result ≡ plain.each (plain.is_tuple_of count) (items_of live texts items.now) }
 {
-    let mut rest = items;
-    while let [first, after @ ..] = rest {
-        if !is_tuple_of(count, first) {
-            return false;
-        }
-        rest = after;
-    }
-    true
+    items.iter().all(|item| is_tuple_of(count, item))
 }
 
 // Two scalars or more, and after them tuples of as many.
