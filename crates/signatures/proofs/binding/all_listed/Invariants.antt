@@ -1,0 +1,13 @@
+use Rattle.std.proofs.Common.{◌≡◌, ◌+◌, ◌<◌, ◌^◌, length, List}
+use Rattle.form_meaning.specs.Binding as plain
+use Rattle.frame_store.specs.Objects.{Tables}
+use Rattle.frame_store.specs.Arguments.{arguments_of}
+use Rattle.signatures.proofs.binding.all_listed.Given as goal
+
+abbrev pub invariant-loop-rest : goal.invariant-loop-rest
+invariant-loop-rest l =
+    ((live : Tables) → plain.are_listed l.parameters l.unnamed (arguments_of live l.dict l.rest) ≡ plain.are_listed l.parameters 0 (arguments_of live l.dict l.args))
+    × (l.unnamed + length l.rest < 2 ^ 64)
+
+abbrev pub decreases-loop-rest : goal.decreases-loop-rest
+decreases-loop-rest l = length l.rest

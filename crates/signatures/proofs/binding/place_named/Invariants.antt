@@ -1,0 +1,13 @@
+use Rattle.std.proofs.Common.{◌≡◌, ◌+◌, ◌<◌, ◌^◌, length, List}
+use Rattle.std.specs.List.{position_or_len}
+use Rattle.meaning.specs.Text.{same_text}
+use Rattle.form_meaning.specs.Signature as signature
+use Rattle.signatures.proofs.binding.place_named.Given as goal
+
+abbrev pub invariant-loop-rest : goal.invariant-loop-rest
+invariant-loop-rest l =
+    (l.place + position_or_len (λ p. same_text (signature.spelled p.name) l.name) l.rest ≡ position_or_len (λ p. same_text (signature.spelled p.name) l.name) l.parameters)
+    × (l.place + length l.rest ≡ length l.parameters)
+
+abbrev pub decreases-loop-rest : goal.decreases-loop-rest
+decreases-loop-rest l = length l.rest

@@ -1,0 +1,12 @@
+use Rattle.std.proofs.Common.{◌≡◌, length}
+use Rattle.meaning.specs.Cell.{label_datum}
+use Rattle.form_meaning.specs.Binding as plain
+use Rattle.frame_store.specs.Objects.{Tables}
+use Rattle.frame_store.specs.Arguments.{entries_of}
+use Rattle.signatures.proofs.forms.has_key.Given as goal
+
+abbrev pub invariant-loop-rest : goal.invariant-loop-rest
+invariant-loop-rest l = (live : Tables) → plain.has_key (label_datum l.dict l.key) (entries_of live l.dict l.rest) ≡ plain.has_key (label_datum l.dict l.key) (entries_of live l.dict l.pairs)
+
+abbrev pub decreases-loop-rest : goal.decreases-loop-rest
+decreases-loop-rest l = length l.rest

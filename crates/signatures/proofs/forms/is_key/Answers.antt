@@ -1,0 +1,11 @@
+use Rattle.std.proofs.Common.{◌∙◌, ap, sym}
+use Rattle.form_meaning.specs.Binding as plain
+use Rattle.frame_store.specs.Arguments.{item_of, items_of}
+use Rattle.frame_store.proofs.RowLaws.{item_of-Row}
+use Rattle.signatures.proofs.forms.is_key.Goals as goal
+
+pub returns-in-Row : goal.returns-in-Row
+returns-in-Row c = λ live texts.
+    c.are_scalars.ensures live texts
+    ∙ ap (λ l. plain.each plain.is_scalar (items_of live texts l)) c.as_slice.ensures
+    ∙ sym (ap (λ i. plain.is_key (item_of live texts i)) c.in-Row.is ∙ ap plain.is_key (item_of-Row live texts c.in-Row.parts))

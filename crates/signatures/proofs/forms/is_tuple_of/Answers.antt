@@ -1,0 +1,12 @@
+use Rattle.std.proofs.Common.{◌∙◌, ap, sym}
+use Rattle.table_meaning.specs.Value as value
+use Rattle.form_meaning.specs.Binding as plain
+use Rattle.frame_store.specs.Arguments.{item_of, items_of}
+use Rattle.frame_store.proofs.RowLaws.{item_of-Row}
+use Rattle.signatures.proofs.forms.is_tuple_of.Goals as goal
+
+pub returns-in-Row : goal.returns-in-Row
+returns-in-Row c = λ live texts.
+    c.are_so_many.ensures live texts
+    ∙ ap (λ l. plain.is_tuple_of c.args.count (value.row (items_of live texts l))) c.as_slice.ensures
+    ∙ sym (ap (λ i. plain.is_tuple_of c.args.count (item_of live texts i)) c.in-Row.is ∙ ap (plain.is_tuple_of c.args.count) (item_of-Row live texts c.in-Row.parts))

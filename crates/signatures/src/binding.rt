@@ -1,0 +1,212 @@
+// How the arguments of a call are bound to a signature.
+ghost use Rattle.std.specs.Prelude.{◌≡◌, ◌+◌, ◌<◌, ◌^◌, List, length, slice_get, IsSome, IfSome, codes};
+ghost use Rattle.std.specs.List.{position_or_len};
+ghost use Rattle.std.specs.Option.{option_map};
+ghost use Rattle.meaning.specs.Text.{Text, same_text};
+ghost use Rattle.meaning.specs.Cell.{datum};
+ghost use Rattle.table_meaning.specs.Table.{table_value};
+ghost use Rattle.table_meaning.specs.Value.{scalar_in, object_in, list_in, dict_in};
+ghost use Rattle.form_meaning.specs.Signature as signature;
+ghost use Rattle.form_meaning.specs.Binding as plain;
+ghost use Rattle.frame_store.specs.Objects.{Tables, tables, table_at};
+ghost use Rattle.frame_store.specs.Arguments.{argument_of, items_of, entries_of, named_of, arguments_of, IsLiveArgument, AreLiveItems, AreLivePairs, AreLive};
+ghost use Rattle.signatures.specs.Bound.{IsBound};
+
+use crate::forms::{lists, takes};
+use crate::table::spelled;
+use cell_core::{TextDict, Words};
+use form_meaning::{Omitted, Parameter};
+use frame_store::{Argument, Named, Store};
+
+/// Why arguments aren't bound.
+#[derive(Clone, Copy, Debug, PartialEq, Eq)]
+pub enum Unbound {
+    /// A `TypeError`: an argument without a parameter, a parameter without an argument or with two,
+    /// or an argument that hasn't the form.
+    NotTaken,
+    /// A `ValueError`: an argument that isn't among the listed values.
+    NotListed,
+}
+
+// The place of the parameter with a name, or the number of parameters.
+fn place_named(parameters: &[Parameter], name: &str) -> usize
+    ensures { result ≡ position_or_len (λ p. same_text (signature.spelled p.name) name.now) parameters.now }
+{
+    let mut place = 0;
+    let mut rest = parameters;
+    while let [first, after @ ..] = rest {
+        if spelled(first.name) == name {
+            return place;
+        }
+        place += 1;
+        rest = after;
+    }
+    place
+}
+
+// The place that an argument goes to, after so many arguments without a name.
+fn goes_to(parameters: &[Parameter], unnamed: usize, name: &Option<Words>) -> usize
+    ensures { result ≡ plain.goes_to parameters.now unnamed name.now }
+{
+    match name {
+        None => unnamed,
+        Some(name) => place_named(parameters, name.as_str()),
+    }
+}
+
+fn counted(unnamed: usize, name: &Option<Words>) -> usize
+    requires { unnamed + 1 < 2 ^ 64 }
+    ensures { result ≡ plain.counted unnamed name.now }
+{
+    match name {
+        None => unnamed + 1,
+        Some(_) => unnamed,
+    }
+}
+
+// The argument that goes to a place, where so many arguments without a name came before these.
+pub(crate) fn given_after<'a>(
+    parameters: &[Parameter],
+    unnamed: usize,
+    args: &'a [Named],
+    place: usize,
+) -> Option<&'a Argument>
+    requires { unnamed + length args.now < 2 ^ 64 }
+    ensures value { (live : Tables) (texts : List Text) → option_map (λ a. argument_of live texts a.now) result ≡ plain.given_at parameters.now unnamed (arguments_of live texts args.now) place }
+    ensures live { (live : Tables) → AreLive live args.now → IfSome result (λ a. IsLiveArgument live a.now) }
+{
+    let mut unnamed = unnamed;
+    let mut rest = args;
+    while let [first, after @ ..] = rest {
+        if goes_to(parameters, unnamed, &first.name) == place {
+            return Some(&first.value);
+        }
+        unnamed = counted(unnamed, &first.name);
+        rest = after;
+    }
+    None
+}
+
+// Whether an argument goes to a parameter that takes it, and none of those after it goes there.
+fn fits(
+    store: &Store,
+    dict: &TextDict,
+    parameters: &[Parameter],
+    unnamed: usize,
+    first: &Named,
+    after: &[Named],
+) -> bool
+    requires few { unnamed + length after.now + 1 < 2 ^ 64 }
+    requires live { IsLiveArgument (tables store.now) first.now.value }
+    ensures { result ≡ plain.fits parameters.now unnamed (named_of (tables store.now) dict.now first.now) (arguments_of (tables store.now) dict.now after.now) }
+{
+    let place = goes_to(parameters, unnamed, &first.name);
+    match parameters.get(place) {
+        None => false,
+        Some(parameter) => {
+            takes(store, dict, *parameter, &first.value)
+                && given_after(parameters, counted(unnamed, &first.name), after, place).is_none()
+        }
+    }
+}
+
+// Whether each argument goes to a parameter that takes it, and no two go to one.
+fn all_fit(store: &Store, dict: &TextDict, parameters: &[Parameter], args: &[Named]) -> bool
+    requires { AreLive (tables store.now) args.now }
+    ensures { result ≡ plain.fit parameters.now 0 (arguments_of (tables store.now) dict.now args.now) }
+{
+    let mut unnamed = 0;
+    let mut rest = args;
+    while let [first, after @ ..] = rest {
+        if !fits(store, dict, parameters, unnamed, first, after) {
+            return false;
+        }
+        unnamed = counted(unnamed, &first.name);
+        rest = after;
+    }
+    true
+}
+
+fn listed_at(
+    dict: &TextDict,
+    parameters: &[Parameter],
+    place: usize,
+    argument: &Argument,
+) -> bool
+    ensures { (live : Tables) → result ≡ plain.listed_by (slice_get parameters.now place) (argument_of live dict.now argument.now) }
+{
+    match parameters.get(place) {
+        None => true,
+        Some(parameter) => lists(dict, parameter.listed, argument),
+    }
+}
+
+// Whether each argument is among the values that its parameter lists.
+fn all_listed(dict: &TextDict, parameters: &[Parameter], args: &[Named]) -> bool
+    ensures { (live : Tables) → result ≡ plain.are_listed parameters.now 0 (arguments_of live dict.now args.now) }
+{
+    let mut unnamed = 0;
+    let mut rest = args;
+    while let [first, after @ ..] = rest {
+        let place = goes_to(parameters, unnamed, &first.name);
+        if !listed_at(dict, parameters, place, &first.value) {
+            return false;
+        }
+        unnamed = counted(unnamed, &first.name);
+        rest = after;
+    }
+    true
+}
+
+fn may_be_omitted(omitted: Omitted) -> bool
+    ensures { result ≡ plain.may_be_omitted omitted }
+{
+    match omitted {
+        Omitted::Required => false,
+        _ => true,
+    }
+}
+
+// Whether no parameter lacks its argument.
+fn none_missing(parameters: &[Parameter], args: &[Named]) -> bool
+    ensures { (live : Tables) (texts : List Text) → result ≡ plain.none_missing parameters.now (arguments_of live texts args.now) 0 parameters.now }
+{
+    let mut place = 0;
+    let mut rest = parameters;
+    while let [first, after @ ..] = rest {
+        if given_after(parameters, 0, args, place).is_none() && !may_be_omitted(first.omitted) {
+            return false;
+        }
+        place += 1;
+        rest = after;
+    }
+    true
+}
+
+/// Whether a signature takes the arguments. Those without a name go to the parameters in order, those
+/// with a name to the parameter of that name.
+///
+/// `NotTaken` where an argument goes to no parameter, two go to one, one hasn't the form of its
+/// parameter, or a parameter that must be given has none; else `NotListed` where one isn't among the
+/// listed values of its parameter. A `None` counts as not given where that is the default. Takes no
+/// memory.
+pub fn bind(
+    store: &Store,
+    dict: &TextDict,
+    parameters: &[Parameter],
+    args: &[Named],
+) -> Result<(), Unbound>
+    requires { AreLive (tables store.now) args.now }
+    ensures { let given = arguments_of (tables store.now) dict.now args.now in IsBound result (plain.bound_of parameters.now given) (plain.arguments_from parameters.now given 0 parameters.now) }
+{
+    if !all_fit(store, dict, parameters, args) {
+        return Err(Unbound::NotTaken);
+    }
+    if !none_missing(parameters, args) {
+        return Err(Unbound::NotTaken);
+    }
+    if !all_listed(dict, parameters, args) {
+        return Err(Unbound::NotListed);
+    }
+    Ok(())
+}
