@@ -1,3 +1,4 @@
 pub mod Lists
 pub mod ColumnLaws
 pub mod OpLaws
+pub mod TableLaws

@@ -1,0 +1,56 @@
+-- Tables that are made of others.
+use Rattle.std.proofs.Common.{◌≡◌, ◌∙◌, refl, ap, sym, subst, Bool, true, List, [], ◌∷◌, map, length, All, Result, Ok, Err, if◌then◌else◌}
+use Rattle.std.proofs.lemmas.List.{length-map}
+use Rattle.cell_core.specs.declared.cell.Cell.{Cell}
+use Rattle.meaning.specs.Text.{Text}
+use Rattle.meaning.specs.Cell.{CellValue, AreGiven, IsLonger}
+use Rattle.meaning.specs.Fault.{FaultValue, limit, then_value}
+use Rattle.nullable_array.specs.Blocks.{CellBlock}
+use Rattle.table_meaning.specs.Table.{ColumnOf, NumberedTable, Table, table_value, heading_value, tuple_value, column_value}
+use Rattle.table_meaning.specs.Value.{Entry, table}
+use Rattle.table_meaning.specs.Settled.{IsSettled}
+use Rattle.form_meaning.specs.Finish.{within_limits, limited, limited_table, with_columns, try_all}
+use Rattle.form_meaning.specs.Methods as meant
+use Rattle.frame_store.specs.Parts.{block_column, table_with, axis_of, HeadingList}
+use Rattle.frame_store.specs.Shown.{labels_value, headings_value, columns_value}
+use Rattle.frame_store.proofs.Settling.{settled_later, seen_later, columns_name_part, level_names_part, labels_part, headings_part, with_columns_settled}
+
+abbrev unless_beyond : Table → Bool → Result Entry FaultValue
+unless_beyond t within = then_value (if within then Ok t else Err limit) (λ t. Ok (table t))
+
+-- a table within the limits
+pub limited_within : (t : Table) (rows columns : Rattle.std.specs.Prelude.ℕ) → length t.labels ≡ rows → length t.columns ≡ columns → within_limits rows columns ≡ true → limited t ≡ Ok (table t)
+limited_within t rows columns r c within = ap (unless_beyond t) ((λ j. within_limits (r j) (c j)) ∙ within)
+
+-- the same table under other columns, at a later dictionary
+pub columns_later : (old new : List Text) (t : NumberedTable) (cs : List (ColumnOf Cell)) → IsLonger old new → IsSettled table_value old t
+    → with_columns (table_value old t) (columns_value new cs) ≡ table_value new (record t { columns = cs })
+columns_later old new t cs longer settled = λ j.
+    record {
+      shape = t.shape;
+      columns_name = sym (seen_later heading_value old new t.columns_name longer (columns_name_part old t settled)) j;
+      level_names = sym (seen_later headings_value old new t.level_names longer (level_names_part old t settled)) j;
+      labels = sym (seen_later labels_value old new t.labels longer (labels_part old t settled)) j;
+      headings = sym (seen_later headings_value old new t.headings longer (headings_part old t settled)) j;
+      columns = columns_value new cs;
+    }
+
+abbrev then_limited : Table → Result (List (ColumnOf CellValue)) FaultValue → Result Entry FaultValue
+then_limited t r = then_value r (λ columns. limited (with_columns t columns))
+
+pub made_columns : (f : ColumnOf CellValue → Result (ColumnOf CellValue) FaultValue) (old new : List Text) (t made : NumberedTable) (headings : HeadingList) (bs : List CellBlock)
+    → IsLonger old new → IsSettled table_value old t → headings ≡ record { columns_name = t.columns_name; labels = t.headings } → made ≡ table_with t.shape (axis_of t) headings (map block_column bs)
+    → within_limits (length t.labels) (length bs) ≡ true → try_all f (columns_value old t.columns) ≡ Ok (columns_value new (map block_column bs))
+    → meant.each_column f (table_value old t) ≡ Ok (table (table_value new made))
+made_columns f old new t made headings bs longer settled same is within all =
+    ap (then_limited (table_value old t)) all
+    ∙ limited_within (with_columns (table_value old t) (columns_value new (map block_column bs))) (length t.labels) (length bs)
+        (length-map t.labels (tuple_value old)) (length-map (map block_column bs) (column_value new) ∙ length-map bs block_column) within
+    ∙ ap (λ v. Ok (table v)) (columns_later old new t (map block_column bs) longer settled ∙ ap (table_value new) (sym (is ∙ ap (λ h. table_with t.shape (axis_of t) h (map block_column bs)) same)))
+
+pub columns_settled_later : (old new : List Text) (t made : NumberedTable) (headings : HeadingList) (bs : List CellBlock)
+    → IsLonger old new → IsSettled table_value old t → headings ≡ record { columns_name = t.columns_name; labels = t.headings } → made ≡ table_with t.shape (axis_of t) headings (map block_column bs)
+    → All (λ c. AreGiven new c.cells) (map block_column bs) → IsSettled table_value new made
+columns_settled_later old new t made headings bs longer settled same is given =
+    subst (IsSettled table_value new) (sym (is ∙ ap (λ h. table_with t.shape (axis_of t) h (map block_column bs)) same))
+      (with_columns_settled new t (map block_column bs) (settled_later table_value old new t longer settled) given)
