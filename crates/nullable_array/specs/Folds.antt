@@ -4,6 +4,8 @@ use Rattle.std.specs.Int.{int_wrap, w64}
 use Rattle.std.specs.Ordering.{is_lt, int_eq}
 use Rattle.std.specs.List.{range_with_len}
 use Rattle.std.specs.declared.cmp.Ordering.{Ordering}
+use Rattle.cell_core.specs.declared.cell.Kind.{Kind}
+use Rattle.cell_core.specs.declared.cell.Kind.TheVariants.{Int64, Boolean}
 use Rattle.meaning.specs.Reduce as reduction
 use Rattle.meaning.specs.Cumulate as cumulation
 use Rattle.nullable_array.specs.declared.ops.Cumulation.{Cumulation}
@@ -18,6 +20,15 @@ reduction_of Max = reduction.max
 reduction_of Any = reduction.any
 reduction_of All = reduction.all
 reduction_of Count = reduction.count
+
+-- the kind of a reduction of a column of the kind
+abbrev pub reduced_kind : Reduction → Kind → Kind
+reduced_kind Sum kind = Int64
+reduced_kind Min kind = kind
+reduced_kind Max kind = kind
+reduced_kind Any kind = Boolean
+reduced_kind All kind = Boolean
+reduced_kind Count kind = Int64
 
 -- a row more; a missing one is passed over
 abbrev pub step_row : {S T : Type 0} → (S → T → S) → S → Option T → S

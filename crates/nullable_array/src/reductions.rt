@@ -1,11 +1,11 @@
 // Reductions of columns.
-ghost use Rattle.std.specs.Prelude.{◌≡◌, ◌<◌, ℕ, List, Option, IfOk};
+ghost use Rattle.std.specs.Prelude.{◌≡◌, true, ◌<◌, ℕ, List, Option, IfOk};
 ghost use Rattle.cell_core.specs.declared.cell.Kind.TheVariants.{Int64, Boolean, Text as string};
-ghost use Rattle.meaning.specs.Cell.{datum, AreGiven, IsGiven};
+ghost use Rattle.meaning.specs.Cell.{datum, holds, AreGiven, IsGiven};
 ghost use Rattle.meaning.specs.Reduce.{reduction_cell, reduce_column};
 ghost use Rattle.nullable_array.specs.Columns.{column_value, column_with, number_cell, truth_cell, text_cell};
 ghost use Rattle.nullable_array.specs.Views.{borrowed_column};
-ghost use Rattle.nullable_array.specs.Folds.{reduction_of};
+ghost use Rattle.nullable_array.specs.Folds.{reduction_of, reduced_kind};
 ghost use Rattle.nullable_array.specs.Answers.{AnswersCell};
 
 use crate::columns::{Borrowed, ColRef, cell_of_number, cell_of_text, cell_of_truth};
@@ -24,6 +24,7 @@ use cell_core::{Cell, TextDict, TextId};
 pub fn reduce(dict: &TextDict, op: Reduction, a: ColRef<'_>) -> Result<Cell, ArrayFault>
     requires { AreGiven dict.now a.cells }
     ensures given { IfOk result (IsGiven dict.now) }
+    ensures held { IfOk result (λ c. (texts : List (List ℕ)) → holds (reduced_kind op a.entry.kind) (datum texts c) ≡ true) }
     ensures answer { AnswersCell dict.now result (reduce_column (reduction_of op) (column_value dict.now a.entry)) }
 {
     match &a.lanes {
@@ -35,6 +36,7 @@ pub fn reduce(dict: &TextDict, op: Reduction, a: ColRef<'_>) -> Result<Cell, Arr
 
 fn reduce_numbers(op: Reduction, a: &Lane<'_, i64>) -> Cell
     ensures given { (texts : List (List ℕ)) → IsGiven texts result }
+    ensures held { (texts : List (List ℕ)) → holds (reduced_kind op Int64) (datum texts result) ≡ true }
     ensures value { (texts : List (List ℕ)) → datum texts result ≡ reduction_cell (reduction_of op) (column_value texts (borrowed_column (Borrowed.Ints a.now))).cells }
 {
     match a.dense() {
@@ -45,6 +47,7 @@ fn reduce_numbers(op: Reduction, a: &Lane<'_, i64>) -> Cell
 
 fn reduce_truths(op: Reduction, a: &Lane<'_, bool>) -> Cell
     ensures given { (texts : List (List ℕ)) → IsGiven texts result }
+    ensures held { (texts : List (List ℕ)) → holds (reduced_kind op Boolean) (datum texts result) ≡ true }
     ensures value { (texts : List (List ℕ)) → datum texts result ≡ reduction_cell (reduction_of op) (column_value texts (borrowed_column (Borrowed.Truths a.now))).cells }
 {
     match a.dense() {
@@ -55,6 +58,7 @@ fn reduce_truths(op: Reduction, a: &Lane<'_, bool>) -> Cell
 
 fn reduced_numbers<A: Source<i64>>(op: Reduction, a: &A) -> Cell
     ensures given { (texts : List (List ℕ)) → IsGiven texts result }
+    ensures held { (texts : List (List ℕ)) → holds (reduced_kind op Int64) (datum texts result) ≡ true }
     ensures value { (texts : List (List ℕ)) → datum texts result ≡ reduction_cell (reduction_of op) (column_value texts (column_with Int64 number_cell (A.count_of a.now) (A.row_of a.now))).cells }
 {
     match op {
@@ -69,6 +73,7 @@ fn reduced_numbers<A: Source<i64>>(op: Reduction, a: &A) -> Cell
 
 fn reduced_truths<A: Source<bool>>(op: Reduction, a: &A) -> Cell
     ensures given { (texts : List (List ℕ)) → IsGiven texts result }
+    ensures held { (texts : List (List ℕ)) → holds (reduced_kind op Boolean) (datum texts result) ≡ true }
     ensures value { (texts : List (List ℕ)) → datum texts result ≡ reduction_cell (reduction_of op) (column_value texts (column_with Boolean truth_cell (A.count_of a.now) (A.row_of a.now))).cells }
 {
     match op {
@@ -84,6 +89,7 @@ fn reduced_truths<A: Source<bool>>(op: Reduction, a: &A) -> Cell
 fn reduce_texts(dict: &TextDict, op: Reduction, a: &Lane<'_, TextId>) -> Result<Cell, ArrayFault>
     requires { AreGiven dict.now (borrowed_column (Borrowed.Texts a.now)).cells }
     ensures given { IfOk result (IsGiven dict.now) }
+    ensures held { IfOk result (λ c. (texts : List (List ℕ)) → holds (reduced_kind op string) (datum texts c) ≡ true) }
     ensures answer { AnswersCell dict.now result (reduce_column (reduction_of op) (column_value dict.now (borrowed_column (Borrowed.Texts a.now)))) }
 {
     match op {
