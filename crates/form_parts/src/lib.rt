@@ -13,10 +13,12 @@
 //! ```
 #![tactic(auto)]
 
+mod faults;
 mod labels;
 mod objects;
 mod parts;
 
+pub use faults::{block_of, refusal_of};
 pub use labels::{same_heading, same_label};
 pub use objects::placed;
 pub use parts::{headings_named, headings_of, table_under, within_limits};

@@ -1,0 +1,29 @@
+// What a kernel answers, as a part of a form.
+ghost use Rattle.std.specs.Prelude.{◌≡◌};
+ghost use Rattle.form_parts.specs.Faults.{refusal_of, block_result};
+
+use cell_core::{Code, Reason};
+use frame_store::OpFault;
+use nullable_array::{ArrayFault, Block, Column};
+
+/// A kernel's refusal as that of a form: `WrongKind`, `ZeroDivide`, `BadValue(Cast)` or `NoMemory`.
+pub fn refusal_of(fault: ArrayFault) -> OpFault
+    ensures { result ≡ refusal_of fault }
+{
+    match fault {
+        ArrayFault::KindMismatch => OpFault::Refused(Code::WrongKind),
+        ArrayFault::ZeroDivision(_) => OpFault::Refused(Code::ZeroDivide),
+        ArrayFault::NotCast(_) => OpFault::Refused(Code::BadValue(Reason::Cast)),
+        ArrayFault::NoMemory => OpFault::NoMemory,
+    }
+}
+
+/// The column that a kernel made as a block, or its refusal. Takes no memory.
+pub fn block_of(made: Result<Column, ArrayFault>) -> Result<Block, OpFault>
+    ensures { result ≡ block_result made }
+{
+    match made {
+        Ok(column) => Ok(column.into_block()),
+        Err(fault) => Err(refusal_of(fault)),
+    }
+}

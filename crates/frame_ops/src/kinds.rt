@@ -1,0 +1,83 @@
+// Whether an operator takes the kinds of its operands.
+ghost use Rattle.std.specs.Prelude.{◌≡◌, ◌≤◌, ◌<◌, ℕ, List, length, is_some};
+ghost use Rattle.std.specs.List.{list_all};
+ghost use Rattle.meaning.specs.Text.{Text};
+ghost use Rattle.meaning.specs.Operator.{operator_kind};
+ghost use Rattle.nullable_array.specs.Tasks.{operator_of};
+ghost use Rattle.table_meaning.specs.Table.{column_at};
+ghost use Rattle.frame_ops.specs.Pairs.{kind_beside, pair_at, pairs_from, kinds_meet, levels_fit, IsOpposite};
+
+use crate::other::Other;
+use cell_core::{Cell, Grid, Kind};
+use frame_store::ObjRef;
+use nullable_array::Binary;
+
+// Whether the operator takes two columns of a kind.
+fn takes_kind(op: Binary, kind: Kind) -> bool
+    ensures { result ≡ is_some (operator_kind (operator_of op) kind kind) }
+{
+    match op {
+        Binary::Add => matches!(kind, Kind::Int64 | Kind::Text),
+        Binary::Sub | Binary::Mul | Binary::FloorDiv | Binary::Mod => matches!(kind, Kind::Int64),
+        Binary::And | Binary::Or | Binary::Xor => matches!(kind, Kind::Boolean),
+        Binary::Eq | Binary::Ne | Binary::Lt | Binary::Le | Binary::Gt | Binary::Ge => true,
+    }
+}
+
+// Whether it takes columns of these kinds, whichever is on the left: never of two.
+fn takes(op: Binary, a: Kind, b: Kind) -> bool
+    ensures straight { result ≡ is_some (operator_kind (operator_of op) a b) }
+    ensures turned { result ≡ is_some (operator_kind (operator_of op) b a) }
+{
+    a == b && takes_kind(op, a)
+}
+
+// A scalar's kind, which is the column's where the scalar is missing.
+fn kind_beside(kind: Kind, cell: Cell) -> Kind
+    ensures { result ≡ kind_beside kind cell }
+{
+    match cell {
+        Cell::Na => kind,
+        Cell::Int(_) => Kind::Int64,
+        Cell::Bool(_) => Kind::Boolean,
+        Cell::Text(_) => Kind::Text,
+    }
+}
+
+// Whether the operator takes the column at a place with what it meets there.
+fn kinds_meet(op: Binary, on: &ObjRef<'_>, other: &Other<'_>, place: usize) -> bool
+    requires place { place < length on.now.columns }
+    requires opposite { IsOpposite on.now other.now }
+    ensures { result ≡ kinds_meet (operator_of op) (pair_at other.now place (column_at on.now.columns place)) }
+{
+    let kind = on.kind(place);
+    match other {
+        Other::Scalar(cell, _) => takes(op, kind, kind_beside(kind, *cell)),
+        Other::Beside(table) => takes(op, kind, table.kind(place)),
+        Other::Across(series, _) => takes(op, kind, series.kind(0)),
+    }
+}
+
+/// Whether the operator takes each column with what it meets.
+pub(crate) fn all_meet(op: Binary, on: &ObjRef<'_>, other: &Other<'_>) -> bool
+    requires { IsOpposite on.now other.now }
+    ensures { result ≡ list_all (kinds_meet (operator_of op)) (pairs_from other.now 0 on.now.columns) }
+{
+    for place in 0..on.columns() {
+        if !kinds_meet(op, on, other, place) {
+            return false;
+        }
+    }
+    true
+}
+
+/// Whether the rows of both sides have as many levels.
+pub(crate) fn levels_fit(on: &ObjRef<'_>, other: &Other<'_>) -> bool
+    ensures { result ≡ levels_fit on.now other.now }
+{
+    match other {
+        Other::Scalar(_, _) => true,
+        Other::Beside(table) => on.levels() == table.levels(),
+        Other::Across(series, _) => series.levels() == 1,
+    }
+}

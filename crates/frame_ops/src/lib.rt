@@ -1,0 +1,16 @@
+//! Operators on scalars, Series and frames.
+//!
+//! [`infix`] is `a + b` and the other operators on two operands, [`invert_or_negate`] is `-a` and `~a`.
+//! Two Series or two frames meet row by row where their labels are equal; a frame meets a Series
+//! whose labels are those of its columns in each row; a scalar stands in each row of each column.
+//! NA on a side gives NA, but for `&` and `|`, which follow Kleene's logic.
+//!
+//! ```text
+//! let twice = infix(alloc, &mut store, &mut dict, Binary::Mul, price, Value::Scalar(Cell::Int(2)))?;
+//! let total = infix(alloc, &mut store, &mut dict, Binary::Add, twice, tax)?;
+//! let opposite = invert_or_negate(alloc, &mut store, &mut dict, true, total)?;
+//! ```
+#![tactic(auto)]
+
+mod kinds;
+mod other;
