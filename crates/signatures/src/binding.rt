@@ -127,12 +127,7 @@ fn all_fit(store: &Store, dict: &TextDict, parameters: &[Parameter], args: &[Nam
     true
 }
 
-fn listed_at(
-    dict: &TextDict,
-    parameters: &[Parameter],
-    place: usize,
-    argument: &Argument,
-) -> bool
+fn listed_at(dict: &TextDict, parameters: &[Parameter], place: usize, argument: &Argument) -> bool
     ensures { (live : Tables) → result ≡ plain.listed_by (slice_get parameters.now place) (argument_of live dict.now argument.now) }
 {
     match parameters.get(place) {
