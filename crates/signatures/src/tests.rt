@@ -4,11 +4,11 @@ ghost use Rattle.frame_store.specs.Objects.{Tables};
 ghost use Rattle.frame_store.specs.Arguments.{IsLiveArgument, AreLive};
 
 use crate::{
-    Unbound, bind, dict_or_none_at, function_named, function_parameters, is_none_at, list_at,
-    method_named, object_at, parameters, scalar_at, text_at, truth_at, whole_at, whole_or_none_at,
+    Unbound, bind, is_none_at, list_at, method_named, object_at, parameters, scalar_at, text_at,
+    truth_at, whole_at, whole_or_none_at,
 };
 use cell_core::{Cell, NoMemory, Shape, TextDict, Words};
-use form_meaning::{Function, Method};
+use form_meaning::Method;
 use frame_store::{Argument, Item, Items, Named, Store, Value};
 use std::alloc::Global;
 use std::test::Fail;
@@ -41,94 +41,105 @@ fn named(alloc: Global, name: &str, cell: Cell) -> Result<Named, NoMemory>
     })
 }
 
-fn bound(alloc: Global, dict: &TextDict, method: Method, args: &[Named]) -> Result<(), Unbound>
+fn bound(alloc: Global, method: Method, args: &[Named]) -> Result<(), Unbound>
     requires { (live : Tables) → AreLive live args.now }
 {
     let store = Store::new(alloc);
-    bind(&store, dict, parameters(method), args)
+    let dict = TextDict::new(alloc);
+    bind(&store, &dict, parameters(method), args)
 }
 
 #[test]
-fn finds_methods_and_functions(rt: HostRuntime) {
-    assert!(rt; method_named(Shape::Series, "rename") == Some(Method::RenameSeries));
+fn finds_the_method_of_a_shape(rt: HostRuntime) {
     assert!(rt; method_named(Shape::Frame, "rename") == Some(Method::RenameFrame));
     assert!(rt; method_named(Shape::Series, "merge") == None);
-    assert!(rt; function_named("read_csv") == Some(Function::ReadCsv));
-    assert!(rt; function_named("read") == None);
 }
 
 #[test]
-fn binds_or_refuses(rt: HostRuntime) -> Result<(), Fail> {
-    let alloc = rt.alloc();
-    let mut dict = TextDict::new(alloc);
-    let float = dict.intern("float")?;
-    let none: [Named; 0] = [];
-    assert_eq!(rt; bound(alloc, &dict, Method::Head, &none), Ok(()));
+fn refuses_an_unknown_name(rt: HostRuntime) -> Result<(), Fail> {
+    let unknown = named(rt.alloc(), "k", Cell::Int(3))?;
     assert_eq!(rt;
-        bound(alloc, &dict, Method::Fillna, &none),
-        Err(Unbound::NotTaken)
-    );
-    let unknown = [named(alloc, "k", Cell::Int(3))?];
-    assert_eq!(rt;
-        bound(alloc, &dict, Method::Head, &unknown),
-        Err(Unbound::NotTaken)
-    );
-    let surplus = [scalar(Cell::Int(3)), scalar(Cell::Int(4))];
-    assert_eq!(rt;
-        bound(alloc, &dict, Method::Head, &surplus),
-        Err(Unbound::NotTaken)
-    );
-    let second = named(alloc, "n", Cell::Int(3))?;
-    let twice = [scalar(Cell::Int(3)), second];
-    assert_eq!(rt;
-        bound(alloc, &dict, Method::Head, &twice),
-        Err(Unbound::NotTaken)
-    );
-    let truth = [scalar(Cell::Bool(true))];
-    assert_eq!(rt;
-        bound(alloc, &dict, Method::Head, &truth),
-        Err(Unbound::NotTaken)
-    );
-    let kind = [scalar(Cell::Text(float))];
-    assert_eq!(rt;
-        bound(alloc, &dict, Method::Astype, &kind),
-        Err(Unbound::NotListed)
-    );
-    let nothing = [nothing()];
-    assert_eq!(rt;
-        bound(alloc, &dict, Method::DuplicatedFrame, &nothing),
-        Ok(())
-    );
-    assert_eq!(rt;
-        bound(alloc, &dict, Method::Fillna, &nothing),
+        bound(rt.alloc(), Method::Head, &[unknown]),
         Err(Unbound::NotTaken)
     );
     Ok(())
 }
 
 #[test]
-fn reads_what_is_bound(rt: HostRuntime) -> Result<(), Fail> {
-    let alloc = rt.alloc();
-    let mut dict = TextDict::new(alloc);
-    let left = dict.intern("left")?;
-    let none: [Named; 0] = [];
-    assert_eq!(rt; whole_at(parameters(Method::Head), &none, 0), Some(5));
-    assert_eq!(rt; truth_at(parameters(Method::Copy), &none, 0), Some(true));
+fn refuses_a_missing_argument(rt: HostRuntime) {
     assert_eq!(rt;
-        text_at(&dict, parameters(Method::Merge), &none, 1),
-        Some("inner")
+        bound(rt.alloc(), Method::Fillna, &[]),
+        Err(Unbound::NotTaken)
     );
-    assert!(rt; is_none_at(parameters(Method::Merge), &none, 2));
+}
+
+#[test]
+fn refuses_a_surplus_argument(rt: HostRuntime) {
+    let surplus = [scalar(Cell::Int(3)), scalar(Cell::Int(4))];
     assert_eq!(rt;
-        whole_or_none_at(parameters(Method::Rolling), &none, 1),
+        bound(rt.alloc(), Method::Head, &surplus),
+        Err(Unbound::NotTaken)
+    );
+}
+
+#[test]
+fn refuses_an_argument_given_twice(rt: HostRuntime) -> Result<(), Fail> {
+    let second = named(rt.alloc(), "n", Cell::Int(3))?;
+    let twice = [scalar(Cell::Int(3)), second];
+    assert_eq!(rt;
+        bound(rt.alloc(), Method::Head, &twice),
+        Err(Unbound::NotTaken)
+    );
+    Ok(())
+}
+
+#[test]
+fn refuses_a_wrong_form(rt: HostRuntime) {
+    let truth = [scalar(Cell::Bool(true))];
+    assert_eq!(rt;
+        bound(rt.alloc(), Method::Head, &truth),
+        Err(Unbound::NotTaken)
+    );
+}
+
+#[test]
+fn refuses_what_is_not_listed(rt: HostRuntime) -> Result<(), Fail> {
+    let store = Store::new(rt.alloc());
+    let mut dict = TextDict::new(rt.alloc());
+    let float = dict.intern("float")?;
+    let kind = [scalar(Cell::Text(float))];
+    let bound = bind(&store, &dict, parameters(Method::Astype), &kind);
+    assert_eq!(rt; bound, Err(Unbound::NotListed));
+    Ok(())
+}
+
+#[test]
+fn takes_none_where_it_is_the_default(rt: HostRuntime) {
+    let nothing = [nothing()];
+    assert_eq!(rt;
+        bound(rt.alloc(), Method::DuplicatedFrame, &nothing),
+        Ok(())
+    );
+    assert_eq!(rt;
+        bound(rt.alloc(), Method::Fillna, &nothing),
+        Err(Unbound::NotTaken)
+    );
+}
+
+#[test]
+fn reads_defaults(rt: HostRuntime) {
+    assert_eq!(rt; whole_at(parameters(Method::Head), &[], 0), Some(5));
+    assert_eq!(rt; truth_at(parameters(Method::Copy), &[], 0), Some(true));
+    assert_eq!(rt;
+        whole_or_none_at(parameters(Method::Rolling), &[], 1),
         Some(None)
     );
-    assert_eq!(rt; object_at(parameters(Method::Merge), &none, 0), None);
-    let args = [named(alloc, "how", Cell::Text(left))?];
-    assert_eq!(rt;
-        text_at(&dict, parameters(Method::Merge), &args, 1),
-        Some("left")
-    );
+    assert_eq!(rt; object_at(parameters(Method::Merge), &[], 0), None);
+    assert!(rt; is_none_at(parameters(Method::Merge), &[], 2));
+}
+
+#[test]
+fn reads_scalars(rt: HostRuntime) {
     let three = [scalar(Cell::Int(3))];
     assert_eq!(rt;
         scalar_at(parameters(Method::Fillna), &three, 0),
@@ -139,8 +150,27 @@ fn reads_what_is_bound(rt: HostRuntime) -> Result<(), Fail> {
         Some(Some(3))
     );
     assert_eq!(rt; truth_at(parameters(Method::Copy), &three, 0), None);
-    assert!(rt; dict_or_none_at(function_parameters(Function::ReadCsv), &three, 0).is_none());
-    let mut items = Items::new(alloc);
+}
+
+#[test]
+fn reads_texts(rt: HostRuntime) -> Result<(), Fail> {
+    let mut dict = TextDict::new(rt.alloc());
+    let left = dict.intern("left")?;
+    let how = [named(rt.alloc(), "how", Cell::Text(left))?];
+    assert_eq!(rt;
+        text_at(&dict, parameters(Method::Merge), &how, 1),
+        Some("left")
+    );
+    assert_eq!(rt;
+        text_at(&dict, parameters(Method::Merge), &[], 1),
+        Some("inner")
+    );
+    Ok(())
+}
+
+#[test]
+fn reads_a_list(rt: HostRuntime) -> Result<(), Fail> {
+    let mut items = Items::new(rt.alloc());
     items.push(Item::One(Value::Scalar(Cell::Na)))?;
     let values = Argument::Many(items);
     let list = [Named {
