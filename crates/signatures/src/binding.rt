@@ -14,9 +14,9 @@ ghost use Rattle.signatures.specs.Bound.{IsBound};
 
 use crate::forms::{lists, takes};
 use crate::table::spelled;
-use cell_core::{TextDict, Words};
+use cell_core::{Code, Reason, TextDict, Words};
 use form_meaning::{Omitted, Parameter};
-use frame_store::{Argument, Named, Store};
+use frame_store::{Argument, Named, OpFault, Store};
 
 /// Why arguments aren't bound.
 #[derive(Clone, Copy, Debug, PartialEq, Eq)]
@@ -26,6 +26,21 @@ pub enum Unbound {
     NotTaken,
     /// A `ValueError`: an argument that isn't among the listed values.
     NotListed,
+}
+
+impl From<Unbound> for OpFault {
+    ghost use Rattle.std.specs.Prelude.{◌≡◌};
+    ghost use Rattle.frame_store.specs.declared.fault.OpFault.TheVariants.{Refused};
+    ghost use Rattle.signatures.specs.Bound.{code_of};
+
+    ghost from_gives = { λ unbound fault. fault ≡ Refused (code_of unbound) };
+
+    fn from(unbound: Unbound) -> Self {
+        OpFault::Refused(match unbound {
+            Unbound::NotTaken => Code::WrongKind,
+            Unbound::NotListed => Code::BadValue(Reason::Argument),
+        })
+    }
 }
 
 // The place of the parameter with a name, or the number of parameters.
@@ -127,12 +142,7 @@ fn all_fit(store: &Store, dict: &TextDict, parameters: &[Parameter], args: &[Nam
     true
 }
 
-fn listed_at(
-    dict: &TextDict,
-    parameters: &[Parameter],
-    place: usize,
-    argument: &Argument,
-) -> bool
+fn listed_at(dict: &TextDict, parameters: &[Parameter], place: usize, argument: &Argument) -> bool
     ensures { (live : Tables) → result ≡ plain.listed_by (slice_get parameters.now place) (argument_of live dict.now argument.now) }
 {
     match parameters.get(place) {

@@ -166,7 +166,12 @@ pub fn truth_at(parameters: &[Parameter], args: &[Named], place: usize) -> Optio
 }
 
 /// The text at a place of a signature, or what stands for it. Takes no memory.
-pub fn text_at<'a>(dict: &'a TextDict, parameters: &[Parameter], args: &[Named], place: usize) -> Option<&'a str>
+pub fn text_at<'a>(
+    dict: &'a TextDict,
+    parameters: &[Parameter],
+    args: &[Named],
+    place: usize,
+) -> Option<&'a str>
     ensures { (live : Tables) → option_map (λ t. t.now) result ≡ plain.text_in (plain.argument_at parameters.now (arguments_of live dict.now args.now) place) }
 {
     match found_at(parameters, args, place) {
@@ -187,7 +192,11 @@ pub fn list_at<'a>(parameters: &[Parameter], args: &'a [Named], place: usize) ->
 }
 
 /// The pairs of the dict at a place of a signature. Takes no memory.
-pub fn dict_at<'a>(parameters: &[Parameter], args: &'a [Named], place: usize) -> Option<&'a [(Label, Argument)]>
+pub fn dict_at<'a>(
+    parameters: &[Parameter],
+    args: &'a [Named],
+    place: usize,
+) -> Option<&'a [(Label, Argument)]>
     ensures value { (live : Tables) (texts : List Text) → option_map (λ pairs. entries_of live texts pairs.now) result ≡ dict_in (plain.argument_at parameters.now (arguments_of live texts args.now) place) }
     ensures live { (live : Tables) → AreLive live args.now → IfSome result (λ pairs. AreLivePairs live pairs.now) }
 {
@@ -243,7 +252,11 @@ pub fn is_none_at(parameters: &[Parameter], args: &[Named], place: usize) -> boo
 }
 
 /// The same where `None` may stand: `Some(None)` where it does. Takes no memory.
-pub fn scalar_or_none_at(parameters: &[Parameter], args: &[Named], place: usize) -> Option<Option<Cell>>
+pub fn scalar_or_none_at(
+    parameters: &[Parameter],
+    args: &[Named],
+    place: usize,
+) -> Option<Option<Cell>>
     requires { plain.HasNoText (slice_get parameters.now place) }
     ensures { (live : Tables) (texts : List Text) → option_map (option_map (datum texts)) result ≡ plain.or_none scalar_in (plain.argument_at parameters.now (arguments_of live texts args.now) place) }
 {
@@ -254,7 +267,11 @@ pub fn scalar_or_none_at(parameters: &[Parameter], args: &[Named], place: usize)
 }
 
 /// The same where `None` may stand: `Some(None)` where it does. Takes no memory.
-pub fn whole_or_none_at(parameters: &[Parameter], args: &[Named], place: usize) -> Option<Option<i64>>
+pub fn whole_or_none_at(
+    parameters: &[Parameter],
+    args: &[Named],
+    place: usize,
+) -> Option<Option<i64>>
     ensures { (live : Tables) (texts : List Text) → result ≡ plain.or_none plain.whole_in (plain.argument_at parameters.now (arguments_of live texts args.now) place) }
 {
     if is_none_at(parameters, args, place) {
@@ -264,7 +281,12 @@ pub fn whole_or_none_at(parameters: &[Parameter], args: &[Named], place: usize) 
 }
 
 /// The same where `None` may stand: `Some(None)` where it does. Takes no memory.
-pub fn text_or_none_at<'a>(dict: &'a TextDict, parameters: &[Parameter], args: &[Named], place: usize) -> Option<Option<&'a str>>
+pub fn text_or_none_at<'a>(
+    dict: &'a TextDict,
+    parameters: &[Parameter],
+    args: &[Named],
+    place: usize,
+) -> Option<Option<&'a str>>
     ensures { (live : Tables) → option_map (option_map (λ t. t.now)) result ≡ plain.or_none plain.text_in (plain.argument_at parameters.now (arguments_of live dict.now args.now) place) }
 {
     if is_none_at(parameters, args, place) {
@@ -274,7 +296,11 @@ pub fn text_or_none_at<'a>(dict: &'a TextDict, parameters: &[Parameter], args: &
 }
 
 /// The same where `None` may stand: `Some(None)` where it does. Takes no memory.
-pub fn list_or_none_at<'a>(parameters: &[Parameter], args: &'a [Named], place: usize) -> Option<Option<&'a [Item]>>
+pub fn list_or_none_at<'a>(
+    parameters: &[Parameter],
+    args: &'a [Named],
+    place: usize,
+) -> Option<Option<&'a [Item]>>
     ensures value { (live : Tables) (texts : List Text) → option_map (option_map (λ parts. items_of live texts parts.now)) result ≡ plain.or_none list_in (plain.argument_at parameters.now (arguments_of live texts args.now) place) }
     ensures live { (live : Tables) → AreLive live args.now → IfSome result (λ given. IfSome given (λ parts. AreLiveItems live parts.now)) }
 {
@@ -285,7 +311,11 @@ pub fn list_or_none_at<'a>(parameters: &[Parameter], args: &'a [Named], place: u
 }
 
 /// The same where `None` may stand: `Some(None)` where it does. Takes no memory.
-pub fn dict_or_none_at<'a>(parameters: &[Parameter], args: &'a [Named], place: usize) -> Option<Option<&'a [(Label, Argument)]>>
+pub fn dict_or_none_at<'a>(
+    parameters: &[Parameter],
+    args: &'a [Named],
+    place: usize,
+) -> Option<Option<&'a [(Label, Argument)]>>
     ensures value { (live : Tables) (texts : List Text) → option_map (option_map (λ pairs. entries_of live texts pairs.now)) result ≡ plain.or_none dict_in (plain.argument_at parameters.now (arguments_of live texts args.now) place) }
     ensures live { (live : Tables) → AreLive live args.now → IfSome result (λ given. IfSome given (λ pairs. AreLivePairs live pairs.now)) }
 {

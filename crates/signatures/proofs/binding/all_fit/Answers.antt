@@ -17,7 +17,8 @@ pub loop-rest-preserved : goal.loop-rest-preserved
 loop-rest-preserved c =
     let live = tables c.args.store.now in
     let taken : c.fits.result ≡ true = grind (arith, c.if-not-fits.false) in
-    let first = fit_taken live c.args.dict.now c.args.parameters.now c.loop-rest.unnamed c.loop-rest.rest.now c.first-item.result c.first-item.is c.in-len1-up.len_at_least (sym c.fits.ensures ∙ taken) in
-    (ap (λ k. plain.fit c.args.parameters.now k (arguments_of live c.args.dict.now (after c.loop-rest.rest.now))) c.counted-unnamed.ensures ∙ sym first ∙ c.loop-rest.invariant.0,
-    live_after live _ c.loop-rest.rest.now c.loop-rest.invariant.1,
-    grind (arith, common_steps))
+    let first = fit_taken live c.args.dict.now c.args.parameters.now c.loop-rest.unnamed c.loop-rest.rest.now c.first-item.result c.first-item.is c.in-len1-up.len_at_least (sym c.fits.ensures ∙ taken) in (
+      ap (λ k. plain.fit c.args.parameters.now k (arguments_of live c.args.dict.now (after c.loop-rest.rest.now))) c.counted-unnamed.ensures ∙ sym first ∙ c.loop-rest.invariant.0,
+      live_after live _ c.loop-rest.rest.now c.loop-rest.invariant.1,
+      grind (arith, common_steps),
+    )
