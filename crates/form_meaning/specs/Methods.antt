@@ -1,5 +1,6 @@
 -- What each method answers for its arguments, as far as it is built.
 use Rattle.std.specs.Prelude.{ℤ, pos, Bool, true, false, not, List, [], ◌∷◌, map, Option, Some, None, option_map, unwrap_or, Result, Ok, Err, if◌then◌else◌}
+use Rattle.std.specs.Int.{int_wrap, w64}
 use Rattle.std.specs.List.{list_any, list_all}
 use Rattle.cell_core.specs.declared.cell.Kind.{Kind}
 use Rattle.cell_core.specs.declared.cell.Kind.TheVariants.{Int64, Boolean, Text as string}
@@ -59,7 +60,7 @@ cast_as kind c = made_column (cast_column kind (value_of_column c))
 abbrev pub cumulated : Cumulation → ColumnOf CellValue → Result (ColumnOf CellValue) FaultValue
 cumulated op c = made_column (cumulate_column op (value_of_column c))
 
--- what is made of all cells of a column
+-- what is made of all cells of a column; numbers of cells wrap at 64 bits, as sums do
 pub data Summary : Type 0 where
   reduced : Reduction → Summary
   distinct : Summary
@@ -70,7 +71,7 @@ made_cell (Err fault) = Err (fault_of_column fault)
 
 abbrev pub summary_cell : Summary → ColumnOf CellValue → Result CellValue FaultValue
 summary_cell (reduced op) c = made_cell (reduce_column op (value_of_column c))
-summary_cell distinct c = Ok (int_cell (pos (distinct_count c.cells)))
+summary_cell distinct c = Ok (int_cell (int_wrap w64 (pos (distinct_count c.cells))))
 
 -- the kind of a summary of columns of the kind
 abbrev pub summary_kind : Summary → Kind → Kind
@@ -93,8 +94,9 @@ abbrev pub kind_for : Summary → List (ColumnOf CellValue) → Kind
 kind_for op [] = summary_kind op Int64
 kind_for op (c ∷ cs) = summary_kind op c.kind
 
-abbrev pub gives_kind : Summary → Kind → ColumnOf CellValue → Bool
-gives_kind op kind c = same_kind (summary_kind op c.kind) kind
+-- the summary of a column, which must be of the kind
+abbrev pub summary_as : Summary → Kind → ColumnOf CellValue → Result CellValue FaultValue
+summary_as op kind c = if same_kind (summary_kind op c.kind) kind then summary_cell op c else Err wrong_kind
 
 abbrev pub label_or : Option LabelValue → LabelValue → LabelValue
 label_or None l = l
@@ -112,12 +114,10 @@ summary_series t kind cells =
       columns = record { kind = kind; cells = cells } ∷ [];
     }
 
--- a Series gives a scalar; a frame gives a Series, and its summaries must be of one kind
+-- a Series gives a scalar; a frame gives a Series, whose cells must be of one kind
 abbrev pub summary_of : Shape → Summary → Table → Result Entry FaultValue
 summary_of Series op t = then_value (summary_cell op (column_at t.columns 0)) (λ c. Ok (cell c))
-summary_of Frame op t =
-    then_value (try_all (summary_cell op) t.columns) (λ cells.
-    if list_all (gives_kind op (kind_for op t.columns)) t.columns then limited (summary_series t (kind_for op t.columns) cells) else Err wrong_kind)
+summary_of Frame op t = then_value (try_all (summary_as op (kind_for op t.columns)) t.columns) (λ cells. limited (summary_series t (kind_for op t.columns) cells))
 
 abbrev pub summary : Summary → Table → Result Entry FaultValue
 summary op t = summary_of t.shape op t

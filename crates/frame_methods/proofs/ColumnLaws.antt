@@ -33,17 +33,17 @@ abbrev first_then : {A B : Type 0} → (A → Result B FaultValue) → List A �
 first_then f xs first = then_value first (λ y. then_value (try_all f xs) (λ ys. Ok (y ∷ ys)))
 
 -- one item more is made
-front_next : {A B : Type 0} (f : A → Result B FaultValue) (made : List B) (x : A) (y : B) (xs : List A) (whole : Result (List B) FaultValue)
+pub front_next : {A B : Type 0} (f : A → Result B FaultValue) (made : List B) (x : A) (y : B) (xs : List A) (whole : Result (List B) FaultValue)
     → with_front made (try_all f (x ∷ xs)) ≡ whole → f x ≡ Ok y → with_front (made ++ y ∷ []) (try_all f xs) ≡ whole
 front_next f made x y xs whole so_far is = front_twice made y (try_all f xs) ∙ ap (λ r. with_front made (first_then f xs r)) (sym is) ∙ so_far
 
 -- or it is the first fault
-front_fails : {A B : Type 0} (f : A → Result B FaultValue) (made : List B) (x : A) (fault : FaultValue) (xs : List A) (whole : Result (List B) FaultValue)
+pub front_fails : {A B : Type 0} (f : A → Result B FaultValue) (made : List B) (x : A) (fault : FaultValue) (xs : List A) (whole : Result (List B) FaultValue)
     → with_front made (try_all f (x ∷ xs)) ≡ whole → f x ≡ Err fault → whole ≡ Err fault
 front_fails f made x fault xs whole so_far is = sym so_far ∙ ap (λ r. with_front made (first_then f xs r)) is
 
 -- the column at a place, and those after it
-at_place : (columns : List (ColumnOf Cell)) (place : ℕ) (a : ColumnOf Cell) → place < length columns → column_at columns place ≡ a → drop place columns ≡ a ∷ drop (place + 1) columns
+pub at_place : (columns : List (ColumnOf Cell)) (place : ℕ) (a : ColumnOf Cell) → place < length columns → column_at columns place ≡ a → drop place columns ≡ a ∷ drop (place + 1) columns
 at_place columns place a lt is =
     let here : slice_get columns place ≡ Some a = slice_get-get_or columns place no_column lt ∙ ap Some is in
     let next : suc place ≡ place + 1 = omega arith in
@@ -102,7 +102,7 @@ front_refused f first dict columns rows place made a fault so_far lt at is =
     front_fails f (columns_value dict (map block_column made)) (column_value first (table_column a)) fault (columns_value first (drop (place + 1) columns)) (try_all f (columns_value first columns))
       (ap (λ l. placed_front f (columns_value dict (map block_column made)) (columns_value first l)) (sym (at_place columns place (table_column a) lt at)) ∙ so_far.answer) is
 
-drop_all : {X : Type 0} (xs : List X) → drop (length xs) xs ≡ []
+pub drop_all : {X : Type 0} (xs : List X) → drop (length xs) xs ≡ []
 drop_all [] = refl
 drop_all (x ∷ xs) = drop_all xs
 

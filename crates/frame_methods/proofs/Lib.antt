@@ -2,3 +2,4 @@ pub mod Lists
 pub mod ColumnLaws
 pub mod OpLaws
 pub mod TableLaws
+pub mod SummaryLaws

@@ -10,8 +10,7 @@ use Rattle.cell_core.specs.declared.cell.Cell.{Cell}
 use Rattle.cell_core.specs.declared.cell.Cell.TheVariants as cell
 use Rattle.cell_core.specs.declared.cell.Kind.{Kind}
 use Rattle.cell_core.specs.declared.cell.Kind.TheVariants.{Int64, Boolean, Text as string}
-use Rattle.cell_core.specs.declared.code.Code.TheVariants.{WrongKind, ZeroDivide, BadValue}
-use Rattle.cell_core.specs.declared.code.Reason.TheVariants.{Cast}
+use Rattle.form_parts.specs.Faults.{refusal_of}
 use Rattle.meaning.specs.Text.{Text}
 use Rattle.meaning.specs.Cell.{CellValue, na_cell, datum, holds, IsGiven, AreGiven}
 use Rattle.meaning.specs.Column.{ColumnValue, ColumnFault, kind_mismatch, zero_division, not_cast, before_rows, then_rows, try_each, column_of, tabulate, shifted, shifted_row}
@@ -29,11 +28,10 @@ use Rattle.table_meaning.specs.Table.{ColumnOf, column_value}
 use Rattle.form_meaning.specs.Finish.{made_column}
 use Rattle.form_meaning.specs.Methods.{filled, filled_column, mapped, shifted_column}
 use Rattle.frame_store.specs.declared.fault.OpFault.{OpFault}
-use Rattle.frame_store.specs.declared.fault.OpFault.TheVariants.{Refused, NoMemory}
 use Rattle.frame_store.specs.Shown.{cells_value}
 use Rattle.frame_store.proofs.Settling.{settled_by, cells_settled, cells_given}
 use Rattle.frame_methods.specs.Cells.{missing_mark, filled_cell}
-use Rattle.frame_methods.specs.Columns.{table_column, MakesColumn, IsFaultOf}
+use Rattle.frame_methods.specs.Columns.{table_column, MakesColumn}
 use Rattle.frame_methods.specs.Marks.{mark_of, marked_column}
 
 -- cells by themselves
@@ -164,8 +162,11 @@ cumulated_rows op texts a made is =
     ∙ length-map a.cells (datum texts)
 
 -- a kernel that makes no column
-pub op_refused : (texts : List Text) (fault : OpFault) (array : ArrayFault) (whole : Result ColumnValue ColumnFault) → IsFaultOf fault array → IsRefusal array whole → MakesColumn texts (Err fault) (made_column whole)
-op_refused texts fault KindMismatch whole is refused = subst (λ f. MakesColumn texts (Err f) (made_column whole)) (sym is) (ap made_column refused)
-op_refused texts fault (ZeroDivision row) whole is refused = subst (λ f. MakesColumn texts (Err f) (made_column whole)) (sym is) (ap made_column refused)
-op_refused texts fault (NotCast row) whole is refused = subst (λ f. MakesColumn texts (Err f) (made_column whole)) (sym is) (ap made_column refused)
-op_refused texts fault OutOfMemory whole is refused = subst (λ f. MakesColumn texts (Err f) (made_column whole)) (sym is) tt
+pub op_refused : (texts : List Text) (fault : OpFault) (array : ArrayFault) (whole : Result ColumnValue ColumnFault) → fault ≡ refusal_of array → IsRefusal array whole → MakesColumn texts (Err fault) (made_column whole)
+op_refused texts fault array whole is refused = subst (λ f. MakesColumn texts (Err f) (made_column whole)) (sym is) (by_fault array refused)
+  where
+    by_fault : (array : ArrayFault) → IsRefusal array whole → MakesColumn texts (Err (refusal_of array)) (made_column whole)
+    by_fault KindMismatch refused = ap made_column refused
+    by_fault (ZeroDivision row) refused = ap made_column refused
+    by_fault (NotCast row) refused = ap made_column refused
+    by_fault OutOfMemory refused = tt

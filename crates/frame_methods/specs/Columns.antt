@@ -10,10 +10,6 @@ use Rattle.table_meaning.specs.Table.{ColumnOf, column_value}
 use Rattle.frame_store.specs.declared.fault.OpFault.{OpFault}
 use Rattle.frame_store.specs.declared.fault.OpFault.TheVariants.{Refused, NoMemory}
 use Rattle.frame_store.specs.Shown.{columns_value}
-use Rattle.nullable_array.specs.declared.ops.ArrayFault.{ArrayFault}
-use Rattle.nullable_array.specs.declared.ops.ArrayFault.TheVariants.{KindMismatch, ZeroDivision, NotCast, NoMemory as OutOfMemory}
-use Rattle.cell_core.specs.declared.code.Code.TheVariants.{WrongKind, ZeroDivide, BadValue}
-use Rattle.cell_core.specs.declared.code.Reason.TheVariants.{Cast}
 use Rattle.frame_store.specs.Parts.{block_column, IsSingle, HaveRows}
 use Rattle.form_meaning.specs.Finish.{try_all}
 use Rattle.nullable_array.specs.Blocks.{CellBlock}
@@ -46,10 +42,3 @@ pub record IsFront (f : ColumnOf CellValue → Result (ColumnOf CellValue) Fault
   pub filled : HaveRows rows (map block_column made)
   pub count : length made ≡ place
   pub answer : with_front (columns_value dict (map block_column made)) (try_all f (columns_value first (drop place columns))) ≡ try_all f (columns_value first columns)
-
--- the fault of a form for a kernel that makes no column
-abbrev pub IsFaultOf : OpFault → ArrayFault → Type 0
-IsFaultOf fault KindMismatch = fault ≡ Refused WrongKind
-IsFaultOf fault (ZeroDivision row) = fault ≡ Refused ZeroDivide
-IsFaultOf fault (NotCast row) = fault ≡ Refused (BadValue Cast)
-IsFaultOf fault OutOfMemory = fault ≡ NoMemory

@@ -1,3 +1,4 @@
 pub mod Cells
 pub mod Columns
 pub mod Marks
+pub mod Summaries

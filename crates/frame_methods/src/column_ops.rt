@@ -2,20 +2,18 @@
 ghost use Rattle.std.specs.Prelude.{◌≡◌, List, length, IfOk, true, false, if◌then◌else◌};
 ghost use Rattle.meaning.specs.Text.{Text as OneText};
 ghost use Rattle.meaning.specs.Cell.{AreGiven, IsGiven, IsLonger, holds, datum};
-ghost use Rattle.meaning.specs.Column.{ColumnFault};
 ghost use Rattle.table_meaning.specs.Table.{column_value};
-ghost use Rattle.form_meaning.specs.Finish.{made_column};
 ghost use Rattle.form_meaning.specs.Methods.{filled_column, shifted_column, cast_as, cumulated};
-ghost use Rattle.nullable_array.specs.Answers.{IsRefusal};
 ghost use Rattle.nullable_array.specs.Folds.{cumulation_of};
-ghost use Rattle.frame_methods.specs.Columns.{table_column, MakesColumn, IsFaultOf};
+ghost use Rattle.frame_methods.specs.Columns.{table_column, MakesColumn};
 ghost use Rattle.frame_methods.specs.Marks.{marked_column};
 
 use crate::cells::{Fill, Mark, map_cells};
 use crate::columns::ColumnOp;
-use cell_core::{Cell, Code, Kind, Reason, TextDict};
+use cell_core::{Cell, Code, Kind, TextDict};
+use form_parts::refusal_of;
 use frame_store::OpFault;
-use nullable_array::{ArrayFault, ColRef, Column, Cumulation, cast, cumulate, shift};
+use nullable_array::{ColRef, Column, Cumulation, cast, cumulate, shift};
 use std::alloc::Global;
 
 // Whether each cell is missing, or whether it is there.
@@ -149,7 +147,7 @@ impl ColumnOp for Cast {
     {
         match cast(alloc, dict, a, self.kind) {
             Ok(column) => Ok(column),
-            Err(fault) => Err(op_fault(fault)),
+            Err(fault) => Err(refusal_of(fault)),
         }
     }
 
@@ -184,23 +182,11 @@ impl ColumnOp for Cumulated {
     {
         match cumulate(alloc, self.op, a) {
             Ok(column) => Ok(column),
-            Err(fault) => Err(op_fault(fault)),
+            Err(fault) => Err(refusal_of(fault)),
         }
     }
 
     ghost lasts = { λ _ _ _ _ _. tt };
 
     ghost stays = { λ s _ _ _ _ i. cumulated (cumulation_of s.op) };
-}
-
-// Why a kernel makes no column, as the fault of a form.
-pub(crate) fn op_fault(fault: ArrayFault) -> OpFault
-    ensures { IsFaultOf result fault }
-{
-    match fault {
-        ArrayFault::KindMismatch => OpFault::Refused(Code::WrongKind),
-        ArrayFault::ZeroDivision(_) => OpFault::Refused(Code::ZeroDivide),
-        ArrayFault::NotCast(_) => OpFault::Refused(Code::BadValue(Reason::Cast)),
-        ArrayFault::NoMemory => OpFault::NoMemory,
-    }
 }

@@ -4,6 +4,7 @@
 mod cells;
 mod columns;
 mod column_ops;
+mod summaries;
 mod tables;
 
 

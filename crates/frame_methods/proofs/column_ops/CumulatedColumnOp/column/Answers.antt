@@ -11,4 +11,4 @@ pub returns-in-Ok-clause-answer : goal.returns-in-Ok-clause-answer
 returns-in-Ok-clause-answer c = ap made_column (c.in-Ok.ensures.answer c.args.dict.now)
 
 pub returns-in-Err-clause-answer : goal.returns-in-Err-clause-answer
-returns-in-Err-clause-answer c = op_refused c.args.dict.now c.op_fault.result c.in-Err.fault _ c.op_fault.ensures (c.in-Err.ensures.answer c.args.dict.now)
+returns-in-Err-clause-answer c = op_refused c.args.dict.now c.refusal_of.result c.in-Err.fault _ c.refusal_of.ensures (c.in-Err.ensures.answer c.args.dict.now)

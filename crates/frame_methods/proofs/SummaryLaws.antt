@@ -1,0 +1,84 @@
+-- Summaries of columns.
+use Rattle.std.proofs.Common.{◌≡◌, ◌∙◌, ◌<◌, ◌+◌, ◌^◌, ◌%◌, refl, ap, sym, subst, ℕ, ℤ, pos, mod-eq_of_lt, List, [], ◌∷◌, ◌++◌, map, drop, length, length-append, append-nil, Result, Ok, Err}
+use Rattle.std.specs.Int.{int_wrap, cast_signed, w64}
+use Rattle.std.proofs.lemmas.List.{map-append}
+use Rattle.std.proofs.lemmas.List.Elements.{All-append, All-cons, All-nil}
+use Rattle.cell_core.specs.declared.cell.Cell.{Cell}
+use Rattle.cell_core.specs.declared.cell.Kind.{Kind}
+use Rattle.meaning.specs.Text.{Text}
+use Rattle.meaning.specs.Cell.{CellValue, int_cell, datum, IsGiven, AreGiven}
+use Rattle.meaning.specs.Fault.{FaultValue, then_value}
+use Rattle.meaning.specs.FaultOf.{fault_of}
+use Rattle.meaning.specs.Reduce.{distinct_count}
+use Rattle.nullable_array.specs.Columns.{CellColumn}
+use Rattle.nullable_array.specs.Columns as kernel
+use Rattle.table_meaning.specs.Table.{ColumnOf, column_value, column_at}
+use Rattle.form_meaning.specs.Finish.{try_all}
+use Rattle.form_meaning.specs.Methods as meant
+use Rattle.form_parts.specs.Makes.{MakesBy}
+use Rattle.frame_store.specs.Shown.{columns_value}
+use Rattle.frame_store.specs.declared.fault.OpFault.{OpFault}
+use Rattle.frame_store.specs.declared.fault.OpFault.TheVariants.{Refused, NoMemory}
+use Rattle.frame_methods.specs.Columns.{table_column, with_front}
+use Rattle.frame_methods.specs.Summaries.{AreCells, counted_cell}
+use Rattle.frame_methods.proofs.ColumnLaws.{front_next, front_fails, at_place, drop_all}
+
+-- a number below 2^64 as what is left of it in 64 bits
+count_wraps : (n : ℕ) → n < 2 ^ 64 → int_wrap w64 (pos n) ≡ cast_signed w64 n
+unfolding int_wrap
+count_wraps n lt = ap (cast_signed w64) (mod-eq_of_lt lt)
+
+pub distinct_answer : (texts : List Text) (a : CellColumn) (n : ℕ) (c : Cell) → n < 2 ^ 64 → n ≡ distinct_count (kernel.column_value texts a).cells → c ≡ counted_cell n
+    → meant.summary_cell meant.distinct (column_value texts (table_column a)) ≡ Ok (datum texts c)
+distinct_answer texts a n c lt is cell =
+    ap (λ k. Ok (int_cell (int_wrap w64 (pos k)))) (sym is) ∙ ap (λ z. Ok (int_cell z)) (count_wraps n lt) ∙ ap (λ x. Ok (datum texts x)) (sym cell)
+
+abbrev cells_front : (ColumnOf CellValue → Result CellValue FaultValue) → List CellValue → List (ColumnOf CellValue) → Result (List CellValue) FaultValue
+cells_front f made rest = with_front made (try_all f rest)
+
+pub cells_begin : (f : ColumnOf CellValue → Result CellValue FaultValue) (dict : List Text) (columns : List (ColumnOf Cell)) (kind : Kind) (made : CellColumn) → made ≡ record { kind = kind; cells = [] }
+    → AreCells f dict columns kind 0 made
+cells_begin f dict columns kind made is = subst (AreCells f dict columns kind 0) (sym is) record {
+  same = refl;
+  count = refl;
+  given = All-nil (IsGiven dict);
+  answer = nothing_before (try_all f (columns_value dict columns));
+}
+  where
+    nothing_before : (r : Result (List CellValue) FaultValue) → with_front [] r ≡ r
+    nothing_before (Ok ys) = refl
+    nothing_before (Err fault) = refl
+
+pub cells_step : (f : ColumnOf CellValue → Result CellValue FaultValue) (dict : List Text) (columns : List (ColumnOf Cell)) (kind : Kind) (place : ℕ) (made made' a : CellColumn) (x : Cell)
+    → AreCells f dict columns kind place made → place < length columns → column_at columns place ≡ table_column a → IsGiven dict x → made' ≡ record { kind = made.kind; cells = made.cells ++ x ∷ [] }
+    → f (column_value dict (table_column a)) ≡ Ok (datum dict x) → AreCells f dict columns kind (place + 1) made'
+cells_step f dict columns kind place made made' a x so_far lt at given more is = subst (AreCells f dict columns kind (place + 1)) (sym more) record {
+  same = so_far.same;
+  count = length-append made.cells (x ∷ []) ∙ ap (λ n. n + 1) so_far.count;
+  given = All-append (IsGiven dict) made.cells (x ∷ []) so_far.given (All-cons (IsGiven dict) x [] given (All-nil (IsGiven dict)));
+  answer =
+    let rest : columns_value dict (drop place columns) ≡ column_value dict (table_column a) ∷ columns_value dict (drop (place + 1) columns)
+      = ap (columns_value dict) (at_place columns place (table_column a) lt at) in
+    ap (λ l. cells_front f l (columns_value dict (drop (place + 1) columns))) (map-append (datum dict) made.cells (x ∷ []))
+    ∙ front_next f (map (datum dict) made.cells) (column_value dict (table_column a)) (datum dict x) (columns_value dict (drop (place + 1) columns)) (try_all f (columns_value dict columns))
+        (ap (cells_front f (map (datum dict) made.cells)) (sym rest) ∙ so_far.answer) is;
+}
+
+pub cells_refused : (f : ColumnOf CellValue → Result CellValue FaultValue) (dict : List Text) (columns : List (ColumnOf Cell)) (kind : Kind) (place : ℕ) (made a : CellColumn) (fault : FaultValue)
+    → AreCells f dict columns kind place made → place < length columns → column_at columns place ≡ table_column a → f (column_value dict (table_column a)) ≡ Err fault
+    → try_all f (columns_value dict columns) ≡ Err fault
+cells_refused f dict columns kind place made a fault so_far lt at is =
+    front_fails f (map (datum dict) made.cells) (column_value dict (table_column a)) fault (columns_value dict (drop (place + 1) columns)) (try_all f (columns_value dict columns))
+      (ap (λ l. cells_front f (map (datum dict) made.cells) (columns_value dict l)) (sym (at_place columns place (table_column a) lt at)) ∙ so_far.answer) is
+
+pub cells_end : (f : ColumnOf CellValue → Result CellValue FaultValue) (dict : List Text) (columns : List (ColumnOf Cell)) (kind : Kind) (place : ℕ) (made : CellColumn)
+    → AreCells f dict columns kind place made → place ≡ length columns → try_all f (columns_value dict columns) ≡ Ok (map (datum dict) made.cells)
+cells_end f dict columns kind place made so_far is =
+    sym so_far.answer ∙ ap (λ l. cells_front f (map (datum dict) made.cells) (columns_value dict l)) (ap (λ k. drop k columns) is ∙ drop_all columns)
+    ∙ ap Ok (append-nil (map (datum dict) made.cells))
+
+-- a refusal of one is the refusal of all
+pub refused_all : {X Y X' Y' : Type 0} (view : List Text → X → Y) (view' : List Text → X' → Y') (texts : List Text) (fault : OpFault) (one : Result Y FaultValue) (all : Result Y' FaultValue)
+    → ((e : FaultValue) → one ≡ Err e → all ≡ Err e) → MakesBy view texts (Err fault) one → MakesBy view' texts (Err fault) all
+refused_all view view' texts (Refused code) one all same is = same (fault_of texts code) is
+refused_all view view' texts NoMemory one all same is = tt

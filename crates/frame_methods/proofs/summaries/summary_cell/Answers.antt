@@ -1,0 +1,9 @@
+use Rattle.std.proofs.Common.{◌<◌, ◌^◌, arith}
+use Rattle.frame_methods.proofs.SummaryLaws.{distinct_answer}
+use Rattle.frame_methods.proofs.summaries.summary_cell.Goals as goal
+
+pub returns-in_ok-distinct-in-Distinct-clause-answer : goal.returns-in_ok-distinct-in-Distinct-clause-answer
+returns-in_ok-distinct-in-Distinct-clause-answer c =
+    let n = c.in_ok-distinct-in-Distinct.field-0 in
+    let lt : n < 2 ^ 64 = omega arith in
+    rw c.in-Distinct.is (distinct_answer c.args.dict.now c.args.a n c.count_cell.result lt (c.in_ok-distinct-in-Distinct.ensures c.args.dict.now c.len.ensures.distinct c.requires) c.count_cell.ensures)
