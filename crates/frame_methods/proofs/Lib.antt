@@ -3,3 +3,4 @@ pub mod ColumnLaws
 pub mod OpLaws
 pub mod TableLaws
 pub mod SummaryLaws
+pub mod SeriesLaws

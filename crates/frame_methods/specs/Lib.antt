@@ -2,3 +2,5 @@ pub mod Cells
 pub mod Columns
 pub mod Marks
 pub mod Summaries
+pub mod Labels
+pub mod Made

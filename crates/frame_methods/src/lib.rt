@@ -4,6 +4,8 @@
 mod cells;
 mod columns;
 mod column_ops;
+mod made;
+mod series;
 mod summaries;
 mod tables;
 

@@ -8,13 +8,17 @@ ghost use Rattle.table_meaning.specs.Settled.{IsSettled};
 ghost use Rattle.form_meaning.specs.Finish.{try_all};
 ghost use Rattle.form_meaning.specs.Methods as meant;
 ghost use Rattle.form_parts.specs.Makes.{MakesBy};
-ghost use Rattle.frame_store.specs.Shown.{cells_value, columns_value};
+ghost use Rattle.cell_core.specs.declared.grid.Shape.TheVariants.{Frame};
+ghost use Rattle.frame_store.specs.Shown.{columns_value, Makes};
+ghost use Rattle.frame_methods.specs.Made.{made_value};
 ghost use Rattle.frame_methods.specs.Columns.{table_column};
 ghost use Rattle.frame_methods.specs.Summaries.{summary_value, counted_cell, column_cells};
 
-use cell_core::{Cell, Code, Grid, Kind, TextDict};
-use form_parts::refusal_of;
-use frame_store::{ObjRef, OpFault};
+use crate::made::Made;
+use crate::series::{columns_axis, series_table};
+use cell_core::{Cell, Code, Grid, Kind, Shape, TextDict};
+use form_parts::{refusal_of, within_limits};
+use frame_store::{ObjRef, OpFault, Table};
 use nullable_array::{ColRef, Column, Reduction, distinct, reduce};
 use std::alloc::Global;
 
@@ -109,4 +113,53 @@ pub(crate) fn summary_column(
         made.push(summary_as(alloc, dict, op, kind, on.column(place))?)?;
     }
     Ok(made)
+}
+
+// The kind of the summaries of a frame's columns: that of the first one's.
+fn kind_for(op: Summary, on: &ObjRef<'_>) -> Kind
+    ensures { (texts : List OneText) → result ≡ meant.kind_for (summary_value op) (columns_value texts on.now.columns) }
+{
+    if on.columns() == 0 {
+        return summary_kind(op, Kind::Int64);
+    }
+    summary_kind(op, on.kind(0))
+}
+
+// The Series of a frame's summaries, over the labels of its columns.
+fn frame_summary(
+    alloc: Global,
+    dict: &TextDict,
+    op: Summary,
+    on: &ObjRef<'_>,
+) -> Result<Table, OpFault>
+    requires whole { IsWhole on.now }
+    requires settled { IsSettled table_value dict.now on.now }
+    ensures settled { IfOk result (IsSettled table_value dict.now) }
+    ensures answer { Makes dict.now result (meant.summary_of Frame (summary_value op) (table_value dict.now on.now)) }
+{
+    let kind = kind_for(op, on);
+    let cells = summary_column(alloc, dict, op, kind, on)?;
+    if !within_limits(on.columns(), 1) {
+        return Err(OpFault::Refused(Code::Limit));
+    }
+    let axis = columns_axis(alloc, dict, on)?;
+    Ok(series_table(alloc, axis, None, cells)?)
+}
+
+// The summary of a Series, or the summaries of a frame.
+pub(crate) fn summarize(
+    alloc: Global,
+    dict: &TextDict,
+    op: Summary,
+    on: &ObjRef<'_>,
+) -> Result<Made, OpFault>
+    requires whole { IsWhole on.now }
+    requires settled { IsSettled table_value dict.now on.now }
+    ensures settled { IfOk result (IsSettled made_value dict.now) }
+    ensures answer { MakesBy made_value dict.now result (meant.summary (summary_value op) (table_value dict.now on.now)) }
+{
+    match on.shape() {
+        Shape::Series => Ok(Made::Scalar(summary_cell(alloc, dict, op, on.column(0))?)),
+        Shape::Frame => Ok(Made::Table(frame_summary(alloc, dict, op, on)?)),
+    }
 }

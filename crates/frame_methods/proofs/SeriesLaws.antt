@@ -1,0 +1,94 @@
+-- Series over the labels of columns.
+use Rattle.std.proofs.Common.{◌≡◌, ◌∙◌, refl, ap, sym, subst, ℕ, pos, true, List, [], ◌∷◌, map, length, All, Option, Some, None, slice_index_or, Result, Ok, Err}
+use Rattle.std.proofs.lemmas.List.{length-map}
+use Rattle.std.proofs.lemmas.List.Elements.{All-map, All-cons, All-nil}
+use Rattle.cell_core.specs.declared.cell.Cell.{Cell}
+use Rattle.cell_core.specs.declared.cell.Kind.{Kind}
+use Rattle.cell_core.specs.declared.cell.Label.{Label}
+use Rattle.cell_core.specs.declared.grid.Shape.TheVariants.{Series, Frame}
+use Rattle.meaning.specs.Text.{Text}
+use Rattle.meaning.specs.Cell.{CellValue, LabelValue, int, datum, AreGiven}
+use Rattle.meaning.specs.Fault.{FaultValue, then_value}
+use Rattle.nullable_array.specs.Columns.{CellColumn}
+use Rattle.multi_index.specs.Axes.{AxisValue, HaveLevels}
+use Rattle.table_meaning.specs.Table.{ColumnOf, NumberedTable, table_value, heading_value, tuple_value, column_value}
+use Rattle.table_meaning.specs.Value.{Entry, table}
+use Rattle.table_meaning.specs.Settled.{IsSettled}
+use Rattle.form_meaning.specs.Finish.{within_limits, limited, try_all}
+use Rattle.form_meaning.specs.Methods as meant
+use Rattle.form_meaning.specs.Methods.{Summary, label_or, kind_for, summary_as, summary_series, summary_of}
+use Rattle.frame_store.specs.Parts.{table_with}
+use Rattle.frame_store.specs.Shown.{labels_value, headings_value, columns_value}
+use Rattle.frame_store.proofs.Settling.{settled_by, columns_name_part, headings_part, columns_settled, table_settled}
+use Rattle.frame_methods.specs.Columns.{table_column}
+use Rattle.frame_methods.specs.Labels.{column_tuple}
+use Rattle.frame_methods.proofs.TableLaws.{limited_within}
+
+single : (h : Option Label) → length (column_tuple h) ≡ 1
+single None = refl
+single (Some l) = refl
+
+pub tuples_alike : (hs : List (Option Label)) → HaveLevels 1 (map column_tuple hs)
+tuples_alike hs = All-map (λ (tuple : List Label). length tuple ≡ 1) column_tuple hs (λ k d lt. single (slice_index_or hs k d))
+
+-- the label of a column as a tuple, with texts
+abbrev label_tuple : Option LabelValue → List LabelValue
+label_tuple h = label_or h (int (pos 0)) ∷ []
+
+tuple_seen : (texts : List Text) (h : Option Label) → label_tuple (heading_value texts h) ≡ tuple_value texts (column_tuple h)
+tuple_seen texts None = refl
+tuple_seen texts (Some l) = refl
+
+tuples_seen : (texts : List Text) (hs : List (Option Label)) → map label_tuple (headings_value texts hs) ≡ labels_value texts (map column_tuple hs)
+tuples_seen texts [] = refl
+tuples_seen texts (h ∷ hs) = λ j. tuple_seen texts h j ∷ tuples_seen texts hs j
+
+abbrev summaries_axis : NumberedTable → AxisValue
+summaries_axis t = record { tuples = map column_tuple t.headings; names = t.columns_name ∷ [] }
+
+abbrev summaries_table : NumberedTable → AxisValue → CellColumn → NumberedTable
+summaries_table t axis cells = table_with Series axis record { columns_name = None; labels = None ∷ [] } (table_column cells ∷ [])
+
+series_seen : (texts : List Text) (t : NumberedTable) (kind : Kind) (cells : CellColumn) → cells.kind ≡ kind
+    → summary_series (table_value texts t) kind (map (datum texts) cells.cells) ≡ table_value texts (summaries_table t (summaries_axis t) cells)
+series_seen texts t kind cells same = λ j.
+    record {
+      shape = Series;
+      columns_name = None;
+      level_names = heading_value texts t.columns_name ∷ [];
+      labels = tuples_seen texts t.headings j;
+      headings = None ∷ [];
+      columns = record { kind = sym same j; cells = map (datum texts) cells.cells } ∷ [];
+    }
+
+abbrev then_series : NumberedTable → List Text → Kind → Result (List CellValue) FaultValue → Result Entry FaultValue
+then_series t texts kind r = then_value r (λ cells. limited (summary_series (table_value texts t) kind cells))
+
+abbrev all_summaries : Summary → NumberedTable → List Text → Kind → Result Entry FaultValue
+all_summaries op t texts kind = then_series t texts kind (try_all (summary_as op kind) (columns_value texts t.columns))
+
+pub frame_answer : (op : Summary) (texts : List Text) (t made : NumberedTable) (kind : Kind) (axis : AxisValue) (cells : CellColumn)
+    → try_all (summary_as op kind) (columns_value texts t.columns) ≡ Ok (map (datum texts) cells.cells) → kind ≡ kind_for op (columns_value texts t.columns) → cells.kind ≡ kind
+    → within_limits (length t.columns) 1 ≡ true → length t.headings ≡ length t.columns → axis ≡ summaries_axis t → made ≡ summaries_table t axis cells
+    → summary_of Frame op (table_value texts t) ≡ Ok (table (table_value texts made))
+frame_answer op texts t made kind axis cells all kinds same within headed axis_is is =
+    ap (all_summaries op t texts) (sym kinds)
+    ∙ ap (then_series t texts kind) all
+    ∙ limited_within (summary_series (table_value texts t) kind (map (datum texts) cells.cells)) (length t.columns) 1
+        (length-map (headings_value texts t.headings) label_tuple ∙ length-map t.headings (heading_value texts) ∙ headed) refl within
+    ∙ ap (λ v. Ok (table v)) (series_seen texts t kind cells same ∙ ap (λ a. table_value texts (summaries_table t a cells)) (sym axis_is) ∙ ap (table_value texts) (sym is))
+
+pub frame_refused : (op : Summary) (texts : List Text) (t : NumberedTable) (kind : Kind) (fault : FaultValue)
+    → try_all (summary_as op kind) (columns_value texts t.columns) ≡ Err fault → kind ≡ kind_for op (columns_value texts t.columns) → summary_of Frame op (table_value texts t) ≡ Err fault
+frame_refused op texts t kind fault all kinds = ap (all_summaries op t texts) (sym kinds) ∙ ap (then_series t texts kind) all
+
+pub frame_settled : (texts : List Text) (t made : NumberedTable) (axis : AxisValue) (cells : CellColumn) → IsSettled table_value texts t → AreGiven texts cells.cells → axis ≡ summaries_axis t → made ≡ summaries_table t axis cells
+    → IsSettled table_value texts made
+frame_settled texts t made axis cells settled given axis_is is =
+    subst (IsSettled table_value texts) (sym (is ∙ ap (λ a. summaries_table t a cells) axis_is))
+      (table_settled texts (summaries_table t (summaries_axis t) cells)
+        (λ more. refl)
+        (λ more. ap (λ n. n ∷ []) (columns_name_part texts t settled more))
+        (settled_by headings_value labels_value (map label_tuple) texts t.headings (map column_tuple t.headings) (λ ts. tuples_seen ts t.headings) (headings_part texts t settled))
+        (λ more. refl)
+        (columns_settled texts (table_column cells ∷ []) (All-cons (λ (c : ColumnOf Cell). AreGiven texts c.cells) (table_column cells) [] given (All-nil (λ (c : ColumnOf Cell). AreGiven texts c.cells)))))
