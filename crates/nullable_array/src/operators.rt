@@ -175,7 +175,7 @@ impl<T: Drop, K: Order<T>> RowOp<T, T, bool> for Compare<K> {
 }
 
 #[inline(always)]
-fn is_in(relation: Relation, order: Ordering) -> bool
+pub(crate) fn is_in(relation: Relation, order: Ordering) -> bool
     ensures { result ≡ passes relation order }
 {
     match order {
