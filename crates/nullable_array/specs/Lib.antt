@@ -11,3 +11,4 @@ pub mod Casts
 pub mod Folds
 pub mod Distincts
 pub mod Blocks
+pub mod Pairs

@@ -48,3 +48,7 @@ IsTextRow texts text id = (option_map (text_of texts) id ≡ text) × IsGiven te
 -- the numbers below count were given, and their texts are these
 abbrev pub AreTexts : List (List ℕ) → (ℕ → Option (List ℕ)) → ℕ → List TextId → List Bool → Type 0
 AreTexts texts at count values present = (k : ℕ) → k < count → IsTextRow texts (at k) (option_at values present k)
+
+-- a value where its flag is true
+abbrev pub flagged : {T : Type 0} → Bool → T → Option T
+flagged present x = if present then Some x else None

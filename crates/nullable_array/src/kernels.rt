@@ -4,6 +4,7 @@ ghost use Rattle.cell_core.specs.declared.cell.Kind.TheVariants.{Int64, Boolean,
 ghost use Rattle.meaning.specs.Cell.{datum, AreGiven, IsGiven, IsLonger};
 ghost use Rattle.meaning.specs.Column.{column_of, zero_division};
 ghost use Rattle.meaning.specs.Operator.{binary_column, scalar_binary, invert_column};
+ghost use Rattle.nullable_array.specs.Lanes.{option_at};
 ghost use Rattle.nullable_array.specs.Columns.{column_value, column_with, number_cell, truth_cell, text_cell};
 ghost use Rattle.nullable_array.specs.Views.{borrowed_column};
 ghost use Rattle.nullable_array.specs.Rows.{try_rows, map_rows};
@@ -17,8 +18,9 @@ use crate::operators::{
     Rest, Sum,
 };
 use crate::ops::{ArrayFault, Binary, Relation, Task, task_of};
+use crate::pairs::{PairOp, by_pairs};
 use crate::rows::{RowFault, RowOp, Source, by_rows};
-use crate::sources::{Nothing, Same};
+use crate::sources::{Dense, Nothing, Same};
 use crate::texts::{Join, text_column};
 use cell_core::{Cell, TextDict, TextId};
 use std::alloc::Global;
@@ -63,7 +65,7 @@ fn numbers(
         (column_value texts (borrowed_column (Borrowed.Ints a.now))) (column_value texts (borrowed_column (Borrowed.Ints b.now)))) }
 {
     match (a.dense(), b.dense()) {
-        (Some(x), Some(y)) => on_numbers(alloc, task, &x, &y),
+        (Some(x), Some(y)) => on_number_pairs(alloc, task, &x, &y),
         _ => on_numbers(alloc, task, a, b),
     }
 }
@@ -80,7 +82,7 @@ fn truths(
         (column_value texts (borrowed_column (Borrowed.Truths a.now))) (column_value texts (borrowed_column (Borrowed.Truths b.now)))) }
 {
     match (a.dense(), b.dense()) {
-        (Some(x), Some(y)) => on_truths(alloc, task, &x, &y),
+        (Some(x), Some(y)) => on_truth_pairs(alloc, task, &x, &y),
         _ => on_truths(alloc, task, a, b),
     }
 }
@@ -256,6 +258,72 @@ fn operate<X, Y, U: Plain, O: RowOp<X, Y, U>, A: Source<X>, B: Source<Y>>(
         Ok(rows) => Ok(U::column(rows)),
         Err(RowFault::Row(row)) => Err(ArrayFault::ZeroDivision(row)),
         Err(RowFault::Memory) => Err(ArrayFault::NoMemory),
+    }
+}
+
+// The same of two columns whose values lie side by side, where the operation refuses no row.
+fn operate_pairs<X: Copy, Y: Copy, U: Plain, O: PairOp<X, Y, U>>(
+    alloc: Global,
+    op: &O,
+    a: &Dense<'_, X>,
+    b: &Dense<'_, Y>,
+) -> Result<Column, ArrayFault>
+    requires { length a.now.values.now ≡ length b.now.values.now }
+    ensures given { IfOk result (λ c. (texts : List (List ℕ)) → AreGiven texts c.cells) }
+    ensures answer { (texts : List (List ℕ)) → Answers texts result
+        (column_of U.kind zero_division (map_rows (λ z. datum texts (U.cell z)) (try_rows (length a.now.values.now)
+        (λ k. O.row_of op.now (option_at a.now.values.now a.now.present.now k) (option_at b.now.values.now b.now.present.now k))))) }
+{
+    let rows = by_pairs(alloc, op, U::blank(), a, b)?;
+    Ok(U::column(rows))
+}
+
+// What an operator does to two columns of whole numbers that lie side by side.
+fn on_number_pairs(
+    alloc: Global,
+    task: Task,
+    a: &Dense<'_, i64>,
+    b: &Dense<'_, i64>,
+) -> Result<Column, ArrayFault>
+    requires { length a.now.values.now ≡ length b.now.values.now }
+    ensures given { IfOk result (λ c. (texts : List (List ℕ)) → AreGiven texts c.cells) }
+    ensures answer { (texts : List (List ℕ)) → Answers texts result (task_column task
+        (column_value texts (column_with Int64 number_cell (length a.now.values.now) (option_at a.now.values.now a.now.present.now)))
+        (column_value texts (column_with Int64 number_cell (length b.now.values.now) (option_at b.now.values.now b.now.present.now)))) }
+{
+    match task {
+        Task::Sum => operate_pairs(alloc, &Sum, a, b),
+        Task::Difference => operate_pairs(alloc, &Difference, a, b),
+        Task::Product => operate_pairs(alloc, &Product, a, b),
+        Task::Compare(relation) => {
+            let compare = Compare {
+                order: ByNumber,
+                relation,
+            };
+            operate_pairs(alloc, &compare, a, b)
+        }
+        _ => on_numbers(alloc, task, a, b),
+    }
+}
+
+// What an operator does to two columns of truth values that lie side by side.
+fn on_truth_pairs(
+    alloc: Global,
+    task: Task,
+    a: &Dense<'_, bool>,
+    b: &Dense<'_, bool>,
+) -> Result<Column, ArrayFault>
+    requires { length a.now.values.now ≡ length b.now.values.now }
+    ensures given { IfOk result (λ c. (texts : List (List ℕ)) → AreGiven texts c.cells) }
+    ensures answer { (texts : List (List ℕ)) → Answers texts result (task_column task
+        (column_value texts (column_with Boolean truth_cell (length a.now.values.now) (option_at a.now.values.now a.now.present.now)))
+        (column_value texts (column_with Boolean truth_cell (length b.now.values.now) (option_at b.now.values.now b.now.present.now)))) }
+{
+    match task {
+        Task::Both => operate_pairs(alloc, &Both, a, b),
+        Task::Either => operate_pairs(alloc, &Either, a, b),
+        Task::OneOf => operate_pairs(alloc, &OneOf, a, b),
+        _ => on_truths(alloc, task, a, b),
     }
 }
 

@@ -24,6 +24,7 @@ mod lanes;
 mod moves;
 mod operators;
 mod ops;
+mod pairs;
 mod reductions;
 mod rows;
 mod sources;

@@ -175,13 +175,15 @@ impl<T: Drop, K: Order<T>> RowOp<T, T, bool> for Compare<K> {
 }
 
 #[inline(always)]
-fn is_in(relation: Relation, order: Ordering) -> bool
+pub(crate) fn is_in(relation: Relation, order: Ordering) -> bool
     ensures { result ≡ passes relation order }
 {
-    match order {
-        Ordering::Less => relation.less,
-        Ordering::Equal => relation.equal,
-        Ordering::Greater => relation.greater,
+    if order.is_lt() {
+        relation.less
+    } else if order.is_eq() {
+        relation.equal
+    } else {
+        relation.greater
     }
 }
 

@@ -1,0 +1,3 @@
+mod DataLaws
+mod WorkLaws
+mod CheckLaws

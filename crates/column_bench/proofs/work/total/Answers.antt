@@ -1,0 +1,7 @@
+use Rattle.std.proofs.Common.{sym, subst}
+use Rattle.meaning.specs.Cell.{AreGiven}
+use Rattle.nullable_array.specs.Columns.{CellColumn}
+use Rattle.column_bench.proofs.work.total.Goals as goal
+
+pub reduce-requires : goal.reduce-requires
+reduce-requires c = subst (λ (a : CellColumn). AreGiven c.args.dict.now a.cells) (sym c.as_ref.ensures) (c.requires c.args.dict.now)

@@ -1,0 +1,4 @@
+pub mod Data
+pub mod Work
+pub mod Operation
+pub mod Checks
