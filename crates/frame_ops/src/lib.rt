@@ -12,5 +12,6 @@
 //! ```
 #![tactic(auto)]
 
+mod columns;
 mod kinds;
 mod other;
