@@ -1,2 +1,3 @@
 pub mod KindLaws
 pub mod AnswerLaws
+pub mod ColumnsMade

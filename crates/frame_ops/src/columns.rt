@@ -71,3 +71,27 @@ fn block_met(
 {
     block_of(column_met(alloc, dict, op, on, other, place))
 }
+
+// What the operator makes of each column and what it meets.
+fn columns_met(
+    alloc: Global,
+    dict: &mut TextDict,
+    op: Binary,
+    on: &ObjRef<'_>,
+    other: &Other<'_>,
+) -> Result<Blocks, OpFault>
+    requires opposite { IsOpposite on.now other.now }
+    requires given { All (λ c. AreGiven dict.old c.cells) on.now.columns }
+    requires other { IsGivenOther dict.old other.now }
+    requires kinds { list_all (kinds_meet (operator_of op)) (pairs_from other.now 0 on.now.columns) ≡ true }
+    ensures longer { IsLonger dict.old dict.new }
+    ensures columns { IfOk result (λ made. AreColumns dict.new (length on.now.labels) (length on.now.columns) made) }
+    ensures made { MakesBy blocks_value dict.new result (try_all (met (operator_of op)) (meetings_value dict.old (pairs_from other.now 0 on.now.columns))) }
+{
+    let mut made = Blocks::new(alloc);
+    for place in 0..on.columns() {
+        let block = block_met(alloc, dict, op, on, other, place)?;
+        made.push(block)?;
+    }
+    Ok(made)
+}
