@@ -95,3 +95,34 @@ fn columns_met(
     }
     Ok(made)
 }
+
+/// What the operator makes of each column and what it meets.
+///
+/// `WrongKind` where it doesn't take the kinds of all, then `BadValue(Levels)` where the rows of the
+/// two sides have levels of different numbers, then `Limit`, and last `ZeroDivide`. `NoMemory` may
+/// come in place of any answer.
+pub(crate) fn infix_columns(
+    alloc: Global,
+    dict: &mut TextDict,
+    op: Binary,
+    on: &ObjRef<'_>,
+    other: &Other<'_>,
+) -> Result<Blocks, OpFault>
+    requires opposite { IsOpposite on.now other.now }
+    requires given { All (λ c. AreGiven dict.old c.cells) on.now.columns }
+    requires other { IsGivenOther dict.old other.now }
+    ensures longer { IsLonger dict.old dict.new }
+    ensures columns { IfOk result (λ made. AreColumns dict.new (length on.now.labels) (length on.now.columns) made) }
+    ensures made { MakesBy blocks_value dict.new result (columns_meant (operator_of op) (length on.now.labels) (levels_fit on.now other.now) (meetings_value dict.old (pairs_from other.now 0 on.now.columns))) }
+{
+    if !all_meet(op, on, other) {
+        return Err(OpFault::Refused(Code::WrongKind));
+    }
+    if !levels_fit(on, other) {
+        return Err(OpFault::Refused(Code::BadValue(Reason::Levels)));
+    }
+    if !within_limits(on.rows(), on.columns()) {
+        return Err(OpFault::Refused(Code::Limit));
+    }
+    columns_met(alloc, dict, op, on, other)
+}

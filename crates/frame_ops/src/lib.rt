@@ -13,5 +13,6 @@
 #![tactic(auto)]
 
 mod columns;
+mod headings;
 mod kinds;
 mod other;
