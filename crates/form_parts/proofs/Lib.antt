@@ -1,3 +1,4 @@
 pub mod LabelLaws
 pub mod ObjectMade
 pub mod TableMade
+pub mod RowLaws

@@ -3,10 +3,13 @@ ghost use Rattle.std.specs.Prelude.{◌≡◌};
 ghost use Rattle.meaning.specs.Cell.{label_datum};
 ghost use Rattle.table_meaning.specs.Settled.{IsSettled};
 ghost use Rattle.table_meaning.specs.Table.{heading_value};
+ghost use Rattle.frame_store.specs.Shown.{labels_value};
 ghost use Rattle.form_meaning.specs.Binding as meant;
+ghost use Rattle.form_meaning.specs.Infix.{common_name, same_tuples};
 ghost use Rattle.form_meaning.specs.Finish as finish;
 
 use cell_core::{Label, TextDict};
+use multi_index::Axis;
 
 /// Whether two labels are equal. Texts are compared by their numbers. Takes no memory.
 pub fn same_label(dict: &TextDict, a: Label, b: Label) -> bool
@@ -30,4 +33,26 @@ pub fn same_heading(dict: &TextDict, a: Option<Label>, b: Option<Label>) -> bool
         (None, None) => true,
         _ => false,
     }
+}
+
+/// Whether two axes have the same tuples at the same rows, whatever the names of the levels are.
+/// Texts are compared by their numbers, and two ranges by their lengths alone. Takes no memory.
+pub fn same_rows(dict: &TextDict, a: &Axis, b: &Axis) -> bool
+    requires a { IsSettled labels_value dict.now a.now.tuples }
+    requires b { IsSettled labels_value dict.now b.now.tuples }
+    ensures { result ≡ same_tuples (labels_value dict.now a.now.tuples) (labels_value dict.now b.now.tuples) }
+{
+    // Equal texts have equal numbers: `TextDict::len` says so.
+    let _ = dict.len();
+    a.same_labels(b)
+}
+
+/// The label that both have, if they have one. Takes no memory.
+pub fn common_name(dict: &TextDict, a: Option<Label>, b: Option<Label>) -> Option<Label>
+    requires a { IsSettled heading_value dict.now a }
+    requires b { IsSettled heading_value dict.now b }
+    ensures name { heading_value dict.now result ≡ common_name (heading_value dict.now a) (heading_value dict.now b) }
+    ensures settled { IsSettled heading_value dict.now result }
+{
+    if same_heading(dict, a, b) { a } else { None }
 }

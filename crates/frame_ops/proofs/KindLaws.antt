@@ -1,7 +1,6 @@
 -- An operator takes no two kinds.
 use Rattle.std.proofs.Common.{◌≡◌, ◌∙◌, Bool, true, false, ◌&&◌, refl, ap, sym, subst, Option, Some, None, if◌then◌else◌}
 use Rattle.std.specs.Prelude.{◌≢◌, is_some}
-use Rattle.std.specs.Bool.{Decides}
 use Rattle.cell_core.specs.declared.cell.Kind.{Kind}
 use Rattle.cell_core.specs.declared.cell.Kind.TheVariants.{Int64, Boolean, Text as string}
 use Rattle.meaning.specs.Operator.{operator_kind, number_kind, sum_kind, comparison_kind, truth_kind}
@@ -40,10 +39,14 @@ two_kinds and a b n = (none_takes a b n).truths
 two_kinds or a b n = (none_takes a b n).truths
 two_kinds xor a b n = (none_takes a b n).truths
 
-not_same : (a b : Kind) → Decides false (a ≡ b) → a ≢ b
-not_same a b is e = let wrong : false ≡ true = is.1 e in cc
-
 -- two kinds that an operator takes are one
-pub one_kind : (op : Binary) (a b : Kind) (same : Bool) → Decides same (a ≡ b) → is_some (operator_kind op a b) ≡ true → a ≡ b
-one_kind op a b true is takes = is.0 refl
-one_kind op a b false is takes = let wrong : false ≡ true = sym (two_kinds op a b (not_same a b is)) ∙ takes in cc
+pub one_kind : (op : Binary) (a b : Kind) → is_some (operator_kind op a b) ≡ true → a ≡ b
+one_kind op Int64 Int64 takes = refl
+one_kind op Boolean Boolean takes = refl
+one_kind op string string takes = refl
+one_kind op Int64 Boolean takes = let wrong : false ≡ true = sym (two_kinds op Int64 Boolean (λ e. cc)) ∙ takes in cc
+one_kind op Int64 string takes = let wrong : false ≡ true = sym (two_kinds op Int64 string (λ e. cc)) ∙ takes in cc
+one_kind op Boolean Int64 takes = let wrong : false ≡ true = sym (two_kinds op Boolean Int64 (λ e. cc)) ∙ takes in cc
+one_kind op Boolean string takes = let wrong : false ≡ true = sym (two_kinds op Boolean string (λ e. cc)) ∙ takes in cc
+one_kind op string Int64 takes = let wrong : false ≡ true = sym (two_kinds op string Int64 (λ e. cc)) ∙ takes in cc
+one_kind op string Boolean takes = let wrong : false ≡ true = sym (two_kinds op string Boolean (λ e. cc)) ∙ takes in cc

@@ -1,1 +1,4 @@
 pub mod KindLaws
+pub mod AnswerLaws
+pub mod ColumnsMade
+pub mod Meanings

@@ -7,7 +7,8 @@ use Rattle.cell_core.specs.declared.cell.Cell.TheVariants.{Na}
 use Rattle.meaning.specs.Text.{Text}
 use Rattle.meaning.specs.Cell.{CellValue, datum, AreGiven, IsGiven}
 use Rattle.meaning.specs.Fault.{FaultValue, wrong_kind, bad_value, levels, limit}
-use Rattle.meaning.specs.Operator.{operator_kind, scalar_kind}
+use Rattle.meaning.specs.Column.{ColumnValue, ColumnFault}
+use Rattle.meaning.specs.Operator.{operator_kind, scalar_kind, binary_column}
 use Rattle.meaning.specs.Tree.{Binary}
 use Rattle.table_meaning.specs.Table.{ColumnOf, NumberedTable, column_at, column_value}
 use Rattle.form_meaning.specs.Finish.{value_of_column, within_limits, try_all}
@@ -56,6 +57,10 @@ meeting_value texts pair = (value_of_column (column_value texts pair.0), value_o
 
 abbrev pub meetings_value : List Text → List Pair → List Meeting
 meetings_value texts pairs = map (meeting_value texts) pairs
+
+-- what the operator makes of two columns
+abbrev pub column_meant : Binary → Meeting → Result ColumnValue ColumnFault
+column_meant op m = binary_column op m.0 m.1
 
 -- the rows of both sides have as many levels
 abbrev pub levels_fit : NumberedTable → Other → Bool

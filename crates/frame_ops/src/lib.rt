@@ -12,5 +12,7 @@
 //! ```
 #![tactic(auto)]
 
+mod columns;
+mod headings;
 mod kinds;
 mod other;

@@ -1,0 +1,87 @@
+-- Rows and headings are equal exactly where their labels' numbers are.
+use Rattle.std.proofs.Common.{◌≡◌, ◌∙◌, ◌++◌, Bool, true, false, ◌&&◌, List, [], ◌∷◌, map, refl, ap, sym}
+use Rattle.std.specs.Bool.{Decides}
+use Rattle.std.proofs.lemmas.Bool.Decides.{same_from_decides, Decides-and, Decides-like}
+use Rattle.cell_core.specs.declared.cell.Label.{Label}
+use Rattle.cell_core.specs.Texts.{AreDistinct}
+use Rattle.cell_core.specs.Values.{LabelValue, label_datum}
+use Rattle.meaning.specs.Text.{Text}
+use Rattle.table_meaning.specs.Settled.{IsSettled}
+use Rattle.table_meaning.specs.Table.{tuple_value}
+use Rattle.form_meaning.specs.Binding.{same_label}
+use Rattle.form_meaning.specs.Infix.{same_tuple, same_tuples}
+use Rattle.frame_store.specs.Shown.{labels_value}
+use Rattle.form_parts.proofs.LabelLaws.{label_given, label_one, value_decides}
+
+module _ {X : Type 0} where
+  abbrev head_or : X → List X → X
+  head_or d [] = d
+  head_or d (x ∷ xs) = x
+
+  abbrev tail_of : List X → List X
+  tail_of [] = []
+  tail_of (x ∷ xs) = xs
+
+  joined : (a b : X) (as' bs : List X) → (a ≡ b) × (as' ≡ bs) → a ∷ as' ≡ b ∷ bs
+  joined a b as' bs h = λ i. h.0 i ∷ h.1 i
+
+  apart : (a b : X) (as' bs : List X) → a ∷ as' ≡ b ∷ bs → (a ≡ b) × (as' ≡ bs)
+  apart a b as' bs e = (ap (head_or a) e, ap tail_of e)
+
+tuple_decides : (a b : List LabelValue) → Decides (same_tuple a b) (a ≡ b)
+tuple_decides [] [] = (λ e. refl, λ e. refl)
+tuple_decides [] (b ∷ bs) = (λ e. cc, λ e. cc)
+tuple_decides (a ∷ as') [] = (λ e. cc, λ e. cc)
+tuple_decides (a ∷ as') (b ∷ bs) = Decides-like (same_label a b && same_tuple as' bs) (joined a b as' bs) (apart a b as' bs) (Decides-and (same_label a b) (same_tuple as' bs) (value_decides a b) (tuple_decides as' bs))
+
+tuples_decide : (a b : List (List LabelValue)) → Decides (same_tuples a b) (a ≡ b)
+tuples_decide [] [] = (λ e. refl, λ e. refl)
+tuples_decide [] (b ∷ bs) = (λ e. cc, λ e. cc)
+tuples_decide (a ∷ as') [] = (λ e. cc, λ e. cc)
+tuples_decide (a ∷ as') (b ∷ bs) = Decides-like (same_tuple a b && same_tuples as' bs) (joined a b as' bs) (apart a b as' bs) (Decides-and (same_tuple a b) (same_tuples as' bs) (tuple_decides a b) (tuples_decide as' bs))
+
+label_settled : (texts : List Text) (l : Label) (ls : List Label) → IsSettled tuple_value texts (l ∷ ls) → IsSettled label_datum texts l
+label_settled texts l ls settled = λ more. ap (head_or (label_datum texts l)) (settled more)
+
+rest_settled : (texts : List Text) (l : Label) (ls : List Label) → IsSettled tuple_value texts (l ∷ ls) → IsSettled tuple_value texts ls
+rest_settled texts l ls settled = λ more. ap tail_of (settled more)
+
+pub tuple_settled : (texts : List Text) (t : List Label) (ts : List (List Label)) → IsSettled labels_value texts (t ∷ ts) → IsSettled tuple_value texts t
+tuple_settled texts t ts settled = λ more. ap (head_or (tuple_value texts t)) (settled more)
+
+pub rows_settled : (texts : List Text) (t : List Label) (ts : List (List Label)) → IsSettled labels_value texts (t ∷ ts) → IsSettled labels_value texts ts
+rows_settled texts t ts settled = λ more. ap tail_of (settled more)
+
+-- tuples of one text each have one number each
+tuple_one : (texts : List Text) (a b : List Label) → AreDistinct texts → IsSettled tuple_value texts a → IsSettled tuple_value texts b → tuple_value texts a ≡ tuple_value texts b → a ≡ b
+tuple_one texts [] [] distinct f g e = refl
+tuple_one texts [] (b ∷ bs) distinct f g e = cc
+tuple_one texts (a ∷ as') [] distinct f g e = cc
+tuple_one texts (a ∷ as') (b ∷ bs) distinct f g e =
+    let both = apart (label_datum texts a) (label_datum texts b) (tuple_value texts as') (tuple_value texts bs) e in
+    joined a b as' bs
+    (
+    label_one texts a b distinct (label_given texts a (label_settled texts a as' f)) (label_given texts b (label_settled texts b bs g)) both.0,
+    tuple_one texts as' bs distinct (rest_settled texts a as' f) (rest_settled texts b bs g) both.1
+    )
+
+rows_one : (texts : List Text) (a b : List (List Label)) → AreDistinct texts → IsSettled labels_value texts a → IsSettled labels_value texts b → labels_value texts a ≡ labels_value texts b → a ≡ b
+rows_one texts [] [] distinct f g e = refl
+rows_one texts [] (b ∷ bs) distinct f g e = cc
+rows_one texts (a ∷ as') [] distinct f g e = cc
+rows_one texts (a ∷ as') (b ∷ bs) distinct f g e =
+    let both = apart (tuple_value texts a) (tuple_value texts b) (labels_value texts as') (labels_value texts bs) e in
+    joined a b as' bs
+    (
+    tuple_one texts a b distinct (tuple_settled texts a as' f) (tuple_settled texts b bs g) both.0,
+    rows_one texts as' bs distinct (rows_settled texts a as' f) (rows_settled texts b bs g) both.1
+    )
+
+-- a test of rows by numbers is the test by texts
+pub rows_by_number : (texts : List Text) (a b : List (List Label)) (r : Bool) → AreDistinct texts → IsSettled labels_value texts a → IsSettled labels_value texts b → Decides r (a ≡ b)
+    → r ≡ same_tuples (labels_value texts a) (labels_value texts b)
+rows_by_number texts a b r distinct f g is =
+    let there : Decides (same_tuples (labels_value texts a) (labels_value texts b)) (a ≡ b) =
+    (λ e. rows_one texts a b distinct f g ((tuples_decide (labels_value texts a) (labels_value texts b)).0 e),
+    λ e. (tuples_decide (labels_value texts a) (labels_value texts b)).1 (ap (labels_value texts) e)) in
+    same_from_decides r (same_tuples (labels_value texts a) (labels_value texts b)) is there

@@ -1,0 +1,146 @@
+-- What the kernels answer, as what two columns come to.
+use Rattle.std.proofs.Common.{◌≡◌, ◌∙◌, ℕ, zero, suc, Bool, true, false, List, [], ◌∷◌, length, map, replicate, refl, ap, sym, subst, arith, Option, Some, None, Result, Ok, Err}
+use Rattle.std.specs.Prelude.{slice_get, slice_index_or, IfOk}
+use Rattle.std.proofs.lemmas.Option.{get_or_from_slice_get}
+use Rattle.std.proofs.lemmas.List.{length-map, length-replicate}
+use Rattle.cell_core.specs.declared.cell.Kind.{Kind}
+use Rattle.cell_core.specs.declared.cell.Kind.TheVariants.{Int64, Boolean, Text as string}
+use Rattle.cell_core.specs.declared.cell.Cell.{Cell}
+use Rattle.cell_core.specs.declared.cell.Cell.TheVariants as cell
+use Rattle.meaning.specs.Text.{Text}
+use Rattle.meaning.specs.Cell.{CellValue, datum, holds}
+use Rattle.meaning.specs.Column.{ColumnValue, ColumnFault, try_pairs, then_rows, before_rows, column_if, column_of, zero_division}
+use Rattle.meaning.specs.Operator.{operator_kind, operator_cell, binary_column, scalar_binary, scalar_column, scalar_kind}
+use Rattle.meaning.specs.Tree.{Binary}
+use Rattle.nullable_array.specs.Answers.{Answers}
+use Rattle.nullable_array.specs.Columns.{CellColumn, column_value as cells_value}
+use Rattle.nullable_array.specs.declared.ops.ArrayFault.{ArrayFault}
+use Rattle.table_meaning.specs.Table.{ColumnOf, NumberedTable, column_at, column_value}
+use Rattle.form_meaning.specs.Finish.{value_of_column}
+use Rattle.frame_ops.specs.declared.other.Other.TheVariants.{Beside, Across}
+use Rattle.frame_ops.specs.declared.other.Other.{Other}
+use Rattle.frame_ops.specs.Pairs.{IsOpposite, turned_pair, repeated, pair_at, series_cell, kind_beside, kinds_meet, meeting_value, column_meant}
+use Rattle.frame_ops.proofs.KindLaws.{one_kind}
+
+map-replicate : {X Y : Type 0} (f : X → Y) (n : ℕ) (x : X) → map f (replicate n x) ≡ replicate n (f x)
+map-replicate f zero x = refl
+map-replicate f (suc n) x = ap (λ l. f x ∷ l) (map-replicate f n x)
+
+-- the kind doesn't rest on the texts
+kind_of_cell : (texts : List Text) (kind : Kind) (c : Cell) → kind_beside kind c ≡ scalar_kind kind (datum texts c)
+kind_of_cell texts kind cell.Na = refl
+kind_of_cell texts kind (cell.Int z) = refl
+kind_of_cell texts kind (cell.Bool b) = refl
+kind_of_cell texts kind (cell.Text id) = refl
+
+-- a cell in each row is the scalar beside the column
+repeated_value : (texts : List Text) (a : ColumnOf Cell) (kind : Kind) (c : Cell) → kind ≡ kind_beside a.kind c
+    → value_of_column (column_value texts (repeated kind (length a.cells) c)) ≡ scalar_column (value_of_column (column_value texts a)) (datum texts c)
+repeated_value texts a kind c is =
+    let cells : map (datum texts) (replicate (length a.cells) c) ≡ replicate (length (map (datum texts) a.cells)) (datum texts c) =
+    map-replicate (datum texts) (length a.cells) c ∙ ap (λ n. replicate n (datum texts c)) (sym (length-map a.cells (datum texts))) in
+    let same : kind ≡ scalar_kind a.kind (datum texts c) = is ∙ kind_of_cell texts a.kind c in
+    λ i. record { kind = same i; cells = cells i }
+
+-- a column beside a scalar
+scalar_meant : (old new : List Text) (op : Binary) (a : ColumnOf Cell) (kind : Kind) (c : Cell) (left : Bool) (result : Result CellColumn ArrayFault) → kind ≡ kind_beside a.kind c
+    → Answers new result (scalar_binary op (value_of_column (column_value old a)) (datum old c) left)
+    → Answers new result (column_meant op (meeting_value old (turned_pair left a (repeated kind (length a.cells) c))))
+scalar_meant old new op a kind c true result is answer =
+    subst (λ (x : ColumnValue). Answers new result (binary_column op x (value_of_column (column_value old a)))) (sym (repeated_value old a kind c is)) answer
+scalar_meant old new op a kind c false result is answer =
+    subst (λ (x : ColumnValue). Answers new result (binary_column op (value_of_column (column_value old a)) x)) (sym (repeated_value old a kind c is)) answer
+
+pub beside_scalar : (old new : List Text) (op : Binary) (at : ColumnOf Cell) (a : CellColumn) (kind : Kind) (c : Cell) (left : Bool) (result : Result CellColumn ArrayFault)
+    → at ≡ record { kind = a.kind; cells = a.cells } → kind ≡ kind_beside at.kind c → Answers new result (scalar_binary op (cells_value old a) (datum old c) left)
+    → Answers new result (column_meant op (meeting_value old (turned_pair left at (repeated kind (length at.cells) c))))
+beside_scalar old new op at a kind c left result is same answer =
+    scalar_meant old new op at kind c left result same (subst (λ (x : ColumnOf Cell). Answers new result (scalar_binary op (value_of_column (column_value old x)) (datum old c) left)) (sym is) answer)
+
+pub beside_column : (old new : List Text) (op : Binary) (at bt : ColumnOf Cell) (a b : CellColumn) (result : Result CellColumn ArrayFault)
+    → at ≡ record { kind = a.kind; cells = a.cells } → bt ≡ record { kind = b.kind; cells = b.cells } → Answers new result (binary_column op (cells_value old a) (cells_value old b))
+    → Answers new result (column_meant op (meeting_value old (at, bt)))
+beside_column old new op at bt a b result is is' answer =
+    subst (λ (x : ColumnOf Cell). Answers new result (binary_column op (value_of_column (column_value old x)) (value_of_column (column_value old bt)))) (sym is)
+    (subst (λ (y : ColumnOf Cell). Answers new result (binary_column op (cells_value old a) (value_of_column (column_value old y)))) (sym is') answer)
+
+-- the cell of a column whose kind the operator takes beside another one
+pub kind_held : (op : Binary) (left : Bool) (a : ColumnOf Cell) (kind : Kind) (c : Cell) → kinds_meet op (turned_pair left a (repeated kind (length a.cells) c)) ≡ true → holds kind (datum [] c) ≡ true → kind ≡ kind_beside a.kind c
+kind_held op true a kind cell.Na meet held = one_kind op kind a.kind meet
+kind_held op false a kind cell.Na meet held = sym (one_kind op a.kind kind meet)
+kind_held op left a Int64 (cell.Int z) meet held = refl
+kind_held op left a Boolean (cell.Int z) meet held = cc
+kind_held op left a string (cell.Int z) meet held = cc
+kind_held op left a Int64 (cell.Bool b) meet held = cc
+kind_held op left a Boolean (cell.Bool b) meet held = refl
+kind_held op left a string (cell.Bool b) meet held = cc
+kind_held op left a Int64 (cell.Text id) meet held = cc
+kind_held op left a Boolean (cell.Text id) meet held = cc
+kind_held op left a string (cell.Text id) meet held = refl
+
+-- each row has a cell
+one_more_row : (row : ℕ) (o : Option CellValue) (r : Result (List CellValue) ℕ) (zs xs : List CellValue) → ((rest : List CellValue) → r ≡ Ok rest → length rest ≡ length xs) → then_rows o row r ≡ Ok zs → length zs ≡ suc (length xs)
+one_more_row row None r zs xs rest is = cc
+one_more_row row (Some c) (Err k) zs xs rest is = cc
+one_more_row row (Some c) (Ok cs) zs xs rest is = let front : zs ≡ c ∷ cs = cc in ap length front ∙ ap suc (rest cs refl)
+
+pairs_length : (f : CellValue → CellValue → Option CellValue) (row : ℕ) (xs ys zs : List CellValue) → length xs ≡ length ys → try_pairs f row xs ys ≡ Ok zs → length zs ≡ length xs
+pairs_length f row [] [] zs same is = let none : zs ≡ [] = cc in ap length none
+pairs_length f row [] (y ∷ ys) zs same is = absurd (omega arith)
+pairs_length f row (x ∷ xs) [] zs same is = absurd (omega arith)
+pairs_length f row (x ∷ xs) (y ∷ ys) zs same is =
+    one_more_row row (f x y) (try_pairs f (suc row) xs ys) zs xs (λ rest e. let less : length xs ≡ length ys = omega arith in pairs_length f (suc row) xs ys rest less e) is
+
+column_length : (texts : List Text) (o : Option Kind) (n : ℕ) (r : Result (List CellValue) ℕ) (c : CellColumn) → ((zs : List CellValue) → r ≡ Ok zs → length zs ≡ n)
+    → column_if o zero_division r ≡ Ok (cells_value texts c) → length c.cells ≡ n
+column_length texts None n r c rows is = cc
+column_length texts (Some kind) n (Err k) c rows is = cc
+column_length texts (Some kind) n (Ok zs) c rows is =
+    let made : ColumnValue = record { kind = kind; cells = zs } in
+    let same : made ≡ cells_value texts c = cc in
+    sym (length-map c.cells (datum texts)) ∙ sym (ap (λ (x : ColumnValue). length x.cells) same) ∙ rows zs refl
+
+pub answer_length : (texts : List Text) (op : Binary) (x y : ColumnValue) (c : CellColumn) (n : ℕ) → length x.cells ≡ n → length y.cells ≡ n → Answers texts (Ok c) (binary_column op x y) → length c.cells ≡ n
+answer_length texts op x y c n e f is =
+    column_length texts (operator_kind op x.kind y.kind) n (try_pairs (operator_cell op) 0 x.cells y.cells) c (λ zs is. pairs_length (operator_cell op) 0 x.cells y.cells zs (e ∙ sym f) is ∙ e) is
+
+-- a column beside the cell of a Series at its place
+pub across_scalar : (old new : List Text) (op : Binary) (at : ColumnOf Cell) (a b : CellColumn) (s : NumberedTable) (place : ℕ) (c : Cell) (left : Bool) (result : Result CellColumn ArrayFault)
+    → at ≡ record { kind = a.kind; cells = a.cells } → column_at s.columns 0 ≡ record { kind = b.kind; cells = b.cells } → slice_get b.cells place ≡ Some c → holds b.kind (datum [] c) ≡ true
+    → kinds_meet op (pair_at (Across s left) place at) ≡ true → Answers new result (scalar_binary op (cells_value old a) (datum old c) left)
+    → Answers new result (column_meant op (meeting_value old (pair_at (Across s left) place at)))
+across_scalar old new op at a b s place c left result is is' there held meet answer =
+    let kind : Kind = (column_at s.columns 0).kind in
+    let cell_is : series_cell s place ≡ c = ap (λ (x : ColumnOf Cell). slice_index_or x.cells place cell.Na) is' ∙ get_or_from_slice_get b.cells place c cell.Na there in
+    let meet' : kinds_meet op (turned_pair left at (repeated kind (length at.cells) c)) ≡ true = subst (λ x. kinds_meet op (turned_pair left at (repeated kind (length at.cells) x)) ≡ true) cell_is meet in
+    let same : kind ≡ kind_beside at.kind c = kind_held op left at kind c meet' (ap (λ (x : ColumnOf Cell). holds x.kind (datum [] c)) is' ∙ held) in
+    subst (λ x. Answers new result (column_meant op (meeting_value old (turned_pair left at (repeated kind (length at.cells) x))))) (sym cell_is)
+    (beside_scalar old new op at a kind c left result is same answer)
+
+made_rows : (texts : List Text) (op : Binary) (x y : ColumnValue) (n : ℕ) (result : Result CellColumn ArrayFault) → length x.cells ≡ n → length y.cells ≡ n → Answers texts result (binary_column op x y) → IfOk result (λ made. length made.cells ≡ n)
+made_rows texts op x y n (Err fault) e f answer = tt
+made_rows texts op x y n (Ok made) e f answer = answer_length texts op x y made n e f answer
+
+-- the column that is made has as many rows as its operands
+pub column_rows : (old new : List Text) (op : Binary) (a b : CellColumn) (n : ℕ) (result : Result CellColumn ArrayFault) → length a.cells ≡ n → length b.cells ≡ n
+    → Answers new result (binary_column op (cells_value old a) (cells_value old b)) → IfOk result (λ made. length made.cells ≡ n)
+column_rows old new op a b n result e f answer =
+    made_rows new op (cells_value old a) (cells_value old b) n result (length-map a.cells (datum old) ∙ e) (length-map b.cells (datum old) ∙ f) answer
+
+pub scalar_rows : (old new : List Text) (op : Binary) (a : CellColumn) (c : Cell) (left : Bool) (n : ℕ) (result : Result CellColumn ArrayFault) → length a.cells ≡ n
+    → Answers new result (scalar_binary op (cells_value old a) (datum old c) left) → IfOk result (λ made. length made.cells ≡ n)
+scalar_rows old new op a c left n result e answer = go left answer
+  where
+    seen : length (map (datum old) a.cells) ≡ n
+    seen = length-map a.cells (datum old) ∙ e
+
+    many : length (scalar_column (cells_value old a) (datum old c)).cells ≡ n
+    many = length-replicate (length (map (datum old) a.cells)) (datum old c) ∙ seen
+
+    go : (left : Bool) → Answers new result (scalar_binary op (cells_value old a) (datum old c) left) → IfOk result (λ made. length made.cells ≡ n)
+    go true h = made_rows new op (scalar_column (cells_value old a) (datum old c)) (cells_value old a) n result many seen h
+    go false h = made_rows new op (cells_value old a) (scalar_column (cells_value old a) (datum old c)) n result seen many h
+
+-- a column of the table beside
+pub rows_beside : (on : NumberedTable) (other : Other) (t : NumberedTable) (cells : List Cell) → IsOpposite on other → other ≡ Beside t → length cells ≡ length t.labels → length cells ≡ length on.labels
+rows_beside on other t cells opposite is rows = rows ∙ (subst (IsOpposite on) is opposite).1

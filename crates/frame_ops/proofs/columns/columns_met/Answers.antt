@@ -1,0 +1,32 @@
+use Rattle.std.proofs.Common.{◌≡◌, ◌<◌, List, length, arith, rules, subst, sym, Result, Err}
+use Rattle.meaning.specs.Text.{Text}
+use Rattle.nullable_array.specs.Blocks.{CellBlock}
+use Rattle.frame_store.specs.declared.fault.OpFault.{OpFault}
+use Rattle.nullable_array.specs.Tasks.{operator_of}
+use Rattle.form_meaning.specs.Finish.{try_all}
+use Rattle.form_meaning.specs.Infix.{met}
+use Rattle.form_parts.specs.Makes.{MakesBy, blocks_value}
+use Rattle.frame_ops.specs.Pairs.{kinds_meet, pairs_from, meetings_value}
+use Rattle.frame_store.proofs.Settling.{longer_twice}
+use Rattle.frame_ops.proofs.ColumnsMade.{kinds_here, columns_more, whole_more, whole_refused}
+use Rattle.frame_ops.proofs.columns.columns_met.Goals as goal
+
+pub returns-in_err-block-clause-made : goal.returns-in_err-block-clause-made
+returns-in_err-block-clause-made c =
+    let lt : c.loop-place.place < length c.args.on.now.columns = omega arith in
+    let is : c.from_residual.result ≡ Err c.in_err-block.field-0.0 = search rules in
+    let made = whole_refused (met (operator_of c.args.op)) c.args.dict.now c.loop-place.dict c.block_met.new.dict c.args.on.now c.args.other.now c.loop-place.place c.loop-place.made
+    (try_all (met (operator_of c.args.op)) (meetings_value c.args.dict.now (pairs_from c.args.other.now 0 c.args.on.now.columns)))
+    c.in_err-block.field-0.0 lt c.requires.opposite c.requires.other c.requires.given c.loop-place.invariant.longer c.in_err-block.ensures.made c.loop-place.invariant.whole in
+    subst (λ (r : Result (List CellBlock) OpFault). MakesBy blocks_value c.block_met.new.dict r (try_all (met (operator_of c.args.op)) (meetings_value c.args.dict.now (pairs_from c.args.other.now 0 c.args.on.now.columns)))) (sym is) made
+
+pub loop-place-preserved : goal.loop-place-preserved
+loop-place-preserved c =
+    let lt : c.loop-place.place < length c.args.on.now.columns = omega arith in
+    record {
+      longer = longer_twice _ _ _ c.loop-place.invariant.longer c.block_met.ensures.longer;
+      columns = columns_more c.loop-place.dict c.block_met.new.dict _ _ c.loop-place.made _ c.in_ok-block.block c.block_met.ensures.longer c.loop-place.invariant.columns c.in_ok-push.ensures.ok c.in_ok-block.ensures.single c.in_ok-block.ensures.rows c.in_ok-block.ensures.given;
+      kinds = (kinds_here (kinds_meet (operator_of c.args.op)) c.args.other.now c.loop-place.place c.args.on.now.columns lt c.loop-place.invariant.kinds).1;
+      whole = whole_more (met (operator_of c.args.op)) c.args.dict.now c.loop-place.dict c.block_met.new.dict c.args.on.now c.args.other.now c.loop-place.place c.loop-place.made _ _ c.in_ok-block.block
+      lt c.requires.opposite c.requires.other c.requires.given c.loop-place.invariant.longer c.block_met.ensures.longer c.loop-place.invariant.columns.given c.in_ok-push.ensures.ok c.in_ok-block.ensures.made c.loop-place.invariant.whole;
+    }

@@ -1,0 +1,51 @@
+// Labels of columns that meet.
+ghost use Rattle.std.specs.Prelude.{◌≡◌};
+ghost use Rattle.table_meaning.specs.Settled.{IsSettled};
+ghost use Rattle.table_meaning.specs.Valid.{IsWhole};
+ghost use Rattle.frame_store.specs.Shown.{headings_value, labels_value};
+ghost use Rattle.form_meaning.specs.Infix as infix;
+
+use cell_core::{Grid, TextDict};
+use form_parts::same_heading;
+use frame_store::ObjRef;
+
+/// Whether two tables have the same labels at the same columns.
+pub(crate) fn same_headings(dict: &TextDict, a: &ObjRef<'_>, b: &ObjRef<'_>) -> bool
+    requires whole_a { IsWhole a.now }
+    requires whole_b { IsWhole b.now }
+    requires a { IsSettled headings_value dict.now a.now.headings }
+    requires b { IsSettled headings_value dict.now b.now.headings }
+    ensures { result ≡ infix.same_headings (headings_value dict.now a.now.headings) (headings_value dict.now b.now.headings) }
+{
+    if a.columns() != b.columns() {
+        return false;
+    }
+    for column in 0..a.columns() {
+        if !same_heading(dict, a.heading(column), b.heading(column)) {
+            return false;
+        }
+    }
+    true
+}
+
+/// Whether the labels of a Series' rows, of one level, are the labels of a frame's columns, in their order.
+pub(crate) fn are_headings(dict: &TextDict, series: &ObjRef<'_>, frame: &ObjRef<'_>) -> bool
+    requires whole { IsWhole frame.now }
+    requires labels { IsSettled labels_value dict.now series.now.labels }
+    requires headings { IsSettled headings_value dict.now frame.now.headings }
+    ensures { result ≡ infix.are_headings (labels_value dict.now series.now.labels) (headings_value dict.now frame.now.headings) }
+{
+    if series.rows() != frame.columns() {
+        return false;
+    }
+    if series.axis().levels() != 1 {
+        return series.rows() == 0;
+    }
+    for place in 0..frame.columns() {
+        let label = Some(series.label(place, 0));
+        if !same_heading(dict, label, frame.heading(place)) {
+            return false;
+        }
+    }
+    true
+}
