@@ -1,16 +1,13 @@
 -- What all answers have in common: equal labels of columns, and the limits.
-use Rattle.std.specs.Prelude.{ℕ, ◌*◌, ◌^◌, pos, Bool, true, false, ◌&&◌, List, [], ◌∷◌, map, length, nat_le, replicate, Option, Some, None, Result, Ok, Err, if◌then◌else◌}
+use Rattle.std.specs.Prelude.{ℕ, pos, Bool, true, false, List, [], ◌∷◌, map, length, replicate, Option, Some, None, Result, Ok, Err, if◌then◌else◌}
 use Rattle.std.specs.List.{list_any, range_with_len}
 use Rattle.meaning.specs.Cell.{Kind, CellValue, na_cell, LabelValue, int}
 use Rattle.meaning.specs.Column.{ColumnValue, ColumnFault, kind_mismatch, zero_division, not_cast}
 use Rattle.meaning.specs.Fault.{FaultValue, wrong_kind, bad_value, repeated, cast, zero_divide, limit, then_value}
 use Rattle.table_meaning.specs.Table.{ColumnOf, Table}
 use Rattle.table_meaning.specs.Value.{Entry, table}
+pub use Rattle.table_meaning.specs.Valid.{within_limits}
 use Rattle.form_meaning.specs.Binding.{same_label}
-
--- at most 2^26 rows, 2^16 columns, and 2^26 cells
-abbrev pub within_limits : ℕ → ℕ → Bool
-within_limits rows columns = nat_le rows (2 ^ 26) && nat_le columns (2 ^ 16) && nat_le (rows * columns) (2 ^ 26)
 
 abbrev pub limited_table : Table → Result Table FaultValue
 limited_table t = if within_limits (length t.labels) (length t.columns) then Ok t else Err limit

@@ -43,7 +43,7 @@ pub object_settled : (texts : List Text) (tables : Tables) (id : ℕ) (t : Numbe
 object_settled texts tables id t is settled = λ more.
     let same : option_map (table_value (texts ++ more)) (tables id) ≡ option_map (table_value texts) (tables id) = λ j. settled more j id in
     let both : Some (table_value (texts ++ more) t) ≡ Some (table_value texts t) =
-        ap (option_map (table_value (texts ++ more))) (sym is) ∙ same ∙ ap (option_map (table_value texts)) is in
+    ap (option_map (table_value (texts ++ more))) (sym is) ∙ same ∙ ap (option_map (table_value texts)) is in
     ap (λ o. table_or_none o (table_value texts t)) both
 
 -- one table more or another, and the others as they were
