@@ -1,13 +1,14 @@
 #!/usr/bin/env python3
 """Times the operations on columns beside the same loops in Rust and pandas' nullable arrays.
 
-    python3 bench/columns.py PROGRAM [--cells N] [--rounds N]
+    python3 bench/columns.py PROGRAM [--cells N] [--rounds N] [--huge]
 
 PROGRAM is the built `column_bench`. `columns.rs` is compiled here, by `rustc`, for the same processor as
 PROGRAM, and `columns_pandas.py` is run by the Python that runs this. Each operation is done by the three in
 turn, so many rounds, each of several runs, and the least time of each is taken. The three must agree on a
 number of the answer's cells. A line for each operation gives the least times in milliseconds and the ratios
-of the program's time to the others'. The last lines give the memory that a process holds at most, in bytes
+of the program's time to the others'. With `--huge` glibc is told to ask for huge pages for the program and
+the Rust loops, as numpy does by itself. The last lines give the memory that a process holds at most, in bytes
 a cell, when it has one column of whole numbers, and when it has two and their sum.
 """
 import os
@@ -25,9 +26,10 @@ def option(word, default):
     return int(sys.argv[sys.argv.index(word) + 1]) if word in sys.argv else default
 
 
-def run(command):
+def run(command, huge=False):
     """The least time in milliseconds, the number of the answer, and the most memory that was held."""
-    begun = subprocess.Popen(command, stdout=subprocess.PIPE, text=True)
+    words = dict(os.environ, GLIBC_TUNABLES="glibc.malloc.hugetlb=1") if huge else None
+    begun = subprocess.Popen(command, stdout=subprocess.PIPE, text=True, env=words)
     lines = begun.stdout.read().splitlines()
     _, status, used = os.wait4(begun.pid, 0)
     begun.returncode = os.waitstatus_to_exitcode(status)
@@ -39,7 +41,7 @@ def run(command):
 
 def main():
     program = os.path.abspath(sys.argv[1])
-    cells, rounds = option("--cells", 10000000), option("--rounds", 5)
+    cells, rounds, huge = option("--cells", 10000000), option("--rounds", 5), "--huge" in sys.argv
     with tempfile.TemporaryDirectory() as folder:
         loops = os.path.join(folder, "columns")
         subprocess.run(["rustc", "-O", "-C", "target-cpu=x86-64-v2", "-o", loops, os.path.join(HERE, "columns.rs")], check=True)
@@ -53,7 +55,7 @@ def main():
             least, numbers = [float("inf")] * 3, set()
             for _ in range(rounds):
                 for k, command in enumerate(commands):
-                    took, number, _ = run(command)
+                    took, number, _ = run(command, huge and k < 2)
                     least[k] = min(least[k], took)
                     if k < 2 or name != UNLIKE:
                         numbers.add(number)
