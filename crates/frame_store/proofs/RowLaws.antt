@@ -1,7 +1,6 @@
 -- A row of parts, as the list of them.
-use Rattle.std.proofs.Common.{◌≡◌, ◌∙◌, refl, sym, ap, subst, ℕ, List, []}
+use Rattle.std.proofs.Common.{◌≡◌, ◌∙◌, refl, ap, subst, List}
 use mathlib.Core.Former.{Count}
-use Rattle.cell_core.specs.declared.cell.Label.{Label}
 use Rattle.meaning.specs.Text.{Text}
 use Rattle.meaning.specs.Cell.{label_datum}
 use Rattle.table_meaning.specs.Value as value

@@ -1,5 +1,5 @@
 -- Arguments of forms as plain values, in which an object is its table and a text is the text itself.
-use Rattle.std.specs.Prelude.{ℕ, List, [], ◌∷◌, map, Option, IsSome}
+use Rattle.std.specs.Prelude.{List, [], ◌∷◌, map, IsSome}
 use Rattle.cell_core.specs.declared.cell.Label.{Label}
 use Rattle.meaning.specs.Text.{Text}
 use Rattle.meaning.specs.Cell.{LabelValue, datum, label_datum}

@@ -13,7 +13,7 @@ use crate::object::ObjId;
 use cell_core::{Cell, Label};
 
 impl Item {
-    /// The scalar that the part is. Takes no memory.
+    /// The scalar that the part is; `None` where it is something else. Takes no memory.
     pub fn scalar(&self) -> Option<Cell>
         ensures { (tables : Tables) (texts : List Text) → option_map (datum texts) result ≡ scalar_in (item_of tables texts self.now) }
     {
@@ -24,7 +24,7 @@ impl Item {
         }
     }
 
-    /// The object that the part is. Takes no memory.
+    /// The object that the part is; `None` where it is something else. Takes no memory.
     pub fn object(&self) -> Option<ObjId>
         ensures table { (tables : Tables) (texts : List Text) → option_map (λ (id : ObjId). table_value texts (table_at tables id.0)) result ≡ object_in (item_of tables texts self.now) }
         ensures live { (tables : Tables) → IsLiveItem tables self.now → IfSome result (λ id. IsSome (tables id.0)) }
@@ -36,7 +36,7 @@ impl Item {
         }
     }
 
-    /// The parts of the tuple that the part is. Takes no memory.
+    /// The parts of the tuple that the part is; `None` where it is something else. Takes no memory.
     pub fn tuple(&self) -> Option<&[Item]>
         ensures parts { (tables : Tables) (texts : List Text) → option_map (λ parts. items_of tables texts parts.now) result ≡ tuple_in (item_of tables texts self.now) }
         ensures live { (tables : Tables) → IsLiveItem tables self.now → IfSome result (λ parts. AreLiveItems tables parts.now) }
@@ -49,7 +49,7 @@ impl Item {
 }
 
 impl Argument {
-    /// The scalar that the argument is. Takes no memory.
+    /// The scalar that the argument is; `None` where it is something else. Takes no memory.
     pub fn scalar(&self) -> Option<Cell>
         ensures { (tables : Tables) (texts : List Text) → option_map (datum texts) result ≡ scalar_in (argument_of tables texts self.now) }
     {
@@ -63,7 +63,7 @@ impl Argument {
         }
     }
 
-    /// The object that the argument is. Takes no memory.
+    /// The object that the argument is; `None` where it is something else. Takes no memory.
     pub fn object(&self) -> Option<ObjId>
         ensures table { (tables : Tables) (texts : List Text) → option_map (λ (id : ObjId). table_value texts (table_at tables id.0)) result ≡ object_in (argument_of tables texts self.now) }
         ensures live { (tables : Tables) → IsLiveArgument tables self.now → IfSome result (λ id. IsSome (tables id.0)) }
@@ -78,7 +78,7 @@ impl Argument {
         }
     }
 
-    /// The parts of the tuple that the argument is. Takes no memory.
+    /// The parts of the tuple that the argument is; `None` where it is something else. Takes no memory.
     pub fn tuple(&self) -> Option<&[Item]>
         ensures parts { (tables : Tables) (texts : List Text) → option_map (λ parts. items_of tables texts parts.now) result ≡ tuple_in (argument_of tables texts self.now) }
         ensures live { (tables : Tables) → IsLiveArgument tables self.now → IfSome result (λ parts. AreLiveItems tables parts.now) }
@@ -92,7 +92,7 @@ impl Argument {
         }
     }
 
-    /// The parts of the list that the argument is. Takes no memory.
+    /// The parts of the list that the argument is; `None` where it is something else. Takes no memory.
     pub fn list(&self) -> Option<&[Item]>
         ensures parts { (tables : Tables) (texts : List Text) → option_map (λ parts. items_of tables texts parts.now) result ≡ list_in (argument_of tables texts self.now) }
         ensures live { (tables : Tables) → IsLiveArgument tables self.now → IfSome result (λ parts. AreLiveItems tables parts.now) }
@@ -106,7 +106,8 @@ impl Argument {
         }
     }
 
-    /// The pairs of the dict that the argument is. Takes no memory.
+    /// The pairs of the dict that the argument is, in their order, also where a key stands twice;
+    /// `None` where it is something else. Takes no memory.
     pub fn dict(&self) -> Option<&[(Label, Argument)]>
         ensures pairs { (tables : Tables) (texts : List Text) → option_map (λ pairs. entries_of tables texts pairs.now) result ≡ dict_in (argument_of tables texts self.now) }
         ensures live { (tables : Tables) → IsLiveArgument tables self.now → IfSome result (λ pairs. AreLivePairs tables pairs.now) }

@@ -18,7 +18,7 @@ use cell_core::{Code, Reason, TextDict, Words};
 use form_meaning::{Omitted, Parameter};
 use frame_store::{Argument, Named, OpFault, Store};
 
-/// Why arguments aren't bound.
+/// Why arguments aren't bound. As an `OpFault` it is `WrongKind`, or `BadValue` of an argument.
 #[derive(Clone, Copy, Debug, PartialEq, Eq)]
 pub enum Unbound {
     /// A `TypeError`: an argument without a parameter, a parameter without an argument or with two,
@@ -193,8 +193,8 @@ fn none_missing(parameters: &[Parameter], args: &[Named]) -> bool
     true
 }
 
-/// Whether a signature takes the arguments. Those without a name go to the parameters in order, those
-/// with a name to the parameter of that name.
+/// Whether a signature takes the arguments, whose objects are live. Those without a name go to the
+/// parameters in order, those with a name to the parameter of that name.
 ///
 /// `NotTaken` where an argument goes to no parameter, two go to one, one hasn't the form of its
 /// parameter, or a parameter that must be given has none; else `NotListed` where one isn't among the

@@ -134,7 +134,9 @@ fn text_for(omitted: Omitted) -> Option<&'static str>
     }
 }
 
-/// The scalar at a place of a signature, where no text stands for one that isn't given. Takes no memory.
+/// The scalar that stands at a place of a signature: the argument that goes there, or the default.
+/// `None` where something else stands there. The default is no text, which [`text_at`] reads. Takes no
+/// memory.
 pub fn scalar_at(parameters: &[Parameter], args: &[Named], place: usize) -> Option<Cell>
     requires { plain.HasNoText (slice_get parameters.now place) }
     ensures { (live : Tables) (texts : List Text) → option_map (datum texts) result ≡ scalar_in (plain.argument_at parameters.now (arguments_of live texts args.now) place) }
@@ -145,7 +147,8 @@ pub fn scalar_at(parameters: &[Parameter], args: &[Named], place: usize) -> Opti
     }
 }
 
-/// The whole number at a place of a signature, or what stands for it. Takes no memory.
+/// The whole number that stands at a place of a signature: the argument that goes there, or the
+/// default. `None` where something else stands there. Takes no memory.
 pub fn whole_at(parameters: &[Parameter], args: &[Named], place: usize) -> Option<i64>
     ensures { (live : Tables) (texts : List Text) → result ≡ plain.whole_in (plain.argument_at parameters.now (arguments_of live texts args.now) place) }
 {
@@ -155,7 +158,8 @@ pub fn whole_at(parameters: &[Parameter], args: &[Named], place: usize) -> Optio
     }
 }
 
-/// The truth value at a place of a signature, or what stands for it. Takes no memory.
+/// The truth value that stands at a place of a signature: the argument that goes there, or the
+/// default. `None` where something else stands there. Takes no memory.
 pub fn truth_at(parameters: &[Parameter], args: &[Named], place: usize) -> Option<bool>
     ensures { (live : Tables) (texts : List Text) → result ≡ plain.truth_in (plain.argument_at parameters.now (arguments_of live texts args.now) place) }
 {
@@ -165,7 +169,8 @@ pub fn truth_at(parameters: &[Parameter], args: &[Named], place: usize) -> Optio
     }
 }
 
-/// The text at a place of a signature, or what stands for it. Takes no memory.
+/// The text that stands at a place of a signature: the argument that goes there, or the default.
+/// `None` where something else stands there. Takes no memory.
 pub fn text_at<'a>(
     dict: &'a TextDict,
     parameters: &[Parameter],
@@ -180,7 +185,8 @@ pub fn text_at<'a>(
     }
 }
 
-/// The parts of the list at a place of a signature. Takes no memory.
+/// The parts of the list at a place of a signature. `None` where something else stands there. Takes no
+/// memory.
 pub fn list_at<'a>(parameters: &[Parameter], args: &'a [Named], place: usize) -> Option<&'a [Item]>
     ensures value { (live : Tables) (texts : List Text) → option_map (λ parts. items_of live texts parts.now) result ≡ list_in (plain.argument_at parameters.now (arguments_of live texts args.now) place) }
     ensures live { (live : Tables) → AreLive live args.now → IfSome result (λ parts. AreLiveItems live parts.now) }
@@ -191,7 +197,8 @@ pub fn list_at<'a>(parameters: &[Parameter], args: &'a [Named], place: usize) ->
     }
 }
 
-/// The pairs of the dict at a place of a signature. Takes no memory.
+/// The pairs of the dict at a place of a signature, in their order, also where a key stands twice.
+/// `None` where something else stands there. Takes no memory.
 pub fn dict_at<'a>(
     parameters: &[Parameter],
     args: &'a [Named],
@@ -206,7 +213,7 @@ pub fn dict_at<'a>(
     }
 }
 
-/// The object at a place of a signature. Takes no memory.
+/// The object at a place of a signature. `None` where something else stands there. Takes no memory.
 pub fn object_at(parameters: &[Parameter], args: &[Named], place: usize) -> Option<ObjId>
     ensures value { (live : Tables) (texts : List Text) → option_map (λ (id : ObjId). table_value texts (table_at live id.0)) result ≡ object_in (plain.argument_at parameters.now (arguments_of live texts args.now) place) }
     ensures live { (live : Tables) → AreLive live args.now → IfSome result (λ id. IsSome (live id.0)) }
@@ -251,7 +258,8 @@ pub fn is_none_at(parameters: &[Parameter], args: &[Named], place: usize) -> boo
     }
 }
 
-/// The same where `None` may stand: `Some(None)` where it does. Takes no memory.
+/// The scalar at a place of a signature at which `None` may stand: `Some(None)` where it does, given or
+/// as the default. `None` where something else stands there. The default is no text. Takes no memory.
 pub fn scalar_or_none_at(
     parameters: &[Parameter],
     args: &[Named],
@@ -266,7 +274,8 @@ pub fn scalar_or_none_at(
     scalar_at(parameters, args, place).map(Some)
 }
 
-/// The same where `None` may stand: `Some(None)` where it does. Takes no memory.
+/// The whole number at a place of a signature at which `None` may stand: `Some(None)` where it does,
+/// given or as the default. `None` where something else stands there. Takes no memory.
 pub fn whole_or_none_at(
     parameters: &[Parameter],
     args: &[Named],
@@ -280,7 +289,8 @@ pub fn whole_or_none_at(
     whole_at(parameters, args, place).map(Some)
 }
 
-/// The same where `None` may stand: `Some(None)` where it does. Takes no memory.
+/// The text at a place of a signature at which `None` may stand: `Some(None)` where it does, given or as
+/// the default. `None` where something else stands there. Takes no memory.
 pub fn text_or_none_at<'a>(
     dict: &'a TextDict,
     parameters: &[Parameter],
@@ -295,7 +305,8 @@ pub fn text_or_none_at<'a>(
     text_at(dict, parameters, args, place).map(Some)
 }
 
-/// The same where `None` may stand: `Some(None)` where it does. Takes no memory.
+/// The parts of the list at a place of a signature at which `None` may stand: `Some(None)` where it
+/// does, given or as the default. `None` where something else stands there. Takes no memory.
 pub fn list_or_none_at<'a>(
     parameters: &[Parameter],
     args: &'a [Named],
@@ -310,7 +321,8 @@ pub fn list_or_none_at<'a>(
     list_at(parameters, args, place).map(Some)
 }
 
-/// The same where `None` may stand: `Some(None)` where it does. Takes no memory.
+/// The pairs of the dict at a place of a signature at which `None` may stand: `Some(None)` where it
+/// does, given or as the default. `None` where something else stands there. Takes no memory.
 pub fn dict_or_none_at<'a>(
     parameters: &[Parameter],
     args: &'a [Named],
