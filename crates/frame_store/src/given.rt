@@ -1,12 +1,11 @@
 // What an argument and a part of one are.
-ghost use Rattle.std.specs.Prelude.{◌≡◌, List, IfSome, IsSome};
+ghost use Rattle.std.specs.Prelude.{◌≡◌, List, IfSome};
 ghost use Rattle.std.specs.Option.{option_map};
 ghost use Rattle.meaning.specs.Text.{Text};
 ghost use Rattle.meaning.specs.Cell.{datum};
-ghost use Rattle.table_meaning.specs.Table.{table_value};
 ghost use Rattle.table_meaning.specs.Value.{scalar_in, object_in, tuple_in, list_in, dict_in};
-ghost use Rattle.frame_store.specs.Objects.{Tables, table_at};
-ghost use Rattle.frame_store.specs.Arguments.{item_of, items_of, argument_of, entries_of, IsLiveItem, AreLiveItems, IsLiveArgument, AreLivePairs};
+ghost use Rattle.frame_store.specs.Objects.{Tables};
+ghost use Rattle.frame_store.specs.Arguments.{object_value, IsLiveObject, item_of, items_of, argument_of, entries_of, IsLiveItem, AreLiveItems, IsLiveArgument, AreLivePairs};
 
 use crate::arguments::{Argument, Item, Value};
 use crate::object::ObjId;
@@ -26,8 +25,8 @@ impl Item {
 
     /// The object that the part is; `None` where it is something else. Takes no memory.
     pub fn object(&self) -> Option<ObjId>
-        ensures table { (tables : Tables) (texts : List Text) → option_map (λ (id : ObjId). table_value texts (table_at tables id.0)) result ≡ object_in (item_of tables texts self.now) }
-        ensures live { (tables : Tables) → IsLiveItem tables self.now → IfSome result (λ id. IsSome (tables id.0)) }
+        ensures table { (tables : Tables) (texts : List Text) → option_map (object_value tables texts) result ≡ object_in (item_of tables texts self.now) }
+        ensures live { (tables : Tables) → IsLiveItem tables self.now → IfSome result (IsLiveObject tables) }
     {
         match self {
             Item::One(Value::Object(id)) => Some(*id),
@@ -65,8 +64,8 @@ impl Argument {
 
     /// The object that the argument is; `None` where it is something else. Takes no memory.
     pub fn object(&self) -> Option<ObjId>
-        ensures table { (tables : Tables) (texts : List Text) → option_map (λ (id : ObjId). table_value texts (table_at tables id.0)) result ≡ object_in (argument_of tables texts self.now) }
-        ensures live { (tables : Tables) → IsLiveArgument tables self.now → IfSome result (λ id. IsSome (tables id.0)) }
+        ensures table { (tables : Tables) (texts : List Text) → option_map (object_value tables texts) result ≡ object_in (argument_of tables texts self.now) }
+        ensures live { (tables : Tables) → IsLiveArgument tables self.now → IfSome result (IsLiveObject tables) }
     {
         match self {
             Argument::One(Value::Object(id)) => Some(*id),

@@ -1,13 +1,12 @@
 // What stands at a place of a signature: the argument that goes there, or what its parameter has for one.
-ghost use Rattle.std.specs.Prelude.{◌≡◌, List, slice_get, IsSome, IfSome};
+ghost use Rattle.std.specs.Prelude.{◌≡◌, List, slice_get, IfSome};
 ghost use Rattle.std.specs.Option.{option_map};
 ghost use Rattle.meaning.specs.Text.{Text};
 ghost use Rattle.meaning.specs.Cell.{datum};
-ghost use Rattle.table_meaning.specs.Table.{table_value};
 ghost use Rattle.table_meaning.specs.Value.{scalar_in, object_in, list_in, dict_in};
 ghost use Rattle.form_meaning.specs.Binding as plain;
-ghost use Rattle.frame_store.specs.Objects.{Tables, table_at};
-ghost use Rattle.frame_store.specs.Arguments.{argument_of, items_of, entries_of, arguments_of, IsLiveArgument, AreLiveItems, AreLivePairs, AreLive};
+ghost use Rattle.frame_store.specs.Objects.{Tables};
+ghost use Rattle.frame_store.specs.Arguments.{object_value, IsLiveObject, argument_of, items_of, entries_of, arguments_of, IsLiveArgument, AreLiveItems, AreLivePairs, AreLive};
 ghost use Rattle.signatures.specs.Found.{found_value, IsFoundLive, StandsNoText};
 
 use crate::binding::given_after;
@@ -215,8 +214,8 @@ pub fn dict_at<'a>(
 
 /// The object at a place of a signature. `None` where something else stands there. Takes no memory.
 pub fn object_at(parameters: &[Parameter], args: &[Named], place: usize) -> Option<ObjId>
-    ensures value { (live : Tables) (texts : List Text) → option_map (λ (id : ObjId). table_value texts (table_at live id.0)) result ≡ object_in (plain.argument_at parameters.now (arguments_of live texts args.now) place) }
-    ensures live { (live : Tables) → AreLive live args.now → IfSome result (λ id. IsSome (live id.0)) }
+    ensures value { (live : Tables) (texts : List Text) → option_map (object_value live texts) result ≡ object_in (plain.argument_at parameters.now (arguments_of live texts args.now) place) }
+    ensures live { (live : Tables) → AreLive live args.now → IfSome result (IsLiveObject live) }
 {
     match found_at(parameters, args, place) {
         Found::Given(argument) => argument.object(),
