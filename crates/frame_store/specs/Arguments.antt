@@ -1,12 +1,14 @@
 -- Arguments of forms as plain values, in which an object is its table and a text is the text itself.
 use Rattle.std.specs.Prelude.{List, [], ◌∷◌, map, IsSome}
 use Rattle.cell_core.specs.declared.cell.Label.{Label}
+use Rattle.cell_core.specs.declared.grid.Shape.{Shape}
 use Rattle.meaning.specs.Text.{Text}
 use Rattle.meaning.specs.Cell.{LabelValue, datum, label_datum}
-use Rattle.table_meaning.specs.Table.{table_value}
+use Rattle.table_meaning.specs.Table.{Table, table_value}
 use Rattle.table_meaning.specs.Value as value
 use Rattle.table_meaning.specs.Value.{Entry, Given, GivenList, GivenPairs, GivenSub, NamedGiven}
 use Rattle.frame_store.specs.Objects.{Tables, table_at}
+use Rattle.frame_store.specs.declared.object.ObjId.{ObjId}
 use Rattle.frame_store.specs.declared.arguments.Value.{Value}
 use Rattle.frame_store.specs.declared.arguments.Value.TheVariants.{Object, Scalar}
 use Rattle.frame_store.specs.declared.arguments.Argument.{Argument, Nothing, One, Row, Many, Table', Row_of-Entries-pairs-2, end_of-Entries-pairs-2, more_of-Entries-pairs-2}
@@ -15,8 +17,18 @@ use Rattle.frame_store.specs.declared.arguments.Named.{Named}
 use Rattle.frame_store.specs.declared.arguments.Subscript.{Subscript}
 use Rattle.frame_store.specs.declared.arguments.Subscript.TheVariants.{Key, Span}
 
+-- the table of an object, and whether the object is live
+abbrev pub object_value : Tables → List Text → ObjId → Table
+object_value tables texts id = table_value texts (table_at tables id.0)
+
+abbrev pub shape_at : Tables → ObjId → Shape
+shape_at tables id = (table_at tables id.0).shape
+
+abbrev pub IsLiveObject : Tables → ObjId → Type 0
+IsLiveObject tables id = IsSome (tables id.0)
+
 abbrev pub entry_of : Tables → List Text → Value → Entry
-entry_of tables texts (Object id) = value.table (table_value texts (table_at tables id.0))
+entry_of tables texts (Object id) = value.table (object_value tables texts id)
 entry_of tables texts (Scalar c) = value.cell (datum texts c)
 
 abbrev mutual
@@ -61,7 +73,7 @@ subscript_of tables texts (Span from to by) = value.span_given (argument_of tabl
 
 -- each object that is handed in is live
 abbrev pub IsLive : Tables → Value → Type 0
-IsLive tables (Object id) = IsSome (tables id.0)
+IsLive tables (Object id) = IsLiveObject tables id
 IsLive tables (Scalar c) = Unit {0}
 
 abbrev mutual

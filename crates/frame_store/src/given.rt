@@ -1,19 +1,18 @@
 // What an argument and a part of one are.
-ghost use Rattle.std.specs.Prelude.{◌≡◌, List, IfSome, IsSome};
+ghost use Rattle.std.specs.Prelude.{◌≡◌, List, IfSome};
 ghost use Rattle.std.specs.Option.{option_map};
 ghost use Rattle.meaning.specs.Text.{Text};
 ghost use Rattle.meaning.specs.Cell.{datum};
-ghost use Rattle.table_meaning.specs.Table.{table_value};
 ghost use Rattle.table_meaning.specs.Value.{scalar_in, object_in, tuple_in, list_in, dict_in};
-ghost use Rattle.frame_store.specs.Objects.{Tables, table_at};
-ghost use Rattle.frame_store.specs.Arguments.{item_of, items_of, argument_of, entries_of, IsLiveItem, AreLiveItems, IsLiveArgument, AreLivePairs};
+ghost use Rattle.frame_store.specs.Objects.{Tables};
+ghost use Rattle.frame_store.specs.Arguments.{object_value, IsLiveObject, item_of, items_of, argument_of, entries_of, IsLiveItem, AreLiveItems, IsLiveArgument, AreLivePairs};
 
 use crate::arguments::{Argument, Item, Value};
 use crate::object::ObjId;
 use cell_core::{Cell, Label};
 
 impl Item {
-    /// The scalar that the part is. Takes no memory.
+    /// The scalar that the part is; `None` where it is something else. Takes no memory.
     pub fn scalar(&self) -> Option<Cell>
         ensures { (tables : Tables) (texts : List Text) → option_map (datum texts) result ≡ scalar_in (item_of tables texts self.now) }
     {
@@ -24,10 +23,10 @@ impl Item {
         }
     }
 
-    /// The object that the part is. Takes no memory.
+    /// The object that the part is; `None` where it is something else. Takes no memory.
     pub fn object(&self) -> Option<ObjId>
-        ensures table { (tables : Tables) (texts : List Text) → option_map (λ (id : ObjId). table_value texts (table_at tables id.0)) result ≡ object_in (item_of tables texts self.now) }
-        ensures live { (tables : Tables) → IsLiveItem tables self.now → IfSome result (λ id. IsSome (tables id.0)) }
+        ensures table { (tables : Tables) (texts : List Text) → option_map (object_value tables texts) result ≡ object_in (item_of tables texts self.now) }
+        ensures live { (tables : Tables) → IsLiveItem tables self.now → IfSome result (IsLiveObject tables) }
     {
         match self {
             Item::One(Value::Object(id)) => Some(*id),
@@ -36,7 +35,7 @@ impl Item {
         }
     }
 
-    /// The parts of the tuple that the part is. Takes no memory.
+    /// The parts of the tuple that the part is; `None` where it is something else. Takes no memory.
     pub fn tuple(&self) -> Option<&[Item]>
         ensures parts { (tables : Tables) (texts : List Text) → option_map (λ parts. items_of tables texts parts.now) result ≡ tuple_in (item_of tables texts self.now) }
         ensures live { (tables : Tables) → IsLiveItem tables self.now → IfSome result (λ parts. AreLiveItems tables parts.now) }
@@ -49,7 +48,7 @@ impl Item {
 }
 
 impl Argument {
-    /// The scalar that the argument is. Takes no memory.
+    /// The scalar that the argument is; `None` where it is something else. Takes no memory.
     pub fn scalar(&self) -> Option<Cell>
         ensures { (tables : Tables) (texts : List Text) → option_map (datum texts) result ≡ scalar_in (argument_of tables texts self.now) }
     {
@@ -63,10 +62,10 @@ impl Argument {
         }
     }
 
-    /// The object that the argument is. Takes no memory.
+    /// The object that the argument is; `None` where it is something else. Takes no memory.
     pub fn object(&self) -> Option<ObjId>
-        ensures table { (tables : Tables) (texts : List Text) → option_map (λ (id : ObjId). table_value texts (table_at tables id.0)) result ≡ object_in (argument_of tables texts self.now) }
-        ensures live { (tables : Tables) → IsLiveArgument tables self.now → IfSome result (λ id. IsSome (tables id.0)) }
+        ensures table { (tables : Tables) (texts : List Text) → option_map (object_value tables texts) result ≡ object_in (argument_of tables texts self.now) }
+        ensures live { (tables : Tables) → IsLiveArgument tables self.now → IfSome result (IsLiveObject tables) }
     {
         match self {
             Argument::One(Value::Object(id)) => Some(*id),
@@ -78,7 +77,7 @@ impl Argument {
         }
     }
 
-    /// The parts of the tuple that the argument is. Takes no memory.
+    /// The parts of the tuple that the argument is; `None` where it is something else. Takes no memory.
     pub fn tuple(&self) -> Option<&[Item]>
         ensures parts { (tables : Tables) (texts : List Text) → option_map (λ parts. items_of tables texts parts.now) result ≡ tuple_in (argument_of tables texts self.now) }
         ensures live { (tables : Tables) → IsLiveArgument tables self.now → IfSome result (λ parts. AreLiveItems tables parts.now) }
@@ -92,7 +91,7 @@ impl Argument {
         }
     }
 
-    /// The parts of the list that the argument is. Takes no memory.
+    /// The parts of the list that the argument is; `None` where it is something else. Takes no memory.
     pub fn list(&self) -> Option<&[Item]>
         ensures parts { (tables : Tables) (texts : List Text) → option_map (λ parts. items_of tables texts parts.now) result ≡ list_in (argument_of tables texts self.now) }
         ensures live { (tables : Tables) → IsLiveArgument tables self.now → IfSome result (λ parts. AreLiveItems tables parts.now) }
@@ -106,7 +105,8 @@ impl Argument {
         }
     }
 
-    /// The pairs of the dict that the argument is. Takes no memory.
+    /// The pairs of the dict that the argument is, in their order, also where a key stands twice;
+    /// `None` where it is something else. Takes no memory.
     pub fn dict(&self) -> Option<&[(Label, Argument)]>
         ensures pairs { (tables : Tables) (texts : List Text) → option_map (λ pairs. entries_of tables texts pairs.now) result ≡ dict_in (argument_of tables texts self.now) }
         ensures live { (tables : Tables) → IsLiveArgument tables self.now → IfSome result (λ pairs. AreLivePairs tables pairs.now) }

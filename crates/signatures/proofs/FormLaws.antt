@@ -1,6 +1,6 @@
 -- What is seen of a list of parts.
-use Rattle.std.proofs.Common.{◌≡◌, ◌∙◌, ◌+◌, ◌&&◌, Bool, refl, ap, sym, ℕ, zero, suc, List, [], ◌∷◌, length, arith}
-use Rattle.std.specs.Prelude.{◌↔◌, ◌<◌, IsTrue, true, false, get_or}
+use Rattle.std.proofs.Common.{◌≡◌, ◌∙◌, ◌+◌, ◌&&◌, Bool, refl, ap, sym, zero, suc, List, [], ◌∷◌, length, arith}
+use Rattle.std.specs.Prelude.{◌↔◌, IsTrue, true, false}
 use Rattle.std.specs.List.{All}
 use Rattle.meaning.specs.Text.{Text}
 use Rattle.table_meaning.specs.Value.{Given}

@@ -1,5 +1,5 @@
 -- What is live in a list of arguments is live in its parts.
-use Rattle.std.proofs.Common.{◌≡◌, ◌≤◌, ℕ, zero, suc, List, [], ◌∷◌, length, take, drop, get_or, arith}
+use Rattle.std.proofs.Common.{◌≤◌, ℕ, zero, suc, List, [], ◌∷◌, length, take, drop, get_or, arith}
 use Rattle.frame_store.specs.declared.arguments.Named.{Named}
 use Rattle.frame_store.specs.Objects.{Tables}
 use Rattle.frame_store.specs.Arguments.{IsLiveArgument, AreLive}

@@ -1,15 +1,12 @@
 // How the arguments of a call are bound to a signature.
-ghost use Rattle.std.specs.Prelude.{◌≡◌, ◌+◌, ◌<◌, ◌^◌, List, length, slice_get, IsSome, IfSome, codes};
+ghost use Rattle.std.specs.Prelude.{◌≡◌, ◌+◌, ◌<◌, ◌^◌, List, length, slice_get, IfSome};
 ghost use Rattle.std.specs.List.{position_or_len};
 ghost use Rattle.std.specs.Option.{option_map};
 ghost use Rattle.meaning.specs.Text.{Text, same_text};
-ghost use Rattle.meaning.specs.Cell.{datum};
-ghost use Rattle.table_meaning.specs.Table.{table_value};
-ghost use Rattle.table_meaning.specs.Value.{scalar_in, object_in, list_in, dict_in};
 ghost use Rattle.form_meaning.specs.Signature as signature;
 ghost use Rattle.form_meaning.specs.Binding as plain;
-ghost use Rattle.frame_store.specs.Objects.{Tables, tables, table_at};
-ghost use Rattle.frame_store.specs.Arguments.{argument_of, items_of, entries_of, named_of, arguments_of, IsLiveArgument, AreLiveItems, AreLivePairs, AreLive};
+ghost use Rattle.frame_store.specs.Objects.{Tables, tables};
+ghost use Rattle.frame_store.specs.Arguments.{argument_of, named_of, arguments_of, IsLiveArgument, AreLive};
 ghost use Rattle.signatures.specs.Bound.{IsBound};
 
 use crate::forms::{lists, takes};
@@ -18,7 +15,7 @@ use cell_core::{Code, Reason, TextDict, Words};
 use form_meaning::{Omitted, Parameter};
 use frame_store::{Argument, Named, OpFault, Store};
 
-/// Why arguments aren't bound.
+/// Why arguments aren't bound. As an `OpFault` it is `WrongKind`, or `BadValue` of an argument.
 #[derive(Clone, Copy, Debug, PartialEq, Eq)]
 pub enum Unbound {
     /// A `TypeError`: an argument without a parameter, a parameter without an argument or with two,
@@ -193,8 +190,8 @@ fn none_missing(parameters: &[Parameter], args: &[Named]) -> bool
     true
 }
 
-/// Whether a signature takes the arguments. Those without a name go to the parameters in order, those
-/// with a name to the parameter of that name.
+/// Whether a signature takes the arguments, whose objects are live. Those without a name go to the
+/// parameters in order, those with a name to the parameter of that name.
 ///
 /// `NotTaken` where an argument goes to no parameter, two go to one, one hasn't the form of its
 /// parameter, or a parameter that must be given has none; else `NotListed` where one isn't among the

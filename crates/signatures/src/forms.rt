@@ -1,11 +1,11 @@
 // Which arguments have a form, and which are among the listed values.
-ghost use Rattle.std.specs.Prelude.{◌≡◌, Bool, List, IsSome};
+ghost use Rattle.std.specs.Prelude.{◌≡◌, Bool, List};
 ghost use Rattle.meaning.specs.Text.{Text};
 ghost use Rattle.meaning.specs.Cell.{datum, label_datum, int_cell, text_cell, truth_cell, na_cell};
 ghost use Rattle.table_meaning.specs.Value.{row};
 ghost use Rattle.form_meaning.specs.Binding as plain;
-ghost use Rattle.frame_store.specs.Objects.{Tables, tables, table_at};
-ghost use Rattle.frame_store.specs.Arguments.{item_of, items_of, argument_of, entries_of, IsLiveArgument};
+ghost use Rattle.frame_store.specs.Objects.{Tables, tables};
+ghost use Rattle.frame_store.specs.Arguments.{shape_at, IsLiveObject, item_of, items_of, argument_of, entries_of, IsLiveArgument};
 
 use cell_core::{Cell, Grid, Label, Shape, TextDict};
 use form_meaning::{Form, Listed, Omitted, Parameter};
@@ -244,8 +244,8 @@ fn none_stands(omitted: Omitted) -> bool
 }
 
 fn shape_of(store: &Store, on: ObjId) -> Shape
-    requires { IsSome (tables store.now on.0) }
-    ensures { result ≡ (table_at (tables store.now) on.0).shape }
+    requires { IsLiveObject (tables store.now) on }
+    ensures { result ≡ shape_at (tables store.now) on }
 {
     store.read(on).shape()
 }

@@ -1,13 +1,12 @@
 // What stands at a place of a signature: the argument that goes there, or what its parameter has for one.
-ghost use Rattle.std.specs.Prelude.{◌≡◌, List, slice_get, IsSome, IfSome};
+ghost use Rattle.std.specs.Prelude.{◌≡◌, List, slice_get, IfSome};
 ghost use Rattle.std.specs.Option.{option_map};
 ghost use Rattle.meaning.specs.Text.{Text};
 ghost use Rattle.meaning.specs.Cell.{datum};
-ghost use Rattle.table_meaning.specs.Table.{table_value};
 ghost use Rattle.table_meaning.specs.Value.{scalar_in, object_in, list_in, dict_in};
 ghost use Rattle.form_meaning.specs.Binding as plain;
-ghost use Rattle.frame_store.specs.Objects.{Tables, table_at};
-ghost use Rattle.frame_store.specs.Arguments.{argument_of, items_of, entries_of, arguments_of, IsLiveArgument, AreLiveItems, AreLivePairs, AreLive};
+ghost use Rattle.frame_store.specs.Objects.{Tables};
+ghost use Rattle.frame_store.specs.Arguments.{object_value, IsLiveObject, argument_of, items_of, entries_of, arguments_of, IsLiveArgument, AreLiveItems, AreLivePairs, AreLive};
 ghost use Rattle.signatures.specs.Found.{found_value, IsFoundLive, StandsNoText};
 
 use crate::binding::given_after;
@@ -134,7 +133,9 @@ fn text_for(omitted: Omitted) -> Option<&'static str>
     }
 }
 
-/// The scalar at a place of a signature, where no text stands for one that isn't given. Takes no memory.
+/// The scalar that stands at a place of a signature: the argument that goes there, or the default.
+/// `None` where something else stands there. The default is no text, which [`text_at`] reads. Takes no
+/// memory.
 pub fn scalar_at(parameters: &[Parameter], args: &[Named], place: usize) -> Option<Cell>
     requires { plain.HasNoText (slice_get parameters.now place) }
     ensures { (live : Tables) (texts : List Text) → option_map (datum texts) result ≡ scalar_in (plain.argument_at parameters.now (arguments_of live texts args.now) place) }
@@ -145,7 +146,8 @@ pub fn scalar_at(parameters: &[Parameter], args: &[Named], place: usize) -> Opti
     }
 }
 
-/// The whole number at a place of a signature, or what stands for it. Takes no memory.
+/// The whole number that stands at a place of a signature: the argument that goes there, or the
+/// default. `None` where something else stands there. Takes no memory.
 pub fn whole_at(parameters: &[Parameter], args: &[Named], place: usize) -> Option<i64>
     ensures { (live : Tables) (texts : List Text) → result ≡ plain.whole_in (plain.argument_at parameters.now (arguments_of live texts args.now) place) }
 {
@@ -155,7 +157,8 @@ pub fn whole_at(parameters: &[Parameter], args: &[Named], place: usize) -> Optio
     }
 }
 
-/// The truth value at a place of a signature, or what stands for it. Takes no memory.
+/// The truth value that stands at a place of a signature: the argument that goes there, or the
+/// default. `None` where something else stands there. Takes no memory.
 pub fn truth_at(parameters: &[Parameter], args: &[Named], place: usize) -> Option<bool>
     ensures { (live : Tables) (texts : List Text) → result ≡ plain.truth_in (plain.argument_at parameters.now (arguments_of live texts args.now) place) }
 {
@@ -165,7 +168,8 @@ pub fn truth_at(parameters: &[Parameter], args: &[Named], place: usize) -> Optio
     }
 }
 
-/// The text at a place of a signature, or what stands for it. Takes no memory.
+/// The text that stands at a place of a signature: the argument that goes there, or the default.
+/// `None` where something else stands there. Takes no memory.
 pub fn text_at<'a>(
     dict: &'a TextDict,
     parameters: &[Parameter],
@@ -180,7 +184,8 @@ pub fn text_at<'a>(
     }
 }
 
-/// The parts of the list at a place of a signature. Takes no memory.
+/// The parts of the list at a place of a signature. `None` where something else stands there. Takes no
+/// memory.
 pub fn list_at<'a>(parameters: &[Parameter], args: &'a [Named], place: usize) -> Option<&'a [Item]>
     ensures value { (live : Tables) (texts : List Text) → option_map (λ parts. items_of live texts parts.now) result ≡ list_in (plain.argument_at parameters.now (arguments_of live texts args.now) place) }
     ensures live { (live : Tables) → AreLive live args.now → IfSome result (λ parts. AreLiveItems live parts.now) }
@@ -191,7 +196,8 @@ pub fn list_at<'a>(parameters: &[Parameter], args: &'a [Named], place: usize) ->
     }
 }
 
-/// The pairs of the dict at a place of a signature. Takes no memory.
+/// The pairs of the dict at a place of a signature, in their order, also where a key stands twice.
+/// `None` where something else stands there. Takes no memory.
 pub fn dict_at<'a>(
     parameters: &[Parameter],
     args: &'a [Named],
@@ -206,10 +212,10 @@ pub fn dict_at<'a>(
     }
 }
 
-/// The object at a place of a signature. Takes no memory.
+/// The object at a place of a signature. `None` where something else stands there. Takes no memory.
 pub fn object_at(parameters: &[Parameter], args: &[Named], place: usize) -> Option<ObjId>
-    ensures value { (live : Tables) (texts : List Text) → option_map (λ (id : ObjId). table_value texts (table_at live id.0)) result ≡ object_in (plain.argument_at parameters.now (arguments_of live texts args.now) place) }
-    ensures live { (live : Tables) → AreLive live args.now → IfSome result (λ id. IsSome (live id.0)) }
+    ensures value { (live : Tables) (texts : List Text) → option_map (object_value live texts) result ≡ object_in (plain.argument_at parameters.now (arguments_of live texts args.now) place) }
+    ensures live { (live : Tables) → AreLive live args.now → IfSome result (IsLiveObject live) }
 {
     match found_at(parameters, args, place) {
         Found::Given(argument) => argument.object(),
@@ -251,7 +257,8 @@ pub fn is_none_at(parameters: &[Parameter], args: &[Named], place: usize) -> boo
     }
 }
 
-/// The same where `None` may stand: `Some(None)` where it does. Takes no memory.
+/// The scalar at a place of a signature at which `None` may stand: `Some(None)` where it does, given or
+/// as the default. `None` where something else stands there. The default is no text. Takes no memory.
 pub fn scalar_or_none_at(
     parameters: &[Parameter],
     args: &[Named],
@@ -266,7 +273,8 @@ pub fn scalar_or_none_at(
     scalar_at(parameters, args, place).map(Some)
 }
 
-/// The same where `None` may stand: `Some(None)` where it does. Takes no memory.
+/// The whole number at a place of a signature at which `None` may stand: `Some(None)` where it does,
+/// given or as the default. `None` where something else stands there. Takes no memory.
 pub fn whole_or_none_at(
     parameters: &[Parameter],
     args: &[Named],
@@ -280,7 +288,8 @@ pub fn whole_or_none_at(
     whole_at(parameters, args, place).map(Some)
 }
 
-/// The same where `None` may stand: `Some(None)` where it does. Takes no memory.
+/// The text at a place of a signature at which `None` may stand: `Some(None)` where it does, given or as
+/// the default. `None` where something else stands there. Takes no memory.
 pub fn text_or_none_at<'a>(
     dict: &'a TextDict,
     parameters: &[Parameter],
@@ -295,7 +304,8 @@ pub fn text_or_none_at<'a>(
     text_at(dict, parameters, args, place).map(Some)
 }
 
-/// The same where `None` may stand: `Some(None)` where it does. Takes no memory.
+/// The parts of the list at a place of a signature at which `None` may stand: `Some(None)` where it
+/// does, given or as the default. `None` where something else stands there. Takes no memory.
 pub fn list_or_none_at<'a>(
     parameters: &[Parameter],
     args: &'a [Named],
@@ -310,7 +320,8 @@ pub fn list_or_none_at<'a>(
     list_at(parameters, args, place).map(Some)
 }
 
-/// The same where `None` may stand: `Some(None)` where it does. Takes no memory.
+/// The pairs of the dict at a place of a signature at which `None` may stand: `Some(None)` where it
+/// does, given or as the default. `None` where something else stands there. Takes no memory.
 pub fn dict_or_none_at<'a>(
     parameters: &[Parameter],
     args: &'a [Named],
