@@ -4,3 +4,4 @@ pub mod Marks
 pub mod Summaries
 pub mod Labels
 pub mod Made
+pub mod Given

@@ -2,6 +2,7 @@
 #![tactic(auto)]
 
 mod cells;
+mod column_methods;
 mod columns;
 mod column_ops;
 mod made;
