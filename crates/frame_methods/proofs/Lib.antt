@@ -4,3 +4,4 @@ pub mod OpLaws
 pub mod TableLaws
 pub mod SummaryLaws
 pub mod SeriesLaws
+pub mod GivenLaws

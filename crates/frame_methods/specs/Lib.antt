@@ -5,3 +5,4 @@ pub mod Summaries
 pub mod Labels
 pub mod Made
 pub mod Given
+pub mod Kinds

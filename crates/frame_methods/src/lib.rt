@@ -1,6 +1,7 @@
 //! Constructors and methods of Series and frames.
 #![tactic(auto)]
 
+mod answers;
 mod cells;
 mod column_methods;
 mod columns;
