@@ -2,3 +2,4 @@ pub mod KindLaws
 pub mod AnswerLaws
 pub mod ColumnsMade
 pub mod Meanings
+pub mod HeadingLaws
