@@ -3,3 +3,5 @@ pub mod AnswerLaws
 pub mod ColumnsMade
 pub mod Meanings
 pub mod HeadingLaws
+pub mod NamingLaws
+pub mod MeetingLaws

@@ -15,4 +15,6 @@
 mod columns;
 mod headings;
 mod kinds;
+mod naming;
 mod other;
+mod tables;
