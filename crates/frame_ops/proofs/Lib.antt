@@ -5,3 +5,4 @@ pub mod Meanings
 pub mod HeadingLaws
 pub mod NamingLaws
 pub mod MeetingLaws
+pub mod InfixLaws
