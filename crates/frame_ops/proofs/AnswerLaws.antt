@@ -9,7 +9,7 @@ use Rattle.cell_core.specs.declared.cell.Cell.{Cell}
 use Rattle.cell_core.specs.declared.cell.Cell.TheVariants as cell
 use Rattle.meaning.specs.Text.{Text}
 use Rattle.meaning.specs.Cell.{CellValue, datum, holds}
-use Rattle.meaning.specs.Column.{ColumnValue, ColumnFault, try_pairs, then_rows, before_rows, column_if, column_of, zero_division}
+use Rattle.meaning.specs.Column.{ColumnValue, try_pairs, then_rows, column_if, zero_division}
 use Rattle.meaning.specs.Operator.{operator_kind, operator_cell, binary_column, scalar_binary, scalar_column, scalar_kind}
 use Rattle.meaning.specs.Tree.{Binary}
 use Rattle.nullable_array.specs.Answers.{Answers}

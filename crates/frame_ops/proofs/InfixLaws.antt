@@ -1,15 +1,15 @@
 -- What an operator makes of two operands is what is meant.
-use Rattle.std.proofs.Common.{◌≡◌, ◌∙◌, ℕ, suc, ◌<◌, Bool, true, false, ◌&&◌, List, [], ◌∷◌, length, map, refl, ap, sym, subst, arith, Option, Some, None, Result, Ok, Err, All, slice_index_or, if◌then◌else◌}
+use Rattle.std.proofs.Common.{◌≡◌, ◌∙◌, suc, ◌<◌, Bool, true, false, ◌&&◌, List, [], ◌∷◌, length, refl, ap, sym, subst, arith, Option, Some, None, Result, Ok, Err, All, slice_index_or, if◌then◌else◌}
 use Rattle.std.specs.List.{list_all}
 use Rattle.std.proofs.lemmas.List.{length-map}
 use Rattle.cell_core.specs.declared.cell.Cell.{Cell}
 use Rattle.cell_core.specs.declared.cell.Label.{Label}
 use Rattle.cell_core.specs.declared.grid.Shape.TheVariants.{Series}
 use Rattle.meaning.specs.Text.{Text}
-use Rattle.meaning.specs.Cell.{CellValue, LabelValue, datum, AreGiven}
+use Rattle.meaning.specs.Cell.{LabelValue, datum, AreGiven}
 use Rattle.meaning.specs.Fault.{FaultValue, not_built, then_value}
 use Rattle.meaning.specs.Tree.{Binary}
-use Rattle.table_meaning.specs.Table.{ColumnOf, NumberedTable, Table, table_value, heading_value, tuple_value, column_at, column_value, no_column}
+use Rattle.table_meaning.specs.Table.{NumberedTable, Table, table_value, heading_value, tuple_value, column_at, column_value, no_column}
 use Rattle.table_meaning.specs.Settled.{IsSettled}
 use Rattle.table_meaning.specs.Valid.{IsWhole}
 use Rattle.multi_index.specs.Axes.{AxisValue}
@@ -18,7 +18,7 @@ use Rattle.frame_store.proofs.Settling.{columns_given, columns_part, headings_pa
 use Rattle.table_meaning.specs.Value as value
 use Rattle.table_meaning.specs.Value.{Entry}
 use Rattle.form_meaning.specs.Finish.{with_columns, same_heading}
-use Rattle.form_meaning.specs.Infix.{Meeting, meets, infix_table, on_levels, same_count, same_tuple, same_tuples, same_headings, are_headings, common_name, first_heading, beside, across, across_series, turned, has_one, scalar_infix, rows_infix, series_infix, frame_infix, across_infix}
+use Rattle.form_meaning.specs.Infix.{meets, infix_table, on_levels, same_tuple, same_tuples, same_headings, are_headings, common_name, first_heading, beside, across, across_series, turned, has_one, scalar_infix, rows_infix, series_infix, frame_infix, across_infix}
 use Rattle.frame_store.specs.declared.fault.OpFault.{OpFault}
 use Rattle.frame_store.specs.Shown.{headings_value, labels_value, columns_value, Makes}
 use Rattle.frame_ops.specs.declared.naming.Naming.TheVariants.{Kept, Name, ColumnsName}

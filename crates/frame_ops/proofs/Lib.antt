@@ -6,3 +6,4 @@ pub mod HeadingLaws
 pub mod NamingLaws
 pub mod MeetingLaws
 pub mod InfixLaws
+pub mod SignLaws

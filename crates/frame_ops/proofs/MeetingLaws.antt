@@ -1,5 +1,5 @@
 -- What columns meet, as it is meant.
-use Rattle.std.proofs.Common.{◌≡◌, ◌∙◌, ℕ, zero, suc, ◌+◌, ◌<◌, Bool, true, false, List, [], ◌∷◌, length, map, drop, replicate, refl, ap, sym, subst, arith, nat_eq, All}
+use Rattle.std.proofs.Common.{◌≡◌, ◌∙◌, ℕ, suc, ◌+◌, ◌<◌, Bool, true, false, List, [], ◌∷◌, length, map, drop, replicate, refl, ap, sym, arith, nat_eq}
 use Rattle.std.proofs.Math.Seq.{drop-cons}
 use Rattle.std.proofs.lemmas.List.{length-map}
 use Rattle.std.proofs.lemmas.Bool.Decides.{nat_tests}
@@ -7,13 +7,12 @@ use Rattle.cell_core.specs.declared.cell.Cell.{Cell}
 use Rattle.cell_core.specs.declared.cell.Cell.TheVariants.{Na}
 use Rattle.cell_core.specs.declared.cell.Kind.{Kind}
 use Rattle.meaning.specs.Text.{Text}
-use Rattle.meaning.specs.Cell.{CellValue, datum}
+use Rattle.meaning.specs.Cell.{datum}
 use Rattle.table_meaning.specs.Table.{ColumnOf, NumberedTable, column_at, column_value, no_column}
 use Rattle.form_meaning.specs.Finish.{value_of_column}
-use Rattle.form_meaning.specs.Infix.{Meeting, swapped, with_scalar, beside, spread, across, turned, same_count, has_one}
+use Rattle.form_meaning.specs.Infix.{swapped, with_scalar, beside, spread, across, turned, same_count, has_one}
 use Rattle.frame_store.specs.Parts.{HaveRows}
 use Rattle.frame_store.specs.Shown.{columns_value}
-use Rattle.frame_ops.specs.declared.other.Other.{Other}
 use Rattle.frame_ops.specs.declared.other.Other.TheVariants.{Scalar, Beside, Across}
 use Rattle.frame_ops.specs.Pairs.{pair_at, pairs_from, kind_beside, repeated, series_cell, meeting_value, meetings_value}
 use Rattle.frame_ops.proofs.AnswerLaws.{map-replicate, repeated_value}

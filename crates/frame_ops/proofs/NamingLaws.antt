@@ -1,5 +1,5 @@
 -- Tables under the headings that an operator gives them.
-use Rattle.std.proofs.Common.{◌≡◌, ◌∙◌, List, [], ◌∷◌, length, map, refl, ap, sym, subst, Result, Ok, Err, Option}
+use Rattle.std.proofs.Common.{◌≡◌, ◌∙◌, List, [], ◌∷◌, length, map, refl, ap, sym, subst, Result, Ok, Option}
 use Rattle.cell_core.specs.declared.cell.Label.{Label}
 use Rattle.cell_core.specs.declared.grid.Shape.{Shape}
 use Rattle.cell_core.specs.declared.grid.Shape.TheVariants.{Series, Frame}

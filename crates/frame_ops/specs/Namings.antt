@@ -1,6 +1,5 @@
 -- The headings of a table that an operator makes.
-use Rattle.std.specs.Prelude.{◌≡◌, List, [], ◌∷◌, Option}
-use Rattle.cell_core.specs.declared.cell.Label.{Label}
+use Rattle.std.specs.Prelude.{◌≡◌, List, [], ◌∷◌}
 use Rattle.cell_core.specs.declared.grid.Shape.TheVariants.{Series, Frame}
 use Rattle.meaning.specs.Text.{Text}
 use Rattle.table_meaning.specs.Settled.{IsSettled}

@@ -66,7 +66,14 @@ pub(crate) fn scalar_infix(
     ensures settled { IfOk result (λ made. IsSettled table_value dict.new made) }
     ensures makes { Makes dict.new result (meant.scalar_infix (operator_of op) left (table_value dict.old on.now) (datum dict.old cell)) }
 {
-    table_met(alloc, dict, op, on, &Other::Scalar(cell, left), Naming::Kept)
+    table_met(
+        alloc,
+        dict,
+        op,
+        on,
+        &Other::Scalar(cell, left),
+        Naming::Kept,
+    )
 }
 
 // Two Series whose labels are equal. The name of both stays.
@@ -115,7 +122,14 @@ fn frame_infix(
         return Err(OpFault::Refused(Code::NotBuilt));
     }
     let name = common_name(dict, a.columns_name(), b.columns_name());
-    table_met(alloc, dict, op, a, &Other::Beside(b), Naming::ColumnsName(name))
+    table_met(
+        alloc,
+        dict,
+        op,
+        a,
+        &Other::Beside(b),
+        Naming::ColumnsName(name),
+    )
 }
 
 // A frame and a Series whose labels are those of the frame's columns.
@@ -139,7 +153,14 @@ fn across_infix(
     if !are_headings(dict, &series, frame) {
         return Err(OpFault::Refused(Code::NotBuilt));
     }
-    table_met(alloc, dict, op, frame, &Other::Across(series, left), Naming::Kept)
+    table_met(
+        alloc,
+        dict,
+        op,
+        frame,
+        &Other::Across(series, left),
+        Naming::Kept,
+    )
 }
 
 /// Two tables.

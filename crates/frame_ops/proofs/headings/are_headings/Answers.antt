@@ -1,5 +1,4 @@
 use Rattle.std.proofs.Common.{◌≡◌, ◌<◌, length, arith, rules, subst, true, Some}
-use Rattle.std.specs.Prelude.{◌≢◌}
 use Rattle.meaning.specs.Cell.{label_datum}
 use Rattle.multi_index.specs.Axes.{AxisValue, HaveLevels}
 use Rattle.table_meaning.specs.Table.{heading_value}

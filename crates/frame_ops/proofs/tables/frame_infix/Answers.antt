@@ -1,6 +1,4 @@
-use Rattle.std.proofs.Common.{◌≡◌, ◌∙◌, ◌&&◌, sym, true, rules}
-use Rattle.form_meaning.specs.Infix.{same_tuples, same_headings}
-use Rattle.frame_store.specs.Shown.{labels_value, headings_value}
+use Rattle.std.proofs.Common.{◌≡◌, ◌∙◌, sym, true, rules}
 use Rattle.nullable_array.specs.Tasks.{operator_of}
 use Rattle.frame_ops.proofs.InfixLaws.{makes_as, frames_meet, frame_is_meant, frame_opposite, axes_same, both_hold, table_given, columns_name_settled, columns_named}
 use Rattle.frame_ops.proofs.tables.frame_infix.Goals as goal
