@@ -9,7 +9,7 @@ use Rattle.cell_core.specs.declared.cell.Cell.{Cell}
 use Rattle.cell_core.specs.declared.cell.Cell.TheVariants as cell
 use Rattle.meaning.specs.Text.{Text}
 use Rattle.meaning.specs.Cell.{CellValue, datum, holds}
-use Rattle.meaning.specs.Column.{ColumnValue, ColumnFault, try_pairs, then_rows, before_rows, column_if, column_of, zero_division}
+use Rattle.meaning.specs.Column.{ColumnValue, try_pairs, then_rows, column_if, zero_division}
 use Rattle.meaning.specs.Operator.{operator_kind, operator_cell, binary_column, scalar_binary, scalar_column, scalar_kind}
 use Rattle.meaning.specs.Tree.{Binary}
 use Rattle.nullable_array.specs.Answers.{Answers}
@@ -22,7 +22,7 @@ use Rattle.frame_ops.specs.declared.other.Other.{Other}
 use Rattle.frame_ops.specs.Pairs.{IsOpposite, turned_pair, repeated, pair_at, series_cell, kind_beside, kinds_meet, meeting_value, column_meant}
 use Rattle.frame_ops.proofs.KindLaws.{one_kind}
 
-map-replicate : {X Y : Type 0} (f : X → Y) (n : ℕ) (x : X) → map f (replicate n x) ≡ replicate n (f x)
+pub map-replicate : {X Y : Type 0} (f : X → Y) (n : ℕ) (x : X) → map f (replicate n x) ≡ replicate n (f x)
 map-replicate f zero x = refl
 map-replicate f (suc n) x = ap (λ l. f x ∷ l) (map-replicate f n x)
 
@@ -34,7 +34,7 @@ kind_of_cell texts kind (cell.Bool b) = refl
 kind_of_cell texts kind (cell.Text id) = refl
 
 -- a cell in each row is the scalar beside the column
-repeated_value : (texts : List Text) (a : ColumnOf Cell) (kind : Kind) (c : Cell) → kind ≡ kind_beside a.kind c
+pub repeated_value : (texts : List Text) (a : ColumnOf Cell) (kind : Kind) (c : Cell) → kind ≡ kind_beside a.kind c
     → value_of_column (column_value texts (repeated kind (length a.cells) c)) ≡ scalar_column (value_of_column (column_value texts a)) (datum texts c)
 repeated_value texts a kind c is =
     let cells : map (datum texts) (replicate (length a.cells) c) ≡ replicate (length (map (datum texts) a.cells)) (datum texts c) =

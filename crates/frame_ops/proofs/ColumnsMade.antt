@@ -1,10 +1,9 @@
 -- Columns that are made one after the other.
-use Rattle.std.proofs.Common.{◌≡◌, ◌∙◌, ℕ, suc, ◌+◌, ◌<◌, ◌≤◌, Bool, true, false, ◌&&◌, List, [], ◌∷◌, ◌++◌, length, map, drop, refl, ap, sym, subst, arith, add-one, append_assoc, append-nil, Result, Ok, Err, All, slice_index_or}
+use Rattle.std.proofs.Common.{◌≡◌, ◌∙◌, ℕ, ◌+◌, ◌<◌, ◌≤◌, Bool, true, false, ◌&&◌, List, [], ◌∷◌, ◌++◌, length, map, drop, refl, ap, sym, subst, arith, add-one, append_assoc, append-nil, Result, Ok, Err, All}
 use Rattle.std.specs.List.{list_all}
-use Rattle.std.specs.Prelude.{IfOk}
 use Rattle.std.proofs.Math.Seq.{drop-cons}
 use Rattle.std.proofs.lemmas.List.{map-append, length_push, drop_all}
-use Rattle.std.proofs.lemmas.List.Elements.{All-push, All-weaker, All-replicate, All-get_or}
+use Rattle.std.proofs.lemmas.List.Elements.{All-push, All-weaker, All-replicate}
 use Rattle.cell_core.specs.Texts.{IsLonger, AreGiven, IsGiven}
 use Rattle.cell_core.specs.declared.cell.Cell.{Cell}
 use Rattle.cell_core.specs.declared.cell.Cell.TheVariants.{Na}
@@ -116,7 +115,7 @@ columns_more mid new rows columns made made' block longer before pushed single h
       count = length_push made block ∙ ap (λ n. n + 1) before.count;
       filled = subst (HaveRows rows) (sym (map-append block_column made (block ∷ []))) (All-push (λ (c : ColumnOf Cell). length c.cells ≡ rows) (map block_column made) (block_column block) before.filled here);
       given = subst (All (λ (c : ColumnOf Cell). AreGiven new c.cells)) (sym (map-append block_column made (block ∷ [])))
-      (All-push (λ (c : ColumnOf Cell). AreGiven new c.cells) (map block_column made) (block_column block) (columns_later mid new (map block_column made) longer before.given) given);
+          (All-push (λ (c : ColumnOf Cell). AreGiven new c.cells) (map block_column made) (block_column block) (columns_later mid new (map block_column made) longer before.given) given);
     })
 
 module _ (f : Meeting → Result (ColumnOf CellValue) FaultValue) (old mid new : List Text) (on : NumberedTable) (other : Other) (place : ℕ) (made : List CellBlock) (whole : Result (List (ColumnOf CellValue)) FaultValue) where

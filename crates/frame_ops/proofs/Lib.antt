@@ -2,3 +2,8 @@ pub mod KindLaws
 pub mod AnswerLaws
 pub mod ColumnsMade
 pub mod Meanings
+pub mod HeadingLaws
+pub mod NamingLaws
+pub mod MeetingLaws
+pub mod InfixLaws
+pub mod SignLaws

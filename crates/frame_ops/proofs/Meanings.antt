@@ -1,12 +1,11 @@
 -- The columns that are meant, by the tests.
-use Rattle.std.proofs.Common.{◌≡◌, ◌∙◌, ℕ, suc, Bool, true, false, List, [], ◌∷◌, length, map, refl, ap, sym, subst, Result, Ok, Err, if◌then◌else◌}
+use Rattle.std.proofs.Common.{◌≡◌, ◌∙◌, ℕ, suc, Bool, true, false, List, [], ◌∷◌, length, refl, ap, sym, Ok, Err, if◌then◌else◌}
 use Rattle.std.specs.List.{list_all}
 use Rattle.std.proofs.lemmas.List.{length-map}
 use Rattle.std.proofs.lemmas.List.Folds.{list_all-map}
 use Rattle.cell_core.specs.declared.cell.Cell.{Cell}
 use Rattle.meaning.specs.Text.{Text}
-use Rattle.meaning.specs.Cell.{CellValue}
-use Rattle.meaning.specs.Fault.{FaultValue, wrong_kind, bad_value, levels, limit, then_value}
+use Rattle.meaning.specs.Fault.{wrong_kind, bad_value, levels, limit, then_value}
 use Rattle.meaning.specs.Tree.{Binary}
 use Rattle.table_meaning.specs.Table.{ColumnOf, Table}
 use Rattle.table_meaning.specs.Value as value
@@ -14,7 +13,7 @@ use Rattle.table_meaning.specs.Value.{Entry}
 use Rattle.form_meaning.specs.Finish.{within_limits, try_all, with_columns}
 use Rattle.form_meaning.specs.Infix.{Meeting, meets, met, infix_table, on_levels}
 use Rattle.frame_ops.specs.declared.other.Other.{Other}
-use Rattle.frame_ops.specs.Pairs.{Pair, pair_at, pairs_from, kinds_meet, meeting_value, meetings_value, columns_meant}
+use Rattle.frame_ops.specs.Pairs.{Pair, pairs_from, kinds_meet, meeting_value, meetings_value, columns_meant}
 
 pub length-pairs : (other : Other) (place : ℕ) (cs : List (ColumnOf Cell)) → length (pairs_from other place cs) ≡ length cs
 length-pairs other place [] = refl

@@ -3,7 +3,7 @@ ghost use Rattle.std.specs.Prelude.{◌≡◌};
 ghost use Rattle.table_meaning.specs.Settled.{IsSettled};
 ghost use Rattle.table_meaning.specs.Valid.{IsWhole};
 ghost use Rattle.frame_store.specs.Shown.{headings_value, labels_value};
-ghost use Rattle.form_meaning.specs.Infix as infix;
+ghost use Rattle.form_meaning.specs.Infix as meant;
 
 use cell_core::{Grid, TextDict};
 use form_parts::same_heading;
@@ -15,7 +15,7 @@ pub(crate) fn same_headings(dict: &TextDict, a: &ObjRef<'_>, b: &ObjRef<'_>) -> 
     requires whole_b { IsWhole b.now }
     requires a { IsSettled headings_value dict.now a.now.headings }
     requires b { IsSettled headings_value dict.now b.now.headings }
-    ensures { result ≡ infix.same_headings (headings_value dict.now a.now.headings) (headings_value dict.now b.now.headings) }
+    ensures { result ≡ meant.same_headings (headings_value dict.now a.now.headings) (headings_value dict.now b.now.headings) }
 {
     if a.columns() != b.columns() {
         return false;
@@ -33,7 +33,7 @@ pub(crate) fn are_headings(dict: &TextDict, series: &ObjRef<'_>, frame: &ObjRef<
     requires whole { IsWhole frame.now }
     requires labels { IsSettled labels_value dict.now series.now.labels }
     requires headings { IsSettled headings_value dict.now frame.now.headings }
-    ensures { result ≡ infix.are_headings (labels_value dict.now series.now.labels) (headings_value dict.now frame.now.headings) }
+    ensures { result ≡ meant.are_headings (labels_value dict.now series.now.labels) (headings_value dict.now frame.now.headings) }
 {
     if series.rows() != frame.columns() {
         return false;

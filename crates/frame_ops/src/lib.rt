@@ -13,6 +13,11 @@
 #![tactic(auto)]
 
 mod columns;
+mod forms;
 mod headings;
 mod kinds;
+mod naming;
 mod other;
+mod tables;
+
+pub use forms::{infix, invert_or_negate};

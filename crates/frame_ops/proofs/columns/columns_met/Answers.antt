@@ -1,5 +1,4 @@
 use Rattle.std.proofs.Common.{◌≡◌, ◌<◌, List, length, arith, rules, subst, sym, Result, Err}
-use Rattle.meaning.specs.Text.{Text}
 use Rattle.nullable_array.specs.Blocks.{CellBlock}
 use Rattle.frame_store.specs.declared.fault.OpFault.{OpFault}
 use Rattle.nullable_array.specs.Tasks.{operator_of}
@@ -28,5 +27,5 @@ loop-place-preserved c =
       columns = columns_more c.loop-place.dict c.block_met.new.dict _ _ c.loop-place.made _ c.in_ok-block.block c.block_met.ensures.longer c.loop-place.invariant.columns c.in_ok-push.ensures.ok c.in_ok-block.ensures.single c.in_ok-block.ensures.rows c.in_ok-block.ensures.given;
       kinds = (kinds_here (kinds_meet (operator_of c.args.op)) c.args.other.now c.loop-place.place c.args.on.now.columns lt c.loop-place.invariant.kinds).1;
       whole = whole_more (met (operator_of c.args.op)) c.args.dict.now c.loop-place.dict c.block_met.new.dict c.args.on.now c.args.other.now c.loop-place.place c.loop-place.made _ _ c.in_ok-block.block
-      lt c.requires.opposite c.requires.other c.requires.given c.loop-place.invariant.longer c.block_met.ensures.longer c.loop-place.invariant.columns.given c.in_ok-push.ensures.ok c.in_ok-block.ensures.made c.loop-place.invariant.whole;
+          lt c.requires.opposite c.requires.other c.requires.given c.loop-place.invariant.longer c.block_met.ensures.longer c.loop-place.invariant.columns.given c.in_ok-push.ensures.ok c.in_ok-block.ensures.made c.loop-place.invariant.whole;
     }

@@ -16,5 +16,5 @@ invariant-loop-place l =
       columns : AreColumns l.dict (length l.on.labels) l.place l.made;
       kinds : list_all (kinds_meet (operator_of l.op)) (pairs_from l.other l.place (drop l.place l.on.columns)) ≡ true;
       whole : then_value (try_all (met (operator_of l.op)) (meetings_value l.fn.dict (pairs_from l.other l.place (drop l.place l.on.columns)))) (λ rest. Ok (blocks_value l.dict l.made ++ rest))
-      ≡ try_all (met (operator_of l.op)) (meetings_value l.fn.dict (pairs_from l.other 0 l.on.columns));
+          ≡ try_all (met (operator_of l.op)) (meetings_value l.fn.dict (pairs_from l.other 0 l.on.columns));
     }

@@ -1,9 +1,9 @@
 use Rattle.std.proofs.Common.{◌≡◌, drop}
 use Rattle.frame_store.specs.Shown.{headings_value, labels_value}
-use Rattle.form_meaning.specs.Infix as infix
+use Rattle.form_meaning.specs.Infix as meant
 use Rattle.frame_ops.proofs.headings.are_headings.Given as goal
 
 abbrev pub invariant-loop-place : goal.invariant-loop-place
 invariant-loop-place l =
-    infix.are_headings (labels_value l.dict (drop l.place l.series.labels)) (headings_value l.dict (drop l.place l.frame.headings))
-    ≡ infix.are_headings (labels_value l.dict l.series.labels) (headings_value l.dict l.frame.headings)
+    meant.are_headings (labels_value l.dict (drop l.place l.series.labels)) (headings_value l.dict (drop l.place l.frame.headings))
+    ≡ meant.are_headings (labels_value l.dict l.series.labels) (headings_value l.dict l.frame.headings)

@@ -1,9 +1,9 @@
 use Rattle.std.proofs.Common.{◌≡◌, drop}
 use Rattle.frame_store.specs.Shown.{headings_value}
-use Rattle.form_meaning.specs.Infix as infix
+use Rattle.form_meaning.specs.Infix as meant
 use Rattle.frame_ops.proofs.headings.same_headings.Given as goal
 
 abbrev pub invariant-loop-column : goal.invariant-loop-column
 invariant-loop-column l =
-    infix.same_headings (headings_value l.dict (drop l.column l.a.headings)) (headings_value l.dict (drop l.column l.b.headings))
-    ≡ infix.same_headings (headings_value l.dict l.a.headings) (headings_value l.dict l.b.headings)
+    meant.same_headings (headings_value l.dict (drop l.column l.a.headings)) (headings_value l.dict (drop l.column l.b.headings))
+    ≡ meant.same_headings (headings_value l.dict l.a.headings) (headings_value l.dict l.b.headings)

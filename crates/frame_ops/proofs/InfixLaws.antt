@@ -1,0 +1,211 @@
+-- What an operator makes of two operands is what is meant.
+use Rattle.std.proofs.Common.{◌≡◌, ◌∙◌, suc, ◌<◌, Bool, true, false, ◌&&◌, List, [], ◌∷◌, length, refl, ap, sym, subst, arith, Option, Some, None, Result, Ok, Err, All, slice_index_or, if◌then◌else◌}
+use Rattle.std.specs.List.{list_all}
+use Rattle.std.proofs.lemmas.List.{length-map}
+use Rattle.cell_core.specs.declared.cell.Cell.{Cell}
+use Rattle.cell_core.specs.declared.cell.Label.{Label}
+use Rattle.cell_core.specs.declared.grid.Shape.TheVariants.{Series}
+use Rattle.meaning.specs.Text.{Text}
+use Rattle.meaning.specs.Cell.{LabelValue, datum, AreGiven}
+use Rattle.meaning.specs.Fault.{FaultValue, not_built, then_value}
+use Rattle.meaning.specs.Tree.{Binary}
+use Rattle.table_meaning.specs.Table.{NumberedTable, Table, table_value, heading_value, tuple_value, column_at, column_value, no_column}
+use Rattle.table_meaning.specs.Settled.{IsSettled}
+use Rattle.table_meaning.specs.Valid.{IsWhole}
+use Rattle.multi_index.specs.Axes.{AxisValue}
+use Rattle.frame_store.specs.Parts.{axis_of}
+use Rattle.frame_store.proofs.Settling.{columns_given, columns_part, headings_part, columns_name_part}
+use Rattle.table_meaning.specs.Value as value
+use Rattle.table_meaning.specs.Value.{Entry}
+use Rattle.form_meaning.specs.Finish.{with_columns, same_heading}
+use Rattle.form_meaning.specs.Infix.{meets, infix_table, on_levels, same_tuple, same_tuples, same_headings, are_headings, common_name, first_heading, beside, across, across_series, turned, has_one, scalar_infix, rows_infix, series_infix, frame_infix, across_infix}
+use Rattle.frame_store.specs.declared.fault.OpFault.{OpFault}
+use Rattle.frame_store.specs.Shown.{headings_value, labels_value, columns_value, Makes}
+use Rattle.frame_ops.specs.declared.naming.Naming.TheVariants.{Kept, Name, ColumnsName}
+use Rattle.frame_ops.specs.declared.other.Other.{Other}
+use Rattle.frame_ops.specs.declared.other.Other.TheVariants.{Scalar, Beside, Across}
+use Rattle.frame_ops.specs.Namings.{named_by}
+use Rattle.frame_ops.specs.Pairs.{pairs_from, meetings_value, levels_fit, IsOpposite, columns_meant}
+use Rattle.frame_ops.proofs.Meanings.{table_meant, levels_agree}
+use Rattle.frame_ops.proofs.HeadingLaws.{heading_settled}
+use Rattle.frame_ops.proofs.MeetingLaws.{scalar_meetings, beside_meetings, across_meetings, first_column, levels_same, levels_one}
+
+pub makes_as : (texts : List Text) (made : Result NumberedTable OpFault) (x y : Result Entry FaultValue) → Makes texts made x → x ≡ y → Makes texts made y
+makes_as texts made x y makes same = subst (Makes texts made) same makes
+
+-- the columns that are met, as a table
+abbrev pub met_table : Binary → List Text → NumberedTable → Other → Table → Result Entry FaultValue
+met_table op texts on other t =
+    then_value (columns_meant op (length on.labels) (levels_fit on other) (meetings_value texts (pairs_from other 0 on.columns))) (λ columns. Ok (value.table (with_columns t columns)))
+
+met_on_levels : (op : Binary) (texts : List Text) (on : NumberedTable) (other : Other) (t : Table) → length t.labels ≡ length on.labels
+    → met_table op texts on other t ≡ on_levels (list_all (meets op) (meetings_value texts (pairs_from other 0 on.columns))) (levels_fit on other) (infix_table op t (meetings_value texts (pairs_from other 0 on.columns)))
+met_on_levels op texts on other t same = table_meant op t (length on.labels) (levels_fit on other) (meetings_value texts (pairs_from other 0 on.columns)) same
+
+-- a table and a scalar
+pub scalar_is_meant : (op : Binary) (texts : List Text) (on : NumberedTable) (c : Cell) (left : Bool)
+    → met_table op texts on (Scalar c left) (table_value texts (named_by on Kept)) ≡ scalar_infix op left (table_value texts on) (datum texts c)
+scalar_is_meant op texts on c left =
+    let t : Table = table_value texts on in
+    met_on_levels op texts on (Scalar c left) t (length-map on.labels (tuple_value texts))
+    ∙ levels_agree op t (meetings_value texts (pairs_from (Scalar c left) 0 on.columns))
+    ∙ ap (infix_table op t) (scalar_meetings texts c left on.columns)
+
+-- two tables
+rows_are_meant : (op : Binary) (texts : List Text) (a b : NumberedTable) (t u : Table) → length t.labels ≡ length a.labels → t ≡ u → length b.columns ≡ length a.columns
+    → met_table op texts a (Beside b) t ≡ rows_infix op (table_value texts a) (table_value texts b) u
+rows_are_meant op texts a b t u rows same columns =
+    let met : meetings_value texts (pairs_from (Beside b) 0 a.columns) ≡ beside (columns_value texts a.columns) (columns_value texts b.columns) = beside_meetings texts b a.columns columns in
+    met_on_levels op texts a (Beside b) t rows
+    ∙ (λ i. on_levels (list_all (meets op) (met i)) (levels_same (heading_value texts) (heading_value texts) a.level_names b.level_names i) (infix_table op (same i) (met i)))
+
+first_value : (texts : List Text) (hs : List (Option Label)) → first_heading (headings_value texts hs) ≡ heading_value texts (slice_index_or hs 0 None)
+first_value texts [] = refl
+first_value texts (h ∷ hs) = refl
+
+pub series_is_meant : (op : Binary) (texts : List Text) (a b : NumberedTable) (x y name : Option Label) → same_tuples (labels_value texts a.labels) (labels_value texts b.labels) ≡ true → length b.columns ≡ length a.columns
+    → x ≡ slice_index_or a.headings 0 None → y ≡ slice_index_or b.headings 0 None → heading_value texts name ≡ common_name (heading_value texts x) (heading_value texts y)
+    → met_table op texts a (Beside b) (table_value texts (named_by a (Name name))) ≡ series_infix op (table_value texts a) (table_value texts b)
+series_is_meant op texts a b x y name same columns is is' named =
+    let v : Table = table_value texts a in
+    let w : Table = table_value texts b in
+    let common : heading_value texts name ≡ common_name (first_heading v.headings) (first_heading w.headings) =
+    named ∙ (λ i. common_name (heading_value texts (is i)) (heading_value texts (is' i))) ∙ (λ i. common_name (sym (first_value texts a.headings) i) (sym (first_value texts b.headings) i)) in
+    let u : Table = record v { headings = common_name (first_heading v.headings) (first_heading w.headings) ∷ [] } in
+    let t : table_value texts (named_by a (Name name)) ≡ u = ap (λ h. record v { headings = h ∷ [] }) common in
+    rows_are_meant op texts a b (table_value texts (named_by a (Name name))) u (length-map a.labels (tuple_value texts)) t columns
+    ∙ sym (ap (λ (r : Bool). if r then rows_infix op v w u else Err not_built) same)
+
+pub series_refused : (op : Binary) (texts : List Text) (a b : NumberedTable) → same_tuples (labels_value texts a.labels) (labels_value texts b.labels) ≡ false → series_infix op (table_value texts a) (table_value texts b) ≡ Err not_built
+series_refused op texts a b same =
+    let v : Table = table_value texts a in
+    let w : Table = table_value texts b in
+    ap (λ (r : Bool). if r then rows_infix op v w (record v { headings = common_name (first_heading v.headings) (first_heading w.headings) ∷ [] }) else Err not_built) same
+
+-- the test of two frames
+abbrev pub frames_meet : List Text → NumberedTable → NumberedTable → Bool
+frames_meet texts a b = same_tuples (labels_value texts a.labels) (labels_value texts b.labels) && same_headings (headings_value texts a.headings) (headings_value texts b.headings)
+
+pub frame_is_meant : (op : Binary) (texts : List Text) (a b : NumberedTable) (name : Option Label) → frames_meet texts a b ≡ true → length b.columns ≡ length a.columns
+    → heading_value texts name ≡ common_name (heading_value texts a.columns_name) (heading_value texts b.columns_name)
+    → met_table op texts a (Beside b) (table_value texts (named_by a (ColumnsName name))) ≡ frame_infix op (table_value texts a) (table_value texts b)
+frame_is_meant op texts a b name same columns named =
+    let v : Table = table_value texts a in
+    let w : Table = table_value texts b in
+    let u : Table = record v { columns_name = common_name v.columns_name w.columns_name } in
+    let t : table_value texts (named_by a (ColumnsName name)) ≡ u = ap (λ h. record v { columns_name = h }) named in
+    rows_are_meant op texts a b (table_value texts (named_by a (ColumnsName name))) u (length-map a.labels (tuple_value texts)) t columns
+    ∙ sym (ap (λ (r : Bool). if r then rows_infix op v w u else Err not_built) same)
+
+pub frame_refused : (op : Binary) (texts : List Text) (a b : NumberedTable) → frames_meet texts a b ≡ false → frame_infix op (table_value texts a) (table_value texts b) ≡ Err not_built
+frame_refused op texts a b same =
+    let v : Table = table_value texts a in
+    let w : Table = table_value texts b in
+    ap (λ (r : Bool). if r then rows_infix op v w (record v { columns_name = common_name v.columns_name w.columns_name }) else Err not_built) same
+
+-- a frame and a Series across
+pub across_is_meant : (op : Binary) (texts : List Text) (f s : NumberedTable) (left : Bool) → IsWhole f → are_headings (labels_value texts s.labels) (headings_value texts f.headings) ≡ true → length (column_at s.columns 0).cells ≡ length f.columns
+    → met_table op texts f (Across s left) (table_value texts (named_by f Kept)) ≡ across_infix op left (table_value texts f) (table_value texts s)
+across_is_meant op texts f s left whole same cells =
+    let v : Table = table_value texts f in
+    let w : Table = table_value texts s in
+    let first : column_at w.columns 0 ≡ column_value texts (column_at s.columns 0) = first_column texts s.columns in
+    let rows : length f.labels ≡ length v.labels = sym (length-map f.labels (tuple_value texts)) in
+    let met : meetings_value texts (pairs_from (Across s left) 0 f.columns) ≡ across_series left v w =
+    across_meetings texts s left (length f.labels) f.columns whole.filled cells
+    ∙ (λ i. turned left (across (rows i) (sym first i).kind (columns_value texts f.columns) (sym first i).cells)) in
+    met_on_levels op texts f (Across s left) v (sym rows)
+    ∙ (λ i. on_levels (list_all (meets op) (met i)) (levels_one (heading_value texts) s.level_names i) (infix_table op v (met i)))
+    ∙ sym (ap (λ (r : Bool). if r then on_levels (list_all (meets op) (across_series left v w)) (has_one w.level_names) (infix_table op v (across_series left v w)) else Err not_built) same)
+
+pub across_refused : (op : Binary) (texts : List Text) (f s : NumberedTable) (left : Bool) → are_headings (labels_value texts s.labels) (headings_value texts f.headings) ≡ false
+    → across_infix op left (table_value texts f) (table_value texts s) ≡ Err not_built
+across_refused op texts f s left same =
+    let v : Table = table_value texts f in
+    let w : Table = table_value texts s in
+    ap (λ (r : Bool). if r then on_levels (list_all (meets op) (across_series left v w)) (has_one w.level_names) (infix_table op v (across_series left v w)) else Err not_built) same
+
+-- equal lists have one length
+both_true : (a b : Bool) → (a && b) ≡ true → b ≡ true
+both_true true b e = e
+both_true false b e = cc
+
+tuples_count : (x y : List (List LabelValue)) → same_tuples x y ≡ true → length x ≡ length y
+tuples_count [] [] e = refl
+tuples_count [] (b ∷ bs) e = cc
+tuples_count (a ∷ as') [] e = cc
+tuples_count (a ∷ as') (b ∷ bs) e = ap suc (tuples_count as' bs (both_true (same_tuple a b) (same_tuples as' bs) e))
+
+headings_count : (x y : List (Option LabelValue)) → same_headings x y ≡ true → length x ≡ length y
+headings_count [] [] e = refl
+headings_count [] (b ∷ bs) e = cc
+headings_count (a ∷ as') [] e = cc
+headings_count (a ∷ as') (b ∷ bs) e = ap suc (headings_count as' bs (both_true (same_heading a b) (same_headings as' bs) e))
+
+are_count : (x : List (List LabelValue)) (y : List (Option LabelValue)) → are_headings x y ≡ true → length x ≡ length y
+are_count [] [] e = refl
+are_count [] (h ∷ hs) e = cc
+are_count ([] ∷ ls) [] e = cc
+are_count ([] ∷ ls) (h ∷ hs) e = cc
+are_count ((l ∷ []) ∷ ls) [] e = cc
+are_count ((l ∷ []) ∷ ls) (h ∷ hs) e = ap suc (are_count ls hs (both_true (same_heading (Some l) h) (are_headings ls hs) e))
+are_count ((l ∷ m ∷ r) ∷ ls) [] e = cc
+are_count ((l ∷ m ∷ r) ∷ ls) (h ∷ hs) e = cc
+
+pub rows_count : (texts : List Text) (a b : NumberedTable) → same_tuples (labels_value texts a.labels) (labels_value texts b.labels) ≡ true → length b.labels ≡ length a.labels
+rows_count texts a b same =
+    sym (sym (length-map a.labels (tuple_value texts)) ∙ tuples_count (labels_value texts a.labels) (labels_value texts b.labels) same ∙ length-map b.labels (tuple_value texts))
+
+-- the columns of two Series, and of two frames, are as many
+pub series_opposite : (texts : List Text) (a b : NumberedTable) → IsWhole a → IsWhole b → a.shape ≡ Series → b.shape ≡ Series → same_tuples (labels_value texts a.labels) (labels_value texts b.labels) ≡ true → IsOpposite a (Beside b)
+series_opposite texts a b whole whole' is is' same = (sym whole'.headed ∙ whole'.headings.single is' ∙ sym (whole.headings.single is) ∙ whole.headed, rows_count texts a b same)
+
+pub frame_opposite : (texts : List Text) (a b : NumberedTable) → IsWhole a → IsWhole b → frames_meet texts a b ≡ true → IsOpposite a (Beside b)
+frame_opposite texts a b whole whole' same =
+    let headings : length a.headings ≡ length b.headings =
+    sym (length-map a.headings (heading_value texts))
+    ∙ headings_count (headings_value texts a.headings) (headings_value texts b.headings) (both_true (same_tuples (labels_value texts a.labels) (labels_value texts b.labels)) (same_headings (headings_value texts a.headings) (headings_value texts b.headings)) same)
+    ∙ length-map b.headings (heading_value texts) in
+    (sym whole'.headed ∙ sym headings ∙ whole.headed, rows_count texts a b (first_true (same_tuples (labels_value texts a.labels) (labels_value texts b.labels)) (same_headings (headings_value texts a.headings) (headings_value texts b.headings)) same))
+  where
+    first_true : (p q : Bool) → (p && q) ≡ true → p ≡ true
+    first_true true q e = refl
+    first_true false q e = cc
+
+-- a Series has a cell for each column of the frame
+pub across_opposite : (texts : List Text) (f s : NumberedTable) (left : Bool) → IsWhole f → IsWhole s → s.shape ≡ Series → are_headings (labels_value texts s.labels) (headings_value texts f.headings) ≡ true → IsOpposite f (Across s left)
+across_opposite texts f s left whole whole' is same =
+    let one : length s.columns ≡ 1 = sym whole'.headed ∙ whole'.headings.single is in
+    let rows : length s.labels ≡ length f.headings =
+    sym (length-map s.labels (tuple_value texts)) ∙ are_count (labels_value texts s.labels) (headings_value texts f.headings) same ∙ length-map f.headings (heading_value texts) in
+    let inside : 0 < length s.columns = omega (arith, one) in
+    (omega (arith, one), whole'.filled 0 no_column inside ∙ rows ∙ whole.headed)
+
+-- the axes of two tables
+pub axes_same : (texts : List Text) (x y : AxisValue) (a b : NumberedTable) → x ≡ axis_of a → y ≡ axis_of b → same_tuples (labels_value texts x.tuples) (labels_value texts y.tuples) ≡ same_tuples (labels_value texts a.labels) (labels_value texts b.labels)
+axes_same texts x y a b e f = λ i. same_tuples (labels_value texts (e i).tuples) (labels_value texts (f i).tuples)
+
+-- the texts of the one column of a Series
+pub series_given : (texts : List Text) (s : NumberedTable) → IsWhole s → s.shape ≡ Series → IsSettled table_value texts s → AreGiven texts (column_at s.columns 0).cells
+series_given texts s whole is settled =
+    let one : length s.columns ≡ 1 = sym whole.headed ∙ whole.headings.single is in
+    columns_given texts s.columns (columns_part texts s settled) 0 no_column (omega (arith, one))
+
+pub table_given : (texts : List Text) (t : NumberedTable) → IsSettled table_value texts t → All (λ c. AreGiven texts c.cells) t.columns
+table_given texts t settled = columns_given texts t.columns (columns_part texts t settled)
+
+-- the name of a Series
+pub name_settled : (texts : List Text) (s : NumberedTable) (name : Option Label) → IsWhole s → s.shape ≡ Series → IsSettled table_value texts s → name ≡ slice_index_or s.headings 0 None → IsSettled heading_value texts name
+name_settled texts s name whole is settled here =
+    let one : length s.headings ≡ 1 = whole.headings.single is in
+    heading_settled texts s.headings name 0 (headings_part texts s settled) (omega (arith, one)) here
+
+pub columns_name_settled : (texts : List Text) (t : NumberedTable) (name : Option Label) → IsSettled table_value texts t → name ≡ t.columns_name → IsSettled heading_value texts name
+columns_name_settled texts t name settled is = subst (IsSettled heading_value texts) (sym is) (columns_name_part texts t settled)
+
+pub both_hold : (p q : Bool) → p ≡ true → q ≡ true → (p && q) ≡ true
+both_hold p q e f = ap (λ b. b && q) e ∙ f
+
+pub columns_named : (texts : List Text) (a b : NumberedTable) (name x y : Option Label) → x ≡ a.columns_name → y ≡ b.columns_name → heading_value texts name ≡ common_name (heading_value texts x) (heading_value texts y)
+    → heading_value texts name ≡ common_name (heading_value texts a.columns_name) (heading_value texts b.columns_name)
+columns_named texts a b name x y e f named = named ∙ (λ i. common_name (heading_value texts (e i)) (heading_value texts (f i)))

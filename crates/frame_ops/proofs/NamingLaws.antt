@@ -1,0 +1,69 @@
+-- Tables under the headings that an operator gives them.
+use Rattle.std.proofs.Common.{◌≡◌, ◌∙◌, List, [], ◌∷◌, length, map, refl, ap, sym, subst, Result, Ok, Option}
+use Rattle.cell_core.specs.declared.cell.Label.{Label}
+use Rattle.cell_core.specs.declared.grid.Shape.{Shape}
+use Rattle.cell_core.specs.declared.grid.Shape.TheVariants.{Series, Frame}
+use Rattle.cell_core.specs.Texts.{IsLonger}
+use Rattle.meaning.specs.Text.{Text}
+use Rattle.meaning.specs.Cell.{CellValue}
+use Rattle.meaning.specs.Fault.{FaultValue, then_value}
+use Rattle.nullable_array.specs.Blocks.{CellBlock}
+use Rattle.table_meaning.specs.Settled.{IsSettled}
+use Rattle.table_meaning.specs.Table.{ColumnOf, NumberedTable, table_value, heading_value}
+use Rattle.table_meaning.specs.Valid.{AreHeadings, IsWhole}
+use Rattle.table_meaning.specs.Value as value
+use Rattle.form_meaning.specs.Finish.{with_columns}
+use Rattle.frame_store.specs.Parts.{HeadingList, block_column, table_with, axis_of}
+use Rattle.frame_store.specs.Shown.{headings_value}
+use Rattle.frame_store.proofs.Settling.{columns_name_part, headings_part}
+use Rattle.form_parts.specs.Makes.{blocks_value, AreColumns}
+use Rattle.form_parts.proofs.TableMade.{under_settled, whole_under, made_is_settled, made_is_meant}
+use Rattle.frame_ops.specs.declared.naming.Naming.{Naming}
+use Rattle.frame_ops.specs.declared.naming.Naming.TheVariants.{Kept, Name, ColumnsName}
+use Rattle.frame_ops.specs.Namings.{headings_by, named_by, IsNaming, IsSettledNaming}
+
+-- a Series under a name, and a frame under a name of its columns
+series_headings : (shape : Shape) (columns_name : Option Label) (headings : List (Option Label)) (name : Option Label) → shape ≡ Series → AreHeadings shape columns_name headings → AreHeadings shape columns_name (name ∷ [])
+series_headings Series columns_name headings name is fits = record { single = λ e. refl; nameless = fits.nameless; labelled = λ e. cc; different = λ e. cc }
+series_headings Frame columns_name headings name is fits = cc
+
+frame_headings : (shape : Shape) (columns_name : Option Label) (headings : List (Option Label)) (name : Option Label) → shape ≡ Frame → AreHeadings shape columns_name headings → AreHeadings shape name headings
+frame_headings Frame columns_name headings name is fits = record { single = λ e. cc; nameless = λ e. cc; labelled = fits.labelled; different = fits.different }
+frame_headings Series columns_name headings name is fits = cc
+
+whole_by : (texts : List Text) (t : NumberedTable) (naming : Naming) (blocks : List CellBlock) → IsWhole t → IsNaming t naming → AreColumns texts (length t.labels) (length t.columns) blocks
+    → IsWhole (table_with t.shape (axis_of t) (headings_by t naming) (map block_column blocks))
+whole_by texts t Kept blocks whole is made = whole_under texts t (headings_by t Kept) blocks whole made refl whole.headings
+whole_by texts t (Name name) blocks whole is made = whole_under texts t (headings_by t (Name name)) blocks whole made (sym (whole.headings.single is)) (series_headings t.shape t.columns_name t.headings name is whole.headings)
+whole_by texts t (ColumnsName name) blocks whole is made = whole_under texts t (headings_by t (ColumnsName name)) blocks whole made refl (frame_headings t.shape t.columns_name t.headings name is whole.headings)
+
+single_settled : (texts : List Text) (name : Option Label) → IsSettled heading_value texts name → IsSettled headings_value texts (name ∷ [])
+single_settled texts name settled = λ more j. settled more j ∷ []
+
+named_settled : (texts : List Text) (t : NumberedTable) (naming : Naming) → IsSettled table_value texts t → IsSettledNaming texts naming → IsSettled table_value texts (named_by t naming)
+named_settled texts t Kept settled name = under_settled texts t (headings_by t Kept) settled (columns_name_part texts t settled) (headings_part texts t settled)
+named_settled texts t (Name n) settled name = under_settled texts t (headings_by t (Name n)) settled (columns_name_part texts t settled) (single_settled texts n name)
+named_settled texts t (ColumnsName n) settled name = under_settled texts t (headings_by t (ColumnsName n)) settled name (headings_part texts t settled)
+
+-- the table may be made
+pub whole_named : (texts : List Text) (t : NumberedTable) (naming : Naming) (h : HeadingList) (blocks : List CellBlock) → IsWhole t → IsNaming t naming → AreColumns texts (length t.labels) (length t.columns) blocks → h ≡ headings_by t naming
+    → IsWhole (table_with t.shape (axis_of t) h (map block_column blocks))
+whole_named texts t naming h blocks whole is made same = subst (λ (x : HeadingList). IsWhole (table_with t.shape (axis_of t) x (map block_column blocks))) (sym same) (whole_by texts t naming blocks whole is made)
+
+module _ (old new : List Text) (t made : NumberedTable) (naming : Naming) (h : HeadingList) (blocks : List CellBlock) where
+  made_by : h ≡ headings_by t naming → made ≡ table_with t.shape (axis_of t) h (map block_column blocks) → made ≡ table_with t.shape (axis_of t) (headings_by t naming) (map block_column blocks)
+  made_by same is = is ∙ ap (λ (x : HeadingList). table_with t.shape (axis_of t) x (map block_column blocks)) same
+
+  -- it is settled, and it is what is meant
+  pub named_is_settled : IsLonger old new → IsSettled table_value old t → IsSettledNaming old naming → AreColumns new (length t.labels) (length t.columns) blocks → h ≡ headings_by t naming
+      → made ≡ table_with t.shape (axis_of t) h (map block_column blocks) → IsSettled table_value new made
+  named_is_settled longer settled name columns same is =
+      subst (IsSettled table_value new) (sym (made_by same is))
+      (made_is_settled old new t (headings_by t naming) blocks (length t.labels) (length t.columns) longer (named_settled old t naming settled name) columns)
+
+  pub named_is_meant : (meant : Result (List (ColumnOf CellValue)) FaultValue) → IsLonger old new → IsSettled table_value old t → IsSettledNaming old naming → h ≡ headings_by t naming
+      → made ≡ table_with t.shape (axis_of t) h (map block_column blocks) → meant ≡ Ok (blocks_value new blocks)
+      → then_value meant (λ columns. Ok (value.table (with_columns (table_value old (named_by t naming)) columns))) ≡ Ok (value.table (table_value new made))
+  named_is_meant meant longer settled name same is columns =
+      made_is_meant old new t (headings_by t naming) blocks meant longer (named_settled old t naming settled name) columns
+      ∙ ap (λ (x : NumberedTable). Ok (value.table (table_value new x))) (sym (made_by same is))

@@ -1,0 +1,167 @@
+// The forms: an operator on one or two values of an expression.
+ghost use Rattle.std.specs.Prelude.{◌≡◌, IfOk};
+ghost use Rattle.meaning.specs.Cell.{IsLonger};
+ghost use Rattle.nullable_array.specs.Tasks.{operator_of};
+ghost use Rattle.table_meaning.specs.Settled.{IsSettled};
+ghost use Rattle.table_meaning.specs.Table.{table_value};
+ghost use Rattle.form_meaning.specs.Infix.{infix_result, sign_result};
+ghost use Rattle.frame_store.specs.Arguments.{entry_of, IsLive};
+ghost use Rattle.frame_store.specs.Objects.{tables};
+ghost use Rattle.frame_store.specs.Shown.{shown, FormAnswers, Makes};
+
+use crate::tables::{scalar_infix, table_infix};
+use cell_core::{Cell, Code, TextDict};
+use form_parts::placed;
+use frame_store::{OpFault, Store, Table, Value};
+use nullable_array::Binary;
+use std::alloc::Global;
+
+// The table that an operator makes of two values.
+fn infix_made(
+    alloc: Global,
+    store: &Store,
+    dict: &mut TextDict,
+    op: Binary,
+    a: Value,
+    b: Value,
+) -> Result<Table, OpFault>
+    requires left { IsLive (tables store.now) a }
+    requires right { IsLive (tables store.now) b }
+    requires settled { IsSettled shown dict.old (tables store.now) }
+    requires left_given { IsSettled (entry_of (tables store.now)) dict.old a }
+    requires right_given { IsSettled (entry_of (tables store.now)) dict.old b }
+    ensures longer { IsLonger dict.old dict.new }
+    ensures settled { IfOk result (λ made. IsSettled table_value dict.new made) }
+    ensures makes { Makes dict.new result (infix_result (operator_of op) (entry_of (tables store.now) dict.old a) (entry_of (tables store.now) dict.old b)) }
+{
+    match (a, b) {
+        (Value::Object(x), Value::Object(y)) => table_infix(
+            alloc,
+            dict,
+            op,
+            store.read(x),
+            store.read(y),
+        ),
+        (Value::Object(x), Value::Scalar(c)) => scalar_infix(
+            alloc,
+            dict,
+            op,
+            &store.read(x),
+            c,
+            false,
+        ),
+        (Value::Scalar(c), Value::Object(y)) => scalar_infix(
+            alloc,
+            dict,
+            op,
+            &store.read(y),
+            c,
+            true,
+        ),
+        (Value::Scalar(_), Value::Scalar(_)) => Err(OpFault::Refused(Code::WrongKind)),
+    }
+}
+
+// The table that a sign makes of a value: `-a` is 0 less each cell, and `~a` is `a ^ True`.
+fn sign_made(
+    alloc: Global,
+    store: &Store,
+    dict: &mut TextDict,
+    negate: bool,
+    a: Value,
+) -> Result<Table, OpFault>
+    requires live { IsLive (tables store.now) a }
+    requires settled { IsSettled shown dict.old (tables store.now) }
+    ensures longer { IsLonger dict.old dict.new }
+    ensures settled { IfOk result (λ made. IsSettled table_value dict.new made) }
+    ensures makes { Makes dict.new result (sign_result negate (entry_of (tables store.now) dict.old a)) }
+{
+    let Value::Object(id) = a else {
+        return Err(OpFault::Refused(Code::WrongKind));
+    };
+    if negate {
+        scalar_infix(
+            alloc,
+            dict,
+            Binary::Sub,
+            &store.read(id),
+            Cell::Int(0),
+            true,
+        )
+    } else {
+        scalar_infix(
+            alloc,
+            dict,
+            Binary::Xor,
+            &store.read(id),
+            Cell::Bool(true),
+            false,
+        )
+    }
+}
+
+/// `a + b`, and the other operators.
+///
+/// A new object with what the operator makes of each two cells that meet. A scalar stands in each
+/// row of each column. Two Series meet row by row where they have equal labels, and two frames where
+/// the labels of their columns are equal as well. A frame meets a Series whose labels are those of
+/// its columns in each of its rows. The new table has the labels of the left side, or of the frame;
+/// a name stays where both sides have it.
+///
+/// NA on either side gives NA, but for `&` and `|`: `False & NA` is False and `True | NA` is True
+/// (Kleene's logic). An NA alone has the kind of the other side. Whole numbers wrap at 64 bits.
+/// pandas user guide, "Nullable integer data type" and "Working with missing data".
+///
+/// # Errors
+///
+/// In this order: `WrongKind` of two scalars; `NotBuilt` of tables whose labels differ; `WrongKind`
+/// where the operator doesn't take the kinds of some columns that meet; `BadValue(Levels)` where the
+/// rows have levels of different numbers; `Limit`; `ZeroDivide` by a divisor of 0 with a present
+/// dividend. `NoMemory` may come in place of any answer. After a refusal all objects are as they were.
+pub fn infix(
+    alloc: Global,
+    store: &mut Store,
+    dict: &mut TextDict,
+    op: Binary,
+    a: Value,
+    b: Value,
+) -> Result<Value, OpFault>
+    requires left { IsLive (tables store.old) a }
+    requires right { IsLive (tables store.old) b }
+    requires settled { IsSettled shown dict.old (tables store.old) }
+    requires left_given { IsSettled (entry_of (tables store.old)) dict.old a }
+    requires right_given { IsSettled (entry_of (tables store.old)) dict.old b }
+    ensures longer { IsLonger dict.old dict.new }
+    ensures settled { IsSettled shown dict.new (tables store.new) }
+    ensures answers { FormAnswers dict.new result (infix_result (operator_of op) (entry_of (tables store.old) dict.old a) (entry_of (tables store.old) dict.old b)) (shown dict.old (tables store.old)) (shown dict.new (tables store.new)) }
+{
+    let made = infix_made(alloc, store, dict, op, a, b);
+    placed(store, dict, made)
+}
+
+/// `-a` where `negate` is true, else `~a`.
+///
+/// A new object with 0 less each whole number, or with the opposite of each truth value. NA stays.
+/// pandas user guide, "Working with missing data".
+///
+/// # Errors
+///
+/// In this order: `WrongKind` of a scalar, of a column that isn't of whole numbers, or for `~` of
+/// truth values; `Limit`. `NoMemory` may come in place of any answer. After a refusal all objects
+/// are as they were.
+pub fn invert_or_negate(
+    alloc: Global,
+    store: &mut Store,
+    dict: &mut TextDict,
+    negate: bool,
+    a: Value,
+) -> Result<Value, OpFault>
+    requires live { IsLive (tables store.old) a }
+    requires settled { IsSettled shown dict.old (tables store.old) }
+    ensures longer { IsLonger dict.old dict.new }
+    ensures settled { IsSettled shown dict.new (tables store.new) }
+    ensures answers { FormAnswers dict.new result (sign_result negate (entry_of (tables store.old) dict.old a)) (shown dict.old (tables store.old)) (shown dict.new (tables store.new)) }
+{
+    let made = sign_made(alloc, store, dict, negate, a);
+    placed(store, dict, made)
+}

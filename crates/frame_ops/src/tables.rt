@@ -1,0 +1,188 @@
+// The tables that an operator makes.
+ghost use Rattle.std.specs.Prelude.{◌≡◌, List, All, length, IfOk, Ok};
+ghost use Rattle.cell_core.specs.declared.grid.Shape.TheVariants.{Series as one_column, Frame as columns};
+ghost use Rattle.meaning.specs.Cell.{AreGiven, IsGiven, IsLonger, datum};
+ghost use Rattle.meaning.specs.Fault.{then_value};
+ghost use Rattle.nullable_array.specs.Tasks.{operator_of};
+ghost use Rattle.table_meaning.specs.Settled.{IsSettled};
+ghost use Rattle.table_meaning.specs.Table.{table_value};
+ghost use Rattle.table_meaning.specs.Valid.{IsWhole};
+ghost use Rattle.table_meaning.specs.Value as value;
+ghost use Rattle.form_meaning.specs.Finish.{with_columns};
+ghost use Rattle.form_meaning.specs.Infix as meant;
+ghost use Rattle.frame_store.specs.Shown.{Makes};
+ghost use Rattle.frame_ops.specs.Pairs.{pairs_from, meetings_value, levels_fit, IsOpposite, IsGivenOther, columns_meant};
+ghost use Rattle.frame_ops.specs.Namings.{named_by, IsNaming, IsSettledNaming};
+
+use crate::columns::infix_columns;
+use crate::headings::{are_headings, same_headings};
+use crate::naming::{Naming, headings_by};
+use crate::other::Other;
+use cell_core::{Cell, Code, Grid, Shape, TextDict};
+use form_parts::{common_name, same_rows, table_under};
+use frame_store::{ObjRef, OpFault, Table};
+use nullable_array::Binary;
+use std::alloc::Global;
+
+// The table of what the operator makes of each column and what it meets.
+fn table_met(
+    alloc: Global,
+    dict: &mut TextDict,
+    op: Binary,
+    on: &ObjRef<'_>,
+    other: &Other<'_>,
+    naming: Naming,
+) -> Result<Table, OpFault>
+    requires whole { IsWhole on.now }
+    requires settled { IsSettled table_value dict.old on.now }
+    requires opposite { IsOpposite on.now other.now }
+    requires other { IsGivenOther dict.old other.now }
+    requires naming { IsNaming on.now naming }
+    requires name { IsSettledNaming dict.old naming }
+    ensures longer { IsLonger dict.old dict.new }
+    ensures settled { IfOk result (λ made. IsSettled table_value dict.new made) }
+    ensures makes { Makes dict.new result (then_value
+        (columns_meant (operator_of op) (length on.now.labels) (levels_fit on.now other.now) (meetings_value dict.old (pairs_from other.now 0 on.now.columns)))
+        (λ columns. Ok (value.table (with_columns (table_value dict.old (named_by on.now naming)) columns)))) }
+{
+    let blocks = infix_columns(alloc, dict, op, on, other)?;
+    let headings = headings_by(alloc, on, naming)?;
+    Ok(table_under(alloc, on, headings, blocks)?)
+}
+
+/// The operator on each column of a table and a scalar, which stands on the left where this is so.
+pub(crate) fn scalar_infix(
+    alloc: Global,
+    dict: &mut TextDict,
+    op: Binary,
+    on: &ObjRef<'_>,
+    cell: Cell,
+    left: bool,
+) -> Result<Table, OpFault>
+    requires whole { IsWhole on.now }
+    requires settled { IsSettled table_value dict.old on.now }
+    requires cell { IsGiven dict.old cell }
+    ensures longer { IsLonger dict.old dict.new }
+    ensures settled { IfOk result (λ made. IsSettled table_value dict.new made) }
+    ensures makes { Makes dict.new result (meant.scalar_infix (operator_of op) left (table_value dict.old on.now) (datum dict.old cell)) }
+{
+    table_met(
+        alloc,
+        dict,
+        op,
+        on,
+        &Other::Scalar(cell, left),
+        Naming::Kept,
+    )
+}
+
+// Two Series whose labels are equal. The name of both stays.
+fn series_infix(
+    alloc: Global,
+    dict: &mut TextDict,
+    op: Binary,
+    a: &ObjRef<'_>,
+    b: ObjRef<'_>,
+) -> Result<Table, OpFault>
+    requires whole_a { IsWhole a.now }
+    requires whole_b { IsWhole b }
+    requires settled_a { IsSettled table_value dict.old a.now }
+    requires settled_b { IsSettled table_value dict.old b }
+    requires series_a { a.now.shape ≡ one_column }
+    requires series_b { b.shape ≡ one_column }
+    ensures longer { IsLonger dict.old dict.new }
+    ensures settled { IfOk result (λ made. IsSettled table_value dict.new made) }
+    ensures makes { Makes dict.new result (meant.series_infix (operator_of op) (table_value dict.old a.now) (table_value dict.old b.entry)) }
+{
+    if !same_rows(dict, a.axis(), b.axis()) {
+        return Err(OpFault::Refused(Code::NotBuilt));
+    }
+    let name = common_name(dict, a.heading(0), b.heading(0));
+    table_met(alloc, dict, op, a, &Other::Beside(b), Naming::Name(name))
+}
+
+// Two frames whose labels are equal, those of the rows and those of the columns.
+fn frame_infix(
+    alloc: Global,
+    dict: &mut TextDict,
+    op: Binary,
+    a: &ObjRef<'_>,
+    b: ObjRef<'_>,
+) -> Result<Table, OpFault>
+    requires whole_a { IsWhole a.now }
+    requires whole_b { IsWhole b }
+    requires settled_a { IsSettled table_value dict.old a.now }
+    requires settled_b { IsSettled table_value dict.old b }
+    requires frame { a.now.shape ≡ columns }
+    ensures longer { IsLonger dict.old dict.new }
+    ensures settled { IfOk result (λ made. IsSettled table_value dict.new made) }
+    ensures makes { Makes dict.new result (meant.frame_infix (operator_of op) (table_value dict.old a.now) (table_value dict.old b.entry)) }
+{
+    if !same_rows(dict, a.axis(), b.axis()) || !same_headings(dict, a, &b) {
+        return Err(OpFault::Refused(Code::NotBuilt));
+    }
+    let name = common_name(dict, a.columns_name(), b.columns_name());
+    table_met(
+        alloc,
+        dict,
+        op,
+        a,
+        &Other::Beside(b),
+        Naming::ColumnsName(name),
+    )
+}
+
+// A frame and a Series whose labels are those of the frame's columns.
+fn across_infix(
+    alloc: Global,
+    dict: &mut TextDict,
+    op: Binary,
+    left: bool,
+    frame: &ObjRef<'_>,
+    series: ObjRef<'_>,
+) -> Result<Table, OpFault>
+    requires whole_frame { IsWhole frame.now }
+    requires whole_series { IsWhole series }
+    requires settled_frame { IsSettled table_value dict.old frame.now }
+    requires settled_series { IsSettled table_value dict.old series }
+    requires series { series.shape ≡ one_column }
+    ensures longer { IsLonger dict.old dict.new }
+    ensures settled { IfOk result (λ made. IsSettled table_value dict.new made) }
+    ensures makes { Makes dict.new result (meant.across_infix (operator_of op) left (table_value dict.old frame.now) (table_value dict.old series.entry)) }
+{
+    if !are_headings(dict, &series, frame) {
+        return Err(OpFault::Refused(Code::NotBuilt));
+    }
+    table_met(
+        alloc,
+        dict,
+        op,
+        frame,
+        &Other::Across(series, left),
+        Naming::Kept,
+    )
+}
+
+/// Two tables.
+pub(crate) fn table_infix(
+    alloc: Global,
+    dict: &mut TextDict,
+    op: Binary,
+    a: ObjRef<'_>,
+    b: ObjRef<'_>,
+) -> Result<Table, OpFault>
+    requires whole_a { IsWhole a }
+    requires whole_b { IsWhole b }
+    requires settled_a { IsSettled table_value dict.old a }
+    requires settled_b { IsSettled table_value dict.old b }
+    ensures longer { IsLonger dict.old dict.new }
+    ensures settled { IfOk result (λ made. IsSettled table_value dict.new made) }
+    ensures makes { Makes dict.new result (meant.table_infix (operator_of op) a.entry.shape b.entry.shape (table_value dict.old a.entry) (table_value dict.old b.entry)) }
+{
+    match (a.shape(), b.shape()) {
+        (Shape::Series, Shape::Series) => series_infix(alloc, dict, op, &a, b),
+        (Shape::Frame, Shape::Frame) => frame_infix(alloc, dict, op, &a, b),
+        (Shape::Series, Shape::Frame) => across_infix(alloc, dict, op, true, &b, a),
+        (Shape::Frame, Shape::Series) => across_infix(alloc, dict, op, false, &a, b),
+    }
+}
