@@ -33,6 +33,19 @@ abbrev pub method_result : Entry → Text → List NamedGiven → Result Entry F
 method_result (cell c) name gs = Err (no_attribute name)
 method_result (table t) name gs = called (method_named t.shape name) name gs t
 
+-- the name of a method; or that of groups or windows, which stand between an object and a method of theirs
+pub data ChainValue : Type 0 where
+  plain : Text → ChainValue
+  through : Text → ChainValue
+
+abbrev pub not_built_if : Bool → Text → Result Entry FaultValue
+not_built_if true name = Err not_built
+not_built_if false name = Err (no_attribute name)
+
+abbrev pub chain_result : Entry → ChainValue → List NamedGiven → Result Entry FaultValue
+chain_result v (plain name) gs = method_result v name gs
+chain_result v (through name) gs = not_built_if (has_method v name) name
+
 -- a list that holds a tuple
 abbrev pub has_tuple : GivenList → Bool
 has_tuple no_given = false

@@ -6,3 +6,5 @@ pub mod Labels
 pub mod Made
 pub mod Given
 pub mod Kinds
+pub mod Calls
+pub mod Faults

@@ -2,6 +2,7 @@
 #![tactic(auto)]
 
 mod answers;
+mod binding;
 mod cells;
 mod column_methods;
 mod columns;
@@ -14,3 +15,5 @@ mod tables;
 
 
 
+
+pub use binding::exists;
