@@ -1,7 +1,8 @@
 -- Columns of another table.
-use Rattle.std.proofs.Common.{◌≡◌, ◌∙◌, ℕ, suc, zero, ◌+◌, ◌*◌, ◌<◌, pos, List, [], ◌∷◌, length, map, refl, ap, sym, subst, arith, All, Option, Some}
+use Rattle.std.proofs.Common.{◌≡◌, ◌∙◌, ℕ, suc, zero, ◌+◌, ◌*◌, ◌<◌, pos, List, [], ◌∷◌, length, map, refl, ap, sym, subst, arith, All, Option, Some, ◌++◌}
 use Rattle.std.specs.Prelude.{slice_index_or}
 use Rattle.std.specs.List.{range_with_len}
+use Rattle.std.proofs.lemmas.List.FromFn.{get_or-range_with_len, length-range_with_len}
 use Rattle.cell_core.specs.Grids.{AreRowsBelow}
 use Rattle.cell_core.specs.declared.grid.Rows.{Rows}
 use Rattle.cell_core.specs.declared.grid.Shape.{Shape}
@@ -63,3 +64,28 @@ pub derived_is_picked : (object : Option NumberedTable) (source : NumberedTable)
 derived_is_picked object source shape axis headings places count is whole inside same rows =
     let back : source ≡ table_or object = sym (ap table_or is) in
     cut_is_picked shape axis headings places (table_or object) count (subst IsWhole back whole) inside (same ∙ ap axis_of back) (rows ∙ ap (λ (t : NumberedTable). length t.labels) back)
+
+-- the places below a count
+range_suc : (a n : ℕ) → range_with_len a (suc n) ≡ range_with_len a n ++ (a + n) ∷ []
+range_suc a zero = ap (λ x. x ∷ []) (let e : a ≡ a + 0 = omega arith in e)
+range_suc a (suc n) = ap (λ l. a ∷ l) (range_suc (a + 1) n ∙ ap (λ x. range_with_len (a + 1) n ++ x ∷ []) (let e : a + 1 + n ≡ a + suc n = omega arith in e))
+
+pub one_more_place : (places places' : List ℕ) (place : ℕ) → places ≡ range_with_len 0 place → places' ≡ places ++ place ∷ [] → places' ≡ range_with_len 0 (place + 1)
+one_more_place places places' place before pushed =
+    pushed ∙ (λ j. before j ++ (let e : place ≡ 0 + place = omega arith in e) j ∷ []) ∙ sym (range_suc 0 place) ∙ ap (range_with_len 0) (let e : suc place ≡ place + 1 = omega arith in e)
+
+pub places_inside : (places : List ℕ) (count limit : ℕ) → places ≡ range_with_len 0 count → count ≡ limit → All (λ place. place < limit) places
+places_inside places count limit is same =
+    subst (λ (l : List ℕ). All (λ place. place < limit) l) (sym is) (λ k d lt.
+    let at : slice_index_or (range_with_len 0 count) k d ≡ 0 + k = get_or-range_with_len 0 count k d (omega (arith, lt, length-range_with_len 0 count)) in
+    omega (arith, at, same, lt, length-range_with_len 0 count))
+
+pub places_count : (places : List ℕ) (count : ℕ) → places ≡ range_with_len 0 count → length places ≡ count
+places_count places count is = ap (λ (l : List ℕ). length l) is ∙ length-range_with_len 0 count
+
+-- the table of an object that is read
+pub read_is : (object : Option NumberedTable) (source : NumberedTable) → object ≡ Some source → source ≡ table_or object
+read_is object source is = sym (ap table_or is)
+
+pub all_columns : (object : Option NumberedTable) (source : NumberedTable) (count : ℕ) → object ≡ Some source → count ≡ length source.columns → count ≡ length (table_or object).columns
+all_columns object source count is same = same ∙ ap (λ (t : NumberedTable). length t.columns) (read_is object source is)

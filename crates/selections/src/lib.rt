@@ -3,4 +3,4 @@
 
 mod new_objects;
 
-pub use new_objects::derived;
+pub use new_objects::{as_frame, copied, derived, derived_within, headed_by, renamed};
