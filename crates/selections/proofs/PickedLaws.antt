@@ -1,0 +1,91 @@
+-- Columns of another table.
+use Rattle.std.proofs.Common.{◌≡◌, ◌∙◌, ℕ, suc, zero, ◌+◌, ◌*◌, ◌<◌, pos, List, [], ◌∷◌, length, map, refl, ap, sym, subst, arith, All, Option, Some, ◌++◌}
+use Rattle.std.specs.Prelude.{slice_index_or}
+use Rattle.std.specs.List.{range_with_len}
+use Rattle.std.proofs.lemmas.List.FromFn.{get_or-range_with_len, length-range_with_len}
+use Rattle.cell_core.specs.Grids.{AreRowsBelow}
+use Rattle.cell_core.specs.declared.grid.Rows.{Rows}
+use Rattle.cell_core.specs.declared.grid.Shape.{Shape}
+use Rattle.cell_core.specs.declared.cell.Cell.{Cell}
+use Rattle.cell_core.specs.declared.cell.Cell.TheVariants.{Na}
+use Rattle.multi_index.specs.Axes.{AxisValue}
+use Rattle.meaning.specs.Block.{strided}
+use Rattle.table_meaning.specs.Table.{ColumnOf, NumberedTable, column_at, no_column}
+use Rattle.table_meaning.specs.Change.{strided_column, cut_columns}
+use Rattle.table_meaning.specs.Valid.{IsWhole}
+use Rattle.frame_store.specs.Parts.{HeadingList, HaveRows, table_with, axis_of}
+use Rattle.frame_store.specs.Objects.{table_or}
+use Rattle.selections.specs.Picked.{picked}
+
+-- a list of a function of the place
+pub list_is : {C : Type 0} (f : ℕ → C) (xs : List C) (a : ℕ) (d : C) → ((k : ℕ) → k < length xs → f (a + k) ≡ slice_index_or xs k d) → map f (range_with_len a (length xs)) ≡ xs
+list_is f [] a d h = refl
+list_is f (x ∷ xs) a d h =
+    let first : a ≡ a + 0 = omega arith in
+    let later : (k : ℕ) → k < length xs → f (a + 1 + k) ≡ slice_index_or xs k d = λ k lt. let e : a + 1 + k ≡ a + suc k = omega arith in ap f e ∙ h (suc k) (omega arith) in
+    ap (λ y. y ∷ map f (range_with_len (a + 1) (length xs))) (ap f first ∙ h 0 (omega arith)) ∙ ap (λ l. x ∷ l) (list_is f xs (a + 1) d later)
+
+-- all rows of so many
+abbrev pub all_rows : ℕ → Rows
+all_rows count = record { start = 0; step = pos 1; count = count }
+
+pub all_rows_below : (count : ℕ) → AreRowsBelow (all_rows count) count
+all_rows_below count =
+    record {
+      places = λ row lt. tt;
+      below = λ row lt. omega arith;
+      moves = λ more e. cc;
+    }
+
+-- all rows of a column are the column
+strided_all : (cells : List Cell) (count : ℕ) → length cells ≡ count → strided Na cells (all_rows count) ≡ cells
+strided_all cells count is =
+    ap (λ n. strided Na cells (all_rows n)) (sym is)
+    ∙ list_is (λ row. slice_index_or cells (0 + row * 1) Na) cells 0 Na (λ k lt. let same : 0 + (0 + k) * 1 ≡ k = omega arith in ap (λ i. slice_index_or cells i Na) same)
+
+cut_is : (columns : List (ColumnOf Cell)) (count : ℕ) (places : List ℕ) → HaveRows count columns → All (λ place. place < length columns) places
+    → cut_columns Na columns (all_rows count) places ≡ map (column_at columns) places
+cut_is columns count [] filled inside = refl
+cut_is columns count (p ∷ ps) filled inside = λ j. here j ∷ cut_is columns count ps filled (λ k d lt. inside (suc k) d (omega arith)) j
+  where
+    here : strided_column Na (all_rows count) (column_at columns p) ≡ column_at columns p
+    here = λ j. record { kind = (column_at columns p).kind; cells = strided_all (column_at columns p).cells count (filled p no_column (inside 0 p (omega arith))) j }
+
+-- the table that is cut is the one that is picked
+pub cut_is_picked : (shape : Shape) (axis : AxisValue) (headings : HeadingList) (places : List ℕ) (t : NumberedTable) (count : ℕ) → IsWhole t → All (λ place. place < length t.columns) places → axis ≡ axis_of t → count ≡ length t.labels
+    → table_with shape axis headings (cut_columns Na t.columns (all_rows count) places) ≡ picked shape headings places t
+cut_is_picked shape axis headings places t count whole inside same is =
+    (λ j. table_with shape (same j) headings (cut_columns Na t.columns (all_rows (is j)) places))
+    ∙ ap (table_with shape (axis_of t) headings) (cut_is t.columns (length t.labels) places whole.filled inside)
+
+pub derived_is_picked : (object : Option NumberedTable) (source : NumberedTable) (shape : Shape) (axis : AxisValue) (headings : HeadingList) (places : List ℕ) (count : ℕ)
+    → object ≡ Some source → IsWhole source → All (λ place. place < length (table_or object).columns) places → axis ≡ axis_of source → count ≡ length source.labels
+    → table_with shape axis headings (cut_columns Na (table_or object).columns (all_rows count) places) ≡ picked shape headings places (table_or object)
+derived_is_picked object source shape axis headings places count is whole inside same rows =
+    let back : source ≡ table_or object = sym (ap table_or is) in
+    cut_is_picked shape axis headings places (table_or object) count (subst IsWhole back whole) inside (same ∙ ap axis_of back) (rows ∙ ap (λ (t : NumberedTable). length t.labels) back)
+
+-- the places below a count
+range_suc : (a n : ℕ) → range_with_len a (suc n) ≡ range_with_len a n ++ (a + n) ∷ []
+range_suc a zero = ap (λ x. x ∷ []) (let e : a ≡ a + 0 = omega arith in e)
+range_suc a (suc n) = ap (λ l. a ∷ l) (range_suc (a + 1) n ∙ ap (λ x. range_with_len (a + 1) n ++ x ∷ []) (let e : a + 1 + n ≡ a + suc n = omega arith in e))
+
+pub one_more_place : (places places' : List ℕ) (place : ℕ) → places ≡ range_with_len 0 place → places' ≡ places ++ place ∷ [] → places' ≡ range_with_len 0 (place + 1)
+one_more_place places places' place before pushed =
+    pushed ∙ (λ j. before j ++ (let e : place ≡ 0 + place = omega arith in e) j ∷ []) ∙ sym (range_suc 0 place) ∙ ap (range_with_len 0) (let e : suc place ≡ place + 1 = omega arith in e)
+
+pub places_inside : (places : List ℕ) (count limit : ℕ) → places ≡ range_with_len 0 count → count ≡ limit → All (λ place. place < limit) places
+places_inside places count limit is same =
+    subst (λ (l : List ℕ). All (λ place. place < limit) l) (sym is) (λ k d lt.
+    let at : slice_index_or (range_with_len 0 count) k d ≡ 0 + k = get_or-range_with_len 0 count k d (omega (arith, lt, length-range_with_len 0 count)) in
+    omega (arith, at, same, lt, length-range_with_len 0 count))
+
+pub places_count : (places : List ℕ) (count : ℕ) → places ≡ range_with_len 0 count → length places ≡ count
+places_count places count is = ap (λ (l : List ℕ). length l) is ∙ length-range_with_len 0 count
+
+-- the table of an object that is read
+pub read_is : (object : Option NumberedTable) (source : NumberedTable) → object ≡ Some source → source ≡ table_or object
+read_is object source is = sym (ap table_or is)
+
+pub all_columns : (object : Option NumberedTable) (source : NumberedTable) (count : ℕ) → object ≡ Some source → count ≡ length source.columns → count ≡ length (table_or object).columns
+all_columns object source count is same = same ∙ ap (λ (t : NumberedTable). length t.columns) (read_is object source is)
