@@ -1,5 +1,5 @@
 -- Rows and headings are equal exactly where their labels' numbers are.
-use Rattle.std.proofs.Common.{◌≡◌, ◌∙◌, ◌++◌, Bool, true, false, ◌&&◌, List, [], ◌∷◌, map, refl, ap, sym}
+use Rattle.std.proofs.Common.{◌≡◌, Bool, ◌&&◌, List, [], ◌∷◌, refl, ap}
 use Rattle.std.specs.Bool.{Decides}
 use Rattle.std.proofs.lemmas.Bool.Decides.{same_from_decides, Decides-and, Decides-like}
 use Rattle.cell_core.specs.declared.cell.Label.{Label}
@@ -59,10 +59,9 @@ tuple_one texts [] (b ∷ bs) distinct f g e = cc
 tuple_one texts (a ∷ as') [] distinct f g e = cc
 tuple_one texts (a ∷ as') (b ∷ bs) distinct f g e =
     let both = apart (label_datum texts a) (label_datum texts b) (tuple_value texts as') (tuple_value texts bs) e in
-    joined a b as' bs
-    (
-    label_one texts a b distinct (label_given texts a (label_settled texts a as' f)) (label_given texts b (label_settled texts b bs g)) both.0,
-    tuple_one texts as' bs distinct (rest_settled texts a as' f) (rest_settled texts b bs g) both.1
+    joined a b as' bs (
+      label_one texts a b distinct (label_given texts a (label_settled texts a as' f)) (label_given texts b (label_settled texts b bs g)) both.0,
+      tuple_one texts as' bs distinct (rest_settled texts a as' f) (rest_settled texts b bs g) both.1,
     )
 
 rows_one : (texts : List Text) (a b : List (List Label)) → AreDistinct texts → IsSettled labels_value texts a → IsSettled labels_value texts b → labels_value texts a ≡ labels_value texts b → a ≡ b
@@ -71,17 +70,17 @@ rows_one texts [] (b ∷ bs) distinct f g e = cc
 rows_one texts (a ∷ as') [] distinct f g e = cc
 rows_one texts (a ∷ as') (b ∷ bs) distinct f g e =
     let both = apart (tuple_value texts a) (tuple_value texts b) (labels_value texts as') (labels_value texts bs) e in
-    joined a b as' bs
-    (
-    tuple_one texts a b distinct (tuple_settled texts a as' f) (tuple_settled texts b bs g) both.0,
-    rows_one texts as' bs distinct (rows_settled texts a as' f) (rows_settled texts b bs g) both.1
+    joined a b as' bs (
+      tuple_one texts a b distinct (tuple_settled texts a as' f) (tuple_settled texts b bs g) both.0,
+      rows_one texts as' bs distinct (rows_settled texts a as' f) (rows_settled texts b bs g) both.1,
     )
 
 -- a test of rows by numbers is the test by texts
 pub rows_by_number : (texts : List Text) (a b : List (List Label)) (r : Bool) → AreDistinct texts → IsSettled labels_value texts a → IsSettled labels_value texts b → Decides r (a ≡ b)
     → r ≡ same_tuples (labels_value texts a) (labels_value texts b)
 rows_by_number texts a b r distinct f g is =
-    let there : Decides (same_tuples (labels_value texts a) (labels_value texts b)) (a ≡ b) =
-    (λ e. rows_one texts a b distinct f g ((tuples_decide (labels_value texts a) (labels_value texts b)).0 e),
-    λ e. (tuples_decide (labels_value texts a) (labels_value texts b)).1 (ap (labels_value texts) e)) in
+    let there : Decides (same_tuples (labels_value texts a) (labels_value texts b)) (a ≡ b) = (
+      λ e. rows_one texts a b distinct f g ((tuples_decide (labels_value texts a) (labels_value texts b)).0 e),
+      λ e. (tuples_decide (labels_value texts a) (labels_value texts b)).1 (ap (labels_value texts) e),
+    ) in
     same_from_decides r (same_tuples (labels_value texts a) (labels_value texts b)) is there
