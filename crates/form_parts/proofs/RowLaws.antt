@@ -1,5 +1,5 @@
 -- Rows and headings are equal exactly where their labels' numbers are.
-use Rattle.std.proofs.Common.{◌≡◌, ◌∙◌, ◌++◌, Bool, true, false, ◌&&◌, List, [], ◌∷◌, map, refl, ap, sym}
+use Rattle.std.proofs.Common.{◌≡◌, Bool, ◌&&◌, List, [], ◌∷◌, refl, ap}
 use Rattle.std.specs.Bool.{Decides}
 use Rattle.std.proofs.lemmas.Bool.Decides.{same_from_decides, Decides-and, Decides-like}
 use Rattle.cell_core.specs.declared.cell.Label.{Label}

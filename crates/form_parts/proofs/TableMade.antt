@@ -1,11 +1,10 @@
 -- A table of other columns under other headings.
-use Rattle.std.proofs.Common.{◌≡◌, ◌∙◌, ℕ, List, length, map, ap, sym, subst, arith, Result, Ok, Err, All}
+use Rattle.std.proofs.Common.{◌≡◌, ◌∙◌, ℕ, List, length, map, ap, sym, subst, Result, Ok, Err}
 use Rattle.std.proofs.lemmas.List.{length-map}
-use Rattle.cell_core.specs.Texts.{IsLonger, AreGiven}
+use Rattle.cell_core.specs.Texts.{IsLonger}
 use Rattle.meaning.specs.Text.{Text}
 use Rattle.meaning.specs.Cell.{CellValue}
 use Rattle.meaning.specs.Fault.{FaultValue, then_value}
-use Rattle.meaning.specs.FaultOf.{fault_of}
 use Rattle.cell_core.specs.declared.cell.Cell.{Cell}
 use Rattle.nullable_array.specs.Blocks.{CellBlock}
 use Rattle.table_meaning.specs.Settled.{IsSettled}
@@ -16,9 +15,9 @@ use Rattle.table_meaning.specs.Value.{Entry}
 use Rattle.form_meaning.specs.Finish.{with_columns}
 use Rattle.frame_store.specs.declared.fault.OpFault.{OpFault}
 use Rattle.frame_store.specs.declared.fault.OpFault.TheVariants.{Refused, NoMemory}
-use Rattle.frame_store.specs.Parts.{HeadingList, HaveRows, block_column, table_with, axis_of}
+use Rattle.frame_store.specs.Parts.{HeadingList, block_column, table_with, axis_of}
 use Rattle.frame_store.specs.Shown.{headings_value, columns_value, Makes}
-use Rattle.frame_store.proofs.Settling.{settled_later, seen_later, table_settled, with_columns_settled, columns_name_part, level_names_part, labels_part, headings_part, columns_part}
+use Rattle.frame_store.proofs.Settling.{settled_later, seen_later, table_settled, with_columns_settled, level_names_part, labels_part, columns_part}
 use Rattle.form_parts.specs.Makes.{MakesBy, blocks_value, AreColumns}
 
 -- the table under other headings
