@@ -1,7 +1,10 @@
 -- Faults that name what isn't there.
-use Rattle.std.specs.Prelude.{◌≡◌}
+use Rattle.std.specs.Prelude.{◌≡◌, List, Err}
 use Rattle.cell_core.specs.declared.code.Code.TheVariants.{NoAttribute}
 use Rattle.meaning.specs.Text.{Text}
+use Rattle.meaning.specs.FaultOf.{fault_of}
+use Rattle.table_meaning.specs.Value.{Entry}
+use Rattle.form_meaning.specs.Calls.{has_method, not_built_if}
 use Rattle.frame_store.specs.declared.fault.OpFault.{OpFault}
 use Rattle.frame_store.specs.declared.fault.OpFault.TheVariants.{Refused, NoMemory}
 
@@ -9,3 +12,8 @@ use Rattle.frame_store.specs.declared.fault.OpFault.TheVariants.{Refused, NoMemo
 abbrev pub NamesNone : OpFault → Text → Type 0
 NamesNone (Refused code) name = code ≡ NoAttribute name
 NamesNone NoMemory name = Unit {0}
+
+-- the fault of a call of groups or windows, which aren't built
+abbrev pub IsChained : List Text → OpFault → Entry → Text → Type 0
+IsChained texts (Refused code) v name = not_built_if (has_method v name) name ≡ Err (fault_of texts code)
+IsChained texts NoMemory v name = Unit {0}

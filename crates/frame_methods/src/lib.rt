@@ -3,6 +3,7 @@
 
 mod answers;
 mod binding;
+mod calling;
 mod cells;
 mod column_methods;
 mod columns;
