@@ -5,3 +5,4 @@ pub mod TableLaws
 pub mod SummaryLaws
 pub mod SeriesLaws
 pub mod GivenLaws
+pub mod CallLaws

@@ -1,0 +1,58 @@
+-- What is made, as an answer.
+use Rattle.std.proofs.Common.{◌≡◌, ◌∙◌, List, ap, sym, subst, Result, Ok, Err}
+use Rattle.std.specs.Prelude.{IfOk}
+use Rattle.cell_core.specs.Texts.{IsLonger}
+use Rattle.cell_core.specs.declared.cell.Cell.{Cell}
+use Rattle.meaning.specs.Text.{Text}
+use Rattle.meaning.specs.Cell.{datum}
+use Rattle.meaning.specs.Fault.{FaultValue}
+use Rattle.table_meaning.specs.Settled.{IsSettled}
+use Rattle.table_meaning.specs.Table.{NumberedTable, Table, table_value, no_table}
+use Rattle.table_meaning.specs.Value as value
+use Rattle.table_meaning.specs.Value.{Entry}
+use Rattle.form_parts.specs.Makes.{MakesBy}
+use Rattle.frame_store.specs.declared.arguments.Value.{Value}
+use Rattle.frame_store.specs.declared.arguments.Value.TheVariants.{Object, Scalar as ScalarValue}
+use Rattle.frame_store.specs.declared.fault.OpFault.{OpFault}
+use Rattle.frame_store.specs.declared.fault.OpFault.TheVariants.{Refused, NoMemory}
+use Rattle.frame_store.specs.Objects.{Tables}
+use Rattle.frame_store.specs.Shown.{shown, Makes, FormAnswers}
+use Rattle.frame_store.proofs.Settling.{seen_later}
+use Rattle.frame_methods.specs.declared.made.Made.{Made}
+use Rattle.frame_methods.specs.declared.made.Made.TheVariants as made
+use Rattle.frame_methods.specs.Made.{made_value}
+
+-- a refusal
+pub refused_made : (earlier texts : List Text) (tables : Tables) (m : Result Made OpFault) (result : Result Value OpFault) (fault : OpFault) (meant : Result Entry FaultValue)
+    → m ≡ Err fault → result ≡ Err fault → IsLonger earlier texts → IsSettled shown earlier tables → MakesBy made_value texts m meant → FormAnswers texts result meant (shown earlier tables) (shown texts tables)
+refused_made earlier texts tables m result fault meant was is longer settled makes =
+    subst (λ (r : Result Value OpFault). FormAnswers texts r meant (shown earlier tables) (shown texts tables)) (sym is) (go fault (subst (λ (r : Result Made OpFault). MakesBy made_value texts r meant) was makes))
+  where
+    kept : shown texts tables ≡ shown earlier tables
+    kept = seen_later shown earlier texts tables longer settled
+
+    go : (f : OpFault) → MakesBy made_value texts (Err f) meant → FormAnswers texts (Err f) meant (shown earlier tables) (shown texts tables)
+    go (Refused code) m = (m, kept)
+    go NoMemory m = kept
+
+abbrev table_of : Entry → Table
+table_of (value.table t) = t
+table_of (value.cell c) = no_table
+
+-- the table that was made is settled
+pub table_settled_in : (texts : List Text) (m : Result Made OpFault) (one : Made) (t : NumberedTable) → m ≡ Ok one → one ≡ made.Table t → IfOk m (IsSettled made_value texts) → IsSettled table_value texts t
+table_settled_in texts m one t was is settled =
+    let here : IsSettled made_value texts (made.Table t) = subst (λ (r : Result Made OpFault). IfOk r (IsSettled made_value texts)) (was ∙ ap Ok is) settled in
+    λ more. ap table_of (here more)
+
+-- a scalar
+pub scalar_answered : (earlier texts : List Text) (tables : Tables) (m : Result Made OpFault) (one : Made) (c : Cell) (meant : Result Entry FaultValue)
+    → m ≡ Ok one → one ≡ made.Scalar c → IsLonger earlier texts → IsSettled shown earlier tables → MakesBy made_value texts m meant
+    → (meant ≡ Ok (value.cell (datum texts c))) × (shown texts tables ≡ shown earlier tables)
+scalar_answered earlier texts tables m one c meant was is longer settled makes =
+    (subst (λ (r : Result Made OpFault). MakesBy made_value texts r meant) (was ∙ ap Ok is) makes, seen_later shown earlier texts tables longer settled)
+
+-- a table is meant
+pub table_meant : (texts : List Text) (m : Result Made OpFault) (one : Made) (t : NumberedTable) (meant : Result Entry FaultValue) → m ≡ Ok one → one ≡ made.Table t → MakesBy made_value texts m meant
+    → Makes texts (Ok t) meant
+table_meant texts m one t meant was is makes = subst (λ (r : Result Made OpFault). MakesBy made_value texts r meant) (was ∙ ap Ok is) makes
