@@ -6,3 +6,4 @@ pub mod SummaryLaws
 pub mod SeriesLaws
 pub mod GivenLaws
 pub mod CallLaws
+pub mod NameLaws

@@ -9,6 +9,7 @@ mod column_methods;
 mod columns;
 mod column_ops;
 mod made;
+mod renaming;
 mod series;
 mod summaries;
 mod tables;

@@ -1,0 +1,70 @@
+-- Objects under other headings.
+use Rattle.std.proofs.Common.{◌≡◌, ◌∙◌, refl, ap, sym, subst, ℕ, pos, List, [], ◌∷◌, ◌++◌, length, map, Option, Some, None, option_map, slice_index_or, Result}
+use Rattle.cell_core.specs.declared.cell.Label.{Label}
+use Rattle.cell_core.specs.declared.cell.Label.TheVariants as label
+use Rattle.cell_core.specs.declared.grid.Shape.TheVariants.{Frame}
+use Rattle.meaning.specs.Text.{Text}
+use Rattle.meaning.specs.Cell.{LabelValue, int, label_datum}
+use Rattle.meaning.specs.Fault.{FaultValue}
+use Rattle.table_meaning.specs.Settled.{IsSettled}
+use Rattle.table_meaning.specs.Table.{NumberedTable, Table, table_value, heading_value}
+use Rattle.table_meaning.specs.Value.{Entry}
+use Rattle.form_meaning.specs.Finish.{limited}
+use Rattle.form_meaning.specs.Methods as meant
+use Rattle.form_meaning.specs.Methods.{renamed_series, label_or}
+use Rattle.frame_store.specs.declared.arguments.Value.{Value}
+use Rattle.frame_store.specs.declared.fault.OpFault.{OpFault}
+use Rattle.frame_store.specs.Parts.{HeadingList}
+use Rattle.frame_store.specs.Shown.{Shown, headings_value, FormAnswers}
+use Rattle.selections.specs.Picked.{headed_by}
+use Rattle.frame_methods.specs.Labels.{column_tuple}
+
+-- a heading that is read of what is settled is settled
+pub named_settled : {A : Type 0} (view : List Text → A) (read : A → Option LabelValue) (texts : List Text) (name : Option Label) (labels : List (Option Label))
+    → ((more : List Text) → view (texts ++ more) ≡ view texts) → ((ts : List Text) → heading_value ts name ≡ read (view ts)) → labels ≡ name ∷ [] → IsSettled headings_value texts labels
+named_settled view read texts name labels settled law is =
+    subst (IsSettled headings_value texts) (sym is) (λ more. ap (λ h. h ∷ []) (law (texts ++ more) ∙ ap read (settled more) ∙ sym (law texts)))
+
+abbrev with_headings : Table → List (Option LabelValue) → Table
+with_headings t headings = record t { headings = headings }
+
+pub renamed_meant : (texts : List Text) (t : NumberedTable) (headings : HeadingList) (name : Option Label) (v : Option LabelValue) → headings ≡ record { columns_name = t.columns_name; labels = name ∷ [] } → heading_value texts name ≡ v
+    → limited (table_value texts (headed_by t.shape headings t)) ≡ limited (renamed_series (table_value texts t) v)
+renamed_meant texts t headings name v is same =
+    ap (λ h. limited (table_value texts (headed_by t.shape h t))) is ∙ ap (λ n. limited (with_headings (table_value texts t) (n ∷ []))) same
+
+-- another wording of what is meant
+pub meant_so : (texts : List Text) (result : Result Value OpFault) (meant meant' : Result Entry FaultValue) (old new : Shown) → meant ≡ meant' → FormAnswers texts result meant old new → FormAnswers texts result meant' old new
+meant_so texts result meant meant' old new same answers = subst (λ (m : Result Entry FaultValue). FormAnswers texts result m old new) same answers
+
+-- the label of a Series' column
+pub label_seen : (h : Option Label) (l : Label) → column_tuple h ≡ l ∷ [] → (ts : List Text) → label_datum ts l ≡ label_or (heading_value ts h) (int (pos 0))
+label_seen None l is ts = let same : label.Int (pos 0) ≡ l = cc in ap (label_datum ts) (sym same)
+label_seen (Some x) l is ts = let same : x ≡ l = cc in ap (label_datum ts) (sym same)
+
+pub one_item : (hs : List (Option Label)) → length hs ≡ 1 → hs ≡ slice_index_or hs 0 None ∷ []
+one_item [] is = cc
+one_item (h ∷ []) is = refl
+one_item (h ∷ g ∷ hs) is = cc
+
+abbrev pub frame_heading : Option LabelValue → Option LabelValue
+frame_heading h = Some (label_or h (int (pos 0)))
+
+abbrev frame_with : Table → List (Option LabelValue) → Table
+frame_with t headings = record t { shape = Frame; headings = headings }
+
+pub frame_meant : (texts : List Text) (t : NumberedTable) (headings : HeadingList) (h : Option Label) (l : Label) → headings ≡ record { columns_name = t.columns_name; labels = Some l ∷ [] } → column_tuple h ≡ l ∷ [] → t.headings ≡ h ∷ []
+    → limited (table_value texts (headed_by Frame headings t)) ≡ limited (meant.as_frame (table_value texts t))
+frame_meant texts t headings h l is tuple one =
+    ap (λ hs. limited (table_value texts (headed_by Frame hs t))) is
+    ∙ ap (λ v. limited (frame_with (table_value texts t) (Some v ∷ []))) (label_seen h l tuple texts)
+    ∙ ap (λ hs. limited (frame_with (table_value texts t) (map frame_heading (headings_value texts hs)))) (sym one)
+
+-- a list of one heading
+pub heading_list : (columns_name name : Option Label) (first list : HeadingList) → first ≡ record { columns_name = columns_name; labels = [] } → list ≡ record first { labels = first.labels ++ name ∷ [] }
+    → list ≡ record { columns_name = columns_name; labels = name ∷ [] }
+heading_list columns_name name first list begins more = more ∙ ap (λ (h : HeadingList). record h { labels = h.labels ++ name ∷ [] }) begins
+
+abbrev pub first_value : List (Option LabelValue) → Option LabelValue
+first_value [] = None
+first_value (h ∷ hs) = h
