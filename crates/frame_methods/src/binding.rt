@@ -26,7 +26,6 @@ fn is_built(method: Method) -> bool
             | Method::Isna
             | Method::Notna
             | Method::Fillna
-            | Method::Isin
             | Method::Astype
             | Method::Shift
             | Method::Cumsum
@@ -40,7 +39,6 @@ fn is_built(method: Method) -> bool
             | Method::Count
             | Method::Nunique
             | Method::RenameSeries
-            | Method::RenameFrame
             | Method::ToFrame
     )
 }
