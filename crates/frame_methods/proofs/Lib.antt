@@ -7,3 +7,4 @@ pub mod SeriesLaws
 pub mod GivenLaws
 pub mod CallLaws
 pub mod NameLaws
+pub mod BuiltLaws

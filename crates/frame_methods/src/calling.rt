@@ -22,12 +22,12 @@ ghost use Rattle.frame_methods.specs.Faults.{IsChained};
 use crate::answers::made;
 use crate::binding::{bound_method, exists, no_attribute};
 use crate::made::Made;
-use cell_core::{Cell, Code, Grid, Label, Shape, TextDict};
+use crate::renaming::{rename_series, to_frame};
+use cell_core::{Code, TextDict};
 use form_meaning::Method;
 use form_parts::placed;
-use frame_store::{Chain, Headings, Named, NamedList, ObjId, OpFault, Store, Value};
-use selections::{as_frame, copied, renamed};
-use signatures::{parameters, scalar_at};
+use frame_store::{Chain, Named, NamedList, ObjId, OpFault, Store, Value};
+use selections::copied;
 use std::alloc::Global;
 
 // The answer for what a method made: a scalar, or a new object.
@@ -56,4 +56,93 @@ fn chained(alloc: Global, store: &Store, on: Value, name: &str) -> OpFault
         return OpFault::Refused(Code::NotBuilt);
     }
     no_attribute(alloc, name)
+}
+
+// The answer of a method that is built, its arguments being bound.
+fn answer(
+    alloc: Global,
+    store: &mut Store,
+    dict: &mut TextDict,
+    method: Method,
+    args: &[Named],
+    on: ObjId,
+) -> Result<Value, OpFault>
+    requires live { IsSome (tables store.old on.0) }
+    requires built { built method ≡ true }
+    requires shape { fits_shape method (table_at (tables store.old) on.0).shape ≡ true }
+    requires settled { IsSettled shown dict.old (tables store.old) }
+    requires given { IsSettled (arguments_of (tables store.old)) dict.old args.now }
+    ensures longer { IsLonger dict.old dict.new }
+    ensures settled { IsSettled shown dict.new (tables store.new) }
+    ensures answers { FormAnswers dict.new result (answer_for method (given_for method (arguments_of (tables store.old) dict.old args.now)) (table_value dict.old (table_at (tables store.old) on.0))) (shown dict.old (tables store.old)) (shown dict.new (tables store.new)) }
+{
+    match method {
+        Method::Copy => copied(alloc, store, dict, on),
+        Method::RenameSeries => rename_series(alloc, store, dict, args, on),
+        Method::ToFrame => to_frame(alloc, store, dict, on),
+        _ => {
+            let made = made(alloc, store, dict, method, args, &store.read(on));
+            answer_made(store, dict, made)
+        }
+    }
+}
+
+// A method of a value, by its name.
+fn call(
+    alloc: Global,
+    store: &mut Store,
+    dict: &mut TextDict,
+    on: Value,
+    name: &str,
+    args: &[Named],
+) -> Result<Value, OpFault>
+    requires live { IsLive (tables store.old) on }
+    requires arguments { AreLive (tables store.old) args.now }
+    requires settled { IsSettled shown dict.old (tables store.old) }
+    requires given { IsSettled (arguments_of (tables store.old)) dict.old args.now }
+    ensures longer { IsLonger dict.old dict.new }
+    ensures settled { IsSettled shown dict.new (tables store.new) }
+    ensures answers { FormAnswers dict.new result (method_result (entry_of (tables store.old) dict.old on) name.now (arguments_of (tables store.old) dict.old args.now)) (shown dict.old (tables store.old)) (shown dict.new (tables store.new)) }
+{
+    let Value::Object(id) = on else {
+        return Err(no_attribute(alloc, name));
+    };
+    let method = bound_method(alloc, store, dict, id, name, args)?;
+    answer(alloc, store, dict, method, args, id)
+}
+
+/// A method of a value: `s.name(..)`, or one with `groupby`, `rolling` or `expanding` before it.
+///
+/// The answer is a scalar, or a new object whose table is that of its own rows; no other object
+/// changes. The methods are those of the API reference of pandas, "Series" and "DataFrame".
+///
+/// # Errors
+///
+/// In this order: `NoAttribute` where the value has no such method (a scalar has none); `NotBuilt` of
+/// a method that isn't built; `WrongKind` of arguments that are unknown, missing, too many, given
+/// twice or of a form that the method doesn't take; `BadValue(Argument)` of a value that isn't listed;
+/// the method's own refusals; `Limit`. `NoMemory` may come in place of any answer. After a refusal all
+/// objects are as they were.
+pub fn method(
+    alloc: Global,
+    store: &mut Store,
+    dict: &mut TextDict,
+    on: Value,
+    chain: &Chain,
+    args: &NamedList,
+) -> Result<Value, OpFault>
+    requires live { IsLive (tables store.old) on }
+    requires arguments { AreLive (tables store.old) args.now.items.items }
+    requires settled { IsSettled shown dict.old (tables store.old) }
+    requires given { IsSettled (arguments_of (tables store.old)) dict.old args.now.items.items }
+    ensures longer { IsLonger dict.old dict.new }
+    ensures settled { IsSettled shown dict.new (tables store.new) }
+    ensures answers { FormAnswers dict.new result (chain_result (entry_of (tables store.old) dict.old on) (chain_of chain.now) (arguments_of (tables store.old) dict.old args.now.items.items)) (shown dict.old (tables store.old)) (shown dict.new (tables store.new)) }
+{
+    match chain {
+        Chain::Plain(name) => call(alloc, store, dict, on, name.as_str(), args.as_slice()),
+        Chain::Group(_, _, _) => Err(chained(alloc, store, on, "groupby")),
+        Chain::Rolling(_, _) => Err(chained(alloc, store, on, "rolling")),
+        Chain::Expanding(_, _) => Err(chained(alloc, store, on, "expanding")),
+    }
 }

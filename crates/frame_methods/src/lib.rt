@@ -19,3 +19,4 @@ mod tables;
 
 
 pub use binding::exists;
+pub use calling::method;
