@@ -12,7 +12,7 @@ use Rattle.nullable_array.specs.Blocks.{CellBlock}
 use Rattle.table_meaning.specs.Settled.{IsSettled}
 use Rattle.table_meaning.specs.Table.{ColumnOf, NumberedTable, column_value, column_at, no_column, table_value}
 use Rattle.form_meaning.specs.Finish.{try_all}
-use Rattle.frame_store.specs.Parts.{block_column, single_block, IsSingle, HaveRows}
+use Rattle.frame_store.specs.Parts.{block_column, single_block, IsSingle}
 use Rattle.frame_store.specs.Shown.{columns_value, cells_value}
 use Rattle.frame_store.proofs.Settling.{settled_later, seen_later, cells_settled, cells_given, column_settled, columns_settled, columns_given, columns_part, longer_self, longer_twice}
 use Rattle.frame_methods.specs.Columns.{table_column, with_front, IsFront, MakesColumn, MakesColumns}
@@ -82,17 +82,17 @@ front_step f first dict dict' columns rows place made made' a new so_far lt at l
   filled = one_more (λ c. length c.cells ≡ rows) made (single_block (table_column new)) so_far.filled full;
   count = length-append made (single_block (table_column new) ∷ []) ∙ ap (λ n. n + 1) so_far.count;
   answer =
-    let seen : columns_value dict' (map block_column made) ≡ columns_value dict (map block_column made)
+      let seen : columns_value dict' (map block_column made) ≡ columns_value dict (map block_column made)
       = seen_later columns_value dict dict' (map block_column made) longer (columns_settled dict (map block_column made) so_far.given) in
-    let all : columns_value dict' (map block_column (made ++ single_block (table_column new) ∷ [])) ≡ columns_value dict (map block_column made) ++ column_value dict' (table_column new) ∷ []
+      let all : columns_value dict' (map block_column (made ++ single_block (table_column new) ∷ [])) ≡ columns_value dict (map block_column made) ++ column_value dict' (table_column new) ∷ []
       = ap (columns_value dict') (map-append block_column made (single_block (table_column new) ∷ []))
       ∙ map-append (column_value dict') (map block_column made) (table_column new ∷ [])
       ∙ ap (λ l. l ++ column_value dict' (table_column new) ∷ []) seen in
-    let rest : columns_value first (drop place columns) ≡ column_value first (table_column a) ∷ columns_value first (drop (place + 1) columns)
+      let rest : columns_value first (drop place columns) ≡ column_value first (table_column a) ∷ columns_value first (drop (place + 1) columns)
       = ap (columns_value first) (at_place columns place (table_column a) lt at) in
-    ap (λ l. placed_front f l (columns_value first (drop (place + 1) columns))) all
-    ∙ front_next f (columns_value dict (map block_column made)) (column_value first (table_column a)) (column_value dict' (table_column new)) (columns_value first (drop (place + 1) columns)) (try_all f (columns_value first columns))
-        (ap (placed_front f (columns_value dict (map block_column made))) (sym rest) ∙ so_far.answer) is;
+      ap (λ l. placed_front f l (columns_value first (drop (place + 1) columns))) all
+      ∙ front_next f (columns_value dict (map block_column made)) (column_value first (table_column a)) (column_value dict' (table_column new)) (columns_value first (drop (place + 1) columns)) (try_all f (columns_value first columns))
+      (ap (placed_front f (columns_value dict (map block_column made))) (sym rest) ∙ so_far.answer) is;
 }
 
 pub front_refused : (f : ColumnOf CellValue → Result (ColumnOf CellValue) FaultValue) (first dict : List Text) (columns : List (ColumnOf Cell)) (rows place : ℕ) (made : List CellBlock) (a : CellColumn) (fault : FaultValue)
@@ -100,7 +100,7 @@ pub front_refused : (f : ColumnOf CellValue → Result (ColumnOf CellValue) Faul
     → try_all f (columns_value first columns) ≡ Err fault
 front_refused f first dict columns rows place made a fault so_far lt at is =
     front_fails f (columns_value dict (map block_column made)) (column_value first (table_column a)) fault (columns_value first (drop (place + 1) columns)) (try_all f (columns_value first columns))
-      (ap (λ l. placed_front f (columns_value dict (map block_column made)) (columns_value first l)) (sym (at_place columns place (table_column a) lt at)) ∙ so_far.answer) is
+    (ap (λ l. placed_front f (columns_value dict (map block_column made)) (columns_value first l)) (sym (at_place columns place (table_column a) lt at)) ∙ so_far.answer) is
 
 pub drop_all : {X : Type 0} (xs : List X) → drop (length xs) xs ≡ []
 drop_all [] = refl

@@ -1,5 +1,5 @@
 -- Objects under other headings.
-use Rattle.std.proofs.Common.{◌≡◌, ◌∙◌, refl, ap, sym, subst, ℕ, pos, List, [], ◌∷◌, ◌++◌, length, map, Option, Some, None, option_map, slice_index_or, Result}
+use Rattle.std.proofs.Common.{◌≡◌, ◌∙◌, refl, ap, sym, subst, pos, List, [], ◌∷◌, ◌++◌, length, map, Option, Some, None, slice_index_or, Result}
 use Rattle.cell_core.specs.declared.cell.Label.{Label}
 use Rattle.cell_core.specs.declared.cell.Label.TheVariants as label
 use Rattle.cell_core.specs.declared.grid.Shape.TheVariants.{Frame}

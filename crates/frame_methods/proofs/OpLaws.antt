@@ -1,5 +1,5 @@
 -- What is made of a column, with texts.
-use Rattle.std.proofs.Common.{◌≡◌, ◌∙◌, refl, ap, sym, subst, ℕ, suc, ◌+◌, ◌-◌, ◌<◌, ℤ, pos, negsuc, nat_lt, Bool, true, false, List, [], ◌∷◌, ◌++◌, map, length, All, Result, Ok, Err, Option, Some, None, slice_index_or, if◌then◌else◌, arith}
+use Rattle.std.proofs.Common.{◌≡◌, ◌∙◌, refl, ap, sym, subst, ℕ, suc, ◌+◌, ◌-◌, ℤ, pos, negsuc, nat_lt, Bool, true, false, List, [], ◌∷◌, ◌++◌, map, length, Result, Ok, Err, Option, Some, None, slice_index_or, if◌then◌else◌}
 use Rattle.std.specs.List.{range_with_len}
 use Rattle.std.proofs.lemmas.List.{length-map}
 use Rattle.std.proofs.lemmas.List.FromFn.{length-map-range_with_len}
@@ -9,22 +9,20 @@ use Rattle.std.proofs.Math.ListN.{get_or-map}
 use Rattle.cell_core.specs.declared.cell.Cell.{Cell}
 use Rattle.cell_core.specs.declared.cell.Cell.TheVariants as cell
 use Rattle.cell_core.specs.declared.cell.Kind.{Kind}
-use Rattle.cell_core.specs.declared.cell.Kind.TheVariants.{Int64, Boolean, Text as string}
+use Rattle.cell_core.specs.declared.cell.Kind.TheVariants.{Int64, Boolean}
 use Rattle.form_parts.specs.Faults.{refusal_of}
 use Rattle.meaning.specs.Text.{Text}
 use Rattle.meaning.specs.Cell.{CellValue, na_cell, datum, holds, IsGiven, AreGiven}
-use Rattle.meaning.specs.Column.{ColumnValue, ColumnFault, kind_mismatch, zero_division, not_cast, before_rows, then_rows, try_each, column_of, tabulate, shifted, shifted_row}
+use Rattle.meaning.specs.Column.{ColumnValue, ColumnFault, kind_mismatch, not_cast, before_rows, then_rows, try_each, column_of, tabulate, shifted, shifted_row}
 use Rattle.meaning.specs.Cast.{cast_cell, cast_column}
-use Rattle.meaning.specs.Cumulate as cumulation
 use Rattle.meaning.specs.Cumulate.{Cumulation, running, cumulation_cell, cumulation_takes, cumulate_column}
-use Rattle.meaning.specs.Fault.{FaultValue, wrong_kind}
-use Rattle.meaning.specs.FaultOf.{fault_of}
+use Rattle.meaning.specs.Fault.{wrong_kind}
 use Rattle.nullable_array.specs.Columns.{CellColumn}
 use Rattle.nullable_array.specs.Columns as kernel
 use Rattle.nullable_array.specs.Answers.{IsRefusal}
 use Rattle.nullable_array.specs.declared.ops.ArrayFault.{ArrayFault}
 use Rattle.nullable_array.specs.declared.ops.ArrayFault.TheVariants.{KindMismatch, ZeroDivision, NotCast, NoMemory as OutOfMemory}
-use Rattle.table_meaning.specs.Table.{ColumnOf, column_value}
+use Rattle.table_meaning.specs.Table.{column_value}
 use Rattle.form_meaning.specs.Finish.{made_column}
 use Rattle.form_meaning.specs.Methods.{filled, filled_column, mapped, shifted_column}
 use Rattle.frame_store.specs.declared.fault.OpFault.{OpFault}
@@ -90,7 +88,7 @@ filled_answer value texts kind a new same fits is =
 pub filled_given : (value : Cell) (texts : List Text) (kind : Kind) (a new : CellColumn) → IsGiven texts value → AreGiven texts a.cells → new ≡ record { kind = kind; cells = map (filled_cell value) a.cells } → AreGiven texts new.cells
 filled_given value texts kind a new given all is =
     subst (λ (n : CellColumn). AreGiven texts n.cells) (sym is)
-      (All-map (IsGiven texts) (filled_cell value) a.cells (λ k d lt. fill_given value texts (slice_index_or a.cells k d) given (all k d lt)))
+    (All-map (IsGiven texts) (filled_cell value) a.cells (λ k d lt. fill_given value texts (slice_index_or a.cells k d) given (all k d lt)))
 
 -- a shift
 map_same : {A B : Type 0} (f g : A → B) → ((x : A) → f x ≡ g x) → (xs : List A) → map f xs ≡ map g xs
@@ -117,7 +115,7 @@ shifted_answer z texts a new kind cells = λ j. Ok record { kind = sym kind j; c
 pub shifted_given : (z : ℤ) (texts : List Text) (a new : CellColumn) → AreGiven texts a.cells → new.cells ≡ shifted cell.Na a.cells z → AreGiven texts new.cells
 shifted_given z texts a new given cells =
     subst (AreGiven texts) (sym cells)
-      (cells_given texts (shifted cell.Na a.cells z) (settled_by cells_value cells_value (λ vs. shifted na_cell vs z) texts a.cells (shifted cell.Na a.cells z) (λ ts. shifted_values ts a.cells z) (cells_settled texts a.cells given)))
+    (cells_given texts (shifted cell.Na a.cells z) (settled_by cells_value cells_value (λ vs. shifted na_cell vs z) texts a.cells (shifted cell.Na a.cells z) (λ ts. shifted_values ts a.cells z) (cells_settled texts a.cells given)))
 
 pub shifted_rows : (z : ℤ) (a new : CellColumn) → new.cells ≡ shifted cell.Na a.cells z → length new.cells ≡ length a.cells
 shifted_rows z a new cells = ap length cells ∙ length-map-range_with_len (shifted_row cell.Na a.cells z) 0 (length a.cells)

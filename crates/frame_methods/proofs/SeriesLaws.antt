@@ -1,5 +1,5 @@
 -- Series over the labels of columns.
-use Rattle.std.proofs.Common.{◌≡◌, ◌∙◌, refl, ap, sym, subst, ℕ, pos, true, List, [], ◌∷◌, map, length, All, Option, Some, None, slice_index_or, Result, Ok, Err}
+use Rattle.std.proofs.Common.{◌≡◌, ◌∙◌, refl, ap, sym, subst, pos, true, List, [], ◌∷◌, map, length, Option, Some, None, slice_index_or, Result, Ok, Err}
 use Rattle.std.proofs.lemmas.List.{length-map}
 use Rattle.std.proofs.lemmas.List.Elements.{All-map, All-cons, All-nil}
 use Rattle.cell_core.specs.declared.cell.Cell.{Cell}
@@ -11,11 +11,10 @@ use Rattle.meaning.specs.Cell.{CellValue, LabelValue, int, datum, AreGiven}
 use Rattle.meaning.specs.Fault.{FaultValue, then_value}
 use Rattle.nullable_array.specs.Columns.{CellColumn}
 use Rattle.multi_index.specs.Axes.{AxisValue, HaveLevels}
-use Rattle.table_meaning.specs.Table.{ColumnOf, NumberedTable, table_value, heading_value, tuple_value, column_value}
+use Rattle.table_meaning.specs.Table.{ColumnOf, NumberedTable, table_value, heading_value, tuple_value}
 use Rattle.table_meaning.specs.Value.{Entry, table}
 use Rattle.table_meaning.specs.Settled.{IsSettled}
 use Rattle.form_meaning.specs.Finish.{within_limits, limited, try_all}
-use Rattle.form_meaning.specs.Methods as meant
 use Rattle.form_meaning.specs.Methods.{Summary, label_or, kind_for, summary_as, summary_series, summary_of}
 use Rattle.frame_store.specs.Parts.{table_with}
 use Rattle.frame_store.specs.Shown.{labels_value, headings_value, columns_value}
@@ -75,7 +74,7 @@ frame_answer op texts t made kind axis cells all kinds same within headed axis_i
     ap (all_summaries op t texts) (sym kinds)
     ∙ ap (then_series t texts kind) all
     ∙ limited_within (summary_series (table_value texts t) kind (map (datum texts) cells.cells)) (length t.columns) 1
-        (length-map (headings_value texts t.headings) label_tuple ∙ length-map t.headings (heading_value texts) ∙ headed) refl within
+    (length-map (headings_value texts t.headings) label_tuple ∙ length-map t.headings (heading_value texts) ∙ headed) refl within
     ∙ ap (λ v. Ok (table v)) (series_seen texts t kind cells same ∙ ap (λ a. table_value texts (summaries_table t a cells)) (sym axis_is) ∙ ap (table_value texts) (sym is))
 
 pub frame_refused : (op : Summary) (texts : List Text) (t : NumberedTable) (kind : Kind) (fault : FaultValue)
@@ -86,9 +85,9 @@ pub frame_settled : (texts : List Text) (t made : NumberedTable) (axis : AxisVal
     → IsSettled table_value texts made
 frame_settled texts t made axis cells settled given axis_is is =
     subst (IsSettled table_value texts) (sym (is ∙ ap (λ a. summaries_table t a cells) axis_is))
-      (table_settled texts (summaries_table t (summaries_axis t) cells)
-        (λ more. refl)
-        (λ more. ap (λ n. n ∷ []) (columns_name_part texts t settled more))
-        (settled_by headings_value labels_value (map label_tuple) texts t.headings (map column_tuple t.headings) (λ ts. tuples_seen ts t.headings) (headings_part texts t settled))
-        (λ more. refl)
-        (columns_settled texts (table_column cells ∷ []) (All-cons (λ (c : ColumnOf Cell). AreGiven texts c.cells) (table_column cells) [] given (All-nil (λ (c : ColumnOf Cell). AreGiven texts c.cells)))))
+    (table_settled texts (summaries_table t (summaries_axis t) cells)
+    (λ more. refl)
+    (λ more. ap (λ n. n ∷ []) (columns_name_part texts t settled more))
+    (settled_by headings_value labels_value (map label_tuple) texts t.headings (map column_tuple t.headings) (λ ts. tuples_seen ts t.headings) (headings_part texts t settled))
+    (λ more. refl)
+    (columns_settled texts (table_column cells ∷ []) (All-cons (λ (c : ColumnOf Cell). AreGiven texts c.cells) (table_column cells) [] given (All-nil (λ (c : ColumnOf Cell). AreGiven texts c.cells)))))

@@ -1,13 +1,13 @@
 -- Summaries of columns.
-use Rattle.std.proofs.Common.{◌≡◌, ◌∙◌, ◌<◌, ◌+◌, ◌^◌, ◌%◌, refl, ap, sym, subst, ℕ, ℤ, pos, mod-eq_of_lt, List, [], ◌∷◌, ◌++◌, map, drop, length, length-append, append-nil, Result, Ok, Err}
+use Rattle.std.proofs.Common.{◌≡◌, ◌∙◌, ◌<◌, ◌+◌, ◌^◌, refl, ap, sym, subst, ℕ, pos, mod-eq_of_lt, List, [], ◌∷◌, ◌++◌, map, drop, length, length-append, append-nil, Result, Ok, Err}
 use Rattle.std.specs.Int.{int_wrap, cast_signed, w64}
 use Rattle.std.proofs.lemmas.List.{map-append}
 use Rattle.std.proofs.lemmas.List.Elements.{All-append, All-cons, All-nil}
 use Rattle.cell_core.specs.declared.cell.Cell.{Cell}
 use Rattle.cell_core.specs.declared.cell.Kind.{Kind}
 use Rattle.meaning.specs.Text.{Text}
-use Rattle.meaning.specs.Cell.{CellValue, int_cell, datum, IsGiven, AreGiven}
-use Rattle.meaning.specs.Fault.{FaultValue, then_value}
+use Rattle.meaning.specs.Cell.{CellValue, int_cell, datum, IsGiven}
+use Rattle.meaning.specs.Fault.{FaultValue}
 use Rattle.meaning.specs.FaultOf.{fault_of}
 use Rattle.meaning.specs.Reduce.{distinct_count}
 use Rattle.nullable_array.specs.Columns.{CellColumn}
@@ -57,11 +57,11 @@ cells_step f dict columns kind place made made' a x so_far lt at given more is =
   count = length-append made.cells (x ∷ []) ∙ ap (λ n. n + 1) so_far.count;
   given = All-append (IsGiven dict) made.cells (x ∷ []) so_far.given (All-cons (IsGiven dict) x [] given (All-nil (IsGiven dict)));
   answer =
-    let rest : columns_value dict (drop place columns) ≡ column_value dict (table_column a) ∷ columns_value dict (drop (place + 1) columns)
+      let rest : columns_value dict (drop place columns) ≡ column_value dict (table_column a) ∷ columns_value dict (drop (place + 1) columns)
       = ap (columns_value dict) (at_place columns place (table_column a) lt at) in
-    ap (λ l. cells_front f l (columns_value dict (drop (place + 1) columns))) (map-append (datum dict) made.cells (x ∷ []))
-    ∙ front_next f (map (datum dict) made.cells) (column_value dict (table_column a)) (datum dict x) (columns_value dict (drop (place + 1) columns)) (try_all f (columns_value dict columns))
-        (ap (cells_front f (map (datum dict) made.cells)) (sym rest) ∙ so_far.answer) is;
+      ap (λ l. cells_front f l (columns_value dict (drop (place + 1) columns))) (map-append (datum dict) made.cells (x ∷ []))
+      ∙ front_next f (map (datum dict) made.cells) (column_value dict (table_column a)) (datum dict x) (columns_value dict (drop (place + 1) columns)) (try_all f (columns_value dict columns))
+      (ap (cells_front f (map (datum dict) made.cells)) (sym rest) ∙ so_far.answer) is;
 }
 
 pub cells_refused : (f : ColumnOf CellValue → Result CellValue FaultValue) (dict : List Text) (columns : List (ColumnOf Cell)) (kind : Kind) (place : ℕ) (made a : CellColumn) (fault : FaultValue)
@@ -69,7 +69,7 @@ pub cells_refused : (f : ColumnOf CellValue → Result CellValue FaultValue) (di
     → try_all f (columns_value dict columns) ≡ Err fault
 cells_refused f dict columns kind place made a fault so_far lt at is =
     front_fails f (map (datum dict) made.cells) (column_value dict (table_column a)) fault (columns_value dict (drop (place + 1) columns)) (try_all f (columns_value dict columns))
-      (ap (λ l. cells_front f (map (datum dict) made.cells) (columns_value dict l)) (sym (at_place columns place (table_column a) lt at)) ∙ so_far.answer) is
+    (ap (λ l. cells_front f (map (datum dict) made.cells) (columns_value dict l)) (sym (at_place columns place (table_column a) lt at)) ∙ so_far.answer) is
 
 pub cells_end : (f : ColumnOf CellValue → Result CellValue FaultValue) (dict : List Text) (columns : List (ColumnOf Cell)) (kind : Kind) (place : ℕ) (made : CellColumn)
     → AreCells f dict columns kind place made → place ≡ length columns → try_all f (columns_value dict columns) ≡ Ok (map (datum dict) made.cells)

@@ -1,5 +1,5 @@
 -- Tables that are made of others.
-use Rattle.std.proofs.Common.{◌≡◌, ◌∙◌, refl, ap, sym, subst, Bool, true, List, [], ◌∷◌, map, length, All, Result, Ok, Err, if◌then◌else◌}
+use Rattle.std.proofs.Common.{◌≡◌, ◌∙◌, ap, sym, subst, Bool, true, List, map, length, All, Result, Ok, Err, if◌then◌else◌}
 use Rattle.std.proofs.lemmas.List.{length-map}
 use Rattle.cell_core.specs.declared.cell.Cell.{Cell}
 use Rattle.meaning.specs.Text.{Text}
@@ -9,7 +9,7 @@ use Rattle.nullable_array.specs.Blocks.{CellBlock}
 use Rattle.table_meaning.specs.Table.{ColumnOf, NumberedTable, Table, table_value, heading_value, tuple_value, column_value}
 use Rattle.table_meaning.specs.Value.{Entry, table}
 use Rattle.table_meaning.specs.Settled.{IsSettled}
-use Rattle.form_meaning.specs.Finish.{within_limits, limited, limited_table, with_columns, try_all}
+use Rattle.form_meaning.specs.Finish.{within_limits, limited, with_columns, try_all}
 use Rattle.form_meaning.specs.Methods as meant
 use Rattle.frame_store.specs.Parts.{block_column, table_with, axis_of, HeadingList}
 use Rattle.frame_store.specs.Shown.{labels_value, headings_value, columns_value}
@@ -45,7 +45,7 @@ pub made_columns : (f : ColumnOf CellValue → Result (ColumnOf CellValue) Fault
 made_columns f old new t made headings bs longer settled same is within all =
     ap (then_limited (table_value old t)) all
     ∙ limited_within (with_columns (table_value old t) (columns_value new (map block_column bs))) (length t.labels) (length bs)
-        (length-map t.labels (tuple_value old)) (length-map (map block_column bs) (column_value new) ∙ length-map bs block_column) within
+    (length-map t.labels (tuple_value old)) (length-map (map block_column bs) (column_value new) ∙ length-map bs block_column) within
     ∙ ap (λ v. Ok (table v)) (columns_later old new t (map block_column bs) longer settled ∙ ap (table_value new) (sym (is ∙ ap (λ h. table_with t.shape (axis_of t) h (map block_column bs)) same)))
 
 pub columns_settled_later : (old new : List Text) (t made : NumberedTable) (headings : HeadingList) (bs : List CellBlock)
@@ -53,4 +53,4 @@ pub columns_settled_later : (old new : List Text) (t made : NumberedTable) (head
     → All (λ c. AreGiven new c.cells) (map block_column bs) → IsSettled table_value new made
 columns_settled_later old new t made headings bs longer settled same is given =
     subst (IsSettled table_value new) (sym (is ∙ ap (λ h. table_with t.shape (axis_of t) h (map block_column bs)) same))
-      (with_columns_settled new t (map block_column bs) (settled_later table_value old new t longer settled) given)
+    (with_columns_settled new t (map block_column bs) (settled_later table_value old new t longer settled) given)

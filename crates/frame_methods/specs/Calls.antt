@@ -1,5 +1,5 @@
 -- Calls of methods.
-use Rattle.std.specs.Prelude.{◌≡◌, Bool, true, false, List, codes, Option, Some, Result, Ok, Err}
+use Rattle.std.specs.Prelude.{◌≡◌, Bool, true, false, List, codes, Result, Ok, Err}
 use Rattle.cell_core.specs.declared.grid.Shape.{Shape}
 use Rattle.cell_core.specs.declared.grid.Shape.TheVariants.{Series, Frame}
 use Rattle.meaning.specs.Text.{Text}

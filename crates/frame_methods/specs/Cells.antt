@@ -1,5 +1,5 @@
 -- Cells, by number, that are made of cells.
-use Rattle.std.specs.Prelude.{◌≡◌, ℕ, Bool, true, false, not, List}
+use Rattle.std.specs.Prelude.{◌≡◌, ℕ, Bool, true, not, List}
 use Rattle.cell_core.specs.declared.cell.Cell.{Cell}
 use Rattle.cell_core.specs.declared.cell.Cell.TheVariants as cell
 use Rattle.cell_core.specs.declared.cell.Kind.{Kind}

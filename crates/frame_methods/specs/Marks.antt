@@ -1,5 +1,5 @@
 -- Columns of marks, and what further texts leave of a cell that is filled in.
-use Rattle.std.specs.Prelude.{◌≡◌, ℕ, Bool, true, false, List, Result}
+use Rattle.std.specs.Prelude.{◌≡◌, Bool, true, false, List, Result}
 use Rattle.cell_core.specs.declared.cell.Cell.{Cell}
 use Rattle.cell_core.specs.declared.cell.Kind.TheVariants.{Boolean}
 use Rattle.meaning.specs.Text.{Text}

@@ -27,12 +27,7 @@ impl ColumnOp for Marked {
 
     ghost given = { λ _ _. Unit {0} };
 
-    fn column(
-        &self,
-        alloc: Global,
-        dict: &mut TextDict,
-        a: ColRef<'_>,
-    ) -> Result<Column, OpFault>
+    fn column(&self, alloc: Global, dict: &mut TextDict, a: ColRef<'_>) -> Result<Column, OpFault>
         requires own { Unit {0} }
         requires cells { AreGiven dict.old a.cells }
         ensures longer { IsLonger dict.old dict.new }
@@ -64,12 +59,7 @@ impl ColumnOp for Filled {
 
     ghost given = { λ s texts. IsGiven texts s.value };
 
-    fn column(
-        &self,
-        alloc: Global,
-        dict: &mut TextDict,
-        a: ColRef<'_>,
-    ) -> Result<Column, OpFault>
+    fn column(&self, alloc: Global, dict: &mut TextDict, a: ColRef<'_>) -> Result<Column, OpFault>
         requires own { IsGiven dict.old self.now.value }
         requires cells { AreGiven dict.old a.cells }
         ensures longer { IsLonger dict.old dict.new }
@@ -100,12 +90,7 @@ impl ColumnOp for Shifted {
 
     ghost given = { λ _ _. Unit {0} };
 
-    fn column(
-        &self,
-        alloc: Global,
-        dict: &mut TextDict,
-        a: ColRef<'_>,
-    ) -> Result<Column, OpFault>
+    fn column(&self, alloc: Global, dict: &mut TextDict, a: ColRef<'_>) -> Result<Column, OpFault>
         requires own { Unit {0} }
         requires cells { AreGiven dict.old a.cells }
         ensures longer { IsLonger dict.old dict.new }
@@ -132,12 +117,7 @@ impl ColumnOp for Cast {
 
     ghost given = { λ _ _. Unit {0} };
 
-    fn column(
-        &self,
-        alloc: Global,
-        dict: &mut TextDict,
-        a: ColRef<'_>,
-    ) -> Result<Column, OpFault>
+    fn column(&self, alloc: Global, dict: &mut TextDict, a: ColRef<'_>) -> Result<Column, OpFault>
         requires own { Unit {0} }
         requires cells { AreGiven dict.old a.cells }
         ensures longer { IsLonger dict.old dict.new }
@@ -167,12 +147,7 @@ impl ColumnOp for Cumulated {
 
     ghost given = { λ _ _. Unit {0} };
 
-    fn column(
-        &self,
-        alloc: Global,
-        dict: &mut TextDict,
-        a: ColRef<'_>,
-    ) -> Result<Column, OpFault>
+    fn column(&self, alloc: Global, dict: &mut TextDict, a: ColRef<'_>) -> Result<Column, OpFault>
         requires own { Unit {0} }
         requires cells { AreGiven dict.old a.cells }
         ensures longer { IsLonger dict.old dict.new }

@@ -24,12 +24,7 @@ pub(crate) trait ColumnOp {
     // The texts that it was given.
     ghost given: { Self → List OneText → Type 0 };
 
-    fn column(
-        &self,
-        alloc: Global,
-        dict: &mut TextDict,
-        a: ColRef<'_>,
-    ) -> Result<Column, OpFault>
+    fn column(&self, alloc: Global, dict: &mut TextDict, a: ColRef<'_>) -> Result<Column, OpFault>
         requires own { given self.now dict.old }
         requires cells { AreGiven dict.old a.cells }
         ensures longer { IsLonger dict.old dict.new }

@@ -1,4 +1,21 @@
-//! Constructors and methods of Series and frames.
+//! The methods of Series and frames.
+//!
+//! [`method`] calls a method of a value by its name, with the arguments of a script, and answers a
+//! scalar or a new object. [`exists`] says whether a value has a method of a name. What a method
+//! answers for its arguments is its definition on whole tables (`form_meaning/specs/Methods.antt`);
+//! the refusals that all methods share come from the table of signatures (the crate `signatures`).
+//!
+//! A method that makes new cells makes them column by column (`columns`), each by an operation of its
+//! own (`column_ops`); one that gives an object's rows again under other headings does so by
+//! `Store::derive`; one that makes one cell of a column does so by a reduction (`summaries`).
+//!
+//! ```text
+//! let mut args = NamedList::new(alloc);
+//! args.push(Named { name: None, value: Argument::One(Value::Scalar(Cell::Int(0))) })?;
+//! let mut name = Words::new(alloc);
+//! name.push_str("fillna")?;
+//! let filled = method(alloc, &mut store, &mut dict, on, &Chain::Plain(name), &args)?;
+//! ```
 #![tactic(auto)]
 
 mod answers;
@@ -6,17 +23,13 @@ mod binding;
 mod calling;
 mod cells;
 mod column_methods;
-mod columns;
 mod column_ops;
+mod columns;
 mod made;
 mod renaming;
 mod series;
 mod summaries;
 mod tables;
-
-
-
-
 
 pub use binding::exists;
 pub use calling::method;

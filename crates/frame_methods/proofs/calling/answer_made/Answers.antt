@@ -1,6 +1,6 @@
 use Rattle.std.proofs.Common.{refl, rules}
 use Rattle.form_parts.proofs.ObjectMade.{kept_settled}
-use Rattle.frame_methods.proofs.CallLaws.{refused_made, table_settled_in, scalar_answered, table_meant}
+use Rattle.frame_methods.proofs.CallLaws.{refused_made, table_settled_in, scalar_answered}
 use Rattle.frame_methods.proofs.calling.answer_made.Goals as goal
 
 pub returns-in_err-cell-clause-settled : goal.returns-in_err-cell-clause-settled

@@ -1,4 +1,4 @@
-use Rattle.std.proofs.Common.{◌≡◌, ◌∙◌, ap, ◌++◌, ◌∷◌, []}
+use Rattle.std.proofs.Common.{◌∙◌, ap, ◌++◌, ◌∷◌, []}
 use Rattle.nullable_array.specs.Columns.{CellColumn}
 use Rattle.frame_methods.proofs.Lists.{map_next}
 use Rattle.frame_methods.proofs.cells.map_cells.Goals as goal

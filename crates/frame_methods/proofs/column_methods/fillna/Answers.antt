@@ -8,4 +8,4 @@ use Rattle.frame_methods.proofs.column_methods.fillna.Goals as goal
 pub columns_table-requires-clause-own : goal.columns_table-requires-clause-own
 columns_table-requires-clause-own c =
     scalar_given (λ ts. arguments_of (tables c.args.store.now) ts c.args.args.now) (λ gs. scalar_in (argument_at c.parameters.result.now gs 0)) c.args.dict.now c.in-Some.value c.requires.given
-      (λ ts. c.in-Some.ensures (tables c.args.store.now) ts)
+    (λ ts. c.in-Some.ensures (tables c.args.store.now) ts)

@@ -1,4 +1,4 @@
-use Rattle.std.proofs.Common.{◌≡◌, length}
+use Rattle.std.proofs.Common.{length}
 use Rattle.frame_methods.specs.Columns.{IsFront}
 use Rattle.frame_methods.proofs.columns.each_column.Given as goal
 

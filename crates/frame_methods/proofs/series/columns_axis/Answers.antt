@@ -1,6 +1,5 @@
-use Rattle.std.proofs.Common.{sym, subst, map}
+use Rattle.std.proofs.Common.{sym, subst}
 use Rattle.multi_index.specs.Axes.{HaveLevels}
-use Rattle.frame_methods.specs.Labels.{column_tuple}
 use Rattle.frame_methods.proofs.SeriesLaws.{tuples_alike}
 use Rattle.frame_methods.proofs.series.columns_axis.Goals as goal
 

@@ -12,4 +12,4 @@ pub returns-clause-answer : goal.returns-clause-answer
 returns-clause-answer c =
     let within : within_limits (length c.args.on.now.columns) 1 ≡ true = search rules in
     frame_answer (summary_value c.args.op) c.args.dict.now c.args.on.now c.in_ok-series_table.field-0 c.kind_for-kind.result c.in_ok-axis.axis c.in_ok-cells.cells
-      c.in_ok-cells.ensures.answer (c.kind_for-kind.ensures c.args.dict.now) c.in_ok-cells.ensures.kind within c.requires.whole.headed c.in_ok-axis.ensures c.in_ok-series_table.ensures
+    c.in_ok-cells.ensures.answer (c.kind_for-kind.ensures c.args.dict.now) c.in_ok-cells.ensures.kind within c.requires.whole.headed c.in_ok-axis.ensures c.in_ok-series_table.ensures
