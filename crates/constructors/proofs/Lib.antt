@@ -1,0 +1,2 @@
+pub mod ScalarLaws
+pub mod MadeLaws
