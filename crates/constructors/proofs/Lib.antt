@@ -1,2 +1,3 @@
 pub mod ScalarLaws
 pub mod MadeLaws
+pub mod GivenLaws

@@ -15,7 +15,6 @@ use frame_store::{Argument, Item, Named};
 use signatures::spelled;
 
 // Whether a name is that of the second parameter.
-#[tactic(auto, using(crate::proofs::LevelLaws::second_place))]
 fn is_second(parameters: &[Parameter], name: &str) -> bool
     requires { 2 ≤ length parameters.now }
     ensures { result ≡ nat_eq (position_or_len (λ p. same_text (signature.spelled p.name) name.now) parameters.now) 1 }

@@ -2,5 +2,13 @@
 #![tactic(auto)]
 
 mod axes;
+mod functions;
+mod given;
+mod levels;
 mod scalars;
 mod series;
+
+pub use functions::{function_exists, make_series};
+
+#[cfg(test)]
+mod tests;
