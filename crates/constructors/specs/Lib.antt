@@ -1,2 +1,3 @@
 pub mod Scalars
 pub mod Made
+pub mod Pairs

@@ -2,6 +2,7 @@
 #![tactic(auto)]
 
 mod axes;
+mod frames;
 mod functions;
 mod given;
 mod levels;
