@@ -129,8 +129,8 @@ pub series_given : {T : Type 0} (f : T → List Item) (live : Tables) (dict : Li
 series_given f live dict args ps values index o name kind is levels same listed indexed scalar named kinded =
     let gs = arguments_of live dict args in
     sym (
-      series_bound gs ps is levels same
-      ∙ ap (λ l. on l (λ parts. series_of parts (list_in (argument_at ps gs 1)) (option_map cell_label (scalar_in (argument_at ps gs 2))) (kind_given (scalar_in (argument_at ps gs 3))))) (sym listed)
-      ∙ series_same (items_of live dict values) (list_in (argument_at ps gs 1)) (option_map cell_label (scalar_in (argument_at ps gs 2))) (kind_given (scalar_in (argument_at ps gs 3)))
-      ∙ (λ j. series_with (scalars_are live dict values j) ((ap (option_map cells_of) (sym indexed) ∙ lists_are f live dict index) j) ((ap (option_map cell_label) (sym scalar) ∙ sym named) j) (sym kinded j))
+    series_bound gs ps is levels same
+    ∙ ap (λ l. on l (λ parts. series_of parts (list_in (argument_at ps gs 1)) (option_map cell_label (scalar_in (argument_at ps gs 2))) (kind_given (scalar_in (argument_at ps gs 3))))) (sym listed)
+    ∙ series_same (items_of live dict values) (list_in (argument_at ps gs 1)) (option_map cell_label (scalar_in (argument_at ps gs 2))) (kind_given (scalar_in (argument_at ps gs 3)))
+    ∙ (λ j. series_with (scalars_are live dict values j) ((ap (option_map cells_of) (sym indexed) ∙ lists_are f live dict index) j) ((ap (option_map cell_label) (sym scalar) ∙ sym named) j) (sym kinded j))
     )

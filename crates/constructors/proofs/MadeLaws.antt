@@ -99,7 +99,7 @@ indexed_within rows columns (Some cells) go ls cs =
     let count : length labels ≡ length cells = length-map cells (λ c. cell_label c ∷ []) in
     ap (λ n. of_length rows n (limited (go labels))) (sym count)
     ∙ either_length (nat_eq rows (length labels)) rows (length labels) columns go labels
-        (λ e. limited_labels rows columns go labels (ap length (ls labels) ∙ sym (nat_same rows (length labels) e)) (cs labels))
+    (λ e. limited_labels rows columns go labels (ap length (ls labels) ∙ sym (nat_same rows (length labels) e)) (cs labels))
 
 -- a column of scalars that were given
 held_cells : (b : Bool) (kind : Kind) (cells : List CellValue) (col : ColumnOf CellValue) → (if b then Ok record { kind = kind; cells = cells } else Err wrong_kind) ≡ Ok col → cells ≡ col.cells
@@ -109,7 +109,7 @@ held_cells false kind cells col is = cc
 pub column_given : (dict : List Text) (items : List Item) (c : CellColumn) → ((texts : List Text) → list_column (scalars texts items) ≡ Ok (column_seen texts c)) → IsSettled scalars dict items → AreGiven dict c.cells
 column_given dict items c is settled =
     cells_given dict c.cells (settled_by scalars cells_value (λ vs. vs) dict items c.cells
-      (λ texts. held_cells (list_all (holds (first_kind (scalars texts items))) (scalars texts items)) (first_kind (scalars texts items)) (scalars texts items) (column_seen texts c) (is texts)) settled)
+    (λ texts. held_cells (list_all (holds (first_kind (scalars texts items))) (scalars texts items)) (first_kind (scalars texts items)) (scalars texts items) (column_seen texts c) (is texts)) settled)
 
 -- the labels of an axis were given
 abbrev is_ok_of : {A : Type 0} → A → Result A FaultValue
@@ -148,15 +148,15 @@ pub cast_refused : (old new : List Text) (cells : List CellValue) (index : Optio
     → list_column cells ≡ Ok (column_seen old listed) → MakesBy column_seen new (Err fault) (cast_to kind (column_seen old listed)) → Makes new (Err fault) (series_with cells index name kind)
 cast_refused old new cells index name kind listed fault first refused =
     subst (λ (m : Result Entry FaultValue). Makes new (Err fault) m) (sym (ap (λ r. then_value r (series_cast index name kind)) first))
-      (refused_on column_seen new (cast_to kind (column_seen old listed)) (series_rows index name) (Err fault) fault refl refused)
+    (refused_on column_seen new (cast_to kind (column_seen old listed)) (series_rows index name) (Err fault) fault refl refused)
 
 pub axis_refused : (old new : List Text) (cells : List CellValue) (index : List Text → Option (List CellValue)) (name : Option LabelValue) (kind : Option Kind) (listed column : CellColumn) (fault : OpFault)
     → IsLonger old new → list_column cells ≡ Ok (column_seen old listed) → cast_to kind (column_seen old listed) ≡ Ok (column_seen new column) → ((more : List Text) → index (old ++ more) ≡ index old)
     → MakesBy axis_labels new (Err fault) (index_labels (length column.cells) 1 (index new)) → Makes new (Err fault) (series_with cells (index old) name kind)
 axis_refused old new cells index name kind listed column fault longer first second settled refused =
     subst (λ (m : Result Entry FaultValue). Makes new (Err fault) m) (sym (series_is new cells (index old) name kind (column_seen old listed) column first second))
-      (refused_on axis_labels new (index_labels (length column.cells) 1 (index old)) (λ labels. Ok (table (series_named name (column_seen new column) labels))) (Err fault) fault refl
-        (subst (λ (i : Option (List CellValue)). MakesBy axis_labels new (Err fault) (index_labels (length column.cells) 1 i)) (index_later old new index longer settled) refused))
+    (refused_on axis_labels new (index_labels (length column.cells) 1 (index old)) (λ labels. Ok (table (series_named name (column_seen new column) labels))) (Err fault) fault refl
+    (subst (λ (i : Option (List CellValue)). MakesBy axis_labels new (Err fault) (index_labels (length column.cells) 1 i)) (index_later old new index longer settled) refused))
 
 abbrev made_series : AxisValue → Option Label → CellColumn → NumberedTable
 made_series axis name column = table_with Series axis record { columns_name = None; labels = name ∷ [] } (table_column column ∷ [])
@@ -187,9 +187,9 @@ pub series_settled : (old new : List Text) (index : List Text → Option (List C
     → IsSettled table_value new made
 series_settled old new index name column axis made longer given settled labels names named is =
     subst (IsSettled table_value new) (sym is)
-      (table_settled new (made_series axis name column)
-        (λ more. refl)
-        (subst (IsSettled headings_value new) (sym names) (λ more. refl))
-        (settled_later labels_value old new axis.tuples longer (labels_settled old axis (length column.cells) 1 index labels settled))
-        (λ more. ap (λ n. n ∷ []) (settled_later heading_value old new name longer named more))
-        (columns_settled new (table_column column ∷ []) (All-cons (λ (c : ColumnOf Cell). AreGiven new c.cells) (table_column column) [] given (All-nil (λ (c : ColumnOf Cell). AreGiven new c.cells)))))
+    (table_settled new (made_series axis name column)
+    (λ more. refl)
+    (subst (IsSettled headings_value new) (sym names) (λ more. refl))
+    (settled_later labels_value old new axis.tuples longer (labels_settled old axis (length column.cells) 1 index labels settled))
+    (λ more. ap (λ n. n ∷ []) (settled_later heading_value old new name longer named more))
+    (columns_settled new (table_column column ∷ []) (All-cons (λ (c : ColumnOf Cell). AreGiven new c.cells) (table_column column) [] given (All-nil (λ (c : ColumnOf Cell). AreGiven new c.cells)))))

@@ -50,7 +50,7 @@ inserted_seen live texts pairs count [] k i v distinct all given is = ap (λ g. 
 inserted_seen live texts pairs count (e ∷ es) k i v distinct all given is =
     go (inserted_seen live texts pairs count es k i v distinct (λ j d below. all (suc j) d (omega arith)) given is) (same_number k e.0)
     ∙ ap (λ b. if b then (label_datum texts e.0, v) ∷ entries_seen live texts pairs es else entry_seen live texts pairs e ∷ with_pair (entries_seen live texts pairs es) (label_datum texts k) v)
-        (same_by_number texts k e.0 (same_number k e.0) distinct given (all 0 e (omega arith)).1 (number_decides k e.0))
+    (same_by_number texts k e.0 (same_number k e.0) distinct given (all 0 e (omega arith)).1 (number_decides k e.0))
   where
     go : entries_seen live texts pairs (insert_entry same_number es k i) ≡ with_pair (entries_seen live texts pairs es) (label_datum texts k) v → (b : Bool) → entries_seen live texts pairs (if b then (e.0, i) ∷ es else e ∷ insert_entry same_number es k i)
         ≡ (if b then (label_datum texts e.0, v) ∷ entries_seen live texts pairs es else entry_seen live texts pairs e ∷ with_pair (entries_seen live texts pairs es) (label_datum texts k) v)
@@ -66,7 +66,7 @@ pair_step live texts pairs es es' i d whole distinct all lt given is before =
     let next : i + 1 ≡ suc i = omega arith in
     ap (λ n. pairs_onto (entries_seen live texts pairs es') (entries_of live texts (drop n pairs))) next
     ∙ ap (λ l. pairs_onto l (entries_of live texts (drop (suc i) pairs)))
-        (ap (entries_seen live texts pairs) is ∙ inserted_seen live texts pairs (length pairs) es p.0 i (argument_of live texts p.1) distinct all (given i d lt) (ap (value_in live texts) (slice_get-get_or pairs i d lt)))
+    (ap (entries_seen live texts pairs) is ∙ inserted_seen live texts pairs (length pairs) es p.0 i (argument_of live texts p.1) distinct all (given i d lt) (ap (value_in live texts) (slice_get-get_or pairs i d lt)))
     ∙ ap (λ l. pairs_onto (entries_seen live texts pairs es) (entries_of live texts l)) (sym (drop-cons pairs i d lt))
     ∙ before
 

@@ -71,7 +71,7 @@ pub held_refused : (texts : List Text) (kind : Kind) (items : List Item) (item :
     → held_after kind (map (datum texts) made.cells) (scalars texts items) ≡ whole → MakesBy column_seen texts (Err fault) whole
 held_refused texts kind items item o made fault whole is some scalar same refused before =
     subst (λ (m : Result (ColumnOf CellValue) FaultValue). MakesBy column_seen texts (Err fault) m)
-      (ap (λ k. held_after k (map (datum texts) made.cells) (with_cell (option_map (datum texts) o) (scalars texts (after items)))) same
-      ∙ ap (held_after kind (map (datum texts) made.cells)) (sym (scalars_from texts items item o is some scalar))
-      ∙ before)
-      (refused texts (scalars texts (after items)))
+    (ap (λ k. held_after k (map (datum texts) made.cells) (with_cell (option_map (datum texts) o) (scalars texts (after items)))) same
+    ∙ ap (held_after kind (map (datum texts) made.cells)) (sym (scalars_from texts items item o is some scalar))
+    ∙ before)
+    (refused texts (scalars texts (after items)))

@@ -46,12 +46,7 @@ fn kind_named(name: &str) -> Kind
 }
 
 // The kind whose name stands at a place of a signature.
-fn kind_at(
-    dict: &TextDict,
-    parameters: &[Parameter],
-    args: &[Named],
-    place: usize,
-) -> Option<Kind>
+fn kind_at(dict: &TextDict, parameters: &[Parameter], args: &[Named], place: usize) -> Option<Kind>
     ensures { (live : Tables) → result ≡ make.kind_given (scalar_in (argument_at parameters.now (arguments_of live dict.now args.now) place)) }
 {
     match text_at(dict, parameters, args, place) {

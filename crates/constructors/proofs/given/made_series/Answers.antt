@@ -27,6 +27,6 @@ returns-in-Some-clause-answer c =
     let dict = c.args.dict.now in
     let levels : levels_among c.function_parameters-parameters.result.now 0 (arguments_of live dict c.args.args.now) ≡ false = sym (c.has_levels.ensures live dict) ∙ c.if-has_levels.false in
     subst (λ (m : Result Entry FaultValue). Makes c.series_of.new.dict c.series_of.result m)
-      (series_given (λ (b : Bor (List Item)). b.now) live dict c.args.args.now c.function_parameters-parameters.result.now c.in-Some.values.now c.list_at-index.result c.scalar_at.result c.name_of-name.result c.kind_at-kind.result
-        c.function_parameters-parameters.ensures levels c.in_ok-bind.ensures (c.in-Some.ensures.value live dict) (c.list_at-index.ensures.value live dict) (c.scalar_at.ensures live dict) (c.name_of-name.ensures dict) (c.kind_at-kind.ensures live))
-      c.series_of.ensures.answer
+    (series_given (λ (b : Bor (List Item)). b.now) live dict c.args.args.now c.function_parameters-parameters.result.now c.in-Some.values.now c.list_at-index.result c.scalar_at.result c.name_of-name.result c.kind_at-kind.result
+    c.function_parameters-parameters.ensures levels c.in_ok-bind.ensures (c.in-Some.ensures.value live dict) (c.list_at-index.ensures.value live dict) (c.scalar_at.ensures live dict) (c.name_of-name.ensures dict) (c.kind_at-kind.ensures live))
+    c.series_of.ensures.answer

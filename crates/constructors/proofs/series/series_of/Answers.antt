@@ -20,8 +20,8 @@ returns-in_err-axis-clause-answer c =
     let count : c.len.result ≡ length c.in_ok-column.column.cells = c.len.ensures ∙ ap (λ (v : CellColumn). length v.cells) c.as_ref.ensures in
     let p = err_from_is_err_and c.from_residual-in_err-axis.result c.from_residual-in_err-axis.ensures.1 in
     rw (p.1, p.2) (axis_refused c.args.dict.now c.cast_to.new.dict (scalars c.args.dict.now c.args.values.now) index (heading_value c.args.dict.now c.args.name) c.args.kind c.in_ok-listed.listed c.in_ok-column.column c.in_err-axis.field-0.0
-      c.in_ok-column.ensures.longer (c.in_ok-listed.ensures c.args.dict.now) c.in_ok-column.ensures.answer c.requires.index
-      (rw (← count) (c.in_err-axis.ensures.labels c.cast_to.new.dict)))
+    c.in_ok-column.ensures.longer (c.in_ok-listed.ensures c.args.dict.now) c.in_ok-column.ensures.answer c.requires.index
+    (rw (← count) (c.in_err-axis.ensures.labels c.cast_to.new.dict)))
 
 pub series_table-requires : goal.series_table-requires
 series_table-requires c =
@@ -34,13 +34,13 @@ returns-clause-settled c =
     let index : List Text → Option (List CellValue) = λ texts. option_map (λ items. scalars texts items.now) c.args.index in
     let count : c.len.result ≡ length c.in_ok-column.column.cells = c.len.ensures ∙ ap (λ (v : CellColumn). length v.cells) c.as_ref.ensures in
     series_settled c.args.dict.now c.cast_to.new.dict index c.args.name c.in_ok-column.column c.in_ok-axis.axis c.in_ok-series_table.field-0
-      c.in_ok-column.ensures.longer c.in_ok-column.ensures.given c.requires.index (λ texts. ap (λ n. index_labels n 1 (index texts)) (sym count) ∙ c.in_ok-axis.ensures.labels texts)
-      c.in_ok-axis.ensures.names c.requires.name c.in_ok-series_table.ensures
+    c.in_ok-column.ensures.longer c.in_ok-column.ensures.given c.requires.index (λ texts. ap (λ n. index_labels n 1 (index texts)) (sym count) ∙ c.in_ok-axis.ensures.labels texts)
+    c.in_ok-axis.ensures.names c.requires.name c.in_ok-series_table.ensures
 
 pub returns-clause-answer : goal.returns-clause-answer
 returns-clause-answer c =
     let index : List Text → Option (List CellValue) = λ texts. option_map (λ items. scalars texts items.now) c.args.index in
     let count : c.len.result ≡ length c.in_ok-column.column.cells = c.len.ensures ∙ ap (λ (v : CellColumn). length v.cells) c.as_ref.ensures in
     series_answer c.args.dict.now c.cast_to.new.dict (scalars c.args.dict.now c.args.values.now) index c.args.name c.args.kind c.in_ok-listed.listed c.in_ok-column.column c.in_ok-axis.axis c.in_ok-series_table.field-0
-      c.in_ok-column.ensures.longer (c.in_ok-listed.ensures c.args.dict.now) c.in_ok-column.ensures.answer c.requires.index (λ texts. ap (λ n. index_labels n 1 (index texts)) (sym count) ∙ c.in_ok-axis.ensures.labels texts)
-      c.in_ok-axis.ensures.names c.requires.name c.in_ok-series_table.ensures
+    c.in_ok-column.ensures.longer (c.in_ok-listed.ensures c.args.dict.now) c.in_ok-column.ensures.answer c.requires.index (λ texts. ap (λ n. index_labels n 1 (index texts)) (sym count) ∙ c.in_ok-axis.ensures.labels texts)
+    c.in_ok-axis.ensures.names c.requires.name c.in_ok-series_table.ensures
