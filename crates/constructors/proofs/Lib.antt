@@ -1,0 +1,4 @@
+pub mod ScalarLaws
+pub mod MadeLaws
+pub mod GivenLaws
+pub mod PairLaws

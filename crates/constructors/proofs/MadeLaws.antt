@@ -1,0 +1,195 @@
+-- Series of scalars.
+use Rattle.std.proofs.Common.{◌≡◌, ◌∙◌, refl, ap, sym, subst, ℕ, pos, nat_eq, Bool, true, false, List, [], ◌∷◌, ◌++◌, map, length, Option, Some, None, Result, Ok, Err, All, if◌then◌else◌, arith}
+use Rattle.std.specs.List.{list_all, range_with_len}
+use Rattle.std.proofs.lemmas.List.{length-map}
+use Rattle.std.proofs.lemmas.List.FromFn.{length-map-range_with_len}
+use Rattle.std.proofs.lemmas.List.Elements.{All-cons, All-nil}
+use Rattle.std.proofs.lemmas.Bool.Decides.{nat_tests}
+use Rattle.cell_core.specs.declared.cell.Cell.{Cell}
+use Rattle.cell_core.specs.declared.cell.Kind.{Kind}
+use Rattle.cell_core.specs.declared.cell.Label.{Label}
+use Rattle.cell_core.specs.declared.grid.Shape.TheVariants.{Series}
+use Rattle.meaning.specs.Text.{Text}
+use Rattle.meaning.specs.Cell.{CellValue, LabelValue, int, datum, holds, AreGiven, IsLonger}
+use Rattle.meaning.specs.Operator.{cell_label}
+use Rattle.meaning.specs.Fault.{FaultValue, wrong_kind, limit, bad_value, length_of, then_value}
+use Rattle.index_core.specs.Ranges.{number_label}
+use Rattle.multi_index.specs.Axes.{AxisValue, range_axis, single_tuples}
+use Rattle.nullable_array.specs.Columns.{CellColumn}
+use Rattle.table_meaning.specs.Settled.{IsSettled}
+use Rattle.table_meaning.specs.Table.{ColumnOf, NumberedTable, Table, table_value, heading_value, tuple_value}
+use Rattle.table_meaning.specs.Value.{Entry, table}
+use Rattle.form_meaning.specs.Finish.{within_limits, limited, default_labels}
+use Rattle.form_meaning.specs.Set.{list_column, first_kind, of_length}
+use Rattle.form_meaning.specs.Make.{cast_to, single_labels, series_table}
+use Rattle.form_parts.specs.Makes.{MakesBy}
+use Rattle.form_parts.proofs.TableMade.{refused_on}
+use Rattle.frame_store.specs.declared.arguments.Item.{Item}
+use Rattle.frame_store.specs.declared.fault.OpFault.{OpFault}
+use Rattle.frame_store.specs.Parts.{table_with}
+use Rattle.frame_store.specs.Shown.{labels_value, headings_value, cells_value, Makes}
+use Rattle.frame_store.proofs.Settling.{settled_later, seen_later, settled_by, cells_given, columns_settled, table_settled}
+use Rattle.constructors.specs.Scalars.{scalars, table_column, column_seen}
+use Rattle.constructors.specs.Made.{axis_labels, labels_within, listed_labels, index_labels, indexed, series_with}
+
+-- the labels 0, 1 and so on
+default_seen : (texts : List Text) (ns : List ℕ) → labels_value texts (single_tuples (map number_label ns)) ≡ map (λ row. int (pos row) ∷ []) ns
+default_seen texts [] = refl
+default_seen texts (n ∷ ns) = λ i. (int (pos n) ∷ []) ∷ default_seen texts ns i
+
+abbrev if_within : List (List LabelValue) → Bool → Result (List (List LabelValue)) FaultValue
+if_within labels b = if b then Ok labels else Err limit
+
+pub counted : (texts : List Text) (rows columns : ℕ) (axis : AxisValue) → within_limits rows columns ≡ true → axis ≡ range_axis rows → labels_within rows columns (default_labels rows) ≡ Ok (axis_labels texts axis)
+counted texts rows columns axis within is =
+    ap (if_within (default_labels rows)) within ∙ ap Ok (sym (default_seen texts (range_with_len 0 rows)) ∙ ap (axis_labels texts) (sym is))
+
+default_count : (rows : ℕ) → length (default_labels rows) ≡ rows
+default_count rows = length-map-range_with_len (λ row. int (pos row) ∷ []) 0 rows
+
+nat_same : (a b : ℕ) → nat_eq a b ≡ true → a ≡ b
+nat_same a b e = grind (arith, nat_tests)
+
+-- as many labels as rows
+within_count : (b : Bool) (labels made : List (List LabelValue)) → if_within labels b ≡ Ok made → labels ≡ made
+within_count true labels made is = cc
+within_count false labels made is = cc
+
+abbrev if_length : ℕ → ℕ → Result (List (List LabelValue)) FaultValue → Bool → Result (List (List LabelValue)) FaultValue
+if_length expected got rest b = if b then rest else Err (bad_value (length_of expected got))
+
+listed_count : (b : Bool) (rows columns : ℕ) (labels made : List (List LabelValue)) → nat_eq rows (length labels) ≡ b → if_length rows (length labels) (labels_within rows columns labels) b ≡ Ok made → length made ≡ rows
+listed_count true rows columns labels made same is = ap length (sym (within_count (within_limits rows columns) labels made is)) ∙ sym (nat_same rows (length labels) same)
+listed_count false rows columns labels made same is = cc
+
+labels_count : (rows columns : ℕ) (index : Option (List CellValue)) (made : List (List LabelValue)) → index_labels rows columns index ≡ Ok made → length made ≡ rows
+labels_count rows columns None made is = ap length (sym (within_count (within_limits rows columns) (default_labels rows) made is)) ∙ default_count rows
+labels_count rows columns (Some cells) made is = listed_count (nat_eq rows (length (single_labels cells))) rows columns (single_labels cells) made refl is
+
+pub axis_count : (texts : List Text) (rows columns : ℕ) (index : Option (List CellValue)) (axis : AxisValue) → index_labels rows columns index ≡ Ok (axis_labels texts axis) → rows ≡ length axis.tuples
+axis_count texts rows columns index axis is =
+    sym (labels_count rows columns index (axis_labels texts axis) is) ∙ length-map axis.tuples (tuple_value texts)
+
+-- a table that goes on with the labels of its rows, unless it is beyond the limits
+abbrev limit_then : Table → Bool → Result Entry FaultValue
+limit_then t b = then_value (if b then Ok t else Err limit) (λ t. Ok (table t))
+
+abbrev labels_then : (List (List LabelValue) → Table) → Result (List (List LabelValue)) FaultValue → Result Entry FaultValue
+labels_then go r = then_value r (λ labels. Ok (table (go labels)))
+
+either_limit : (go : List (List LabelValue) → Table) (labels : List (List LabelValue)) (b : Bool) → limit_then (go labels) b ≡ labels_then go (if_within labels b)
+either_limit go labels true = refl
+either_limit go labels false = refl
+
+limited_labels : (rows columns : ℕ) (go : List (List LabelValue) → Table) (labels : List (List LabelValue)) → length (go labels).labels ≡ rows → length (go labels).columns ≡ columns
+    → limited (go labels) ≡ labels_then go (labels_within rows columns labels)
+limited_labels rows columns go labels r c =
+    ap (limit_then (go labels)) (λ j. within_limits (r j) (c j)) ∙ either_limit go labels (within_limits rows columns)
+
+either_length : (b : Bool) (rows got columns : ℕ) (go : List (List LabelValue) → Table) (labels : List (List LabelValue)) → (b ≡ true → limited (go labels) ≡ labels_then go (labels_within rows columns labels))
+    → (if b then limited (go labels) else Err (bad_value (length_of rows got))) ≡ labels_then go (if_length rows got (labels_within rows columns labels) b)
+either_length true rows got columns go labels same = same refl
+either_length false rows got columns go labels same = refl
+
+pub indexed_within : (rows columns : ℕ) (index : Option (List CellValue)) (go : List (List LabelValue) → Table) → ((labels : List (List LabelValue)) → (go labels).labels ≡ labels) → ((labels : List (List LabelValue)) → length (go labels).columns ≡ columns)
+    → indexed rows index (λ labels. limited (go labels)) ≡ labels_then go (index_labels rows columns index)
+indexed_within rows columns None go ls cs = limited_labels rows columns go (default_labels rows) (ap length (ls (default_labels rows)) ∙ default_count rows) (cs (default_labels rows))
+indexed_within rows columns (Some cells) go ls cs =
+    let labels = single_labels cells in
+    let count : length labels ≡ length cells = length-map cells (λ c. cell_label c ∷ []) in
+    ap (λ n. of_length rows n (limited (go labels))) (sym count)
+    ∙ either_length (nat_eq rows (length labels)) rows (length labels) columns go labels
+    (λ e. limited_labels rows columns go labels (ap length (ls labels) ∙ sym (nat_same rows (length labels) e)) (cs labels))
+
+-- a column of scalars that were given
+held_cells : (b : Bool) (kind : Kind) (cells : List CellValue) (col : ColumnOf CellValue) → (if b then Ok record { kind = kind; cells = cells } else Err wrong_kind) ≡ Ok col → cells ≡ col.cells
+held_cells true kind cells col is = let same : record { kind = kind; cells = cells } ≡ col = cc in ap (λ (c : ColumnOf CellValue). c.cells) same
+held_cells false kind cells col is = cc
+
+pub column_given : (dict : List Text) (items : List Item) (c : CellColumn) → ((texts : List Text) → list_column (scalars texts items) ≡ Ok (column_seen texts c)) → IsSettled scalars dict items → AreGiven dict c.cells
+column_given dict items c is settled =
+    cells_given dict c.cells (settled_by scalars cells_value (λ vs. vs) dict items c.cells
+    (λ texts. held_cells (list_all (holds (first_kind (scalars texts items))) (scalars texts items)) (first_kind (scalars texts items)) (scalars texts items) (column_seen texts c) (is texts)) settled)
+
+-- the labels of an axis were given
+abbrev is_ok_of : {A : Type 0} → A → Result A FaultValue
+is_ok_of a = Ok a
+
+ok_same : {A : Type 0} (a b : A) → is_ok_of a ≡ is_ok_of b → a ≡ b
+ok_same a b e = cc
+
+pub labels_settled : (dict : List Text) (axis : AxisValue) (rows columns : ℕ) (index : List Text → Option (List CellValue)) → ((texts : List Text) → index_labels rows columns (index texts) ≡ Ok (axis_labels texts axis))
+    → ((more : List Text) → index (dict ++ more) ≡ index dict) → IsSettled labels_value dict axis.tuples
+labels_settled dict axis rows columns index is settled = λ more.
+    ok_same (axis_labels (dict ++ more) axis) (axis_labels dict axis) (sym (is (dict ++ more)) ∙ ap (index_labels rows columns) (settled more) ∙ is dict)
+
+pub index_later : (old new : List Text) (index : List Text → Option (List CellValue)) → IsLonger old new → ((more : List Text) → index (old ++ more) ≡ index old) → index new ≡ index old
+index_later old new index longer settled = ap index longer.1 ∙ settled longer.0
+
+abbrev series_rows : Option (List CellValue) → Option LabelValue → ColumnOf CellValue → Result Entry FaultValue
+series_rows index name c = indexed (length c.cells) index (λ labels. limited (series_table name labels c))
+
+abbrev series_cast : Option (List CellValue) → Option LabelValue → Option Kind → ColumnOf CellValue → Result Entry FaultValue
+series_cast index name kind c = then_value (cast_to kind c) (series_rows index name)
+
+abbrev series_named : Option LabelValue → ColumnOf CellValue → List (List LabelValue) → Table
+series_named name c labels = series_table name labels c
+
+series_is : (new : List Text) (cells : List CellValue) (index : Option (List CellValue)) (name : Option LabelValue) (kind : Option Kind) (listed : ColumnOf CellValue) (column : CellColumn)
+    → list_column cells ≡ Ok listed → cast_to kind listed ≡ Ok (column_seen new column)
+    → series_with cells index name kind ≡ labels_then (series_named name (column_seen new column)) (index_labels (length column.cells) 1 index)
+series_is new cells index name kind listed column first second =
+    ap (λ r. then_value r (series_cast index name kind)) first
+    ∙ ap (λ r. then_value r (series_rows index name)) second
+    ∙ ap (λ n. indexed n index (λ labels. limited (series_table name labels (column_seen new column)))) (length-map column.cells (datum new))
+    ∙ indexed_within (length column.cells) 1 index (series_named name (column_seen new column)) (λ labels. refl) (λ labels. refl)
+
+pub cast_refused : (old new : List Text) (cells : List CellValue) (index : Option (List CellValue)) (name : Option LabelValue) (kind : Option Kind) (listed : CellColumn) (fault : OpFault)
+    → list_column cells ≡ Ok (column_seen old listed) → MakesBy column_seen new (Err fault) (cast_to kind (column_seen old listed)) → Makes new (Err fault) (series_with cells index name kind)
+cast_refused old new cells index name kind listed fault first refused =
+    subst (λ (m : Result Entry FaultValue). Makes new (Err fault) m) (sym (ap (λ r. then_value r (series_cast index name kind)) first))
+    (refused_on column_seen new (cast_to kind (column_seen old listed)) (series_rows index name) (Err fault) fault refl refused)
+
+pub axis_refused : (old new : List Text) (cells : List CellValue) (index : List Text → Option (List CellValue)) (name : Option LabelValue) (kind : Option Kind) (listed column : CellColumn) (fault : OpFault)
+    → IsLonger old new → list_column cells ≡ Ok (column_seen old listed) → cast_to kind (column_seen old listed) ≡ Ok (column_seen new column) → ((more : List Text) → index (old ++ more) ≡ index old)
+    → MakesBy axis_labels new (Err fault) (index_labels (length column.cells) 1 (index new)) → Makes new (Err fault) (series_with cells (index old) name kind)
+axis_refused old new cells index name kind listed column fault longer first second settled refused =
+    subst (λ (m : Result Entry FaultValue). Makes new (Err fault) m) (sym (series_is new cells (index old) name kind (column_seen old listed) column first second))
+    (refused_on axis_labels new (index_labels (length column.cells) 1 (index old)) (λ labels. Ok (table (series_named name (column_seen new column) labels))) (Err fault) fault refl
+    (subst (λ (i : Option (List CellValue)). MakesBy axis_labels new (Err fault) (index_labels (length column.cells) 1 i)) (index_later old new index longer settled) refused))
+
+abbrev made_series : AxisValue → Option Label → CellColumn → NumberedTable
+made_series axis name column = table_with Series axis record { columns_name = None; labels = name ∷ [] } (table_column column ∷ [])
+
+pub series_answer : (old new : List Text) (cells : List CellValue) (index : List Text → Option (List CellValue)) (name : Option Label) (kind : Option Kind) (listed column : CellColumn) (axis : AxisValue) (made : NumberedTable)
+    → IsLonger old new → list_column cells ≡ Ok (column_seen old listed) → cast_to kind (column_seen old listed) ≡ Ok (column_seen new column) → ((more : List Text) → index (old ++ more) ≡ index old)
+    → ((texts : List Text) → index_labels (length column.cells) 1 (index texts) ≡ Ok (axis_labels texts axis)) → axis.names ≡ None ∷ [] → IsSettled heading_value old name → made ≡ made_series axis name column
+    → series_with cells (index old) (heading_value old name) kind ≡ Ok (table (table_value new made))
+series_answer old new cells index name kind listed column axis made longer first second settled labels names named is =
+    series_is new cells (index old) (heading_value old name) kind (column_seen old listed) column first second
+    ∙ ap (labels_then (series_named (heading_value old name) (column_seen new column))) (ap (index_labels (length column.cells) 1) (sym (index_later old new index longer settled)) ∙ labels new)
+    ∙ ap (λ (v : Table). Ok (table v)) (seen ∙ ap (table_value new) (sym is))
+  where
+    seen : series_named (heading_value old name) (column_seen new column) (axis_labels new axis) ≡ table_value new (made_series axis name column)
+    seen = λ j.
+        record {
+          shape = Series;
+          columns_name = None;
+          level_names = ap (headings_value new) (sym names) j;
+          labels = axis_labels new axis;
+          headings = sym (seen_later heading_value old new name longer named) j ∷ [];
+          columns = column_seen new column ∷ [];
+        }
+
+pub series_settled : (old new : List Text) (index : List Text → Option (List CellValue)) (name : Option Label) (column : CellColumn) (axis : AxisValue) (made : NumberedTable)
+    → IsLonger old new → AreGiven new column.cells → ((more : List Text) → index (old ++ more) ≡ index old)
+    → ((texts : List Text) → index_labels (length column.cells) 1 (index texts) ≡ Ok (axis_labels texts axis)) → axis.names ≡ None ∷ [] → IsSettled heading_value old name → made ≡ made_series axis name column
+    → IsSettled table_value new made
+series_settled old new index name column axis made longer given settled labels names named is =
+    subst (IsSettled table_value new) (sym is)
+    (table_settled new (made_series axis name column)
+    (λ more. refl)
+    (subst (IsSettled headings_value new) (sym names) (λ more. refl))
+    (settled_later labels_value old new axis.tuples longer (labels_settled old axis (length column.cells) 1 index labels settled))
+    (λ more. ap (λ n. n ∷ []) (settled_later heading_value old new name longer named more))
+    (columns_settled new (table_column column ∷ []) (All-cons (λ (c : ColumnOf Cell). AreGiven new c.cells) (table_column column) [] given (All-nil (λ (c : ColumnOf Cell). AreGiven new c.cells)))))

@@ -1,0 +1,77 @@
+-- The scalars of a list, part by part.
+use Rattle.std.proofs.Common.{◌≡◌, ◌∙◌, ◌≤◌, ◌-◌, refl, ap, sym, subst, List, [], ◌∷◌, ◌++◌, length, take, drop, get_or, map, Option, Some, None, arith}
+use Rattle.std.specs.Prelude.{Result, Err, unwrap_or}
+use Rattle.std.specs.Option.{option_map}
+use Rattle.std.proofs.lemmas.List.{take_rest}
+use Rattle.cell_core.specs.declared.cell.Cell.{Cell}
+use Rattle.cell_core.specs.declared.cell.Kind.{Kind}
+use Rattle.meaning.specs.Text.{Text}
+use Rattle.meaning.specs.Cell.{CellValue, datum}
+use Rattle.meaning.specs.Fault.{FaultValue}
+use Rattle.nullable_array.specs.Columns.{CellColumn}
+use Rattle.table_meaning.specs.Table.{ColumnOf}
+use Rattle.table_meaning.specs.Value.{Given, GivenList, cell, table, nothing, one, row, many, entries, more_given, scalar_in}
+use Rattle.form_meaning.specs.Select.{cells_of}
+use Rattle.form_meaning.specs.Set.{first_kind}
+use Rattle.form_parts.specs.Makes.{MakesBy}
+use Rattle.frame_store.specs.Objects.{Tables}
+use Rattle.frame_store.specs.Arguments.{item_of, items_of}
+use Rattle.frame_store.specs.declared.arguments.Item.{Item}
+use Rattle.frame_store.specs.declared.fault.OpFault.{OpFault}
+use Rattle.constructors.specs.Scalars.{scalars, with_cell, column_seen, held_after}
+
+-- what stands after the first part
+abbrev pub after : {X : Type 0} → List X → List X
+after xs = take (length xs - 1) (drop 1 xs)
+
+pub first_of : {X : Type 0} (xs : List X) (x : X) → x ≡ get_or xs 0 x → 1 ≤ length xs → xs ≡ x ∷ after xs
+first_of [] x is some = absurd (omega (arith, some))
+first_of (y ∷ ys) x is some = λ i. sym is i ∷ sym (take_rest (y ∷ ys) 1) i
+
+pub cells_of_more : (g : Given) (rest : GivenList) → cells_of (more_given g rest) ≡ with_cell (scalar_in g) (cells_of rest)
+cells_of_more (one (cell c)) rest = refl
+cells_of_more (one (table t)) rest = refl
+cells_of_more nothing rest = refl
+cells_of_more (row parts) rest = refl
+cells_of_more (many parts) rest = refl
+cells_of_more (entries pairs) rest = refl
+
+-- the scalars from a part on
+pub scalars_from : (texts : List Text) (items : List Item) (item : Item) (o : Option Cell) → item ≡ get_or items 0 item → 1 ≤ length items
+    → ((live : Tables) (texts : List Text) → option_map (datum texts) o ≡ scalar_in (item_of live texts item)) → scalars texts items ≡ with_cell (option_map (datum texts) o) (scalars texts (after items))
+scalars_from texts items item o is some scalar =
+    ap (scalars texts) (first_of items item is some)
+    ∙ cells_of_more (item_of (λ id. None) texts item) (items_of (λ id. None) texts (after items))
+    ∙ ap (λ c. with_cell c (scalars texts (after items))) (sym (scalar (λ id. None) texts))
+
+-- the kind of the first that is present, where the first part is one or is none
+pub kind_step : (texts : List Text) (items : List Item) (item : Item) (o : Option Cell) (r : Option Kind) (all : Kind) → item ≡ get_or items 0 item → 1 ≤ length items
+    → ((live : Tables) (texts : List Text) → option_map (datum texts) o ≡ scalar_in (item_of live texts item))
+    → ((texts : List Text) (rest : List CellValue) → first_kind (with_cell (option_map (datum texts) o) rest) ≡ unwrap_or r (first_kind rest))
+    → first_kind (scalars texts items) ≡ all → unwrap_or r (first_kind (scalars texts (after items))) ≡ all
+kind_step texts items item o r all is some scalar present before =
+    sym (ap first_kind (scalars_from texts items item o is some scalar) ∙ present texts (scalars texts (after items))) ∙ before
+
+-- one scalar more in a column
+pub held_step : (texts : List Text) (kind : Kind) (items : List Item) (item : Item) (o : Option Cell) (made made' : CellColumn) (whole : Result (ColumnOf CellValue) FaultValue)
+    → item ≡ get_or items 0 item → 1 ≤ length items → ((live : Tables) (texts : List Text) → option_map (datum texts) o ≡ scalar_in (item_of live texts item)) → made.kind ≡ kind
+    → ((texts : List Text) (rest : List CellValue) → held_after made.kind (map (datum texts) made'.cells) rest ≡ held_after made.kind (map (datum texts) made.cells) (with_cell (option_map (datum texts) o) rest))
+    → held_after kind (map (datum texts) made.cells) (scalars texts items) ≡ whole → held_after kind (map (datum texts) made'.cells) (scalars texts (after items)) ≡ whole
+held_step texts kind items item o made made' whole is some scalar same more before =
+    ap (λ k. held_after k (map (datum texts) made'.cells) (scalars texts (after items))) (sym same)
+    ∙ more texts (scalars texts (after items))
+    ∙ ap (λ k. held_after k (map (datum texts) made.cells) (with_cell (option_map (datum texts) o) (scalars texts (after items)))) same
+    ∙ ap (held_after kind (map (datum texts) made.cells)) (sym (scalars_from texts items item o is some scalar))
+    ∙ before
+
+-- or one that the kind doesn't hold
+pub held_refused : (texts : List Text) (kind : Kind) (items : List Item) (item : Item) (o : Option Cell) (made : CellColumn) (fault : OpFault) (whole : Result (ColumnOf CellValue) FaultValue)
+    → item ≡ get_or items 0 item → 1 ≤ length items → ((live : Tables) (texts : List Text) → option_map (datum texts) o ≡ scalar_in (item_of live texts item)) → made.kind ≡ kind
+    → ((texts : List Text) (rest : List CellValue) → MakesBy column_seen texts (Err fault) (held_after made.kind (map (datum texts) made.cells) (with_cell (option_map (datum texts) o) rest)))
+    → held_after kind (map (datum texts) made.cells) (scalars texts items) ≡ whole → MakesBy column_seen texts (Err fault) whole
+held_refused texts kind items item o made fault whole is some scalar same refused before =
+    subst (λ (m : Result (ColumnOf CellValue) FaultValue). MakesBy column_seen texts (Err fault) m)
+    (ap (λ k. held_after k (map (datum texts) made.cells) (with_cell (option_map (datum texts) o) (scalars texts (after items)))) same
+    ∙ ap (held_after kind (map (datum texts) made.cells)) (sym (scalars_from texts items item o is some scalar))
+    ∙ before)
+    (refused texts (scalars texts (after items)))

@@ -1,0 +1,12 @@
+use Rattle.std.proofs.Common.{◌≡◌, length, List}
+use Rattle.meaning.specs.Text.{Text}
+use Rattle.form_meaning.specs.Set.{first_kind}
+use Rattle.constructors.specs.Scalars.{scalars}
+use Rattle.constructors.proofs.scalars.first_kind.Given as goal
+
+-- no scalar so far is present
+abbrev pub invariant-loop-rest : goal.invariant-loop-rest
+invariant-loop-rest l = (texts : List Text) → first_kind (scalars texts l.rest) ≡ first_kind (scalars texts l.items)
+
+abbrev pub decreases-loop-rest : goal.decreases-loop-rest
+decreases-loop-rest l = length l.rest

@@ -1,0 +1,83 @@
+// What a constructor makes of its arguments.
+ghost use Rattle.std.specs.Prelude.{◌≡◌, List, IfOk};
+ghost use Rattle.std.specs.Option.{option_map};
+ghost use Rattle.meaning.specs.Text.{Text as OneText};
+ghost use Rattle.meaning.specs.Cell.{datum, IsLonger};
+ghost use Rattle.meaning.specs.Operator.{cell_label};
+ghost use Rattle.table_meaning.specs.Settled.{IsSettled};
+ghost use Rattle.table_meaning.specs.Table.{heading_value, table_value};
+ghost use Rattle.table_meaning.specs.Value.{scalar_in};
+ghost use Rattle.form_meaning.specs.declared.Function.TheVariants as function_of;
+ghost use Rattle.form_meaning.specs.Binding.{argument_at};
+ghost use Rattle.form_meaning.specs.Make as make;
+ghost use Rattle.form_meaning.specs.Calls as calls;
+ghost use Rattle.frame_store.specs.Objects.{Tables, tables};
+ghost use Rattle.frame_store.specs.Arguments.{arguments_of, AreLive};
+ghost use Rattle.frame_store.specs.Shown.{Makes};
+
+use crate::levels::has_levels;
+use crate::scalars::label_of;
+use crate::series::series_of;
+use cell_core::{Cell, Code, Kind, Label, TextDict};
+use form_meaning::{Function, Parameter};
+use frame_store::{Named, OpFault, Store, Table};
+use signatures::{bind, function_parameters, list_at, scalar_at, text_at};
+use std::alloc::Global;
+
+// The label that a scalar is, if there is one.
+fn name_of(cell: Option<Cell>) -> Option<Label>
+    ensures { (texts : List OneText) → heading_value texts result ≡ option_map cell_label (option_map (datum texts) cell) }
+{
+    match cell {
+        None => None,
+        Some(cell) => Some(label_of(cell)),
+    }
+}
+
+// The kind of a name that is among the listed ones.
+fn kind_named(name: &str) -> Kind
+    ensures { result ≡ make.kind_named name.now }
+{
+    match name {
+        "boolean" => Kind::Boolean,
+        "string" => Kind::Text,
+        _ => Kind::Int64,
+    }
+}
+
+// The kind whose name stands at a place of a signature.
+fn kind_at(dict: &TextDict, parameters: &[Parameter], args: &[Named], place: usize) -> Option<Kind>
+    ensures { (live : Tables) → result ≡ make.kind_given (scalar_in (argument_at parameters.now (arguments_of live dict.now args.now) place)) }
+{
+    match text_at(dict, parameters, args, place) {
+        Some(name) => Some(kind_named(name)),
+        None => None,
+    }
+}
+
+// What `pd.Series` makes of these arguments.
+pub(crate) fn made_series(
+    alloc: Global,
+    store: &Store,
+    dict: &mut TextDict,
+    args: &[Named],
+) -> Result<Table, OpFault>
+    requires live { AreLive (tables store.now) args.now }
+    requires given { IsSettled (arguments_of (tables store.now)) dict.old args.now }
+    ensures longer { IsLonger dict.old dict.new }
+    ensures settled { IfOk result (IsSettled table_value dict.new) }
+    ensures answer { Makes dict.new result (calls.made_by function_of.Series (arguments_of (tables store.now) dict.old args.now)) }
+{
+    let parameters = function_parameters(Function::Series);
+    if has_levels(parameters, args) {
+        return Err(OpFault::Refused(Code::NotBuilt));
+    }
+    bind(store, dict, parameters, args)?;
+    let index = list_at(parameters, args, 1);
+    let name = name_of(scalar_at(parameters, args, 2));
+    let kind = kind_at(dict, parameters, args, 3);
+    match list_at(parameters, args, 0) {
+        Some(values) => series_of(alloc, dict, values, index, name, kind),
+        None => Err(OpFault::Refused(Code::WrongKind)),
+    }
+}

@@ -1,0 +1,107 @@
+// Labels of several levels among the arguments of a constructor.
+ghost use Rattle.std.specs.Prelude.{◌≡◌, ◌+◌, ◌<◌, ◌≤◌, ◌^◌, ◌&&◌, ◌||◌, List, length, nat_eq};
+ghost use Rattle.std.specs.List.{position_or_len};
+ghost use Rattle.meaning.specs.Text.{Text as OneText, same_text};
+ghost use Rattle.table_meaning.specs.Value.{GivenList, more_given};
+ghost use Rattle.form_meaning.specs.Signature as signature;
+ghost use Rattle.form_meaning.specs.Binding as plain;
+ghost use Rattle.form_meaning.specs.Calls as calls;
+ghost use Rattle.frame_store.specs.Objects.{Tables};
+ghost use Rattle.frame_store.specs.Arguments.{item_of, items_of, argument_of, named_of, arguments_of};
+
+use cell_core::Words;
+use form_meaning::Parameter;
+use frame_store::{Argument, Item, Named};
+use signatures::spelled;
+
+// Whether a name is that of the second parameter.
+fn is_second(parameters: &[Parameter], name: &str) -> bool
+    requires { 2 ≤ length parameters.now }
+    ensures { result ≡ nat_eq (position_or_len (λ p. same_text (signature.spelled p.name) name.now) parameters.now) 1 }
+{
+    match parameters {
+        [first, second, ..] => spelled(first.name) != name && spelled(second.name) == name,
+        _ => unreachable!(),
+    }
+}
+
+// Whether an argument goes to the second parameter, after so many without a name.
+fn goes_second(parameters: &[Parameter], unnamed: usize, name: &Option<Words>) -> bool
+    requires { 2 ≤ length parameters.now }
+    ensures { result ≡ nat_eq (plain.goes_to parameters.now unnamed name.now) 1 }
+{
+    match name {
+        None => unnamed == 1,
+        Some(name) => is_second(parameters, name.as_str()),
+    }
+}
+
+fn counted(unnamed: usize, name: &Option<Words>) -> usize
+    requires { unnamed + 1 < 2 ^ 64 }
+    ensures { result ≡ plain.counted unnamed name.now }
+{
+    match name {
+        None => unnamed + 1,
+        Some(_) => unnamed,
+    }
+}
+
+fn is_tuple(item: &Item) -> bool
+    ensures { (live : Tables) (texts : List OneText) (rest : GivenList) → calls.has_tuple (more_given (item_of live texts item.now) rest) ≡ (result || calls.has_tuple rest) }
+{
+    match item {
+        Item::Row(_) => true,
+        Item::One(_) => false,
+    }
+}
+
+fn has_tuple(items: &[Item]) -> bool
+    ensures { (live : Tables) (texts : List OneText) → result ≡ calls.has_tuple (items_of live texts items.now) }
+{
+    let mut rest = items;
+    while let [first, after @ ..] = rest {
+        if is_tuple(first) {
+            return true;
+        }
+        rest = after;
+    }
+    false
+}
+
+// Whether an argument is a list that holds a tuple.
+fn lists_tuple(argument: &Argument) -> bool
+    ensures { (live : Tables) (texts : List OneText) → result ≡ calls.lists_tuple (argument_of live texts argument.now) }
+{
+    match argument {
+        Argument::Many(items) => has_tuple(items.as_slice()),
+        Argument::One(_) => false,
+        Argument::Nothing => false,
+        Argument::Row(_) => false,
+        Argument::Table(_) => false,
+    }
+}
+
+// Whether an argument is a list of labels of several levels for the rows.
+fn is_levels(parameters: &[Parameter], unnamed: usize, given: &Named) -> bool
+    requires { 2 ≤ length parameters.now }
+    ensures { (live : Tables) (texts : List OneText) → result ≡ (nat_eq (plain.goes_to parameters.now unnamed given.now.name) 1 && calls.lists_tuple (argument_of live texts given.now.value)) }
+{
+    goes_second(parameters, unnamed, &given.name) && lists_tuple(&given.value)
+}
+
+// Whether one of the arguments is.
+pub(crate) fn has_levels(parameters: &[Parameter], args: &[Named]) -> bool
+    requires { 2 ≤ length parameters.now }
+    ensures { (live : Tables) (texts : List OneText) → result ≡ calls.levels_among parameters.now 0 (arguments_of live texts args.now) }
+{
+    let mut unnamed = 0;
+    let mut rest = args;
+    while let [first, after @ ..] = rest {
+        if is_levels(parameters, unnamed, first) {
+            return true;
+        }
+        unnamed = counted(unnamed, &first.name);
+        rest = after;
+    }
+    false
+}

@@ -1,0 +1,125 @@
+// Columns and labels of the scalars of a list.
+ghost use Rattle.std.specs.Prelude.{◌≡◌, ◌++◌, List, map, Err, IfOk, OnOk, IfErr, unwrap_or};
+ghost use Rattle.std.specs.Option.{option_map};
+ghost use Rattle.meaning.specs.Text.{Text as OneText};
+ghost use Rattle.meaning.specs.Cell.{CellValue, datum};
+ghost use Rattle.multi_index.specs.Axes.{HaveLevels};
+ghost use Rattle.frame_store.specs.Shown.{labels_value};
+ghost use Rattle.form_meaning.specs.Set as set;
+ghost use Rattle.form_meaning.specs.Make as meant;
+ghost use Rattle.form_parts.specs.Makes.{MakesBy};
+ghost use Rattle.constructors.specs.Scalars.{scalars, with_cell, column_seen, held_after, held_column, label_of, tuples_of};
+
+use cell_core::{Cell, Code, Kind, Label, NoMemory, Tuple, Tuples};
+use frame_store::{Item, OpFault};
+use nullable_array::Column;
+use std::alloc::Global;
+
+// The kind of a cell that is present.
+fn present_kind(cell: Option<Cell>) -> Option<Kind>
+    ensures { (texts : List OneText) (rest : List CellValue) → set.first_kind (with_cell (option_map (datum texts) cell) rest) ≡ unwrap_or result (set.first_kind rest) }
+{
+    match cell {
+        Some(Cell::Int(_)) => Some(Kind::Int64),
+        Some(Cell::Bool(_)) => Some(Kind::Boolean),
+        Some(Cell::Text(_)) => Some(Kind::Text),
+        Some(Cell::Na) => None,
+        None => None,
+    }
+}
+
+// The kind of the first scalar that is present; whole numbers where none is.
+fn first_kind(items: &[Item]) -> Kind
+    ensures { (texts : List OneText) → result ≡ set.first_kind (scalars texts items.now) }
+{
+    let mut rest = items;
+    while let [first, after @ ..] = rest {
+        match present_kind(first.scalar()) {
+            Some(kind) => return kind,
+            None => {}
+        }
+        rest = after;
+    }
+    Kind::Int64
+}
+
+// Appends a cell, which the column's kind must hold.
+fn push_held(column: &mut Column, cell: Cell) -> Result<(), OpFault>
+    ensures kind { column.new.kind ≡ column.old.kind }
+    ensures ok { OnOk result ((texts : List OneText) (rest : List CellValue) → held_after column.old.kind (map (datum texts) column.new.cells) rest ≡ held_after column.old.kind (map (datum texts) column.old.cells) (with_cell (option_map (datum texts) (Some cell)) rest)) }
+    ensures err { IfErr result (λ fault. (texts : List OneText) (rest : List CellValue) → MakesBy column_seen texts (Err fault) (held_after column.old.kind (map (datum texts) column.old.cells) (with_cell (option_map (datum texts) (Some cell)) rest))) }
+{
+    if !column.as_ref().kind().holds(cell) {
+        return Err(OpFault::Refused(Code::WrongKind));
+    }
+    column.push(cell)?;
+    Ok(())
+}
+
+// The same where there is a cell.
+fn push_scalar(column: &mut Column, cell: Option<Cell>) -> Result<(), OpFault>
+    ensures kind { column.new.kind ≡ column.old.kind }
+    ensures ok { OnOk result ((texts : List OneText) (rest : List CellValue) → held_after column.old.kind (map (datum texts) column.new.cells) rest ≡ held_after column.old.kind (map (datum texts) column.old.cells) (with_cell (option_map (datum texts) cell) rest)) }
+    ensures err { IfErr result (λ fault. (texts : List OneText) (rest : List CellValue) → MakesBy column_seen texts (Err fault) (held_after column.old.kind (map (datum texts) column.old.cells) (with_cell (option_map (datum texts) cell) rest))) }
+{
+    match cell {
+        None => Ok(()),
+        Some(cell) => push_held(column, cell),
+    }
+}
+
+// The column of the scalars, each of which the kind must hold.
+fn column_of_kind(alloc: Global, kind: Kind, items: &[Item]) -> Result<Column, OpFault>
+    ensures { (texts : List OneText) → MakesBy column_seen texts result (held_column kind (scalars texts items.now)) }
+{
+    let mut column = Column::new(alloc, kind);
+    let mut rest = items;
+    while let [first, after @ ..] = rest {
+        push_scalar(&mut column, first.scalar())?;
+        rest = after;
+    }
+    Ok(column)
+}
+
+// The column of the scalars, which must be of one kind.
+pub(crate) fn list_column(alloc: Global, items: &[Item]) -> Result<Column, OpFault>
+    ensures { (texts : List OneText) → MakesBy column_seen texts result (set.list_column (scalars texts items.now)) }
+{
+    column_of_kind(alloc, first_kind(items), items)
+}
+
+// A cell as a label.
+pub(crate) fn label_of(cell: Cell) -> Label
+    ensures { result ≡ label_of cell }
+{
+    match cell {
+        Cell::Na => Label::Na,
+        Cell::Int(number) => Label::Int(number),
+        Cell::Bool(truth) => Label::Bool(truth),
+        Cell::Text(id) => Label::Text(id),
+    }
+}
+
+// Appends the label that a cell is, where there is a cell, as a tuple of its own.
+fn push_label(alloc: Global, tuples: &mut Tuples, cell: Option<Cell>) -> Result<(), NoMemory>
+    ensures { OnOk result (tuples.new ≡ tuples.old ++ tuples_of cell) }
+{
+    match cell {
+        None => Ok(()),
+        Some(cell) => tuples.push(Tuple::of(alloc, &[label_of(cell)])),
+    }
+}
+
+// The scalars as labels, each in a tuple of its own.
+pub(crate) fn single_tuples(alloc: Global, items: &[Item]) -> Result<Tuples, NoMemory>
+    ensures levels { IfOk result (HaveLevels 1) }
+    ensures labels { IfOk result (λ tuples. (texts : List OneText) → labels_value texts tuples ≡ meant.single_labels (scalars texts items.now)) }
+{
+    let mut tuples = Tuples::new(alloc);
+    let mut rest = items;
+    while let [first, after @ ..] = rest {
+        push_label(alloc, &mut tuples, first.scalar())?;
+        rest = after;
+    }
+    Ok(tuples)
+}

@@ -1,0 +1,98 @@
+// What `pd.Series` makes.
+ghost use Rattle.std.specs.Prelude.{◌≡◌, ◌∷◌, [], List, length, Some, None, IfOk};
+ghost use Rattle.std.specs.Option.{option_map};
+ghost use Rattle.cell_core.specs.declared.grid.Shape.TheVariants.{Series};
+ghost use Rattle.meaning.specs.Cell.{AreGiven, IsLonger};
+ghost use Rattle.table_meaning.specs.Settled.{IsSettled};
+ghost use Rattle.table_meaning.specs.Table.{heading_value, table_value};
+ghost use Rattle.form_meaning.specs.Make as make;
+ghost use Rattle.form_parts.specs.Makes.{MakesBy};
+ghost use Rattle.frame_store.specs.Parts.{table_with};
+ghost use Rattle.frame_store.specs.Shown.{Makes};
+ghost use Rattle.constructors.specs.Scalars.{scalars, table_column, column_seen};
+ghost use Rattle.constructors.specs.Made as meant;
+
+use crate::axes::index_axis;
+use crate::scalars::list_column;
+use cell_core::{Kind, Label, NoMemory, Shape, TextDict};
+use form_parts::refusal_of;
+use frame_store::{Blocks, Headings, Item, OpFault, Table};
+use multi_index::Axis;
+use nullable_array::{Column, cast};
+use std::alloc::Global;
+
+// The column as one of the kind.
+fn cast_column(
+    alloc: Global,
+    dict: &mut TextDict,
+    column: &Column,
+    kind: Kind,
+) -> Result<Column, OpFault>
+    requires { AreGiven dict.old column.now.cells }
+    ensures longer { IsLonger dict.old dict.new }
+    ensures given { IfOk result (λ c. AreGiven dict.new c.cells) }
+    ensures answer { MakesBy column_seen dict.new result (make.cast_to (Some kind) (column_seen dict.old column.now)) }
+{
+    match cast(alloc, dict, column.as_ref(), kind) {
+        Ok(column) => Ok(column),
+        Err(fault) => Err(refusal_of(fault)),
+    }
+}
+
+// The same where there is a kind.
+#[tactic(auto, using(frame_store::proofs::Settling::longer_self))]
+fn cast_to(
+    alloc: Global,
+    dict: &mut TextDict,
+    column: Column,
+    kind: Option<Kind>,
+) -> Result<Column, OpFault>
+    requires { AreGiven dict.old column.cells }
+    ensures longer { IsLonger dict.old dict.new }
+    ensures given { IfOk result (λ c. AreGiven dict.new c.cells) }
+    ensures answer { MakesBy column_seen dict.new result (make.cast_to kind (column_seen dict.old column)) }
+{
+    match kind {
+        None => Ok(column),
+        Some(kind) => cast_column(alloc, dict, &column, kind),
+    }
+}
+
+// The Series of a column, under an axis and a name if it has one.
+fn series_table(
+    alloc: Global,
+    axis: Axis,
+    name: Option<Label>,
+    column: Column,
+) -> Result<Table, NoMemory>
+    requires { length column.cells ≡ length axis.tuples }
+    ensures { IfOk result (λ made. made ≡ table_with Series axis record { columns_name = None; labels = name ∷ [] } (table_column column ∷ [])) }
+{
+    let mut headings = Headings::new(alloc, None);
+    headings.push(name)?;
+    let mut blocks = Blocks::new(alloc);
+    blocks.push(column.into_block())?;
+    Ok(Table::new(Shape::Series, axis, headings, blocks))
+}
+
+// The Series of the scalars.
+pub(crate) fn series_of(
+    alloc: Global,
+    dict: &mut TextDict,
+    values: &[Item],
+    index: Option<&[Item]>,
+    name: Option<Label>,
+    kind: Option<Kind>,
+) -> Result<Table, OpFault>
+    requires values { IsSettled scalars dict.old values.now }
+    requires index { IsSettled (λ texts given. option_map (λ items. scalars texts items.now) given) dict.old index }
+    requires name { IsSettled heading_value dict.old name }
+    ensures longer { IsLonger dict.old dict.new }
+    ensures settled { IfOk result (IsSettled table_value dict.new) }
+    ensures answer { Makes dict.new result (meant.series_with (scalars dict.old values.now) (option_map (λ items. scalars dict.old items.now) index.entry) (heading_value dict.old name) kind) }
+{
+    let listed = list_column(alloc, values)?;
+    let column = cast_to(alloc, dict, listed, kind)?;
+    let axis = index_axis(alloc, dict, index, column.as_ref().len(), 1)?;
+    Ok(series_table(alloc, axis, name, column)?)
+}
