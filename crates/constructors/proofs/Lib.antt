@@ -1,4 +1,3 @@
 pub mod ScalarLaws
 pub mod MadeLaws
 pub mod GivenLaws
-pub mod PairLaws

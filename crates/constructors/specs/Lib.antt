@@ -1,3 +1,2 @@
 pub mod Scalars
 pub mod Made
-pub mod Pairs

@@ -15,7 +15,6 @@
 #![tactic(auto)]
 
 mod axes;
-mod frames;
 mod functions;
 mod given;
 mod levels;
