@@ -4,7 +4,7 @@ use Rattle.cell_core.specs.declared.grid.Shape.{Shape}
 use Rattle.cell_core.specs.declared.grid.Shape.TheVariants.{Series, Frame}
 use Rattle.meaning.specs.Cell.{CellValue, na_cell, int_cell, LabelValue}
 use Rattle.meaning.specs.Operator.{cell_label}
-use Rattle.meaning.specs.Table.{place_of}
+use Rattle.meaning.specs.Place.{place_of}
 use Rattle.meaning.specs.Tree.{Accessor, iloc}
 use Rattle.meaning.specs.Fault.{FaultValue, wrong_kind, no_key, out_of_range, not_built, then_value}
 use Rattle.table_meaning.specs.Table.{Table, column_at}

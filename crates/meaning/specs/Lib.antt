@@ -1,7 +1,7 @@
 pub mod Text
 pub mod Cell
 pub mod Column
-pub mod Table
+pub mod Place
 pub mod Block
 pub mod Tree
 pub mod Operator
@@ -16,9 +16,3 @@ pub mod Script
 pub mod Fault
 pub mod FaultText
 pub mod FaultOf
-pub mod Value
-pub mod State
-pub mod Method
-pub mod Expression
-pub mod Statement
-pub mod Run

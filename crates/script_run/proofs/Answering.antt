@@ -4,15 +4,15 @@ use Rattle.std.specs.Prelude.{if◌then◌else◌, ◌||◌, option_map, Result,
 use Rattle.cell_core.specs.declared.code.Code.{Code}
 use Rattle.meaning.specs.Text.{Text, same_text}
 use Rattle.meaning.specs.Cell.{datum}
-use Rattle.meaning.specs.Table.{Table}
+use Rattle.script_meaning.specs.Table.{Table}
 use Rattle.meaning.specs.Tree.{Accessor}
-use Rattle.meaning.specs.Value as value
-use Rattle.meaning.specs.Value.{Entry, GivenSub, Target}
-use Rattle.meaning.specs.State.{State}
+use Rattle.script_meaning.specs.Value as value
+use Rattle.script_meaning.specs.Value.{Entry, GivenSub, Target}
+use Rattle.script_meaning.specs.State.{State}
 use Rattle.meaning.specs.Fault.{FaultValue, then_value}
 use Rattle.meaning.specs.FaultOf.{fault_of}
-use Rattle.meaning.specs.Expression.{set_result}
-use Rattle.meaning.specs.Statement.{Answer, done, refused, then_answer, set_answer, is_chained, removal_answer}
+use Rattle.script_meaning.specs.Expression.{set_result}
+use Rattle.script_meaning.specs.Statement.{Answer, done, refused, then_answer, set_answer, is_chained, removal_answer}
 use Rattle.script_run.specs.declared.value.Value.{Value}
 use Rattle.script_run.specs.declared.value.Value.TheVariants.{Object, Scalar}
 use Rattle.script_run.specs.declared.value.OpFault.{OpFault}

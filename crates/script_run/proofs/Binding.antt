@@ -7,8 +7,8 @@ use Rattle.std.specs.List.{IsDistinct, AllByRecursion}
 use Rattle.std.specs.Map.{keys_of}
 use Rattle.cell_core.specs.declared.cell.Cell.TheVariants as cell
 use Rattle.meaning.specs.Text.{Text, same_text}
-use Rattle.meaning.specs.Table.{Table}
-use Rattle.meaning.specs.State.{without_name}
+use Rattle.script_meaning.specs.Table.{Table}
+use Rattle.script_meaning.specs.State.{without_name}
 use Rattle.script_run.specs.declared.value.Value.{Value}
 use Rattle.script_run.specs.declared.value.Value.TheVariants.{Object, Scalar}
 use Rattle.script_run.specs.Values.{Tables, World, IsLive, entry_of, with_object_at}

@@ -7,7 +7,7 @@ use Rattle.std.specs.List.{list_any}
 use Rattle.std.specs.Map.{lookup, values_of}
 use Rattle.indexmap.specs.IndexMap.{insert_entry, shift_remove_entry}
 use Rattle.meaning.specs.Text.{Text, same_text}
-use Rattle.meaning.specs.State.{with_name}
+use Rattle.script_meaning.specs.State.{with_name}
 use Rattle.script_run.specs.declared.value.Value.{Value}
 use Rattle.script_run.specs.declared.value.Value.TheVariants.{Object}
 use Rattle.script_run.specs.Bindings.{Bindings, bindings_of, bound, unbound, value_at, is_named, is_object}

@@ -2,12 +2,12 @@
 use Rattle.std.proofs.Common.{◌≡◌, Bool, true, List, Option, Some, None, refl, sym, ◌∙◌, ap}
 use Rattle.std.specs.Prelude.{ℤ, Result, Ok, Err, IfOk, IfErr}
 use Rattle.meaning.specs.Text.{Text}
-use Rattle.meaning.specs.Value as value
-use Rattle.meaning.specs.Value.{Entry, GivenSub}
+use Rattle.script_meaning.specs.Value as value
+use Rattle.script_meaning.specs.Value.{Entry, GivenSub}
 use Rattle.meaning.specs.Tree.{Accessor, loc, iloc, at, iat}
 use Rattle.meaning.specs.Fault.{FaultValue, then_value}
 use Rattle.meaning.specs.FaultOf.{fault_of}
-use Rattle.meaning.specs.Expression.{where_named, has_method, accessed}
+use Rattle.script_meaning.specs.Expression.{where_named, has_method, accessed}
 use Rattle.script_run.specs.declared.value.Value.{Value}
 use Rattle.script_run.specs.declared.value.Value.TheVariants.{Object, Scalar}
 use Rattle.script_run.specs.declared.value.OpFault.{OpFault}

@@ -5,10 +5,10 @@ use Rattle.std.specs.FinMap.{get}
 use Rattle.outside_io.specs.Sink.{AppendsFront}
 use Rattle.outside_io.proofs.Appended.{appended-nil}
 use Rattle.meaning.specs.Text.{Text, Contents}
-use Rattle.meaning.specs.State.{no_names}
+use Rattle.script_meaning.specs.State.{no_names}
 use Rattle.meaning.specs.Tree.{Statement}
 use Rattle.meaning.specs.Script.{most_bytes}
-use Rattle.meaning.specs.Run.{RunResult, IsScriptResult, IsFileResult, IsPathResult, statements_result, with_line, too_large_line, syntax_line, not_found_line, syntax, usage}
+use Rattle.script_meaning.specs.Run.{RunResult, IsScriptResult, IsFileResult, IsPathResult, statements_result, with_line, too_large_line, syntax_line, not_found_line, syntax, usage}
 use Rattle.script_syntax.specs.Parsed.{IsTheScript, IsTheSyntaxLine}
 use Rattle.script_run.specs.Ends.{Ends, EndsByMeaning, EndsWithLine, Is}
 use Rattle.script_run.proofs.RunLaws.{ends_other, nothing_yet}

@@ -1,7 +1,7 @@
 -- Objects that are made, kept and ended.
 use Rattle.std.proofs.Common.{◌≡◌, ℕ, Bool, true, false, nat_eq, List, [], ◌∷◌, ◌++◌, None, refl, ◌∙◌, ap, subst, IsSome}
 use Rattle.std.specs.Prelude.{if◌then◌else◌}
-use Rattle.meaning.specs.Table.{Table}
+use Rattle.script_meaning.specs.Table.{Table}
 use Rattle.script_run.specs.Values.{Tables, with_object_at}
 use Rattle.script_run.specs.Bindings.{Bindings, is_named, contains, AreNoted, AreNamed, KeepNamed}
 use Rattle.script_run.proofs.Numbers.{nat_same, true_false, some_none}

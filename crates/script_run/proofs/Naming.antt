@@ -7,8 +7,8 @@ use Rattle.std.specs.List.{IsDistinct}
 use Rattle.std.specs.Map.{keys_of}
 use Rattle.std.proofs.lemmas.Map.Entries.{lookup_from_place}
 use Rattle.meaning.specs.Text.{Text}
-use Rattle.meaning.specs.Table.{Table}
-use Rattle.meaning.specs.Value.{Entry}
+use Rattle.script_meaning.specs.Table.{Table}
+use Rattle.script_meaning.specs.Value.{Entry}
 use Rattle.meaning.specs.Fault.{FaultValue}
 use Rattle.script_run.specs.declared.value.Value.{Value}
 use Rattle.script_run.specs.declared.value.Value.TheVariants.{Object, Scalar}

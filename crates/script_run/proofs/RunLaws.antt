@@ -6,11 +6,11 @@ use Rattle.outside_io.specs.Sink.{appended, AppendsFront}
 use Rattle.outside_io.proofs.Appended.{appended-appended, appended-nil}
 use Rattle.meaning.specs.Text.{Text}
 use Rattle.meaning.specs.Tree.{Statement}
-use Rattle.meaning.specs.State.{State}
+use Rattle.script_meaning.specs.State.{State}
 use Rattle.meaning.specs.Fault.{FaultValue}
 use Rattle.meaning.specs.FaultText.{fault_text}
-use Rattle.meaning.specs.Statement.{Answer, done, refused, statement_result}
-use Rattle.meaning.specs.Run.{RunResult, statements_result, Ending, finished, fault, usage, syntax, after_texts, after_answer, warning_line, line_about, with_line}
+use Rattle.script_meaning.specs.Statement.{Answer, done, refused, statement_result}
+use Rattle.script_meaning.specs.Run.{RunResult, statements_result, Ending, finished, fault, usage, syntax, after_texts, after_answer, warning_line, line_about, with_line}
 use Rattle.script_run.specs.Ends.{Ends, EndsAs, EndsEarly, EndsUnread, EndsWithLine, Is, GoesOn, Stops, Warned, status_of}
 use Rattle.script_run.specs.declared.status.Status.{Status}
 use Rattle.script_run.specs.declared.status.Status.TheVariants.{Done, Fault, Usage, Syntax, Input, Output, Memory}

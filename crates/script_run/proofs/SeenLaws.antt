@@ -4,12 +4,12 @@ use Rattle.std.specs.Prelude.{if◌then◌else◌, ◌&&◌, Ok, Err, option_map
 use Rattle.std.proofs.lemmas.List.{append-nil}
 use Rattle.meaning.specs.Text.{Text, same_text}
 use Rattle.meaning.specs.Cell.{na_cell, int_cell, truth_cell, text_cell}
-use Rattle.meaning.specs.Table.{Table}
+use Rattle.script_meaning.specs.Table.{Table}
 use Rattle.meaning.specs.Tree.{Accessor, loc, iloc, at, iat}
-use Rattle.meaning.specs.Value as value
-use Rattle.meaning.specs.Value.{Entry, cell, table, GivenSub, GivenList, Target}
+use Rattle.script_meaning.specs.Value as value
+use Rattle.script_meaning.specs.Value.{Entry, cell, table, GivenSub, GivenList, Target}
 use Rattle.meaning.specs.Fault.{not_built}
-use Rattle.meaning.specs.Expression.{made, method_result, accessed, set_result, numbers_of, series_of, series_with}
+use Rattle.script_meaning.specs.Expression.{made, method_result, accessed, set_result, numbers_of, series_of, series_with}
 use Rattle.script_run.specs.declared.given.Given.{Given}
 use Rattle.script_run.specs.declared.given.Given.TheVariants.{Number, Listed, Other}
 use Rattle.script_run.specs.declared.given.Arguments.{Arguments}

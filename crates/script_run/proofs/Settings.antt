@@ -2,13 +2,13 @@
 use Rattle.std.proofs.Common.{◌≡◌, Bool, Option, Some, None, refl, ◌∙◌, ap, subst}
 use Rattle.std.specs.Prelude.{if◌then◌else◌, ◌||◌, Result, Ok, Err, OnOk, IfOk}
 use Rattle.meaning.specs.Text.{Text}
-use Rattle.meaning.specs.Table.{Table}
+use Rattle.script_meaning.specs.Table.{Table}
 use Rattle.meaning.specs.Tree as tree
-use Rattle.meaning.specs.Value.{Entry, Given, Target, table}
-use Rattle.meaning.specs.State.{State}
+use Rattle.script_meaning.specs.Value.{Entry, Given, Target, table}
+use Rattle.script_meaning.specs.State.{State}
 use Rattle.meaning.specs.Fault.{FaultValue}
-use Rattle.meaning.specs.Expression.{named_by, value_of, given_of, target_of, set_result}
-use Rattle.meaning.specs.Statement.{Answer, done, refused, then_answer, with_set, set_answer, is_chained, statement_result}
+use Rattle.script_meaning.specs.Expression.{named_by, value_of, given_of, target_of, set_result}
+use Rattle.script_meaning.specs.Statement.{Answer, done, refused, then_answer, with_set, set_answer, is_chained, statement_result}
 use Rattle.script_run.specs.declared.fault.Outcome.{Outcome}
 use Rattle.script_run.specs.declared.fault.StepFault.{StepFault}
 use Rattle.script_run.specs.Apart.{IsSetApart, ChangesOneObject}

@@ -6,10 +6,10 @@ use Rattle.cell_core.specs.declared.cell.Cell.TheVariants as cell
 use Rattle.cell_core.proofs.TextLaws.{datum_stays}
 use Rattle.meaning.specs.Cell.{datum}
 use Rattle.meaning.specs.Text.{Text, same_text}
-use Rattle.meaning.specs.Value as value
-use Rattle.meaning.specs.Value.{Entry, is_table}
-use Rattle.meaning.specs.State.{State, with_new, with_object}
-use Rattle.meaning.specs.Statement.{with_value}
+use Rattle.script_meaning.specs.Value as value
+use Rattle.script_meaning.specs.Value.{Entry, is_table}
+use Rattle.script_meaning.specs.State.{State, with_new, with_object}
+use Rattle.script_meaning.specs.Statement.{with_value}
 use Rattle.script_run.specs.declared.value.Value.{Value}
 use Rattle.script_run.specs.declared.value.Value.TheVariants.{Object, Scalar}
 use Rattle.script_run.specs.Values.{World, entry_of, table_or, IsLive, Keeps}

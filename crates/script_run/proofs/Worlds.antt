@@ -4,10 +4,11 @@ use Rattle.std.specs.Prelude.{if◌then◌else◌, Result, Ok, Err}
 use Rattle.std.proofs.lemmas.List.{append-nil}
 use Rattle.meaning.specs.Cell.{IsLonger, int_cell}
 use Rattle.meaning.specs.Text.{Text}
-use Rattle.meaning.specs.Table.{Table, place_of}
-use Rattle.meaning.specs.Value.{Entry, cell, table}
+use Rattle.script_meaning.specs.Table.{Table}
+use Rattle.meaning.specs.Place.{place_of}
+use Rattle.script_meaning.specs.Value.{Entry, cell, table}
 use Rattle.meaning.specs.Fault.{FaultValue}
-use Rattle.meaning.specs.Expression.{with_number_at, length_of_entry}
+use Rattle.script_meaning.specs.Expression.{with_number_at, length_of_entry}
 use Rattle.script_run.specs.declared.value.Value.{Value}
 use Rattle.script_run.specs.declared.value.Value.TheVariants.{Object, Scalar}
 use Rattle.script_run.specs.declared.value.OpFault.{OpFault}

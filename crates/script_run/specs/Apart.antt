@@ -1,8 +1,8 @@
 -- A setting changes one object alone.
 use Rattle.std.specs.Prelude.{◌≡◌, false, Option, Some, None}
 use Rattle.meaning.specs.Text.{Text, same_text}
-use Rattle.meaning.specs.State.{State}
-use Rattle.meaning.specs.Expression.{named_by}
+use Rattle.script_meaning.specs.State.{State}
+use Rattle.script_meaning.specs.Expression.{named_by}
 use Rattle.meaning.specs.Tree as tree
 
 -- A setting through a name changes the values of that name and of the names of its object alone, and a setting on an object without a name changes nothing.

@@ -3,7 +3,7 @@ use Rattle.std.specs.Prelude.{◌≡◌, ℕ, ◌<◌, Bool, true, false, List, 
 use Rattle.std.specs.declared.string.String.{String}
 use Rattle.cell_core.specs.declared.cell.Cell.TheVariants as cell
 use Rattle.meaning.specs.Text.{Text, same_text}
-use Rattle.meaning.specs.State.{State}
+use Rattle.script_meaning.specs.State.{State}
 use Rattle.script_run.specs.declared.value.Value.{Value}
 use Rattle.script_run.specs.declared.value.Value.TheVariants.{Object, Scalar}
 use Rattle.script_run.specs.Values.{Tables, World, entry_of, with_object_at}

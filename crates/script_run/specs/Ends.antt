@@ -2,9 +2,9 @@
 use Rattle.std.specs.Prelude.{◌≡◌, ◌⊎◌, ℕ, List, ◌++◌, Option, codes}
 use Rattle.outside_io.specs.Sink.{appended, AppendsFront}
 use Rattle.meaning.specs.Text.{Text}
-use Rattle.meaning.specs.Run.{RunResult, Ending, finished, fault, usage, syntax, after_texts, after_answer}
-use Rattle.meaning.specs.State.{State}
-use Rattle.meaning.specs.Statement.{Answer}
+use Rattle.script_meaning.specs.Run.{RunResult, Ending, finished, fault, usage, syntax, after_texts, after_answer}
+use Rattle.script_meaning.specs.State.{State}
+use Rattle.script_meaning.specs.Statement.{Answer}
 use Rattle.script_run.specs.declared.status.Status.{Status}
 use Rattle.script_run.specs.declared.status.Status.TheVariants.{Done, Fault, Usage, Syntax, Input, Output, Memory}
 

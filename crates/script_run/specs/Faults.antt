@@ -5,10 +5,10 @@ use Rattle.cell_core.specs.declared.code.Code.TheVariants.{NoName, NoAttribute, 
 use Rattle.meaning.specs.Text.{Text}
 use Rattle.meaning.specs.Fault.{FaultValue}
 use Rattle.meaning.specs.FaultOf.{fault_of}
-use Rattle.meaning.specs.Method.{series_has}
-use Rattle.meaning.specs.Table.{Table}
-use Rattle.meaning.specs.Value.{Entry}
-use Rattle.meaning.specs.Statement.{Answer, refused}
+use Rattle.script_meaning.specs.Method.{series_has}
+use Rattle.script_meaning.specs.Table.{Table}
+use Rattle.script_meaning.specs.Value.{Entry}
+use Rattle.script_meaning.specs.Statement.{Answer, refused}
 use Rattle.script_run.specs.declared.value.Value.{Value}
 use Rattle.script_run.specs.declared.value.Value.TheVariants.{Object, Scalar}
 use Rattle.script_run.specs.declared.value.OpFault.{OpFault}

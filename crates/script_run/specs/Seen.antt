@@ -2,12 +2,13 @@
 use Rattle.std.specs.Prelude.{ℤ, List, [], ◌∷◌, Option, Some, None, Result, Ok, Err, length, codes, if◌then◌else◌}
 use Rattle.meaning.specs.Text.{Text, same_text}
 use Rattle.meaning.specs.Cell.{int_cell}
-use Rattle.meaning.specs.Table.{Table, place_of}
+use Rattle.script_meaning.specs.Table.{Table}
+use Rattle.meaning.specs.Place.{place_of}
 use Rattle.meaning.specs.Tree.{Accessor, iloc}
-use Rattle.meaning.specs.Value as value
-use Rattle.meaning.specs.Value.{Entry, cell, table, GivenSub, Target}
+use Rattle.script_meaning.specs.Value as value
+use Rattle.script_meaning.specs.Value.{Entry, cell, table, GivenSub, Target}
 use Rattle.meaning.specs.Fault.{FaultValue, wrong_kind, not_built, then_value}
-use Rattle.meaning.specs.Expression.{numbers_of, number_at, with_number_at}
+use Rattle.script_meaning.specs.Expression.{numbers_of, number_at, with_number_at}
 use Rattle.script_run.specs.declared.given.Given.{Given}
 use Rattle.script_run.specs.declared.given.Given.TheVariants.{Number, Listed, Other}
 use Rattle.script_run.specs.declared.given.Arguments.{Arguments}

@@ -1,7 +1,7 @@
 -- What a session stands for.
 use Rattle.std.specs.Prelude.{◌≡◌, ◌↔◌, ℕ, List, Some, IsSome}
 use Rattle.meaning.specs.Text.{Text}
-use Rattle.meaning.specs.State.{State}
+use Rattle.script_meaning.specs.State.{State}
 use Rattle.script_run.specs.declared.value.Value.TheVariants.{Object}
 use Rattle.script_run.specs.Values.{Tables}
 use Rattle.script_run.specs.Bindings.{value_at}

@@ -2,9 +2,9 @@
 use Rattle.std.specs.Prelude.{◌≡◌, ℕ, List, [], Option, Some, None, IsSome, if◌then◌else◌, nat_eq, slice_set, ℤ}
 use Rattle.slab.specs.Slab.{Slab, get}
 use Rattle.meaning.specs.Text.{Text}
-use Rattle.meaning.specs.Table.{Table}
+use Rattle.script_meaning.specs.Table.{Table}
 use Rattle.meaning.specs.Cell.{datum, IsGiven, IsLonger}
-use Rattle.meaning.specs.Value.{Entry, cell, table}
+use Rattle.script_meaning.specs.Value.{Entry, cell, table}
 use Rattle.script_run.specs.declared.value.Value.{Value}
 use Rattle.script_run.specs.declared.value.Value.TheVariants.{Object, Scalar}
 

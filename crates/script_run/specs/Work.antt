@@ -1,5 +1,5 @@
 -- What stands in the midst of a statement.
-use Rattle.meaning.specs.State.{State}
+use Rattle.script_meaning.specs.State.{State}
 use Rattle.script_run.specs.Values.{World, Tables, tables_of}
 use Rattle.script_run.specs.Bindings.{Bindings, bindings_of, state_over}
 use Rattle.script_run.specs.declared.work.Work.{Work}

@@ -1,8 +1,8 @@
 // The values of expressions and arguments. What they make is noted.
 ghost use Rattle.std.specs.Prelude.{◌≡◌, Some, None, Ok, Err, IfOk, IfErr, OnOk};
-ghost use Rattle.meaning.specs.Value.{Entry};
+ghost use Rattle.script_meaning.specs.Value.{Entry};
 ghost use Rattle.meaning.specs.Tree.{arg_list, named_args, arg_pairs};
-ghost use Rattle.meaning.specs.Expression.{named_by, value_of, stepped, given_of, givens_of, pairs_of, named_of, sub_of, second_of, bound_of, numbers_of};
+ghost use Rattle.script_meaning.specs.Expression.{named_by, value_of, stepped, given_of, givens_of, pairs_of, named_of, sub_of, second_of, bound_of, numbers_of};
 ghost use Rattle.script_syntax.specs.View.{expr_of, step_of, sub_of as view_sub, arg_of, accessor_of, optional_arg, parts_of, named_parts_of, pair_parts_of};
 ghost use Rattle.script_run.specs.Values.{IsLive, Keeps, entry_of};
 ghost use Rattle.script_run.specs.Bindings.{IsOf};

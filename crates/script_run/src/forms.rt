@@ -1,9 +1,9 @@
 // Forms on values.
 ghost use Rattle.std.specs.Prelude.{◌≡◌, ◌<◌, length, Some, None, Ok, IfOk, IfErr, OnOk, OnErr, true};
-ghost use Rattle.meaning.specs.Value.{table, cell};
-ghost use Rattle.meaning.specs.Table.{place_of};
-ghost use Rattle.meaning.specs.Method.{is_function};
-ghost use Rattle.meaning.specs.Expression.{length_of_entry, number_at, cell_of};
+ghost use Rattle.script_meaning.specs.Value.{table, cell};
+ghost use Rattle.meaning.specs.Place.{place_of};
+ghost use Rattle.script_meaning.specs.Method.{is_function};
+ghost use Rattle.script_meaning.specs.Expression.{length_of_entry, number_at, cell_of};
 ghost use Rattle.script_syntax.specs.View.{literal_of};
 ghost use Rattle.script_run.specs.Values.{World, IsLive, Keeps, entry_of};
 ghost use Rattle.script_run.specs.Bindings.{value_at, IsOf};

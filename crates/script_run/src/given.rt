@@ -1,6 +1,6 @@
 // What forms see of evaluated arguments.
 ghost use Rattle.std.specs.Prelude.{◌≡◌, IfOk};
-ghost use Rattle.meaning.specs.Value.{one};
+ghost use Rattle.script_meaning.specs.Value.{one};
 ghost use Rattle.script_run.specs.Values.{World, entry_of};
 ghost use Rattle.script_run.specs.Adding.{with_part, with_argument, number_of};
 ghost use Rattle.script_run.specs.Seen.{seen, list_seen};

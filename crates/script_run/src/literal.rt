@@ -1,7 +1,7 @@
 // Values that are written out.
 ghost use Rattle.std.specs.Prelude.{◌≡◌, IfOk};
 ghost use Rattle.meaning.specs.Cell.{datum, IsGiven, IsLonger};
-ghost use Rattle.meaning.specs.Expression.{cell_of};
+ghost use Rattle.script_meaning.specs.Expression.{cell_of};
 ghost use Rattle.script_syntax.specs.View.{literal_of};
 
 use cell_core::{Cell, NoMemory, TextDict};

@@ -2,7 +2,7 @@
 ghost use Rattle.std.specs.Prelude.{◌≡◌};
 ghost use Rattle.std.specs.List.{list_any};
 ghost use Rattle.meaning.specs.Text.{same_text};
-ghost use Rattle.meaning.specs.Method.{series_has, is_function};
+ghost use Rattle.script_meaning.specs.Method.{series_has, is_function};
 
 // The methods of a Series.
 const SERIES_METHODS: [&str; 35] = [

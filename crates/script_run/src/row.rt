@@ -1,8 +1,8 @@
 // Rows of numbers, and the texts of scalars.
 ghost use Rattle.std.specs.Prelude.{◌≡◌, ◌<◌, ◌++◌, IfOk, IfSome};
-ghost use Rattle.meaning.specs.Table.{place_of};
+ghost use Rattle.meaning.specs.Place.{place_of};
 ghost use Rattle.meaning.specs.Cell.{datum};
-ghost use Rattle.meaning.specs.Statement.{cell_text};
+ghost use Rattle.script_meaning.specs.Statement.{cell_text};
 
 use cell_core::{Cell, NoMemory, TextDict, Words};
 use itoa::Buffer;

@@ -2,8 +2,8 @@
 ghost use Rattle.std.specs.Prelude.{◌≡◌, ◌≢◌, ◌⊎◌, ◌<◌, ◌≤◌, ◌^◌, ℕ, List, length, map, IfSome, IfNone, IsSome, MatchOption, string_bytes};
 ghost use Rattle.outside_io.specs.Count.{HasRisen, raised};
 ghost use Rattle.meaning.specs.Script.{most_bytes};
-ghost use Rattle.meaning.specs.State.{no_names};
-ghost use Rattle.meaning.specs.Run.{not_found_line, syntax_line, too_large_line, IsRunResult, IsScriptResult, IsPathResult, path_of, statements_result, usage, usage_line, with_line};
+ghost use Rattle.script_meaning.specs.State.{no_names};
+ghost use Rattle.script_meaning.specs.Run.{not_found_line, syntax_line, too_large_line, IsRunResult, IsScriptResult, IsPathResult, path_of, statements_result, usage, usage_line, with_line};
 ghost use Rattle.script_syntax.specs.ScriptView.{statements_of};
 ghost use Rattle.script_run.specs.Ends.{Ends, EndsByMeaning, EndsWithLine, Is};
 

@@ -1,7 +1,7 @@
 // Sessions.
 ghost use Rattle.std.specs.Prelude.{◌≡◌, None, IfOk, IfErr, OnOk, OnErr, is_some};
-ghost use Rattle.meaning.specs.State.{no_names, without_name};
-ghost use Rattle.meaning.specs.Statement.{done, statement_result};
+ghost use Rattle.script_meaning.specs.State.{no_names, without_name};
+ghost use Rattle.script_meaning.specs.Statement.{done, statement_result};
 ghost use Rattle.script_syntax.specs.View.{form_of};
 ghost use Rattle.script_run.specs.Values.{tables_of};
 ghost use Rattle.script_run.specs.Bindings.{bindings_of, AreNamed};

@@ -1,9 +1,9 @@
 // Statements. What they make is noted.
 ghost use Rattle.std.specs.Prelude.{◌≡◌, [], Some, None, Ok, IfOk, IfErr, OnOk, OnErr, is_some, ◌<◌, vec_len, vec_capacity};
 ghost use Rattle.meaning.specs.Tree as tree;
-ghost use Rattle.meaning.specs.State.{without_name};
-ghost use Rattle.meaning.specs.Expression.{named_by, target_of};
-ghost use Rattle.meaning.specs.Statement.{done, is_chained, statement_result};
+ghost use Rattle.script_meaning.specs.State.{without_name};
+ghost use Rattle.script_meaning.specs.Expression.{named_by, target_of};
+ghost use Rattle.script_meaning.specs.Statement.{done, is_chained, statement_result};
 ghost use Rattle.script_syntax.specs.View.{expr_of, step_of, arg_of, form_of};
 ghost use Rattle.script_run.specs.Values.{IsLive, Keeps};
 ghost use Rattle.script_run.specs.Bindings.{bound, unbound, value_at, noted_old, AreNamed, KeepNamed};

@@ -1,7 +1,7 @@
 // The lines of errors.
 ghost use Rattle.std.specs.Prelude.{◌≡◌, ◌++◌, IfOk, OnOk, decimal, map, string_bytes, true};
 ghost use Rattle.cell_core.specs.Values.{label_datum};
-ghost use Rattle.meaning.specs.Run.{line_about, not_found_line, syntax_line, warning_line};
+ghost use Rattle.script_meaning.specs.Run.{line_about, not_found_line, syntax_line, warning_line};
 ghost use Rattle.meaning.specs.Fault.{bad_merge, bad_value, length_of, long_row, out_of_range};
 ghost use Rattle.meaning.specs.FaultOf.{fault_of, reason_of, side_of};
 ghost use Rattle.meaning.specs.FaultText.{fault_text, key_text, reason_text, side_text};

@@ -1,7 +1,7 @@
 // The words of the command line.
 ghost use Rattle.std.specs.Prelude.{◌≡◌, map, string_bytes};
 ghost use Rattle.std.specs.Option.{option_map};
-ghost use Rattle.meaning.specs.Run.{is_path, path_of};
+ghost use Rattle.script_meaning.specs.Run.{is_path, path_of};
 
 /// The script's path in the words, of which the first is the program's name.
 pub fn script_path(words: &Vec<String>) -> Option<&str>

@@ -1,6 +1,6 @@
 use Rattle.std.proofs.Common.{subst, inr, map}
 use Rattle.std.specs.Prelude.{IfNone, IfSome, string_bytes}
-use Rattle.meaning.specs.Run.{IsPathResult, IsRunResult, usage, usage_line, with_line}
+use Rattle.script_meaning.specs.Run.{IsPathResult, IsRunResult, usage, usage_line, with_line}
 use Rattle.script_run.specs.Ends.{Ends, Is}
 use Rattle.script_run.proofs.RunLaws.{ends_with_line}
 use Rattle.script_run.proofs.FileLaws.{some-always, complete_run, not_unread}

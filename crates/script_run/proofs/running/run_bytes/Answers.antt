@@ -1,5 +1,5 @@
 use Rattle.script_syntax.specs.ScriptView.{statements_of}
-use Rattle.meaning.specs.Run.{syntax_line, too_large_line, syntax}
+use Rattle.script_meaning.specs.Run.{syntax_line, too_large_line, syntax}
 use Rattle.script_run.proofs.RunLaws.{ends_with_line}
 use Rattle.script_run.proofs.FileLaws.{ends_script, ends_syntax, ends_too_large}
 use Rattle.script_run.proofs.running.run_bytes.Goals as goal

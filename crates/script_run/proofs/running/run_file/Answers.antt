@@ -1,7 +1,7 @@
 use Rattle.script_run.proofs.RunLaws.{ends_with_line}
 use Rattle.std.proofs.Common.{subst}
 use Rattle.script_run.specs.Ends.{Ends}
-use Rattle.meaning.specs.Run.{IsScriptResult, not_found_line, too_large_line, usage, syntax}
+use Rattle.script_meaning.specs.Run.{IsScriptResult, not_found_line, too_large_line, usage, syntax}
 use Rattle.script_run.proofs.FileLaws.{ends_held, ends_absent, ends_too_large, ends_unread, some-weaker, some-always}
 use Rattle.script_run.proofs.running.run_file.Goals as goal
 

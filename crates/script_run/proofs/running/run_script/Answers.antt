@@ -1,7 +1,7 @@
 use Rattle.std.proofs.Common.{◌∙◌, ◌+◌, ◌++◌, [], refl, sym, ap, drop, arith}
 use Rattle.outside_io.specs.Sink.{appended}
 use Rattle.outside_io.proofs.Appended.{appended-appended, appended-nil}
-use Rattle.meaning.specs.Run.{after_texts, statements_result}
+use Rattle.script_meaning.specs.Run.{after_texts, statements_result}
 use Rattle.script_syntax.specs.View.{statement_of}
 use Rattle.script_syntax.specs.ScriptView.{statements_of}
 use Rattle.script_run.specs.Session.{state_of}

@@ -1,7 +1,7 @@
 use Rattle.std.proofs.Common.{◌≡◌, ◌≤◌, ℕ, List, drop}
 use Rattle.outside_io.specs.Sink.{appended}
-use Rattle.meaning.specs.State.{no_names}
-use Rattle.meaning.specs.Run.{after_texts, statements_result}
+use Rattle.script_meaning.specs.State.{no_names}
+use Rattle.script_meaning.specs.Run.{after_texts, statements_result}
 use Rattle.script_syntax.specs.ScriptView.{statements_of}
 use Rattle.script_run.specs.Session.{state_of}
 use Rattle.script_run.proofs.running.run_script.Given as goal

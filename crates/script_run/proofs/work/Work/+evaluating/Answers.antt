@@ -3,9 +3,9 @@ use Rattle.std.proofs.lemmas.Result.{err_from_is_err_and}
 use Rattle.meaning.specs.Tree.{arg_list, named_args, arg_pairs, no_arg, no_expr, some_expr, span}
 use Rattle.meaning.specs.Depth.{depth, step_depth, arg_depth, list_depth, args_depth, pairs_depth}
 use Rattle.meaning.specs.Fault.{not_built, then_value}
-use Rattle.meaning.specs.Method.{is_function}
-use Rattle.meaning.specs.Expression.{value_of, stepped, named_of, givens_of, pairs_of, given_of, sub_of, second_of, bound_of, stride_of, made, method_result, numbers_of, cell_of}
-use Rattle.meaning.specs.Value as value
+use Rattle.script_meaning.specs.Method.{is_function}
+use Rattle.script_meaning.specs.Expression.{value_of, stepped, named_of, givens_of, pairs_of, given_of, sub_of, second_of, bound_of, stride_of, made, method_result, numbers_of, cell_of}
+use Rattle.script_meaning.specs.Value as value
 use Rattle.script_syntax.specs.View.{expr_of, step_of, arg_of, accessor_of, optional_arg, parts_of, named_parts_of, pair_parts_of, sub_of as view_sub, literal_of}
 use Rattle.script_syntax.proofs.Rows.{expr_of-Make, step_of-Method, step_of-Rolling, step_of-Expanding, arg_of-Many, arg_of-Row, arg_of-Table}
 use Rattle.script_run.specs.declared.given.Given.TheVariants.{Other}

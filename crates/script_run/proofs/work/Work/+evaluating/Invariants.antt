@@ -1,7 +1,7 @@
 use Rattle.std.proofs.Common.{◌≡◌, drop, ◌*◌, ◌+◌, max, Some, []}
 use Rattle.meaning.specs.Tree.{arg_list, named_args, arg_pairs}
 use Rattle.meaning.specs.Depth.{depth, step_depth, sub_depth, optional_sub_depth, optional_arg_depth, arg_depth, list_depth, args_depth, pairs_depth}
-use Rattle.meaning.specs.Expression.{givens_of, named_of, pairs_of}
+use Rattle.script_meaning.specs.Expression.{givens_of, named_of, pairs_of}
 use Rattle.script_syntax.specs.View.{expr_of, step_of, sub_of, arg_of, optional_arg, parts_of, named_parts_of, pair_parts_of}
 use Rattle.script_run.specs.declared.given.Arguments.TheVariants.{Absent}
 use Rattle.script_run.specs.Parts.{optional_sub}

@@ -1,7 +1,7 @@
 use Rattle.std.proofs.Common.{refl, [], ap, sym, ◌∙◌, false}
 use Rattle.std.proofs.lemmas.Result.{err_from_is_err_and}
-use Rattle.meaning.specs.Expression.{named_by}
-use Rattle.meaning.specs.Statement.{with_value}
+use Rattle.script_meaning.specs.Expression.{named_by}
+use Rattle.script_meaning.specs.Statement.{with_value}
 use Rattle.script_syntax.specs.View.{expr_of}
 use Rattle.script_run.specs.Values.{entry_of}
 use Rattle.script_run.specs.Bindings.{bound, state_over}

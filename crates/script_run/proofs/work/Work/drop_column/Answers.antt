@@ -1,8 +1,8 @@
 use Rattle.std.proofs.Common.{ap, sym, ◌∙◌, false}
 use Rattle.std.specs.Prelude.{option_map}
 use Rattle.meaning.specs.FaultOf.{fault_of}
-use Rattle.meaning.specs.Expression.{value_of_name}
-use Rattle.meaning.specs.Statement.{refused}
+use Rattle.script_meaning.specs.Expression.{value_of_name}
+use Rattle.script_meaning.specs.Statement.{refused}
 use Rattle.script_run.specs.Values.{entry_of}
 use Rattle.script_run.specs.Work.{world_of}
 use Rattle.script_run.proofs.Answering.{answer_then, removal_refused}

@@ -1,6 +1,6 @@
 use Rattle.std.proofs.Common.{refl, [], ap, sym, ◌∙◌, false}
-use Rattle.meaning.specs.State.{without_name}
-use Rattle.meaning.specs.Expression.{value_of_name}
+use Rattle.script_meaning.specs.State.{without_name}
+use Rattle.script_meaning.specs.Expression.{value_of_name}
 use Rattle.std.specs.Prelude.{option_map}
 use Rattle.script_run.specs.Values.{entry_of}
 use Rattle.script_run.specs.Work.{world_of, state_in}

@@ -1,5 +1,5 @@
 use Rattle.std.proofs.Common.{ap, ◌∙◌, refl}
-use Rattle.meaning.specs.Expression.{length_of_entry}
+use Rattle.script_meaning.specs.Expression.{length_of_entry}
 use Rattle.script_run.specs.Values.{entry_of}
 use Rattle.script_run.specs.Work.{world_of}
 use Rattle.script_run.proofs.Worlds.{length_value}

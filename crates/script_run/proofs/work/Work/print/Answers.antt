@@ -1,7 +1,7 @@
 use Rattle.std.proofs.Common.{refl, ◌++◌, ap, sym, ◌∙◌, Ok, false}
 use Rattle.meaning.specs.Cell.{datum}
-use Rattle.meaning.specs.Value as value
-use Rattle.meaning.specs.Statement.{cell_text}
+use Rattle.script_meaning.specs.Value as value
+use Rattle.script_meaning.specs.Statement.{cell_text}
 use Rattle.script_run.specs.Values.{entry_of}
 use Rattle.script_run.specs.Work.{names_in, world_of, state_in}
 use Rattle.script_run.proofs.States.{state_after}

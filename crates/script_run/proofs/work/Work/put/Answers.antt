@@ -1,7 +1,7 @@
 use Rattle.std.proofs.Common.{refl, [], ap, sym, ◌∙◌, subst}
 use Rattle.std.proofs.lemmas.Result.{err_from_is_err_and}
-use Rattle.meaning.specs.Expression.{named_by, value_of, target_of, set_result}
-use Rattle.meaning.specs.Statement.{then_answer, set_answer}
+use Rattle.script_meaning.specs.Expression.{named_by, value_of, target_of, set_result}
+use Rattle.script_meaning.specs.Statement.{then_answer, set_answer}
 use Rattle.script_syntax.specs.View.{expr_of, step_of}
 use Rattle.script_run.specs.Bindings.{IsOf}
 use Rattle.script_run.specs.Values.{entry_of}

@@ -1,5 +1,5 @@
 use Rattle.std.proofs.Common.{◌≡◌, ◌∙◌, ap, sym, IsSome, rules, to_z, of_z, w64, length}
-use Rattle.meaning.specs.Table.{place_of}
+use Rattle.meaning.specs.Place.{place_of}
 use Rattle.script_run.specs.Values.{with_object_at, with_number}
 use Rattle.script_run.specs.Work.{names_in, tables_in}
 use Rattle.script_run.proofs.Worlds.{live_numbered, noted_numbered, set_answers}

@@ -1,5 +1,5 @@
 use Rattle.std.proofs.Common.{ap, ◌∙◌}
-use Rattle.meaning.specs.Expression.{target_of, sub_of, second_of}
+use Rattle.script_meaning.specs.Expression.{target_of, sub_of, second_of}
 use Rattle.script_syntax.specs.View.{step_of, accessor_of, sub_of as view_sub}
 use Rattle.script_run.specs.Parts.{optional_sub}
 use Rattle.script_run.specs.Seen.{shown, target_seen}

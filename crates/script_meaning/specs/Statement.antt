@@ -3,11 +3,11 @@ use Rattle.std.specs.Prelude.{Bool, true, false, [], ◌++◌, codes, Option, So
 use Rattle.std.specs.Fmt.{signed_decimal}
 use Rattle.meaning.specs.Text.{Text}
 use Rattle.meaning.specs.Cell.{CellValue, na_cell, int_cell, truth_cell, text_cell}
-use Rattle.meaning.specs.Table.{Table}
-use Rattle.meaning.specs.State.{State, with_new, with_object, with_table, without_name}
-use Rattle.meaning.specs.Value.{Entry, cell, table}
+use Rattle.script_meaning.specs.Table.{Table}
+use Rattle.script_meaning.specs.State.{State, with_new, with_object, with_table, without_name}
+use Rattle.script_meaning.specs.Value.{Entry, cell, table}
 use Rattle.meaning.specs.Fault.{FaultValue, wrong_kind, not_built}
-use Rattle.meaning.specs.Expression.{named_by, value_of_name, value_of, given_of, target_of, set_result}
+use Rattle.script_meaning.specs.Expression.{named_by, value_of_name, value_of, given_of, target_of, set_result}
 use Rattle.meaning.specs.Tree as tree
 
 -- The state that it leaves and the text that it prints, or the first fault, which leaves the state as it was. The mark says that a setting of an object without a name was reached.

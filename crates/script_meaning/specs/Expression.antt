@@ -3,11 +3,12 @@ use Rattle.std.specs.Prelude.{ℕ, ℤ, pos, Bool, true, false, ◌&&◌, List, 
 use Rattle.std.specs.List.{slice_index_or}
 use Rattle.meaning.specs.Text.{Text, same_text}
 use Rattle.meaning.specs.Cell.{CellValue, na_cell, int_cell, truth_cell, text_cell}
-use Rattle.meaning.specs.Table.{Table, place_of}
-use Rattle.meaning.specs.State.{State}
-use Rattle.meaning.specs.Value.{Entry, cell, table, Given, GivenList, GivenPairs, GivenSub, Target, nothing, one, row, many, entries, no_given, more_given, no_entries, more_entries, key_given, span_given, item_target, access_target}
+use Rattle.script_meaning.specs.Table.{Table}
+use Rattle.meaning.specs.Place.{place_of}
+use Rattle.script_meaning.specs.State.{State}
+use Rattle.script_meaning.specs.Value.{Entry, cell, table, Given, GivenList, GivenPairs, GivenSub, Target, nothing, one, row, many, entries, no_given, more_given, no_entries, more_entries, key_given, span_given, item_target, access_target}
 use Rattle.meaning.specs.Fault.{FaultValue, no_name, no_attribute, wrong_kind, out_of_range, not_built, then_value}
-use Rattle.meaning.specs.Method.{series_has, is_function}
+use Rattle.script_meaning.specs.Method.{series_has, is_function}
 use Rattle.meaning.specs.Tree as tree
 use Rattle.meaning.specs.Tree.{Accessor, iloc, Expr, Step, Sub, OptionalSub, OptionalArg, OptionalExpr, Arg, ArgList, Args, ArgPairs}
 

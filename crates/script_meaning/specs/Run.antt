@@ -3,8 +3,8 @@ use Rattle.std.specs.Prelude.{◌≡◌, ◌⊎◌, ℕ, ◌<◌, ◌≤◌, ◌
 use Rattle.std.specs.FinMap.{get}
 use Rattle.meaning.specs.Text.{Text, Contents}
 use Rattle.meaning.specs.Tree.{Statement}
-use Rattle.meaning.specs.State.{State, no_names}
-use Rattle.meaning.specs.Statement.{Answer, done, refused, statement_result}
+use Rattle.script_meaning.specs.State.{State, no_names}
+use Rattle.script_meaning.specs.Statement.{Answer, done, refused, statement_result}
 use Rattle.meaning.specs.Script.{IsScript, IsSyntaxLine, most_bytes}
 use Rattle.meaning.specs.FaultText.{fault_text}
 

@@ -1,7 +1,7 @@
 -- What an expression of a script gives.
 use Rattle.std.specs.Prelude.{Bool, true, false, Option}
 use Rattle.meaning.specs.Cell.{CellValue}
-use Rattle.meaning.specs.Table.{Table}
+use Rattle.script_meaning.specs.Table.{Table}
 use Rattle.meaning.specs.Tree.{Accessor}
 
 -- a scalar or a whole table
