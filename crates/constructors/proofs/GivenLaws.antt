@@ -18,7 +18,8 @@ use Rattle.form_meaning.specs.Signature.{function_parameters}
 use Rattle.form_meaning.specs.Binding.{Bound, bound, bound_of, argument_at, arguments_from, text_of}
 use Rattle.form_meaning.specs.Select.{cells_of}
 use Rattle.form_meaning.specs.Make.{kind_named, kind_given, on, series_of, series_result}
-use Rattle.form_meaning.specs.Calls.{on_bound, levels_among, constructed, made_by}
+use Rattle.form_meaning.specs.Binding.{on_bound}
+use Rattle.form_meaning.specs.Functions.{levels_among, constructed, made_by}
 use Rattle.frame_store.specs.declared.arguments.Value.TheVariants.{Object, Scalar}
 use Rattle.frame_store.specs.declared.arguments.Item.{Item, One as OneItem, Row' as RowItem'}
 use Rattle.frame_store.specs.declared.arguments.Named.{Named}

@@ -3,15 +3,14 @@ use Rattle.std.specs.Prelude.{List, [], ◌∷◌, ◌++◌, map, Option, Some, 
 use Rattle.std.specs.List.{list_all}
 use Rattle.cell_core.specs.declared.cell.Kind.{Kind}
 use Rattle.cell_core.specs.declared.cell.Cell.{Cell}
-use Rattle.cell_core.specs.declared.cell.Cell.TheVariants as cell
 use Rattle.cell_core.specs.declared.cell.Label.{Label}
-use Rattle.cell_core.specs.declared.cell.Label.TheVariants as label
 use Rattle.meaning.specs.Text.{Text}
 use Rattle.meaning.specs.Cell.{CellValue, holds, datum}
 use Rattle.meaning.specs.Fault.{FaultValue, wrong_kind}
 use Rattle.nullable_array.specs.Columns.{CellColumn}
 use Rattle.table_meaning.specs.Table.{ColumnOf}
 use Rattle.form_meaning.specs.Select.{cells_of}
+use Rattle.form_parts.specs.Labels.{label_of}
 use Rattle.frame_store.specs.Arguments.{items_of}
 use Rattle.frame_store.specs.declared.arguments.Item.{Item}
 
@@ -38,13 +37,7 @@ held_after kind made cells = if list_all (holds kind) cells then Ok record { kin
 abbrev pub held_column : Kind → List CellValue → Result (ColumnOf CellValue) FaultValue
 held_column kind cells = if list_all (holds kind) cells then Ok record { kind = kind; cells = cells } else Err wrong_kind
 
--- a cell as a label, and as a tuple of its own, where there is one
-abbrev pub label_of : Cell → Label
-label_of cell.Na = label.Na
-label_of (cell.Int z) = label.Int z
-label_of (cell.Bool b) = label.Bool b
-label_of (cell.Text id) = label.Text id
-
+-- a cell as a tuple of its own label, where there is one
 abbrev pub tuples_of : Option Cell → List (List Label)
 tuples_of None = []
 tuples_of (Some c) = (label_of c ∷ []) ∷ []

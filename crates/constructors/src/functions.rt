@@ -4,7 +4,7 @@ ghost use Rattle.meaning.specs.Cell.{IsLonger};
 ghost use Rattle.table_meaning.specs.Settled.{IsSettled};
 ghost use Rattle.form_meaning.specs.declared.Function.TheVariants as function_of;
 ghost use Rattle.form_meaning.specs.Signature as signature;
-ghost use Rattle.form_meaning.specs.Calls as calls;
+ghost use Rattle.form_meaning.specs.Functions as functions;
 ghost use Rattle.frame_store.specs.Objects.{tables};
 ghost use Rattle.frame_store.specs.Arguments.{arguments_of, AreLive};
 ghost use Rattle.frame_store.specs.Shown.{shown, FormAnswers};
@@ -42,7 +42,7 @@ pub fn make_series(
     requires given { IsSettled (arguments_of (tables store.old)) dict.old args.now.items.items }
     ensures longer { IsLonger dict.old dict.new }
     ensures settled { IsSettled shown dict.new (tables store.new) }
-    ensures answers { FormAnswers dict.new result (calls.made_by function_of.Series (arguments_of (tables store.old) dict.old args.now.items.items)) (shown dict.old (tables store.old)) (shown dict.new (tables store.new)) }
+    ensures answers { FormAnswers dict.new result (functions.made_by function_of.Series (arguments_of (tables store.old) dict.old args.now.items.items)) (shown dict.old (tables store.old)) (shown dict.new (tables store.new)) }
 {
     let made = made_series(alloc, store, dict, args.as_slice());
     placed(store, dict, made)

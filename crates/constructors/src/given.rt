@@ -1,38 +1,25 @@
 // What a constructor makes of its arguments.
-ghost use Rattle.std.specs.Prelude.{◌≡◌, List, IfOk};
-ghost use Rattle.std.specs.Option.{option_map};
-ghost use Rattle.meaning.specs.Text.{Text as OneText};
-ghost use Rattle.meaning.specs.Cell.{datum, IsLonger};
-ghost use Rattle.meaning.specs.Operator.{cell_label};
+ghost use Rattle.std.specs.Prelude.{◌≡◌, IfOk};
+ghost use Rattle.meaning.specs.Cell.{IsLonger};
 ghost use Rattle.table_meaning.specs.Settled.{IsSettled};
-ghost use Rattle.table_meaning.specs.Table.{heading_value, table_value};
+ghost use Rattle.table_meaning.specs.Table.{table_value};
 ghost use Rattle.table_meaning.specs.Value.{scalar_in};
 ghost use Rattle.form_meaning.specs.declared.Function.TheVariants as function_of;
 ghost use Rattle.form_meaning.specs.Binding.{argument_at};
 ghost use Rattle.form_meaning.specs.Make as make;
-ghost use Rattle.form_meaning.specs.Calls as calls;
+ghost use Rattle.form_meaning.specs.Functions as functions;
 ghost use Rattle.frame_store.specs.Objects.{Tables, tables};
 ghost use Rattle.frame_store.specs.Arguments.{arguments_of, AreLive};
 ghost use Rattle.frame_store.specs.Shown.{Makes};
 
 use crate::levels::has_levels;
-use crate::scalars::label_of;
 use crate::series::series_of;
-use cell_core::{Cell, Code, Kind, Label, TextDict};
+use cell_core::{Code, Kind, TextDict};
 use form_meaning::{Function, Parameter};
+use form_parts::name_of;
 use frame_store::{Named, OpFault, Store, Table};
 use signatures::{bind, function_parameters, list_at, scalar_at, text_at};
 use std::alloc::Global;
-
-// The label that a scalar is, if there is one.
-fn name_of(cell: Option<Cell>) -> Option<Label>
-    ensures { (texts : List OneText) → heading_value texts result ≡ option_map cell_label (option_map (datum texts) cell) }
-{
-    match cell {
-        None => None,
-        Some(cell) => Some(label_of(cell)),
-    }
-}
 
 // The kind of a name that is among the listed ones.
 fn kind_named(name: &str) -> Kind
@@ -66,7 +53,7 @@ pub(crate) fn made_series(
     requires given { IsSettled (arguments_of (tables store.now)) dict.old args.now }
     ensures longer { IsLonger dict.old dict.new }
     ensures settled { IfOk result (IsSettled table_value dict.new) }
-    ensures answer { Makes dict.new result (calls.made_by function_of.Series (arguments_of (tables store.now) dict.old args.now)) }
+    ensures answer { Makes dict.new result (functions.made_by function_of.Series (arguments_of (tables store.now) dict.old args.now)) }
 {
     let parameters = function_parameters(Function::Series);
     if has_levels(parameters, args) {

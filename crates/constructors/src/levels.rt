@@ -5,7 +5,7 @@ ghost use Rattle.meaning.specs.Text.{Text as OneText, same_text};
 ghost use Rattle.table_meaning.specs.Value.{GivenList, more_given};
 ghost use Rattle.form_meaning.specs.Signature as signature;
 ghost use Rattle.form_meaning.specs.Binding as plain;
-ghost use Rattle.form_meaning.specs.Calls as calls;
+ghost use Rattle.form_meaning.specs.Functions as functions;
 ghost use Rattle.frame_store.specs.Objects.{Tables};
 ghost use Rattle.frame_store.specs.Arguments.{item_of, items_of, argument_of, named_of, arguments_of};
 
@@ -47,7 +47,7 @@ fn counted(unnamed: usize, name: &Option<Words>) -> usize
 }
 
 fn is_tuple(item: &Item) -> bool
-    ensures { (live : Tables) (texts : List OneText) (rest : GivenList) → calls.has_tuple (more_given (item_of live texts item.now) rest) ≡ (result || calls.has_tuple rest) }
+    ensures { (live : Tables) (texts : List OneText) (rest : GivenList) → functions.has_tuple (more_given (item_of live texts item.now) rest) ≡ (result || functions.has_tuple rest) }
 {
     match item {
         Item::Row(_) => true,
@@ -56,7 +56,7 @@ fn is_tuple(item: &Item) -> bool
 }
 
 fn has_tuple(items: &[Item]) -> bool
-    ensures { (live : Tables) (texts : List OneText) → result ≡ calls.has_tuple (items_of live texts items.now) }
+    ensures { (live : Tables) (texts : List OneText) → result ≡ functions.has_tuple (items_of live texts items.now) }
 {
     let mut rest = items;
     while let [first, after @ ..] = rest {
@@ -70,7 +70,7 @@ fn has_tuple(items: &[Item]) -> bool
 
 // Whether an argument is a list that holds a tuple.
 fn lists_tuple(argument: &Argument) -> bool
-    ensures { (live : Tables) (texts : List OneText) → result ≡ calls.lists_tuple (argument_of live texts argument.now) }
+    ensures { (live : Tables) (texts : List OneText) → result ≡ functions.lists_tuple (argument_of live texts argument.now) }
 {
     match argument {
         Argument::Many(items) => has_tuple(items.as_slice()),
@@ -84,7 +84,7 @@ fn lists_tuple(argument: &Argument) -> bool
 // Whether an argument is a list of labels of several levels for the rows.
 fn is_levels(parameters: &[Parameter], unnamed: usize, given: &Named) -> bool
     requires { 2 ≤ length parameters.now }
-    ensures { (live : Tables) (texts : List OneText) → result ≡ (nat_eq (plain.goes_to parameters.now unnamed given.now.name) 1 && calls.lists_tuple (argument_of live texts given.now.value)) }
+    ensures { (live : Tables) (texts : List OneText) → result ≡ (nat_eq (plain.goes_to parameters.now unnamed given.now.name) 1 && functions.lists_tuple (argument_of live texts given.now.value)) }
 {
     goes_second(parameters, unnamed, &given.name) && lists_tuple(&given.value)
 }
@@ -92,7 +92,7 @@ fn is_levels(parameters: &[Parameter], unnamed: usize, given: &Named) -> bool
 // Whether one of the arguments is.
 pub(crate) fn has_levels(parameters: &[Parameter], args: &[Named]) -> bool
     requires { 2 ≤ length parameters.now }
-    ensures { (live : Tables) (texts : List OneText) → result ≡ calls.levels_among parameters.now 0 (arguments_of live texts args.now) }
+    ensures { (live : Tables) (texts : List OneText) → result ≡ functions.levels_among parameters.now 0 (arguments_of live texts args.now) }
 {
     let mut unnamed = 0;
     let mut rest = args;

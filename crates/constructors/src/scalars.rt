@@ -8,9 +8,10 @@ ghost use Rattle.frame_store.specs.Shown.{labels_value};
 ghost use Rattle.form_meaning.specs.Set as set;
 ghost use Rattle.form_meaning.specs.Make as meant;
 ghost use Rattle.form_parts.specs.Makes.{MakesBy};
-ghost use Rattle.constructors.specs.Scalars.{scalars, with_cell, column_seen, held_after, held_column, label_of, tuples_of};
+ghost use Rattle.constructors.specs.Scalars.{scalars, with_cell, column_seen, held_after, held_column, tuples_of};
 
-use cell_core::{Cell, Code, Kind, Label, NoMemory, Tuple, Tuples};
+use cell_core::{Cell, Code, Kind, NoMemory, Tuple, Tuples};
+use form_parts::label_of;
 use frame_store::{Item, OpFault};
 use nullable_array::Column;
 use std::alloc::Global;
@@ -86,18 +87,6 @@ pub(crate) fn list_column(alloc: Global, items: &[Item]) -> Result<Column, OpFau
     ensures { (texts : List OneText) → MakesBy column_seen texts result (set.list_column (scalars texts items.now)) }
 {
     column_of_kind(alloc, first_kind(items), items)
-}
-
-// A cell as a label.
-pub(crate) fn label_of(cell: Cell) -> Label
-    ensures { result ≡ label_of cell }
-{
-    match cell {
-        Cell::Na => Label::Na,
-        Cell::Int(number) => Label::Int(number),
-        Cell::Bool(truth) => Label::Bool(truth),
-        Cell::Text(id) => Label::Text(id),
-    }
 }
 
 // Appends the label that a cell is, where there is a cell, as a tuple of its own.

@@ -1,5 +1,5 @@
 -- How the arguments of a call are bound to a signature, and the refusals that all calls share.
-use Rattle.std.specs.Prelude.{ℕ, ◌+◌, ℤ, pos, Bool, true, false, not, ◌&&◌, ◌||◌, List, [], ◌∷◌, slice_get, nat_eq, nat_lt, codes, Option, Some, None, if◌then◌else◌}
+use Rattle.std.specs.Prelude.{ℕ, ◌+◌, ℤ, pos, Bool, true, false, not, ◌&&◌, ◌||◌, List, [], ◌∷◌, slice_get, nat_eq, nat_lt, codes, Option, Some, None, Result, Err, if◌then◌else◌}
 use Rattle.std.specs.List.{position_or_len, list_any}
 use Rattle.std.specs.Option.{option_map}
 use Rattle.std.specs.Ordering.{is_eq, int_eq}
@@ -7,7 +7,8 @@ use Rattle.cell_core.specs.declared.grid.Shape.{Shape}
 use Rattle.cell_core.specs.declared.grid.Shape.TheVariants.{Series, Frame}
 use Rattle.meaning.specs.Text.{Text, same_text}
 use Rattle.meaning.specs.Cell.{CellValue, na_cell, int_cell, truth_cell, text_cell, LabelValue, label_cmp}
-use Rattle.table_meaning.specs.Value.{cell, table, Given, GivenList, GivenPairs, NamedGiven, nothing, one, row, many, entries, no_given, more_given, no_entries, more_entries, scalar_in}
+use Rattle.meaning.specs.Fault.{FaultValue, wrong_kind, bad_value, argument}
+use Rattle.table_meaning.specs.Value.{Entry, cell, table, Given, GivenList, GivenPairs, NamedGiven, nothing, one, row, many, entries, no_given, more_given, no_entries, more_entries, scalar_in}
 use Rattle.form_meaning.specs.declared.Form.{Form}
 use Rattle.form_meaning.specs.declared.Form.TheVariants as form
 use Rattle.form_meaning.specs.declared.Omitted.{Omitted}
@@ -311,6 +312,12 @@ bound_of ps gs =
     then (if are_listed ps 0 gs then bound (arguments_from ps gs 0 ps) else not_listed)
     else not_taken)
     else not_taken
+
+-- the arguments, or what all calls refuse
+abbrev pub on_bound : Bound → (List Given → Result Entry FaultValue) → Result Entry FaultValue
+on_bound not_taken go = Err wrong_kind
+on_bound not_listed go = Err (bad_value argument)
+on_bound (bound gs) go = go gs
 
 -- the whole number, the truth value and the text that a scalar is
 abbrev pub whole_of : Option CellValue → Option ℤ

@@ -5,5 +5,4 @@ pub mod Infix
 pub mod Select
 pub mod Set
 pub mod Make
-pub mod Methods
-pub mod Calls
+pub mod Functions

@@ -1,5 +1,6 @@
 -- What is selected from a table, as far as it is built: columns of a frame, and one cell of a Series by its position.
-use Rattle.std.specs.Prelude.{ℕ, suc, ℤ, pos, Bool, false, ◌&&◌, List, [], ◌∷◌, map, length, slice_index_or, Option, Some, None, option_map, Result, Ok, Err, if◌then◌else◌}
+use Rattle.std.specs.Prelude.{ℕ, suc, ℤ, pos, Bool, ◌&&◌, List, [], ◌∷◌, map, length, nat_lt, slice_index_or, Option, Some, None, option_map, Result, Ok, Err, if◌then◌else◌}
+use Rattle.std.specs.List.{list_all}
 use Rattle.cell_core.specs.declared.grid.Shape.{Shape}
 use Rattle.cell_core.specs.declared.grid.Shape.TheVariants.{Series, Frame}
 use Rattle.meaning.specs.Cell.{CellValue, na_cell, int_cell, LabelValue}
@@ -8,7 +9,7 @@ use Rattle.meaning.specs.Place.{place_of}
 use Rattle.meaning.specs.Tree.{Accessor, iloc}
 use Rattle.meaning.specs.Fault.{FaultValue, wrong_kind, no_key, out_of_range, not_built, then_value}
 use Rattle.table_meaning.specs.Table.{Table, column_at}
-use Rattle.table_meaning.specs.Value.{Entry, cell, table, Given, GivenList, GivenSub, no_given, more_given, nothing, one, row, many, entries, key_given}
+use Rattle.table_meaning.specs.Value.{Entry, cell, table, Given, GivenList, GivenSub, no_given, more_given, nothing, one, row, many, entries, key_given, span_given}
 use Rattle.form_meaning.specs.Binding.{is_truth, each, is_scalar}
 use Rattle.form_meaning.specs.Finish.{same_heading, limited, finished, try_all}
 
@@ -65,9 +66,7 @@ labels_of parts = map cell_label (cells_of parts)
 
 -- truth values alone, and at least one
 abbrev pub are_truths : List CellValue → Bool
-are_truths [] = false
-are_truths (c ∷ []) = is_truth c
-are_truths (c ∷ d ∷ cs) = is_truth c && are_truths (d ∷ cs)
+are_truths cells = nat_lt 0 (length cells) && list_all is_truth cells
 
 -- a list of labels in brackets; a list of truth values is a TypeError
 abbrev pub list_result : Table → GivenList → Result Entry FaultValue
@@ -120,6 +119,22 @@ table_access Frame t position = Err not_built
 abbrev pub access_result : Entry → Accessor → GivenSub → Option GivenSub → Result Entry FaultValue
 access_result (cell c) by first second = Err wrong_kind
 access_result (table t) by first second = table_access t.shape t (position_of by first second)
+
+-- what stands before the subscripts: brackets alone, or an accessor
+pub data Way : Type 0 where
+  plain : Way
+  through : Accessor → Way
+
+-- brackets alone take one key
+abbrev pub brackets_result : Entry → GivenSub → Option GivenSub → Result Entry FaultValue
+brackets_result (cell c) first second = Err wrong_kind
+brackets_result (table t) (key_given g) None = table_item t.shape t g
+brackets_result (table t) (key_given g) (Some h) = Err not_built
+brackets_result (table t) (span_given from to by) second = Err not_built
+
+abbrev pub select_result : Entry → Way → GivenSub → Option GivenSub → Result Entry FaultValue
+select_result v plain first second = brackets_result v first second
+select_result v (through by) first second = access_result v by first second
 
 -- the number of rows; a scalar has none
 abbrev pub length_result : Entry → Result Entry FaultValue

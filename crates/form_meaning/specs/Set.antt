@@ -11,11 +11,11 @@ use Rattle.meaning.specs.Tree.{Accessor}
 use Rattle.meaning.specs.Fault.{FaultValue, wrong_kind, bad_value, length_of, not_built, then_value}
 use Rattle.table_meaning.specs.Table.{ColumnOf, Table, column_at}
 use Rattle.table_meaning.specs.Change.{with_column, without_column, with_cell}
-use Rattle.table_meaning.specs.Value.{Entry, cell, table, Given, GivenList, GivenSub, nothing, one, row, many, entries, scalar_in}
+use Rattle.table_meaning.specs.Value.{Entry, cell, table, Given, GivenList, GivenSub, nothing, one, row, many, entries, key_given, span_given, scalar_in}
 use Rattle.form_meaning.specs.Binding.{each, is_scalar}
 use Rattle.form_meaning.specs.Finish.{limited_table, default_labels, missing_column}
 use Rattle.form_meaning.specs.Infix.{same_tuples}
-use Rattle.form_meaning.specs.Select.{place_of_label, column_place, cells_of, row_place, position_of}
+use Rattle.form_meaning.specs.Select.{Way, plain, through, place_of_label, column_place, cells_of, row_place, position_of}
 
 -- the evaluated last step of a setting's target
 pub data Target : Type 0 where
@@ -115,6 +115,17 @@ abbrev pub set_result : Entry → Target → Given → Result Table FaultValue
 set_result (cell c) target g = Err wrong_kind
 set_result (table t) (item_target key) g = item_set t.shape t key g
 set_result (table t) (access_target by first second) g = access_set t.shape t (position_of by first second) (scalar_in g)
+
+-- brackets alone take one key
+abbrev pub brackets_set : Entry → GivenSub → Option GivenSub → Given → Result Table FaultValue
+brackets_set (cell c) first second g = Err wrong_kind
+brackets_set (table t) (key_given key) None g = item_set t.shape t key g
+brackets_set (table t) (key_given key) (Some other) g = Err not_built
+brackets_set (table t) (span_given from to by) second g = Err not_built
+
+abbrev pub assign_result : Entry → Way → GivenSub → Option GivenSub → Given → Result Table FaultValue
+assign_result v plain first second g = brackets_set v first second g
+assign_result v (through by) first second g = set_result v (access_target by first second) g
 
 -- the frame without the column of the label
 abbrev pub label_removal : Table → LabelValue → Result Table FaultValue

@@ -1,15 +1,42 @@
-// Equality of labels by their numbers.
-ghost use Rattle.std.specs.Prelude.{◌≡◌};
-ghost use Rattle.meaning.specs.Cell.{label_datum};
+// Labels, and their equality by their numbers.
+ghost use Rattle.std.specs.Prelude.{◌≡◌, List};
+ghost use Rattle.std.specs.Option.{option_map};
+ghost use Rattle.meaning.specs.Text.{Text as OneText};
+ghost use Rattle.meaning.specs.Cell.{datum, label_datum};
+ghost use Rattle.meaning.specs.Operator.{cell_label};
 ghost use Rattle.table_meaning.specs.Settled.{IsSettled};
 ghost use Rattle.table_meaning.specs.Table.{heading_value};
 ghost use Rattle.frame_store.specs.Shown.{labels_value};
 ghost use Rattle.form_meaning.specs.Binding as meant;
 ghost use Rattle.form_meaning.specs.Infix.{common_name, same_tuples};
 ghost use Rattle.form_meaning.specs.Finish as finish;
+ghost use Rattle.form_parts.specs.Labels.{label_of};
 
-use cell_core::{Label, TextDict};
+use cell_core::{Cell, Label, TextDict};
 use multi_index::Axis;
+
+/// The label that a cell is. Takes no memory.
+pub fn label_of(cell: Cell) -> Label
+    ensures label { result ≡ label_of cell }
+    ensures seen { (texts : List OneText) → label_datum texts result ≡ cell_label (datum texts cell) }
+{
+    match cell {
+        Cell::Na => Label::Na,
+        Cell::Int(number) => Label::Int(number),
+        Cell::Bool(truth) => Label::Bool(truth),
+        Cell::Text(id) => Label::Text(id),
+    }
+}
+
+/// The label that a scalar is, if there is one. Takes no memory.
+pub fn name_of(cell: Option<Cell>) -> Option<Label>
+    ensures { (texts : List OneText) → heading_value texts result ≡ option_map cell_label (option_map (datum texts) cell) }
+{
+    match cell {
+        Some(cell) => Some(label_of(cell)),
+        None => None,
+    }
+}
 
 /// Whether two labels are equal. Texts are compared by their numbers. Takes no memory.
 pub fn same_label(dict: &TextDict, a: Label, b: Label) -> bool

@@ -19,6 +19,6 @@ mod objects;
 mod parts;
 
 pub use faults::{block_of, refusal_of};
-pub use labels::{common_name, same_heading, same_label, same_rows};
+pub use labels::{common_name, label_of, name_of, same_heading, same_label, same_rows};
 pub use objects::placed;
 pub use parts::{headings_named, headings_of, table_under, within_limits};

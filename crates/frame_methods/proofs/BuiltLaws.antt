@@ -2,7 +2,7 @@
 use Rattle.std.proofs.Common.{◌≡◌, refl, true}
 use Rattle.form_meaning.specs.declared.Method.{Method}
 use Rattle.form_meaning.specs.declared.Method.TheVariants as method
-use Rattle.form_meaning.specs.Methods.{is_built}
+use Rattle.method_meaning.specs.Methods.{is_built}
 use Rattle.frame_methods.specs.Kinds.{is_made_method}
 
 -- a built method makes something new, or gives the object's columns again

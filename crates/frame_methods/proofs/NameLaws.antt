@@ -10,8 +10,8 @@ use Rattle.table_meaning.specs.Settled.{IsSettled}
 use Rattle.table_meaning.specs.Table.{NumberedTable, Table, table_value, heading_value}
 use Rattle.table_meaning.specs.Value.{Entry}
 use Rattle.form_meaning.specs.Finish.{limited}
-use Rattle.form_meaning.specs.Methods as meant
-use Rattle.form_meaning.specs.Methods.{renamed_series, label_or}
+use Rattle.method_meaning.specs.Methods as meant
+use Rattle.method_meaning.specs.Methods.{renamed_series, label_or}
 use Rattle.frame_store.specs.declared.arguments.Value.{Value}
 use Rattle.frame_store.specs.declared.fault.OpFault.{OpFault}
 use Rattle.frame_store.specs.Parts.{HeadingList}

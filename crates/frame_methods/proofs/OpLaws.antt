@@ -24,7 +24,7 @@ use Rattle.nullable_array.specs.declared.ops.ArrayFault.{ArrayFault}
 use Rattle.nullable_array.specs.declared.ops.ArrayFault.TheVariants.{KindMismatch, ZeroDivision, NotCast, NoMemory as OutOfMemory}
 use Rattle.table_meaning.specs.Table.{column_value}
 use Rattle.form_meaning.specs.Finish.{made_column}
-use Rattle.form_meaning.specs.Methods.{filled, filled_column, mapped, shifted_column}
+use Rattle.method_meaning.specs.Methods.{filled, filled_column, mapped, shifted_column}
 use Rattle.frame_store.specs.declared.fault.OpFault.{OpFault}
 use Rattle.frame_store.specs.Shown.{cells_value}
 use Rattle.frame_store.proofs.Settling.{settled_by, cells_settled, cells_given}

@@ -15,7 +15,7 @@ use Rattle.table_meaning.specs.Table.{ColumnOf, NumberedTable, table_value, head
 use Rattle.table_meaning.specs.Value.{Entry, table}
 use Rattle.table_meaning.specs.Settled.{IsSettled}
 use Rattle.form_meaning.specs.Finish.{within_limits, limited, try_all}
-use Rattle.form_meaning.specs.Methods.{Summary, label_or, kind_for, summary_as, summary_series, summary_of}
+use Rattle.method_meaning.specs.Methods.{Summary, label_or, kind_for, summary_as, summary_series, summary_of}
 use Rattle.frame_store.specs.Parts.{table_with}
 use Rattle.frame_store.specs.Shown.{labels_value, headings_value, columns_value}
 use Rattle.frame_store.proofs.Settling.{settled_by, columns_name_part, headings_part, columns_settled, table_settled}

@@ -14,7 +14,7 @@ use Rattle.nullable_array.specs.Columns.{CellColumn}
 use Rattle.nullable_array.specs.Columns as kernel
 use Rattle.table_meaning.specs.Table.{ColumnOf, column_value, column_at}
 use Rattle.form_meaning.specs.Finish.{try_all}
-use Rattle.form_meaning.specs.Methods as meant
+use Rattle.method_meaning.specs.Methods as meant
 use Rattle.form_parts.specs.Makes.{MakesBy}
 use Rattle.frame_store.specs.Shown.{columns_value}
 use Rattle.frame_store.specs.declared.fault.OpFault.{OpFault}

@@ -10,7 +10,7 @@ use Rattle.table_meaning.specs.Table.{ColumnOf, NumberedTable, Table, table_valu
 use Rattle.table_meaning.specs.Value.{Entry, table}
 use Rattle.table_meaning.specs.Settled.{IsSettled}
 use Rattle.form_meaning.specs.Finish.{within_limits, limited, with_columns, try_all}
-use Rattle.form_meaning.specs.Methods as meant
+use Rattle.method_meaning.specs.Methods as meant
 use Rattle.frame_store.specs.Parts.{block_column, table_with, axis_of, HeadingList}
 use Rattle.frame_store.specs.Shown.{labels_value, headings_value, columns_value}
 use Rattle.frame_store.proofs.Settling.{settled_later, seen_later, columns_name_part, level_names_part, labels_part, headings_part, with_columns_settled}

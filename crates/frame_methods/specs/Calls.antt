@@ -9,8 +9,8 @@ use Rattle.table_meaning.specs.Table.{Table}
 use Rattle.table_meaning.specs.Value.{Entry, NamedGiven}
 use Rattle.form_meaning.specs.declared.Method.{Method}
 use Rattle.form_meaning.specs.declared.Method.TheVariants as method
-use Rattle.form_meaning.specs.Methods.{answer_for, is_built}
-use Rattle.form_meaning.specs.Calls.{ChainValue, plain, through}
+use Rattle.method_meaning.specs.Methods.{answer_for, is_built}
+use Rattle.method_meaning.specs.Calls.{ChainValue, plain, through}
 use Rattle.frame_store.specs.declared.arguments.Chain.{Chain}
 use Rattle.frame_store.specs.declared.arguments.Chain.TheVariants.{Plain, Group, Rolling, Expanding}
 use Rattle.frame_store.specs.declared.fault.OpFault.{OpFault}

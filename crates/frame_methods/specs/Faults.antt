@@ -4,7 +4,7 @@ use Rattle.cell_core.specs.declared.code.Code.TheVariants.{NoAttribute}
 use Rattle.meaning.specs.Text.{Text}
 use Rattle.meaning.specs.FaultOf.{fault_of}
 use Rattle.table_meaning.specs.Value.{Entry}
-use Rattle.form_meaning.specs.Calls.{has_method, not_built_if}
+use Rattle.method_meaning.specs.Calls.{has_method, not_built_if}
 use Rattle.frame_store.specs.declared.fault.OpFault.{OpFault}
 use Rattle.frame_store.specs.declared.fault.OpFault.TheVariants.{Refused, NoMemory}
 

@@ -8,7 +8,7 @@ use Rattle.meaning.specs.Fault.{FaultValue}
 use Rattle.table_meaning.specs.Table.{ColumnOf}
 use Rattle.frame_store.proofs.Settling.{settled_later, seen_later, cell_settled, cell_given}
 use mathlib.Core.Path.{ap}
-use Rattle.form_meaning.specs.Methods.{mapped, missing_mark, present_mark, filled_column}
+use Rattle.method_meaning.specs.Methods.{mapped, missing_mark, present_mark, filled_column}
 
 abbrev pub mark_of : Bool → CellValue → CellValue
 mark_of true = missing_mark

@@ -13,7 +13,7 @@ use Rattle.frame_store.specs.Shown.{columns_value}
 use Rattle.frame_methods.specs.Columns.{with_front}
 use Rattle.nullable_array.specs.Columns.{CellColumn}
 use Rattle.nullable_array.specs.Folds.{reduction_of}
-use Rattle.form_meaning.specs.Methods as meant
+use Rattle.method_meaning.specs.Methods as meant
 use Rattle.frame_methods.specs.declared.summaries.Summary.{Summary}
 use Rattle.frame_methods.specs.declared.summaries.Summary.TheVariants.{Reduced, Distinct}
 

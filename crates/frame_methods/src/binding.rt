@@ -2,8 +2,8 @@
 ghost use Rattle.std.specs.Prelude.{◌≡◌, List, IsSome};
 ghost use Rattle.meaning.specs.Text.{Text as OneText};
 ghost use Rattle.table_meaning.specs.Table.{table_value};
-ghost use Rattle.form_meaning.specs.Methods as meant;
-ghost use Rattle.form_meaning.specs.Calls.{called, has_method};
+ghost use Rattle.method_meaning.specs.Methods as meant;
+ghost use Rattle.method_meaning.specs.Calls.{called, has_method};
 ghost use Rattle.form_meaning.specs.Signature.{method_named as named_method};
 ghost use Rattle.frame_store.specs.Arguments.{arguments_of, entry_of, AreLive, IsLive};
 ghost use Rattle.frame_store.specs.Objects.{tables, table_at};

@@ -4,7 +4,7 @@ ghost use Rattle.meaning.specs.Cell.{IsLonger};
 ghost use Rattle.table_meaning.specs.Table.{table_value};
 ghost use Rattle.table_meaning.specs.Valid.{IsWhole};
 ghost use Rattle.table_meaning.specs.Settled.{IsSettled};
-ghost use Rattle.form_meaning.specs.Methods.{answer_for};
+ghost use Rattle.method_meaning.specs.Methods.{answer_for};
 ghost use Rattle.form_meaning.specs.Make as make;
 ghost use Rattle.frame_store.specs.Objects.{tables};
 ghost use Rattle.frame_store.specs.Arguments.{arguments_of};

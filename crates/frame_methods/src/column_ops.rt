@@ -3,7 +3,7 @@ ghost use Rattle.std.specs.Prelude.{◌≡◌, List, length, IfOk, true, false, 
 ghost use Rattle.meaning.specs.Text.{Text as OneText};
 ghost use Rattle.meaning.specs.Cell.{AreGiven, IsGiven, IsLonger, holds, datum};
 ghost use Rattle.table_meaning.specs.Table.{column_value};
-ghost use Rattle.form_meaning.specs.Methods.{filled_column, shifted_column, cast_as, cumulated};
+ghost use Rattle.method_meaning.specs.Methods.{filled_column, shifted_column, cast_as, cumulated};
 ghost use Rattle.nullable_array.specs.Folds.{cumulation_of};
 ghost use Rattle.frame_methods.specs.Columns.{table_column, MakesColumn};
 ghost use Rattle.frame_methods.specs.Marks.{marked_column};

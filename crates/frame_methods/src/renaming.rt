@@ -1,46 +1,22 @@
 // The methods that give an object's rows and columns under other headings.
-ghost use Rattle.std.specs.Prelude.{◌≡◌, ◌∷◌, [], List, IsSome, option_map};
+ghost use Rattle.std.specs.Prelude.{◌≡◌, ◌∷◌, [], IsSome};
 ghost use Rattle.cell_core.specs.declared.grid.Shape.TheVariants.{Series};
-ghost use Rattle.meaning.specs.Text.{Text as OneText};
-ghost use Rattle.meaning.specs.Cell.{datum, label_datum};
-ghost use Rattle.meaning.specs.Operator.{cell_label};
 ghost use Rattle.table_meaning.specs.Settled.{IsSettled};
 ghost use Rattle.table_meaning.specs.Table.{table_value};
-ghost use Rattle.form_meaning.specs.Methods.{answer_for};
+ghost use Rattle.method_meaning.specs.Methods.{answer_for};
 ghost use Rattle.frame_store.specs.Arguments.{arguments_of};
 ghost use Rattle.frame_store.specs.Objects.{tables, table_at};
 ghost use Rattle.frame_store.specs.Shown.{shown, FormAnswers};
 ghost use Rattle.frame_methods.specs.Given.{given_for};
-ghost use Rattle.frame_methods.specs.Labels.{column_tuple};
 
-use cell_core::{Cell, Grid, Label, TextDict};
+use crate::series::column_label;
+use cell_core::{Grid, TextDict};
 use form_meaning::Method;
+use form_parts::name_of;
 use frame_store::{Headings, Named, ObjId, OpFault, Store, Value};
 use selections::{as_frame, renamed};
 use signatures::{parameters, scalar_at};
 use std::alloc::Global;
-
-// A cell as a label.
-fn label_of(cell: Cell) -> Label
-    ensures { (texts : List OneText) → label_datum texts result ≡ cell_label (datum texts cell) }
-{
-    match cell {
-        Cell::Na => Label::Na,
-        Cell::Int(number) => Label::Int(number),
-        Cell::Bool(truth) => Label::Bool(truth),
-        Cell::Text(id) => Label::Text(id),
-    }
-}
-
-// The label that a cell is, if there is one.
-fn name_of(cell: Option<Cell>) -> Option<Label>
-    ensures { (texts : List OneText) → option_map (label_datum texts) result ≡ option_map cell_label (option_map (datum texts) cell) }
-{
-    match cell {
-        Some(cell) => Some(label_of(cell)),
-        None => None,
-    }
-}
 
 // A Series with another name, or none.
 pub(crate) fn rename_series(
@@ -64,16 +40,6 @@ pub(crate) fn rename_series(
     renamed(alloc, store, dict, on, headings)
 }
 
-// The name of a Series as the label of a column: 0 where it has none.
-fn label_or_zero(heading: Option<Label>) -> Label
-    ensures { column_tuple heading ≡ result ∷ [] }
-{
-    match heading {
-        Some(label) => label,
-        None => Label::Int(0),
-    }
-}
-
 // The frame of a Series' one column.
 pub(crate) fn to_frame(
     alloc: Global,
@@ -89,6 +55,6 @@ pub(crate) fn to_frame(
 {
     let source = store.read(on);
     let mut headings = Headings::new(alloc, source.columns_name());
-    headings.push(Some(label_or_zero(source.heading(0))))?;
+    headings.push(Some(column_label(source.heading(0))))?;
     as_frame(alloc, store, dict, on, headings)
 }

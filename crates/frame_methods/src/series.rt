@@ -28,8 +28,8 @@ pub(crate) fn series_table(
     Ok(Table::new(Shape::Series, axis, headings, blocks))
 }
 
-// The label of a column of a frame.
-fn column_label(heading: Option<Label>) -> Label
+// The label of a column: 0 where it has none, as only a Series can.
+pub(crate) fn column_label(heading: Option<Label>) -> Label
     ensures { column_tuple heading ≡ result ∷ [] }
 {
     match heading {

@@ -6,7 +6,7 @@ ghost use Rattle.table_meaning.specs.Table.{column_value, table_value};
 ghost use Rattle.table_meaning.specs.Valid.{IsWhole};
 ghost use Rattle.table_meaning.specs.Settled.{IsSettled};
 ghost use Rattle.form_meaning.specs.Finish.{try_all};
-ghost use Rattle.form_meaning.specs.Methods as meant;
+ghost use Rattle.method_meaning.specs.Methods as meant;
 ghost use Rattle.form_parts.specs.Makes.{MakesBy};
 ghost use Rattle.cell_core.specs.declared.grid.Shape.TheVariants.{Frame};
 ghost use Rattle.frame_store.specs.Shown.{columns_value, Makes};

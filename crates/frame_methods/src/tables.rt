@@ -4,7 +4,7 @@ ghost use Rattle.meaning.specs.Cell.{IsLonger};
 ghost use Rattle.table_meaning.specs.Table.{table_value};
 ghost use Rattle.table_meaning.specs.Valid.{IsWhole};
 ghost use Rattle.table_meaning.specs.Settled.{IsSettled};
-ghost use Rattle.form_meaning.specs.Methods as meant;
+ghost use Rattle.method_meaning.specs.Methods as meant;
 ghost use Rattle.frame_store.specs.Shown.{Makes};
 
 use crate::columns::{ColumnOp, each_column};

@@ -56,8 +56,10 @@ fn place_named(parameters: &[Parameter], name: &str) -> usize
     place
 }
 
-// The place that an argument goes to, after so many arguments without a name.
-fn goes_to(parameters: &[Parameter], unnamed: usize, name: &Option<Words>) -> usize
+/// The place of the parameter that an argument goes to, after so many arguments without a name: the
+/// next one, or the one of its name. It is the number of parameters, or above, where there is none.
+/// Takes no memory.
+pub fn goes_to(parameters: &[Parameter], unnamed: usize, name: &Option<Words>) -> usize
     ensures { result ≡ plain.goes_to parameters.now unnamed name.now }
 {
     match name {
@@ -66,7 +68,8 @@ fn goes_to(parameters: &[Parameter], unnamed: usize, name: &Option<Words>) -> us
     }
 }
 
-fn counted(unnamed: usize, name: &Option<Words>) -> usize
+/// How many arguments without a name there are after one more, of which there were so many. Takes no memory.
+pub fn counted(unnamed: usize, name: &Option<Words>) -> usize
     requires { unnamed + 1 < 2 ^ 64 }
     ensures { result ≡ plain.counted unnamed name.now }
 {

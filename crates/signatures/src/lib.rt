@@ -28,7 +28,7 @@ mod forms;
 mod places;
 mod table;
 
-pub use binding::{Unbound, bind};
+pub use binding::{Unbound, bind, counted, goes_to};
 pub use places::{
     dict_at, dict_or_none_at, given_at, is_none_at, list_at, list_or_none_at, object_at, scalar_at,
     scalar_or_none_at, text_at, text_or_none_at, truth_at, whole_at, whole_or_none_at,

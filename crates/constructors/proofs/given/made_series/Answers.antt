@@ -1,7 +1,7 @@
 use Rattle.std.proofs.Common.{◌≡◌, ◌∙◌, sym, subst, false, List, Bor, Result}
 use Rattle.meaning.specs.Fault.{FaultValue}
 use Rattle.table_meaning.specs.Value.{Entry}
-use Rattle.form_meaning.specs.Calls.{levels_among}
+use Rattle.form_meaning.specs.Functions.{levels_among}
 use Rattle.frame_store.specs.declared.arguments.Item.{Item}
 use Rattle.frame_store.specs.Objects.{tables}
 use Rattle.frame_store.specs.Arguments.{arguments_of}

@@ -1,6 +1,6 @@
 use Rattle.std.proofs.Common.{◌≡◌, ◌+◌, ◌<◌, ◌^◌, length, List}
 use Rattle.meaning.specs.Text.{Text}
-use Rattle.form_meaning.specs.Calls.{levels_among}
+use Rattle.form_meaning.specs.Functions.{levels_among}
 use Rattle.frame_store.specs.Objects.{Tables}
 use Rattle.frame_store.specs.Arguments.{arguments_of}
 use Rattle.constructors.proofs.levels.has_levels.Given as goal

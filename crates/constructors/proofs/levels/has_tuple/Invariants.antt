@@ -1,6 +1,6 @@
 use Rattle.std.proofs.Common.{◌≡◌, length, List}
 use Rattle.meaning.specs.Text.{Text}
-use Rattle.form_meaning.specs.Calls.{has_tuple}
+use Rattle.form_meaning.specs.Functions.{has_tuple}
 use Rattle.frame_store.specs.Objects.{Tables}
 use Rattle.frame_store.specs.Arguments.{items_of}
 use Rattle.constructors.proofs.levels.has_tuple.Given as goal

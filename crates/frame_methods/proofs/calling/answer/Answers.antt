@@ -1,6 +1,6 @@
 use Rattle.std.proofs.Common.{◌≡◌, ap, sym}
 use Rattle.table_meaning.specs.Table.{NumberedTable, table_value}
-use Rattle.form_meaning.specs.Methods.{answer_for}
+use Rattle.method_meaning.specs.Methods.{answer_for}
 use Rattle.frame_store.specs.Arguments.{arguments_of}
 use Rattle.frame_store.specs.Objects.{tables, table_at, table_or}
 use Rattle.frame_store.proofs.Settling.{object_settled}

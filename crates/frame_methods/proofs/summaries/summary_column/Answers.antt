@@ -1,5 +1,5 @@
 use Rattle.std.proofs.Common.{◌<◌, length, arith}
-use Rattle.form_meaning.specs.Methods as meant
+use Rattle.method_meaning.specs.Methods as meant
 use Rattle.frame_methods.specs.Summaries.{summary_value}
 use Rattle.frame_methods.proofs.ColumnLaws.{place_given}
 use Rattle.frame_methods.proofs.SummaryLaws.{cells_step}

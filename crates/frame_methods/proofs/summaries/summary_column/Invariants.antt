@@ -1,4 +1,4 @@
-use Rattle.form_meaning.specs.Methods as meant
+use Rattle.method_meaning.specs.Methods as meant
 use Rattle.frame_methods.specs.Summaries.{summary_value, AreCells}
 use Rattle.frame_methods.proofs.summaries.summary_column.Given as goal
 

@@ -1,0 +1,37 @@
+-- Calls of methods.
+use Rattle.std.specs.Prelude.{Bool, true, false, List, is_some, Option, Some, None, Result, Err, if◌then◌else◌}
+use Rattle.meaning.specs.Text.{Text}
+use Rattle.meaning.specs.Fault.{FaultValue, no_attribute, not_built}
+use Rattle.table_meaning.specs.Table.{Table}
+use Rattle.table_meaning.specs.Value.{Entry, cell, table, NamedGiven}
+use Rattle.form_meaning.specs.declared.Method.{Method}
+use Rattle.form_meaning.specs.Signature.{parameters_of, method_named}
+use Rattle.form_meaning.specs.Binding.{bound_of, on_bound}
+use Rattle.method_meaning.specs.Methods.{answer_for, is_built}
+
+-- whether a value has a method of the name
+abbrev pub has_method : Entry → Text → Bool
+has_method (cell c) name = false
+has_method (table t) name = is_some (method_named t.shape name)
+
+abbrev pub called : Option Method → Text → List NamedGiven → Table → Result Entry FaultValue
+called None name gs t = Err (no_attribute name)
+called (Some m) name gs t = if is_built m then on_bound (bound_of (parameters_of m) gs) (λ given. answer_for m given t) else Err not_built
+
+-- a method of a value; a scalar has none
+abbrev pub method_result : Entry → Text → List NamedGiven → Result Entry FaultValue
+method_result (cell c) name gs = Err (no_attribute name)
+method_result (table t) name gs = called (method_named t.shape name) name gs t
+
+-- the name of a method; or that of groups or windows, which stand between an object and a method of theirs
+pub data ChainValue : Type 0 where
+  plain : Text → ChainValue
+  through : Text → ChainValue
+
+abbrev pub not_built_if : Bool → Text → Result Entry FaultValue
+not_built_if true name = Err not_built
+not_built_if false name = Err (no_attribute name)
+
+abbrev pub chain_result : Entry → ChainValue → List NamedGiven → Result Entry FaultValue
+chain_result v (plain name) gs = method_result v name gs
+chain_result v (through name) gs = not_built_if (has_method v name) name
