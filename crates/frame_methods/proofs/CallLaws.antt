@@ -4,7 +4,7 @@ use Rattle.std.specs.Prelude.{IfOk}
 use Rattle.cell_core.specs.Texts.{IsLonger}
 use Rattle.cell_core.specs.declared.cell.Cell.{Cell}
 use Rattle.meaning.specs.Text.{Text}
-use Rattle.meaning.specs.Cell.{datum}
+use Rattle.meaning.specs.Cell.{CellValue, na_cell, datum}
 use Rattle.meaning.specs.Fault.{FaultValue}
 use Rattle.table_meaning.specs.Settled.{IsSettled}
 use Rattle.table_meaning.specs.Table.{NumberedTable, Table, table_value, no_table}
@@ -44,12 +44,17 @@ table_settled_in texts m one t was is settled =
     let here : IsSettled made_value texts (made.Table t) = subst (λ (r : Result Made OpFault). IfOk r (IsSettled made_value texts)) (was ∙ ap Ok is) settled in
     λ more. ap table_of (here more)
 
+abbrev cell_of : Entry → CellValue
+cell_of (value.cell c) = c
+cell_of (value.table t) = na_cell
+
 -- a scalar
 pub scalar_answered : (earlier texts : List Text) (tables : Tables) (m : Result Made OpFault) (one : Made) (c : Cell) (meant : Result Entry FaultValue)
-    → m ≡ Ok one → one ≡ made.Scalar c → IsLonger earlier texts → IsSettled shown earlier tables → MakesBy made_value texts m meant
-    → (meant ≡ Ok (value.cell (datum texts c))) × (shown texts tables ≡ shown earlier tables)
-scalar_answered earlier texts tables m one c meant was is longer settled makes =
-    (subst (λ (r : Result Made OpFault). MakesBy made_value texts r meant) (was ∙ ap Ok is) makes, seen_later shown earlier texts tables longer settled)
+    → m ≡ Ok one → one ≡ made.Scalar c → IfOk m (IsSettled made_value texts) → IsLonger earlier texts → IsSettled shown earlier tables → MakesBy made_value texts m meant
+    → (meant ≡ Ok (value.cell (datum texts c))) × (shown texts tables ≡ shown earlier tables) × IsSettled datum texts c
+scalar_answered earlier texts tables m one c meant was is given longer settled makes =
+    let here : IsSettled made_value texts (made.Scalar c) = subst (λ (r : Result Made OpFault). IfOk r (IsSettled made_value texts)) (was ∙ ap Ok is) given in
+    (subst (λ (r : Result Made OpFault). MakesBy made_value texts r meant) (was ∙ ap Ok is) makes, (seen_later shown earlier texts tables longer settled, λ more. ap cell_of (here more)))
 
 -- a table is meant
 pub table_meant : (texts : List Text) (m : Result Made OpFault) (one : Made) (t : NumberedTable) (meant : Result Entry FaultValue) → m ≡ Ok one → one ≡ made.Table t → MakesBy made_value texts m meant

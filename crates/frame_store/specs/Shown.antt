@@ -6,6 +6,7 @@ use Rattle.meaning.specs.Text.{Text}
 use Rattle.meaning.specs.Cell.{CellValue, LabelValue, datum}
 use Rattle.meaning.specs.Fault.{FaultValue}
 use Rattle.meaning.specs.FaultOf.{fault_of}
+use Rattle.table_meaning.specs.Settled.{IsSettled}
 use Rattle.table_meaning.specs.Table.{ColumnOf, NumberedTable, Table, no_table, table_value, heading_value, tuple_value, column_value}
 use Rattle.table_meaning.specs.Value as value
 use Rattle.table_meaning.specs.Value.{Entry}
@@ -48,14 +49,14 @@ abbrev pub seen : List Text → Shown → Value → Entry
 seen texts objects (Object id) = value.table (table_in (objects id.0))
 seen texts objects (Scalar c) = value.cell (datum texts c)
 
--- an object that is answered was not live before, and no other object changed
-abbrev pub Grew : Value → Shown → Shown → Type 0
-Grew (Scalar c) old new = new ≡ old
-Grew (Object id) old new = (old id.0 ≡ None) × IsSome (new id.0) × (new ≡ with_shown old id.0 (new id.0))
+-- an object that is answered was not live before, and no other object changed; a text that is answered was given its number
+abbrev pub Grew : List Text → Value → Shown → Shown → Type 0
+Grew texts (Scalar c) old new = (new ≡ old) × IsSettled datum texts c
+Grew texts (Object id) old new = (old id.0 ≡ None) × IsSome (new id.0) × (new ≡ with_shown old id.0 (new id.0))
 
 -- What a form answers is what is meant, or its first fault is. After a refusal all objects are as they were; want of memory may come in place of any answer.
 abbrev pub FormAnswers : List Text → Result Value OpFault → Result Entry FaultValue → Shown → Shown → Type 0
-FormAnswers texts (Ok v) meant old new = (meant ≡ Ok (seen texts new v)) × Grew v old new
+FormAnswers texts (Ok v) meant old new = (meant ≡ Ok (seen texts new v)) × Grew texts v old new
 FormAnswers texts (Err (Refused code)) meant old new = (meant ≡ Err (fault_of texts code)) × (new ≡ old)
 FormAnswers texts (Err NoMemory) meant old new = new ≡ old
 

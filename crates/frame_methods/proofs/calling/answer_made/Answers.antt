@@ -16,4 +16,4 @@ pub returns-in-Scalar-clause-settled : goal.returns-in-Scalar-clause-settled
 returns-in-Scalar-clause-settled c = λ earlier longer settled. kept_settled earlier _ _ _ longer settled refl
 
 pub returns-in-Scalar-clause-answers : goal.returns-in-Scalar-clause-answers
-returns-in-Scalar-clause-answers c = λ earlier meant longer settled makes. scalar_answered earlier _ _ c.args.made c.in_ok-cell.field-0 c.in-Scalar.cell meant c.in_ok-cell.was c.in-Scalar.is longer settled makes
+returns-in-Scalar-clause-answers c = λ earlier meant longer settled makes. scalar_answered earlier _ _ c.args.made c.in_ok-cell.field-0 c.in-Scalar.cell meant c.in_ok-cell.was c.in-Scalar.is c.requires longer settled makes
