@@ -1,5 +1,6 @@
 -- What is selected from a table, as far as it is built: columns of a frame, and one cell of a Series by its position.
 use Rattle.std.specs.Prelude.{ℕ, suc, ℤ, pos, Bool, ◌&&◌, List, [], ◌∷◌, map, length, nat_lt, slice_index_or, Option, Some, None, option_map, Result, Ok, Err, if◌then◌else◌}
+use Rattle.std.specs.Int.{int_wrap, w64}
 use Rattle.std.specs.List.{list_all}
 use Rattle.cell_core.specs.declared.grid.Shape.{Shape}
 use Rattle.cell_core.specs.declared.grid.Shape.TheVariants.{Series, Frame}
@@ -136,7 +137,7 @@ abbrev pub select_result : Entry → Way → GivenSub → Option GivenSub → Re
 select_result v plain first second = brackets_result v first second
 select_result v (through by) first second = access_result v by first second
 
--- the number of rows; a scalar has none
+-- the number of rows, as a whole number of 64 bits; a scalar has none
 abbrev pub length_result : Entry → Result Entry FaultValue
 length_result (cell c) = Err wrong_kind
-length_result (table t) = Ok (cell (int_cell (pos (length t.labels))))
+length_result (table t) = Ok (cell (int_cell (int_wrap w64 (pos (length t.labels)))))

@@ -1,5 +1,5 @@
 // The live objects and their tables.
-ghost use Rattle.std.specs.Prelude.{◌≡◌, ◌≢◌, ◌*◌, ◌<◌, ◌≤◌, ◌++◌, ◌∷◌, map, length, All, Some, None, IsSome, IfOk, OnOk, OnErr};
+ghost use Rattle.std.specs.Prelude.{◌≡◌, ◌≢◌, ◌↔◌, ◌*◌, ◌<◌, ◌≤◌, ◌++◌, ◌∷◌, map, length, All, Some, None, IsSome, IsTrue, IfOk, OnOk, OnErr};
 ghost use Rattle.cell_core.specs.declared.cell.Cell.TheVariants.{Na};
 ghost use Rattle.cell_core.specs.Grids.{AreRowsBelow};
 ghost use Rattle.table_meaning.specs.Table.{column_at};
@@ -166,6 +166,13 @@ impl Store {
         ensures { tables self.new ≡ with_object (tables self.old) on.0 (Some (with_labels (table_at (tables self.old) on.0) axis.tuples axis.names)) }
     {
         self.objects[on.0 as usize].replace_axis(axis);
+    }
+
+    /// Whether the number is that of a live object. Takes no memory.
+    pub fn contains(&self, id: ObjId) -> bool
+        ensures { IsTrue result ↔ IsSome (tables self.now id.0) }
+    {
+        self.objects.contains(id.0 as usize)
     }
 
     /// Ends an object. Takes no memory.
