@@ -37,7 +37,7 @@ use Rattle.frame_store.specs.Shown.{headings_value, labels_value, columns_value,
 use Rattle.frame_store.proofs.Settling.{table_settled}
 use Rattle.constructors.specs.Pairs.{value_in, entries_seen, alone, scalars_in, list_seen, list_at, lists_seen, listed_column}
 use Rattle.constructors.specs.Made.{axis_labels, index_labels, index_alone, indexed, same_rows, labels_for, frame_labels, frame_with, frame_from}
-use Rattle.constructors.proofs.MadeLaws.{limited_labels, indexed_within, labels_then, is_ok_of}
+use Rattle.constructors.proofs.MadeLaws.{limited_labels, indexed_within, labels_then, ok_same}
 use Rattle.constructors.proofs.GivenLaws.{scalars_are}
 use Rattle.constructors.proofs.PairLaws.{same_number, number_decides}
 
@@ -47,9 +47,6 @@ Columns = List (ColumnOf CellValue)
 -- a value that isn't a list of scalars has the same fault as mixed kinds, so both can be tested value by value
 abbrev columns_then : Result (ColumnOf CellValue) FaultValue → Result Columns FaultValue → Result Columns FaultValue
 columns_then first rest = then_value first (λ y. then_value rest (λ ys. Ok (y ∷ ys)))
-
-abbrev kind_fault : Columns → Result Columns FaultValue
-kind_fault cs = Err wrong_kind
 
 never_made : (b : Bool) (c : ColumnOf CellValue) → Err wrong_kind ≡ columns_then (if b then Ok c else Err wrong_kind) (Err wrong_kind)
 never_made true c = refl
@@ -245,9 +242,6 @@ list_settled texts (p ∷ ps) (suc place) all = list_settled texts ps place (res
 lists_settled : (texts more : List Text) (pairs : List (Label × Argument)) (places : List ℕ) → All (IsGivenList texts) pairs → lists_seen (texts ++ more) pairs places ≡ lists_seen texts pairs places
 lists_settled texts more pairs [] all = refl
 lists_settled texts more pairs (place ∷ places) all = λ j. list_settled texts pairs place all more j ∷ lists_settled texts more pairs places all j
-
-ok_same : {A : Type 0} (a b : A) → is_ok_of a ≡ is_ok_of b → a ≡ b
-ok_same a b e = cc
 
 blocks_settled : (texts : List Text) (pairs : List (Label × Argument)) (places : List ℕ) (blocks : List CellBlock) → All (IsGivenList texts) pairs
     → ((texts : List Text) → try_all listed_column (lists_seen texts pairs places) ≡ Ok (blocks_value texts blocks)) → IsSettled blocks_value texts blocks

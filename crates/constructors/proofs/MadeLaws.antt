@@ -115,7 +115,7 @@ column_given dict items c is settled =
 abbrev pub is_ok_of : {A : Type 0} → A → Result A FaultValue
 is_ok_of a = Ok a
 
-ok_same : {A : Type 0} (a b : A) → is_ok_of a ≡ is_ok_of b → a ≡ b
+pub ok_same : {A : Type 0} (a b : A) → is_ok_of a ≡ is_ok_of b → a ≡ b
 ok_same a b e = cc
 
 pub labels_settled : (dict : List Text) (axis : AxisValue) (rows columns : ℕ) (index : List Text → Option (List CellValue)) → ((texts : List Text) → index_labels rows columns (index texts) ≡ Ok (axis_labels texts axis))

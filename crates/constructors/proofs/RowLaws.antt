@@ -14,10 +14,8 @@ use Rattle.form_parts.specs.Makes.{MakesBy, block_value, blocks_value}
 use Rattle.frame_store.specs.declared.fault.OpFault.{OpFault}
 use Rattle.frame_store.specs.Parts.{block_column, IsSingle, HaveRows}
 use Rattle.constructors.specs.Made.{axis_labels, same_rows, common_rows, labels_for, frame_labels}
-use Rattle.constructors.proofs.MadeLaws.{labels_count, nat_same, is_ok_of}
-
-some_same : {A : Type 0} (a b : A) → Some a ≡ Some b → a ≡ b
-some_same a b e = cc
+use Rattle.constructors.proofs.MadeLaws.{labels_count, nat_same, ok_same}
+use Rattle.constructors.proofs.GivenLaws.{some_same}
 
 -- the columns from a place on
 columns_from : (texts : List Text) (blocks : List CellBlock) (place : ℕ) (b : CellBlock) → slice_get blocks place ≡ Some b → drop place (blocks_value texts blocks) ≡ block_value texts b ∷ drop (suc place) (blocks_value texts blocks)
@@ -87,9 +85,6 @@ Has rows c = length c.cells ≡ rows
 first_same : (b : Bool) (rows got : ℕ) (cs : List (ColumnOf CellValue)) (o : Option ℕ) → nat_eq rows got ≡ b → if_same rows got cs b ≡ Ok o → (got ≡ rows) × (same_rows rows cs ≡ Ok o)
 first_same true rows got cs o same is = (sym (nat_same rows got same), is)
 first_same false rows got cs o same is = cc
-
-ok_same : {A : Type 0} (a b : A) → is_ok_of a ≡ is_ok_of b → a ≡ b
-ok_same a b e = cc
 
 rows_kept : (rows : ℕ) (cs : List (ColumnOf CellValue)) (o : Option ℕ) → same_rows rows cs ≡ Ok o → (o ≡ Some rows) × All (Has rows) cs
 rows_kept rows [] o is = (sym (ok_same (Some rows) o is), All-nil (Has rows))
