@@ -1,5 +1,5 @@
 -- Constructors on bound arguments.
-use Rattle.std.proofs.Common.{◌≡◌, ◌∙◌, refl, ap, sym, subst, ℕ, Bool, true, false, List, [], ◌∷◌, ◌++◌, Option, Some, None, Result, Ok, Err, if◌then◌else◌}
+use Rattle.std.proofs.Common.{◌≡◌, ◌∙◌, refl, ap, sym, ℕ, Bool, true, false, List, [], ◌∷◌, ◌++◌, Option, Some, None, Result, Err, if◌then◌else◌}
 use Rattle.std.specs.Option.{option_map}
 use Rattle.cell_core.specs.declared.cell.Cell.{Cell}
 use Rattle.cell_core.specs.declared.cell.Kind.{Kind}
@@ -10,14 +10,13 @@ use Rattle.meaning.specs.Operator.{cell_label}
 use Rattle.meaning.specs.Fault.{FaultValue, not_built, then_value}
 use Rattle.table_meaning.specs.Settled.{IsSettled}
 use Rattle.table_meaning.specs.Table.{heading_value}
-use Rattle.table_meaning.specs.Value.{Entry, Given, GivenList, NamedGiven, scalar_in, list_in}
-use Rattle.form_meaning.specs.declared.Function.{Function}
+use Rattle.table_meaning.specs.Value.{Entry, GivenList, NamedGiven, scalar_in, list_in, dict_in}
 use Rattle.form_meaning.specs.declared.Function.TheVariants as function
 use Rattle.form_meaning.specs.declared.Parameter.{Parameter}
 use Rattle.form_meaning.specs.Signature.{function_parameters}
 use Rattle.form_meaning.specs.Binding.{Bound, bound, bound_of, argument_at, arguments_from, text_of}
 use Rattle.form_meaning.specs.Select.{cells_of}
-use Rattle.form_meaning.specs.Make.{kind_named, kind_given, on, series_of, series_result}
+use Rattle.form_meaning.specs.Make.{kind_named, kind_given, on, series_of, series_result, frame_of, frame_result, pairs_in}
 use Rattle.form_meaning.specs.Binding.{on_bound}
 use Rattle.form_meaning.specs.Functions.{levels_among, constructed, made_by}
 use Rattle.frame_store.specs.declared.arguments.Value.TheVariants.{Object, Scalar}
@@ -65,7 +64,7 @@ list_settled f live dict ps args place o is settled more =
     ∙ ap (option_map cells_of) (is live (dict ++ more) ∙ ap (λ gs. list_in (argument_at ps gs place)) (settled more) ∙ sym (is live dict))
     ∙ lists_are f live dict o
 
-some_same : {A : Type 0} (a b : A) → Some a ≡ Some b → a ≡ b
+pub some_same : {A : Type 0} (a b : A) → Some a ≡ Some b → a ≡ b
 some_same a b e = cc
 
 pub items_settled : (live : Tables) (dict : List Text) (ps : List Parameter) (args : List Named) (place : ℕ) (items : List Item)
@@ -135,3 +134,35 @@ series_given f live dict args ps values index o name kind is levels same listed 
     ∙ series_same (items_of live dict values) (list_in (argument_at ps gs 1)) (option_map cell_label (scalar_in (argument_at ps gs 2))) (kind_given (scalar_in (argument_at ps gs 3)))
     ∙ (λ j. series_with (scalars_are live dict values j) ((ap (option_map cells_of) (sym indexed) ∙ lists_are f live dict index) j) ((ap (option_map cell_label) (sym scalar) ∙ sym named) j) (sym kinded j))
     )
+
+-- a frame
+abbrev unless_frame_levels : Bool → Bound → Result Entry FaultValue
+unless_frame_levels levels b = if levels then Err not_built else on_bound b (constructed function.DataFrame)
+
+abbrev frame_signature : List Parameter
+frame_signature = function_parameters function.DataFrame
+
+pub frame_levels : (gs : List NamedGiven) (ps : List Parameter) → ps ≡ frame_signature → levels_among ps 0 gs ≡ true → made_by function.DataFrame gs ≡ Err not_built
+frame_levels gs ps is levels = ap (λ b. unless_frame_levels b (bound_of frame_signature gs)) (ap (λ p. levels_among p 0 gs) (sym is) ∙ levels)
+
+pub frame_unbound : (gs : List NamedGiven) (ps : List Parameter) (outcome : Bound) → ps ≡ frame_signature → levels_among ps 0 gs ≡ false → bound_of ps gs ≡ outcome
+    → made_by function.DataFrame gs ≡ on_bound outcome (constructed function.DataFrame)
+frame_unbound gs ps outcome is levels same =
+    ap (λ b. unless_frame_levels b (bound_of frame_signature gs)) (ap (λ p. levels_among p 0 gs) (sym is) ∙ levels)
+    ∙ ap (λ b. on_bound b (constructed function.DataFrame)) (ap (λ p. bound_of p gs) (sym is) ∙ same)
+
+abbrev frame_at : List Parameter → List NamedGiven → Result Entry FaultValue
+frame_at ps gs = frame_result (argument_at ps gs 0 ∷ argument_at ps gs 1 ∷ [])
+
+pub frame_bound : (gs : List NamedGiven) (ps : List Parameter) → ps ≡ frame_signature → levels_among ps 0 gs ≡ false → bound_of ps gs ≡ bound (arguments_from ps gs 0 ps)
+    → made_by function.DataFrame gs ≡ frame_at ps gs
+frame_bound gs ps is levels same =
+    frame_unbound gs ps (bound (arguments_from ps gs 0 ps)) is levels same
+    ∙ ap (λ p. on_bound (bound (arguments_from p gs 0 p)) (constructed function.DataFrame)) is
+    ∙ ap (λ p. frame_at p gs) (sym is)
+
+pub frame_unlisted : (gs : List NamedGiven) (ps : List Parameter) → ps ≡ frame_signature → levels_among ps 0 gs ≡ false → bound_of ps gs ≡ bound (arguments_from ps gs 0 ps) → None ≡ dict_in (argument_at ps gs 0)
+    → made_by function.DataFrame gs ≡ Err Rattle.meaning.specs.Fault.wrong_kind
+frame_unlisted gs ps is levels same none =
+    frame_bound gs ps is levels same
+    ∙ ap (λ o. on o (λ pairs. frame_of (pairs_in pairs) (list_in (argument_at ps gs 1)))) (sym none)

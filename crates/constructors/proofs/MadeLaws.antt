@@ -1,5 +1,5 @@
 -- Series of scalars.
-use Rattle.std.proofs.Common.{◌≡◌, ◌∙◌, refl, ap, sym, subst, ℕ, pos, nat_eq, Bool, true, false, List, [], ◌∷◌, ◌++◌, map, length, Option, Some, None, Result, Ok, Err, All, if◌then◌else◌, arith}
+use Rattle.std.proofs.Common.{◌≡◌, ◌∙◌, refl, ap, sym, subst, ℕ, pos, nat_eq, Bool, true, false, List, [], ◌∷◌, ◌++◌, map, length, Option, Some, None, Result, Ok, Err, if◌then◌else◌, arith}
 use Rattle.std.specs.List.{list_all, range_with_len}
 use Rattle.std.proofs.lemmas.List.{length-map}
 use Rattle.std.proofs.lemmas.List.FromFn.{length-map-range_with_len}
@@ -30,7 +30,7 @@ use Rattle.frame_store.specs.Parts.{table_with}
 use Rattle.frame_store.specs.Shown.{labels_value, headings_value, cells_value, Makes}
 use Rattle.frame_store.proofs.Settling.{settled_later, seen_later, settled_by, cells_given, columns_settled, table_settled}
 use Rattle.constructors.specs.Scalars.{scalars, table_column, column_seen}
-use Rattle.constructors.specs.Made.{axis_labels, labels_within, listed_labels, index_labels, indexed, series_with}
+use Rattle.constructors.specs.Made.{axis_labels, labels_within, index_labels, indexed, series_with}
 
 -- the labels 0, 1 and so on
 default_seen : (texts : List Text) (ns : List ℕ) → labels_value texts (single_tuples (map number_label ns)) ≡ map (λ row. int (pos row) ∷ []) ns
@@ -47,7 +47,7 @@ counted texts rows columns axis within is =
 default_count : (rows : ℕ) → length (default_labels rows) ≡ rows
 default_count rows = length-map-range_with_len (λ row. int (pos row) ∷ []) 0 rows
 
-nat_same : (a b : ℕ) → nat_eq a b ≡ true → a ≡ b
+pub nat_same : (a b : ℕ) → nat_eq a b ≡ true → a ≡ b
 nat_same a b e = grind (arith, nat_tests)
 
 -- as many labels as rows
@@ -62,7 +62,7 @@ listed_count : (b : Bool) (rows columns : ℕ) (labels made : List (List LabelVa
 listed_count true rows columns labels made same is = ap length (sym (within_count (within_limits rows columns) labels made is)) ∙ sym (nat_same rows (length labels) same)
 listed_count false rows columns labels made same is = cc
 
-labels_count : (rows columns : ℕ) (index : Option (List CellValue)) (made : List (List LabelValue)) → index_labels rows columns index ≡ Ok made → length made ≡ rows
+pub labels_count : (rows columns : ℕ) (index : Option (List CellValue)) (made : List (List LabelValue)) → index_labels rows columns index ≡ Ok made → length made ≡ rows
 labels_count rows columns None made is = ap length (sym (within_count (within_limits rows columns) (default_labels rows) made is)) ∙ default_count rows
 labels_count rows columns (Some cells) made is = listed_count (nat_eq rows (length (single_labels cells))) rows columns (single_labels cells) made refl is
 
@@ -74,14 +74,14 @@ axis_count texts rows columns index axis is =
 abbrev limit_then : Table → Bool → Result Entry FaultValue
 limit_then t b = then_value (if b then Ok t else Err limit) (λ t. Ok (table t))
 
-abbrev labels_then : (List (List LabelValue) → Table) → Result (List (List LabelValue)) FaultValue → Result Entry FaultValue
+abbrev pub labels_then : (List (List LabelValue) → Table) → Result (List (List LabelValue)) FaultValue → Result Entry FaultValue
 labels_then go r = then_value r (λ labels. Ok (table (go labels)))
 
 either_limit : (go : List (List LabelValue) → Table) (labels : List (List LabelValue)) (b : Bool) → limit_then (go labels) b ≡ labels_then go (if_within labels b)
 either_limit go labels true = refl
 either_limit go labels false = refl
 
-limited_labels : (rows columns : ℕ) (go : List (List LabelValue) → Table) (labels : List (List LabelValue)) → length (go labels).labels ≡ rows → length (go labels).columns ≡ columns
+pub limited_labels : (rows columns : ℕ) (go : List (List LabelValue) → Table) (labels : List (List LabelValue)) → length (go labels).labels ≡ rows → length (go labels).columns ≡ columns
     → limited (go labels) ≡ labels_then go (labels_within rows columns labels)
 limited_labels rows columns go labels r c =
     ap (limit_then (go labels)) (λ j. within_limits (r j) (c j)) ∙ either_limit go labels (within_limits rows columns)
@@ -112,10 +112,10 @@ column_given dict items c is settled =
     (λ texts. held_cells (list_all (holds (first_kind (scalars texts items))) (scalars texts items)) (first_kind (scalars texts items)) (scalars texts items) (column_seen texts c) (is texts)) settled)
 
 -- the labels of an axis were given
-abbrev is_ok_of : {A : Type 0} → A → Result A FaultValue
+abbrev pub is_ok_of : {A : Type 0} → A → Result A FaultValue
 is_ok_of a = Ok a
 
-ok_same : {A : Type 0} (a b : A) → is_ok_of a ≡ is_ok_of b → a ≡ b
+pub ok_same : {A : Type 0} (a b : A) → is_ok_of a ≡ is_ok_of b → a ≡ b
 ok_same a b e = cc
 
 pub labels_settled : (dict : List Text) (axis : AxisValue) (rows columns : ℕ) (index : List Text → Option (List CellValue)) → ((texts : List Text) → index_labels rows columns (index texts) ≡ Ok (axis_labels texts axis))

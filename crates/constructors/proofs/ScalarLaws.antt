@@ -1,5 +1,5 @@
 -- The scalars of a list, part by part.
-use Rattle.std.proofs.Common.{◌≡◌, ◌∙◌, ◌≤◌, ◌-◌, refl, ap, sym, subst, List, [], ◌∷◌, ◌++◌, length, take, drop, get_or, map, Option, Some, None, arith}
+use Rattle.std.proofs.Common.{◌≡◌, ◌∙◌, ◌≤◌, ◌-◌, refl, ap, sym, subst, List, [], ◌∷◌, length, take, drop, get_or, map, Option, None, arith}
 use Rattle.std.specs.Prelude.{Result, Err, unwrap_or}
 use Rattle.std.specs.Option.{option_map}
 use Rattle.std.proofs.lemmas.List.{take_rest}

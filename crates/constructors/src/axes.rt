@@ -80,3 +80,27 @@ pub(crate) fn index_axis(
         Some(items) => labelled_axis(alloc, dict, items, rows, columns),
     }
 }
+
+// The axis of the labels in a list, as many as there are, of a frame without columns.
+fn free_axis(alloc: Global, dict: &TextDict, index: &[Item]) -> Result<Axis, OpFault>
+    ensures names { IfOk result (λ axis. axis.names ≡ None ∷ []) }
+    ensures labels { (texts : List OneText) → MakesBy meant.axis_labels texts result (meant.free_labels (Some (scalars texts index.now))) }
+{
+    let tuples = single_tuples(alloc, index)?;
+    listed_axis(alloc, dict, &tuples, tuples.len(), 0)
+}
+
+// The same, or without an index the axis without rows.
+pub(crate) fn bare_axis(
+    alloc: Global,
+    dict: &TextDict,
+    index: Option<&[Item]>,
+) -> Result<Axis, OpFault>
+    ensures names { IfOk result (λ axis. axis.names ≡ None ∷ []) }
+    ensures labels { (texts : List OneText) → MakesBy meant.axis_labels texts result (meant.free_labels (option_map (λ items. scalars texts items.now) index.entry)) }
+{
+    match index {
+        None => counted_axis(alloc, 0, 0),
+        Some(items) => free_axis(alloc, dict, items),
+    }
+}

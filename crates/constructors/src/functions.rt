@@ -1,18 +1,19 @@
 // The functions of `pd` that make tables.
-ghost use Rattle.std.specs.Prelude.{◌≡◌, is_some};
+ghost use Rattle.std.specs.Prelude.{◌≡◌, is_some, IfOk};
 ghost use Rattle.meaning.specs.Cell.{IsLonger};
 ghost use Rattle.table_meaning.specs.Settled.{IsSettled};
-ghost use Rattle.form_meaning.specs.declared.Function.TheVariants as function_of;
+ghost use Rattle.table_meaning.specs.Table.{table_value};
 ghost use Rattle.form_meaning.specs.Signature as signature;
 ghost use Rattle.form_meaning.specs.Functions as functions;
 ghost use Rattle.frame_store.specs.Objects.{tables};
 ghost use Rattle.frame_store.specs.Arguments.{arguments_of, AreLive};
-ghost use Rattle.frame_store.specs.Shown.{shown, FormAnswers};
+ghost use Rattle.frame_store.specs.Shown.{shown, FormAnswers, Makes};
 
-use crate::given::made_series;
-use cell_core::TextDict;
+use crate::given::{made_frame, made_series};
+use cell_core::{Code, TextDict, Words};
+use form_meaning::Function;
 use form_parts::placed;
-use frame_store::{NamedList, OpFault, Store, Value};
+use frame_store::{Named, NamedList, OpFault, Store, Table, Value};
 use signatures::function_named;
 use std::alloc::Global;
 
@@ -23,18 +24,76 @@ pub fn function_exists(name: &str) -> bool
     function_named(name).is_some()
 }
 
-/// A new Series: `pd.Series(values, index=None, name=None, dtype=None)`, as in the pandas API
-/// reference. Its kind is that of the scalars that are present, `Int64` where none is, or the
-/// `dtype`; its labels are those of the index, or 0, 1 and so on.
+// What a function makes of these arguments.
+#[tactic(auto, using(frame_store::proofs::Settling::longer_self))]
+fn made_by(
+    alloc: Global,
+    store: &Store,
+    dict: &mut TextDict,
+    function: Function,
+    args: &[Named],
+) -> Result<Table, OpFault>
+    requires live { AreLive (tables store.now) args.now }
+    requires given { IsSettled (arguments_of (tables store.now)) dict.old args.now }
+    ensures longer { IsLonger dict.old dict.new }
+    ensures settled { IfOk result (IsSettled table_value dict.new) }
+    ensures answer { Makes dict.new result (functions.made_by function (arguments_of (tables store.now) dict.old args.now)) }
+{
+    match function {
+        Function::Series => made_series(alloc, store, dict, args),
+        Function::DataFrame => made_frame(alloc, store, dict, args),
+        Function::ReadCsv => Err(OpFault::Refused(Code::NotBuilt)),
+        Function::Concat => Err(OpFault::Refused(Code::NotBuilt)),
+    }
+}
+
+// What the function of a name makes of these arguments.
+#[tactic(auto, using(frame_store::proofs::Settling::longer_self))]
+fn made_named(
+    alloc: Global,
+    store: &Store,
+    dict: &mut TextDict,
+    name: &str,
+    args: &[Named],
+) -> Result<Table, OpFault>
+    requires live { AreLive (tables store.now) args.now }
+    requires given { IsSettled (arguments_of (tables store.now)) dict.old args.now }
+    ensures longer { IsLonger dict.old dict.new }
+    ensures settled { IfOk result (IsSettled table_value dict.new) }
+    ensures answer { Makes dict.new result (functions.make_result name.now (arguments_of (tables store.now) dict.old args.now)) }
+{
+    match function_named(name) {
+        Some(function) => made_by(alloc, store, dict, function, args),
+        None => {
+            let name = Words::from_text(alloc, name)?;
+            Err(OpFault::Refused(Code::NoAttribute(name)))
+        }
+    }
+}
+
+/// What a function of `pd` makes of its arguments: a new object. The arguments are bound to the
+/// function's signature as in a call of Python; all that they hold was given a number by `dict`.
 ///
-/// In this order: `NotBuilt` where the index holds a tuple; `WrongKind` or `BadValue(Argument)`
-/// where the arguments aren't bound; `WrongKind` for scalars of different kinds; `BadValue(Cast)`
-/// where one can't be cast; `BadValue(Length)` for an index of another length; `Limit`. `NoMemory`
-/// may come in place of any answer. After a refusal all objects are as they were.
-pub fn make_series(
+/// - `pd.Series(values, index=None, name=None, dtype=None)`, as in the pandas API reference. Its kind
+///   is that of the scalars that are present, `Int64` where none is, or the `dtype`; its labels are
+///   those of the index, or 0, 1 and so on.
+/// - `pd.DataFrame(columns, index=None)`, of a dict from labels to lists, as in "From dict of ndarrays
+///   / lists" of the pandas user guide. A key that is given twice keeps its first place and its last
+///   value. Each column's kind is found as that of a Series; without columns the rows are those of the
+///   index, and none where it isn't given.
+///
+/// In this order: `NoAttribute` where `pd` has no function of the name; `NotBuilt` for `read_csv` and
+/// `concat`, and where the index holds a tuple; `WrongKind` or `BadValue(Argument)` where the
+/// arguments aren't bound; `WrongKind` for a value of the dict that isn't a list of scalars, and for
+/// scalars of different kinds in one list; `BadValue(Cast)` where one can't be cast to the `dtype`;
+/// `BadValue(Length)` for a column that isn't as long as the first, then for an index of another
+/// length; `Limit`. `NoMemory` may come in place of any answer. After a refusal all objects are as
+/// they were.
+pub fn make(
     alloc: Global,
     store: &mut Store,
     dict: &mut TextDict,
+    function: &str,
     args: &NamedList,
 ) -> Result<Value, OpFault>
     requires live { AreLive (tables store.old) args.now.items.items }
@@ -42,8 +101,8 @@ pub fn make_series(
     requires given { IsSettled (arguments_of (tables store.old)) dict.old args.now.items.items }
     ensures longer { IsLonger dict.old dict.new }
     ensures settled { IsSettled shown dict.new (tables store.new) }
-    ensures answers { FormAnswers dict.new result (functions.made_by function_of.Series (arguments_of (tables store.old) dict.old args.now.items.items)) (shown dict.old (tables store.old)) (shown dict.new (tables store.new)) }
+    ensures answers { FormAnswers dict.new result (functions.make_result function.now (arguments_of (tables store.old) dict.old args.now.items.items)) (shown dict.old (tables store.old)) (shown dict.new (tables store.new)) }
 {
-    let made = made_series(alloc, store, dict, args.as_slice());
+    let made = made_named(alloc, store, dict, function, args.as_slice());
     placed(store, dict, made)
 }

@@ -12,13 +12,14 @@ ghost use Rattle.frame_store.specs.Objects.{Tables, tables};
 ghost use Rattle.frame_store.specs.Arguments.{arguments_of, AreLive};
 ghost use Rattle.frame_store.specs.Shown.{Makes};
 
+use crate::frames::frame_of;
 use crate::levels::has_levels;
 use crate::series::series_of;
 use cell_core::{Code, Kind, TextDict};
 use form_meaning::{Function, Parameter};
 use form_parts::name_of;
 use frame_store::{Named, OpFault, Store, Table};
-use signatures::{bind, function_parameters, list_at, scalar_at, text_at};
+use signatures::{bind, dict_at, function_parameters, list_at, scalar_at, text_at};
 use std::alloc::Global;
 
 // The kind of a name that is among the listed ones.
@@ -65,6 +66,30 @@ pub(crate) fn made_series(
     let kind = kind_at(dict, parameters, args, 3);
     match list_at(parameters, args, 0) {
         Some(values) => series_of(alloc, dict, values, index, name, kind),
+        None => Err(OpFault::Refused(Code::WrongKind)),
+    }
+}
+
+// What `pd.DataFrame` makes of these arguments.
+pub(crate) fn made_frame(
+    alloc: Global,
+    store: &Store,
+    dict: &TextDict,
+    args: &[Named],
+) -> Result<Table, OpFault>
+    requires live { AreLive (tables store.now) args.now }
+    requires given { IsSettled (arguments_of (tables store.now)) dict.now args.now }
+    ensures settled { IfOk result (IsSettled table_value dict.now) }
+    ensures answer { Makes dict.now result (functions.made_by function_of.DataFrame (arguments_of (tables store.now) dict.now args.now)) }
+{
+    let parameters = function_parameters(Function::DataFrame);
+    if has_levels(parameters, args) {
+        return Err(OpFault::Refused(Code::NotBuilt));
+    }
+    bind(store, dict, parameters, args)?;
+    let index = list_at(parameters, args, 1);
+    match dict_at(parameters, args, 0) {
+        Some(pairs) => frame_of(alloc, dict, pairs, index),
         None => Err(OpFault::Refused(Code::WrongKind)),
     }
 }

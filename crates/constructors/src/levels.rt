@@ -1,50 +1,15 @@
 // Labels of several levels among the arguments of a constructor.
-ghost use Rattle.std.specs.Prelude.{◌≡◌, ◌+◌, ◌<◌, ◌≤◌, ◌^◌, ◌&&◌, ◌||◌, List, length, nat_eq};
-ghost use Rattle.std.specs.List.{position_or_len};
-ghost use Rattle.meaning.specs.Text.{Text as OneText, same_text};
+ghost use Rattle.std.specs.Prelude.{◌≡◌, ◌&&◌, ◌||◌, List, nat_eq};
+ghost use Rattle.meaning.specs.Text.{Text as OneText};
 ghost use Rattle.table_meaning.specs.Value.{GivenList, more_given};
-ghost use Rattle.form_meaning.specs.Signature as signature;
 ghost use Rattle.form_meaning.specs.Binding as plain;
 ghost use Rattle.form_meaning.specs.Functions as functions;
 ghost use Rattle.frame_store.specs.Objects.{Tables};
 ghost use Rattle.frame_store.specs.Arguments.{item_of, items_of, argument_of, named_of, arguments_of};
 
-use cell_core::Words;
 use form_meaning::Parameter;
 use frame_store::{Argument, Item, Named};
-use signatures::spelled;
-
-// Whether a name is that of the second parameter.
-fn is_second(parameters: &[Parameter], name: &str) -> bool
-    requires { 2 ≤ length parameters.now }
-    ensures { result ≡ nat_eq (position_or_len (λ p. same_text (signature.spelled p.name) name.now) parameters.now) 1 }
-{
-    match parameters {
-        [first, second, ..] => spelled(first.name) != name && spelled(second.name) == name,
-        _ => unreachable!(),
-    }
-}
-
-// Whether an argument goes to the second parameter, after so many without a name.
-fn goes_second(parameters: &[Parameter], unnamed: usize, name: &Option<Words>) -> bool
-    requires { 2 ≤ length parameters.now }
-    ensures { result ≡ nat_eq (plain.goes_to parameters.now unnamed name.now) 1 }
-{
-    match name {
-        None => unnamed == 1,
-        Some(name) => is_second(parameters, name.as_str()),
-    }
-}
-
-fn counted(unnamed: usize, name: &Option<Words>) -> usize
-    requires { unnamed + 1 < 2 ^ 64 }
-    ensures { result ≡ plain.counted unnamed name.now }
-{
-    match name {
-        None => unnamed + 1,
-        Some(_) => unnamed,
-    }
-}
+use signatures::{counted, goes_to};
 
 fn is_tuple(item: &Item) -> bool
     ensures { (live : Tables) (texts : List OneText) (rest : GivenList) → functions.has_tuple (more_given (item_of live texts item.now) rest) ≡ (result || functions.has_tuple rest) }
@@ -83,15 +48,13 @@ fn lists_tuple(argument: &Argument) -> bool
 
 // Whether an argument is a list of labels of several levels for the rows.
 fn is_levels(parameters: &[Parameter], unnamed: usize, given: &Named) -> bool
-    requires { 2 ≤ length parameters.now }
     ensures { (live : Tables) (texts : List OneText) → result ≡ (nat_eq (plain.goes_to parameters.now unnamed given.now.name) 1 && functions.lists_tuple (argument_of live texts given.now.value)) }
 {
-    goes_second(parameters, unnamed, &given.name) && lists_tuple(&given.value)
+    goes_to(parameters, unnamed, &given.name) == 1 && lists_tuple(&given.value)
 }
 
 // Whether one of the arguments is.
 pub(crate) fn has_levels(parameters: &[Parameter], args: &[Named]) -> bool
-    requires { 2 ≤ length parameters.now }
     ensures { (live : Tables) (texts : List OneText) → result ≡ functions.levels_among parameters.now 0 (arguments_of live texts args.now) }
 {
     let mut unnamed = 0;

@@ -1,27 +1,34 @@
-//! What the functions of `pd` make of their arguments: so far `pd.Series`.
+//! What the functions of `pd` make of their arguments: so far `pd.Series` and `pd.DataFrame`.
 //!
-//! [`make_series`] binds the arguments to the signature, makes one column of the scalars, casts it
-//! where a kind is given, makes the labels of the rows, and gives the Series an object. Its
-//! contract says that the answer is the one that is meant, or its first fault, and that no other
-//! object changes; the definition is `made_by` in `specs/Calls.antt` of the crate `form_meaning`.
-//! [`function_exists`] says whether `pd` has a function of a name.
+//! [`make`] calls a function by its name. The arguments are bound to the function's signature (the
+//! crate `signatures`), and what is made is given an object. Its contract says that the answer is the
+//! one that is meant, or its first fault, and that no other object changes; the definitions are
+//! `specs/Functions.antt` and `specs/Make.antt` of the crate `form_meaning`. [`function_exists`] says
+//! whether `pd` has a function of a name.
+//!
+//! A column is made of the scalars of a list (`scalars`), and the labels of the rows of those of the
+//! index, or they are 0, 1 and so on (`axes`). A Series is one column, cast where a kind is given
+//! (`series`). A frame is made of a dict: each key by the place of its last value, then the columns of
+//! the values (`pairs`), and then the number of rows that all have (`frames`).
 //!
 //! ```text
 //! // `pd.Series([7, None])`: `args` has one argument, a list of two scalars
 //! if function_exists("Series") {
-//!     let made = make_series(alloc, &mut store, &mut dict, &args)?;
+//!     let made = make(alloc, &mut store, &mut dict, "Series", &args)?;
 //! }
 //! ```
 #![tactic(auto)]
 
 mod axes;
+mod frames;
 mod functions;
 mod given;
 mod levels;
+mod pairs;
 mod scalars;
 mod series;
 
-pub use functions::{function_exists, make_series};
+pub use functions::{function_exists, make};
 
 #[cfg(test)]
 mod tests;

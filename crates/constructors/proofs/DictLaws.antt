@@ -1,0 +1,87 @@
+-- The pairs of a dict that was given.
+use Rattle.std.proofs.Common.{◌≡◌, ◌∙◌, ap, sym, ℕ, false, List, [], ◌∷◌, ◌++◌, Option, Some, All}
+use Rattle.std.specs.Option.{option_map}
+use Rattle.std.proofs.lemmas.List.Elements.{All-cons, All-nil}
+use Rattle.cell_core.specs.declared.cell.Label.{Label}
+use Rattle.meaning.specs.Text.{Text}
+use Rattle.meaning.specs.Cell.{LabelValue, na, label_datum}
+use Rattle.table_meaning.specs.Settled.{IsSettled}
+use Rattle.table_meaning.specs.Value.{Given, GivenPairs, nothing, no_entries, more_entries, list_in, dict_in}
+use Rattle.form_meaning.specs.declared.Function.TheVariants as function
+use Rattle.form_meaning.specs.declared.Parameter.{Parameter}
+use Rattle.form_meaning.specs.Signature.{function_parameters}
+use Rattle.form_meaning.specs.Binding.{bound, bound_of, argument_at, arguments_from}
+use Rattle.form_meaning.specs.Select.{cells_of}
+use Rattle.form_meaning.specs.Make.{on, frame_of, pairs_in}
+use Rattle.form_meaning.specs.Functions.{levels_among, made_by}
+use Rattle.frame_store.specs.declared.arguments.Argument.{Argument}
+use Rattle.frame_store.specs.declared.arguments.Item.{Item}
+use Rattle.frame_store.specs.declared.arguments.Named.{Named}
+use Rattle.frame_store.specs.Objects.{Tables}
+use Rattle.frame_store.specs.Arguments.{items_of, entries_of, arguments_of}
+use Rattle.constructors.specs.Scalars.{scalars}
+use Rattle.constructors.specs.Pairs.{scalars_in, list_seen}
+use Rattle.constructors.specs.Made.{frame_from}
+use Rattle.constructors.proofs.GivenLaws.{some_same, lists_are, frame_bound}
+use Rattle.constructors.proofs.FrameLaws.{list_same, frame_same}
+
+abbrev first_key : GivenPairs → LabelValue
+first_key no_entries = na
+first_key (more_entries key v rest) = key
+
+abbrev first_value : GivenPairs → Given
+first_value no_entries = nothing
+first_value (more_entries key v rest) = v
+
+abbrev later_pairs : GivenPairs → GivenPairs
+later_pairs no_entries = no_entries
+later_pairs (more_entries key v rest) = rest
+
+abbrev HasKey : List Text → Label × Argument → Type 0
+HasKey texts p = IsSettled label_datum texts p.0
+
+abbrev HasList : List Text → Label × Argument → Type 0
+HasList texts p = IsSettled list_seen texts p.1
+
+keys_of_pairs : (live : Tables) (texts : List Text) (pairs : List (Label × Argument)) → IsSettled (entries_of live) texts pairs → All (HasKey texts) pairs
+keys_of_pairs live texts [] settled = All-nil (HasKey texts)
+keys_of_pairs live texts (p ∷ ps) settled =
+    All-cons (HasKey texts) p ps (λ more. ap first_key (settled more)) (keys_of_pairs live texts ps (λ more. ap later_pairs (settled more)))
+
+lists_of_pairs : (live : Tables) (texts : List Text) (pairs : List (Label × Argument)) → IsSettled (entries_of live) texts pairs → All (HasList texts) pairs
+lists_of_pairs live texts [] settled = All-nil (HasList texts)
+lists_of_pairs live texts (p ∷ ps) settled =
+    All-cons (HasList texts) p ps
+    (λ more. sym (list_same live (texts ++ more) p.1) ∙ ap (λ pairs. scalars_in (first_value pairs)) (settled more) ∙ list_same live texts p.1)
+    (lists_of_pairs live texts ps (λ more. ap later_pairs (settled more)))
+
+pairs_settled : (live : Tables) (dict : List Text) (ps : List Parameter) (args : List Named) (place : ℕ) (pairs : List (Label × Argument))
+    → ((live : Tables) (texts : List Text) → Some (entries_of live texts pairs) ≡ dict_in (argument_at ps (arguments_of live texts args) place))
+    → IsSettled (arguments_of live) dict args → IsSettled (entries_of live) dict pairs
+pairs_settled live dict ps args place pairs is settled = λ more.
+    some_same (entries_of live (dict ++ more) pairs) (entries_of live dict pairs)
+    (is live (dict ++ more) ∙ ap (λ gs. dict_in (argument_at ps gs place)) (settled more) ∙ sym (is live dict))
+
+pub keys_given : (live : Tables) (dict : List Text) (ps : List Parameter) (args : List Named) (place : ℕ) (pairs : List (Label × Argument))
+    → ((live : Tables) (texts : List Text) → Some (entries_of live texts pairs) ≡ dict_in (argument_at ps (arguments_of live texts args) place))
+    → IsSettled (arguments_of live) dict args → All (λ (p : Label × Argument). IsSettled label_datum dict p.0) pairs
+keys_given live dict ps args place pairs is settled = keys_of_pairs live dict pairs (pairs_settled live dict ps args place pairs is settled)
+
+pub lists_given : (live : Tables) (dict : List Text) (ps : List Parameter) (args : List Named) (place : ℕ) (pairs : List (Label × Argument))
+    → ((live : Tables) (texts : List Text) → Some (entries_of live texts pairs) ≡ dict_in (argument_at ps (arguments_of live texts args) place))
+    → IsSettled (arguments_of live) dict args → All (λ (p : Label × Argument). IsSettled list_seen dict p.1) pairs
+lists_given live dict ps args place pairs is settled = lists_of_pairs live dict pairs (pairs_settled live dict ps args place pairs is settled)
+
+pub frame_given : {T : Type 0} (f : T → List Item) (live : Tables) (dict : List Text) (args : List Named) (ps : List Parameter) (pairs : List (Label × Argument)) (index : Option T)
+    → ps ≡ function_parameters function.DataFrame → levels_among ps 0 (arguments_of live dict args) ≡ false → bound_of ps (arguments_of live dict args) ≡ bound (arguments_from ps (arguments_of live dict args) 0 ps)
+    → Some (entries_of live dict pairs) ≡ dict_in (argument_at ps (arguments_of live dict args) 0)
+    → option_map (λ t. items_of live dict (f t)) index ≡ list_in (argument_at ps (arguments_of live dict args) 1)
+    → frame_from (pairs_in (entries_of live dict pairs)) (option_map (λ t. scalars dict (f t)) index) ≡ made_by function.DataFrame (arguments_of live dict args)
+frame_given f live dict args ps pairs index is levels same listed indexed =
+    let gs = arguments_of live dict args in
+    sym (
+    frame_bound gs ps is levels same
+    ∙ ap (λ o. on o (λ pairs. frame_of (pairs_in pairs) (list_in (argument_at ps gs 1)))) (sym listed)
+    ∙ frame_same (pairs_in (entries_of live dict pairs)) (list_in (argument_at ps gs 1))
+    ∙ ap (frame_from (pairs_in (entries_of live dict pairs))) (ap (option_map cells_of) (sym indexed) ∙ lists_are f live dict index)
+    )

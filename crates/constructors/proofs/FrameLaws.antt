@@ -1,0 +1,325 @@
+-- Frames of a dict's pairs.
+use Rattle.std.proofs.Common.{◌≡◌, ◌≢◌, ◌∙◌, refl, ap, sym, subst, ℕ, zero, suc, nat_eq, ◌&&◌, Bool, true, false, List, [], ◌∷◌, ◌++◌, map, length, slice_get, Option, Some, None, Result, Ok, Err, All, if◌then◌else◌, arith}
+use Rattle.std.specs.Prelude.{IsSome}
+use Rattle.std.specs.List.{list_all, AllPairs, IsDistinct}
+use Rattle.std.specs.Option.{option_map}
+use Rattle.std.specs.Map.{keys_of, values_of}
+use Rattle.std.proofs.lemmas.List.{length-map, get_or-map}
+use Rattle.std.proofs.lemmas.List.Elements.{All-cons, All-nil}
+use Rattle.std.proofs.lemmas.Map.Made.{AllPairs-from_IsDistinct}
+use Rattle.cell_core.specs.declared.cell.Label.{Label}
+use Rattle.cell_core.specs.declared.grid.Shape.TheVariants.{Series, Frame}
+use Rattle.meaning.specs.Text.{Text}
+use Rattle.meaning.specs.Cell.{CellValue, LabelValue, label_datum, datum}
+use Rattle.meaning.specs.Fault.{FaultValue, wrong_kind, bad_value, length_of, then_value}
+use Rattle.multi_index.specs.Axes.{AxisValue}
+use Rattle.nullable_array.specs.Blocks.{CellBlock}
+use Rattle.table_meaning.specs.Settled.{IsSettled}
+use Rattle.table_meaning.specs.Table.{ColumnOf, NumberedTable, Table, table_value, column_value}
+use Rattle.table_meaning.specs.Valid.{AreHeadings, IsWhole}
+use Rattle.table_meaning.specs.Value.{Entry, table, Given, GivenList, nothing, one, row, many, entries}
+use Rattle.form_meaning.specs.Binding.{each, is_scalar}
+use Rattle.form_meaning.specs.Select.{cells_of}
+use Rattle.form_meaning.specs.Set.{list_column, first_kind}
+use Rattle.form_meaning.specs.Finish.{limited, try_all}
+use Rattle.form_meaning.specs.Make.{on, with_index, single_labels, frame_table, is_scalar_list, cells_given, all_of_length, labels_given, frame_of, pairs_in}
+use Rattle.form_meaning.specs.Make as make
+use Rattle.form_parts.specs.Makes.{MakesBy, blocks_value}
+use Rattle.form_parts.proofs.TableMade.{refused_on}
+use Rattle.frame_store.specs.declared.arguments.Argument.{Argument, Nothing, One, Row, Many, Table'}
+use Rattle.frame_store.specs.declared.arguments.Item.{Item, One as OneItem, Row' as RowItem'}
+use Rattle.frame_store.specs.declared.arguments.Value.TheVariants.{Object, Scalar}
+use Rattle.frame_store.specs.declared.fault.OpFault.{OpFault}
+use Rattle.frame_store.specs.Arguments.{argument_of, item_of, items_of, entries_of}
+use Rattle.frame_store.specs.Objects.{Tables}
+use Rattle.frame_store.specs.Parts.{HeadingList, block_column, table_with, HaveRows}
+use Rattle.frame_store.specs.Shown.{headings_value, labels_value, columns_value, Makes}
+use Rattle.frame_store.proofs.Settling.{table_settled}
+use Rattle.constructors.specs.Pairs.{value_in, entries_seen, alone, scalars_in, list_seen, list_at, lists_seen, listed_column}
+use Rattle.constructors.specs.Made.{axis_labels, index_labels, index_alone, indexed, same_rows, labels_for, frame_labels, frame_with, frame_from}
+use Rattle.constructors.proofs.MadeLaws.{limited_labels, indexed_within, labels_then, ok_same}
+use Rattle.constructors.proofs.GivenLaws.{scalars_are}
+use Rattle.constructors.proofs.PairLaws.{same_number, number_decides}
+
+abbrev Columns : Type 0
+Columns = List (ColumnOf CellValue)
+
+-- a value that isn't a list of scalars has the same fault as mixed kinds, so both can be tested value by value
+abbrev columns_then : Result (ColumnOf CellValue) FaultValue → Result Columns FaultValue → Result Columns FaultValue
+columns_then first rest = then_value first (λ y. then_value rest (λ ys. Ok (y ∷ ys)))
+
+never_made : (b : Bool) (c : ColumnOf CellValue) → Err wrong_kind ≡ columns_then (if b then Ok c else Err wrong_kind) (Err wrong_kind)
+never_made true c = refl
+never_made false c = refl
+
+value_by_value : (b rest : Bool) (cells : List CellValue) (later : Result Columns FaultValue)
+    → (if b && rest then columns_then (list_column cells) later else Err wrong_kind) ≡ columns_then (listed_column (if b then Some cells else None)) (if rest then later else Err wrong_kind)
+value_by_value true true cells later = refl
+value_by_value true false cells later = never_made (list_all (Rattle.meaning.specs.Cell.holds (first_kind cells)) cells) record { kind = first_kind cells; cells = cells }
+value_by_value false rest cells later = refl
+
+abbrev column_of : LabelValue × Given → Result (ColumnOf CellValue) FaultValue
+column_of p = list_column (cells_given p.1)
+
+abbrev lists_of : List (LabelValue × Given) → List (Option (List CellValue))
+lists_of pairs = map (λ p. scalars_in p.1) pairs
+
+pub lists_made : (pairs : List (LabelValue × Given)) → (if list_all is_scalar_list pairs then try_all column_of pairs else Err wrong_kind) ≡ try_all listed_column (lists_of pairs)
+lists_made [] = refl
+lists_made ((l, many parts) ∷ rest) =
+    value_by_value (each is_scalar parts) (list_all is_scalar_list rest) (cells_of parts) (try_all column_of rest)
+    ∙ ap (columns_then (listed_column (alone (Some parts)))) (lists_made rest)
+lists_made ((l, one v) ∷ rest) = refl
+lists_made ((l, nothing) ∷ rest) = refl
+lists_made ((l, row parts) ∷ rest) = refl
+lists_made ((l, entries pairs) ∷ rest) = refl
+
+-- the number of rows, and then the labels
+rows_labels : (rows count : ℕ) (cs : Columns) (index : Option (List CellValue)) (go : List (List LabelValue) → Table) (last : Result Entry FaultValue) → last ≡ labels_then go (index_labels rows count index)
+    → all_of_length rows cs last ≡ labels_then go (then_value (same_rows rows cs) (λ r. labels_for r count index))
+rows_labels rows count [] index go last is = is
+rows_labels rows count (c ∷ cs) index go last is = go_on (nat_eq rows (length c.cells)) (rows_labels rows count cs index go last is)
+  where
+    go_on : (b : Bool) → all_of_length rows cs last ≡ labels_then go (then_value (same_rows rows cs) (λ r. labels_for r count index))
+        → (if b then all_of_length rows cs last else Err (bad_value (length_of rows (length c.cells))))
+        ≡ labels_then go (then_value (if b then same_rows rows cs else Err (bad_value (length_of rows (length c.cells)))) (λ r. labels_for r count index))
+    go_on true later = later
+    go_on false later = refl
+
+index_same : (rows : ℕ) (index : Option GivenList) (go : List (List LabelValue) → Result Entry FaultValue) → with_index rows index go ≡ indexed rows (option_map cells_of index) go
+index_same rows None go = refl
+index_same rows (Some parts) go = refl
+
+alone_same : (index : Option GivenList) → labels_given index ≡ index_alone (option_map cells_of index)
+alone_same None = refl
+alone_same (Some parts) = refl
+
+frame_columns : (headings : List LabelValue) (columns : Columns) (index : Option GivenList)
+    → make.frame_with headings columns index ≡ labels_then (λ labels. frame_table labels headings columns) (frame_labels columns (option_map cells_of index))
+frame_columns headings [] index =
+    ap (λ labels. limited (frame_table labels headings [])) (alone_same index)
+    ∙ limited_labels (length (index_alone (option_map cells_of index))) 0 (λ labels. frame_table labels headings []) (index_alone (option_map cells_of index)) refl refl
+frame_columns headings (c ∷ cs) index =
+    rows_labels (length c.cells) (length (c ∷ cs)) cs (option_map cells_of index) (λ labels. frame_table labels headings (c ∷ cs)) (with_index (length c.cells) index (λ labels. limited (frame_table labels headings (c ∷ cs))))
+    (index_same (length c.cells) index (λ labels. limited (frame_table labels headings (c ∷ cs)))
+    ∙ indexed_within (length c.cells) (length (c ∷ cs)) (option_map cells_of index) (λ labels. frame_table labels headings (c ∷ cs)) (λ labels. refl) (λ labels. refl))
+
+-- what is meant, value by value
+abbrev with_columns : List LabelValue → Option (List CellValue) → Columns → Result Entry FaultValue
+with_columns headings index columns = labels_then (λ labels. frame_table labels headings columns) (frame_labels columns index)
+
+later_test : (b : Bool) (made : Result Columns FaultValue) (go : Columns → Result Entry FaultValue) → (if b then then_value made go else Err wrong_kind) ≡ then_value (if b then made else Err wrong_kind) go
+later_test true made go = refl
+later_test false made go = refl
+
+then_same : (made : Result Columns FaultValue) (f g : Columns → Result Entry FaultValue) → ((columns : Columns) → f columns ≡ g columns) → then_value made f ≡ then_value made g
+then_same (Ok columns) f g same = same columns
+then_same (Err fault) f g same = refl
+
+pub frame_same : (pairs : List (LabelValue × Given)) (index : Option GivenList) → frame_of pairs index ≡ frame_from pairs (option_map cells_of index)
+frame_same pairs index =
+    let headings : List LabelValue = map (λ p. p.0) pairs in
+    later_test (list_all is_scalar_list pairs) (try_all column_of pairs) (λ columns. make.frame_with headings columns index)
+    ∙ ap (λ made. then_value made (λ columns. make.frame_with headings columns index)) (lists_made pairs)
+    ∙ then_same (try_all listed_column (lists_of pairs)) (λ columns. make.frame_with headings columns index) (with_columns headings (option_map cells_of index)) (λ columns. frame_columns headings columns index)
+
+-- a value is the same list of scalars among any objects
+scalar_same : (live other : Tables) (texts : List Text) (item : Item) → is_scalar (item_of live texts item) ≡ is_scalar (item_of other texts item)
+scalar_same live other texts (OneItem (Object id)) = refl
+scalar_same live other texts (OneItem (Scalar c)) = refl
+scalar_same live other texts (RowItem' shape parts) = refl
+
+each_same : (live other : Tables) (texts : List Text) (items : List Item) → each is_scalar (items_of live texts items) ≡ each is_scalar (items_of other texts items)
+each_same live other texts [] = refl
+each_same live other texts (item ∷ rest) = λ j. scalar_same live other texts item j && each_same live other texts rest j
+
+abbrev if_alone : List CellValue → Bool → Option (List CellValue)
+if_alone cells b = if b then Some cells else None
+
+parts_same : (live : Tables) (texts : List Text) (items : List Item) → alone (Some (items_of live texts items)) ≡ alone (Some (items_of (λ id. None) texts items))
+parts_same live texts items =
+    ap (if_alone (cells_of (items_of live texts items))) (each_same live (λ id. None) texts items)
+    ∙ ap (λ cells. if_alone cells (each is_scalar (items_of (λ id. None) texts items))) (scalars_are live texts items)
+
+pub list_same : (live : Tables) (texts : List Text) (a : Argument) → scalars_in (argument_of live texts a) ≡ list_seen texts a
+list_same live texts Nothing = refl
+list_same live texts (One v) = refl
+list_same live texts (Row l) = refl
+list_same live texts (Many l) = parts_same live texts l.items.items
+list_same live texts (Table' shape pairs) = refl
+
+value_same : (live : Tables) (texts : List Text) (p : Option (Label × Argument)) → scalars_in (value_in live texts p) ≡ list_at texts p
+value_same live texts None = refl
+value_same live texts (Some p) = list_same live texts p.1
+
+lists_same : (live : Tables) (texts : List Text) (pairs : List (Label × Argument)) (es : List (Label × ℕ)) → lists_of (entries_seen live texts pairs es) ≡ lists_seen texts pairs (values_of es)
+lists_same live texts pairs [] = refl
+lists_same live texts pairs (e ∷ es) = λ j. value_same live texts (slice_get pairs e.1) j ∷ lists_same live texts pairs es j
+
+abbrev labels_seen : List Text → List Label → List LabelValue
+labels_seen texts labels = map (label_datum texts) labels
+
+keys_same : (live : Tables) (texts : List Text) (pairs : List (Label × Argument)) (es : List (Label × ℕ)) → map (λ p. p.0) (entries_seen live texts pairs es) ≡ labels_seen texts (keys_of es)
+keys_same live texts pairs [] = refl
+keys_same live texts pairs (e ∷ es) = ap (λ ls. label_datum texts e.0 ∷ ls) (keys_same live texts pairs es)
+
+-- what is meant of the keys and the places of their values
+pairs_frame : (live : Tables) (texts : List Text) (pairs : List (Label × Argument)) (es : List (Label × ℕ)) (index : Option (List CellValue)) → entries_seen live texts pairs es ≡ pairs_in (entries_of live texts pairs)
+    → frame_from (pairs_in (entries_of live texts pairs)) index ≡ frame_with (labels_seen texts (keys_of es)) (lists_seen texts pairs (values_of es)) index
+pairs_frame live texts pairs es index is =
+    ap (λ ps. frame_from ps index) (sym is)
+    ∙ (λ j. frame_with (keys_same live texts pairs es j) (lists_same live texts pairs es j) index)
+
+pub columns_refused : (live : Tables) (texts : List Text) (pairs : List (Label × Argument)) (es : List (Label × ℕ)) (index : Option (List CellValue)) (fault : OpFault) → entries_seen live texts pairs es ≡ pairs_in (entries_of live texts pairs)
+    → MakesBy blocks_value texts (Err fault) (try_all listed_column (lists_seen texts pairs (values_of es))) → Makes texts (Err fault) (frame_from (pairs_in (entries_of live texts pairs)) index)
+columns_refused live texts pairs es index fault is refused =
+    subst (λ (m : Result Entry FaultValue). Makes texts (Err fault) m) (sym (pairs_frame live texts pairs es index is))
+    (refused_on blocks_value texts (try_all listed_column (lists_seen texts pairs (values_of es))) (with_columns (labels_seen texts (keys_of es)) index) (Err fault) fault refl refused)
+
+columns_are : (live : Tables) (texts : List Text) (pairs : List (Label × Argument)) (es : List (Label × ℕ)) (index : Option (List CellValue)) (blocks : List CellBlock) → entries_seen live texts pairs es ≡ pairs_in (entries_of live texts pairs)
+    → try_all listed_column (lists_seen texts pairs (values_of es)) ≡ Ok (blocks_value texts blocks)
+    → frame_from (pairs_in (entries_of live texts pairs)) index ≡ with_columns (labels_seen texts (keys_of es)) index (blocks_value texts blocks)
+columns_are live texts pairs es index blocks is made = pairs_frame live texts pairs es index is ∙ ap (λ r. then_value r (with_columns (labels_seen texts (keys_of es)) index)) made
+
+pub rows_refused : (live : Tables) (texts : List Text) (pairs : List (Label × Argument)) (es : List (Label × ℕ)) (index : Option (List CellValue)) (blocks : List CellBlock) (fault : OpFault) → entries_seen live texts pairs es ≡ pairs_in (entries_of live texts pairs)
+    → try_all listed_column (lists_seen texts pairs (values_of es)) ≡ Ok (blocks_value texts blocks)
+    → MakesBy axis_labels texts (Err fault) (frame_labels (blocks_value texts blocks) index) → Makes texts (Err fault) (frame_from (pairs_in (entries_of live texts pairs)) index)
+rows_refused live texts pairs es index blocks fault is made refused =
+    subst (λ (m : Result Entry FaultValue). Makes texts (Err fault) m) (sym (columns_are live texts pairs es index blocks is made))
+    (refused_on axis_labels texts (frame_labels (blocks_value texts blocks) index) (λ labels. Ok (table (frame_table labels (labels_seen texts (keys_of es)) (blocks_value texts blocks)))) (Err fault) fault refl refused)
+
+abbrev some_label : Label → Option Label
+some_label key = Some key
+
+headings_seen : (texts : List Text) (ks : List Label) → map (λ l. Some l) (labels_seen texts ks) ≡ headings_value texts (map some_label ks)
+headings_seen texts [] = refl
+headings_seen texts (k ∷ ks) = ap (λ hs. Some (label_datum texts k) ∷ hs) (headings_seen texts ks)
+
+abbrev pub made_frame : AxisValue → List Label → List CellBlock → NumberedTable
+made_frame axis ks blocks = table_with Frame axis record { columns_name = None; labels = map (λ key. Some key) ks } (map block_column blocks)
+
+pub frame_answer : (live : Tables) (texts : List Text) (pairs : List (Label × Argument)) (es : List (Label × ℕ)) (index : Option (List CellValue)) (blocks : List CellBlock) (axis : AxisValue) (headings : HeadingList) (made : NumberedTable)
+    → entries_seen live texts pairs es ≡ pairs_in (entries_of live texts pairs) → try_all listed_column (lists_seen texts pairs (values_of es)) ≡ Ok (blocks_value texts blocks)
+    → frame_labels (blocks_value texts blocks) index ≡ Ok (axis_labels texts axis) → axis.names ≡ None ∷ [] → headings ≡ record { columns_name = None; labels = map (λ key. Some key) (keys_of es) }
+    → made ≡ table_with Frame axis headings (map block_column blocks)
+    → frame_from (pairs_in (entries_of live texts pairs)) index ≡ Ok (table (table_value texts made))
+frame_answer live texts pairs es index blocks axis headings made is columns labels names headed made_is =
+    columns_are live texts pairs es index blocks is columns
+    ∙ ap (labels_then (λ ls. frame_table ls (labels_seen texts (keys_of es)) (blocks_value texts blocks))) labels
+    ∙ ap (λ (t : Table). Ok (table t)) (seen ∙ ap (table_value texts) (sym (made_is ∙ ap (λ h. table_with Frame axis h (map block_column blocks)) headed)))
+  where
+    seen : frame_table (axis_labels texts axis) (labels_seen texts (keys_of es)) (blocks_value texts blocks) ≡ table_value texts (made_frame axis (keys_of es) blocks)
+    seen = λ j.
+        record {
+          shape = Frame;
+          columns_name = None;
+          level_names = ap (headings_value texts) (sym names) j;
+          labels = axis_labels texts axis;
+          headings = headings_seen texts (keys_of es) j;
+          columns = blocks_value texts blocks;
+        }
+
+-- what was given
+rest_of : {X : Type 0} (P : X → Type 0) (x : X) (xs : List X) → All P (x ∷ xs) → All P xs
+rest_of P x xs all = λ k d lt. all (suc k) d (omega (arith, lt))
+
+first_in : {X : Type 0} (P : X → Type 0) (x : X) (xs : List X) → All P (x ∷ xs) → P x
+first_in P x xs all = all 0 x (omega arith)
+
+labels_settled : (texts : List Text) (ks : List Label) → All (λ (k : Label). IsSettled label_datum texts k) ks → IsSettled headings_value texts (map some_label ks)
+labels_settled texts [] all = λ more. refl
+labels_settled texts (k ∷ ks) all = λ more j.
+    Some (first_in (λ (k : Label). IsSettled label_datum texts k) k ks all more j) ∷ labels_settled texts ks (rest_of (λ (k : Label). IsSettled label_datum texts k) k ks all) more j
+
+abbrev IsGivenList : List Text → Label × Argument → Type 0
+IsGivenList texts p = IsSettled list_seen texts p.1
+
+list_settled : (texts : List Text) (pairs : List (Label × Argument)) (place : ℕ) → All (IsGivenList texts) pairs → IsSettled list_at texts (slice_get pairs place)
+list_settled texts [] place all = λ more. refl
+list_settled texts (p ∷ ps) zero all = first_in (IsGivenList texts) p ps all
+list_settled texts (p ∷ ps) (suc place) all = list_settled texts ps place (rest_of (IsGivenList texts) p ps all)
+
+lists_settled : (texts more : List Text) (pairs : List (Label × Argument)) (places : List ℕ) → All (IsGivenList texts) pairs → lists_seen (texts ++ more) pairs places ≡ lists_seen texts pairs places
+lists_settled texts more pairs [] all = refl
+lists_settled texts more pairs (place ∷ places) all = λ j. list_settled texts pairs place all more j ∷ lists_settled texts more pairs places all j
+
+blocks_settled : (texts : List Text) (pairs : List (Label × Argument)) (places : List ℕ) (blocks : List CellBlock) → All (IsGivenList texts) pairs
+    → ((texts : List Text) → try_all listed_column (lists_seen texts pairs places) ≡ Ok (blocks_value texts blocks)) → IsSettled blocks_value texts blocks
+blocks_settled texts pairs places blocks all made = λ more.
+    ok_same (blocks_value (texts ++ more) blocks) (blocks_value texts blocks) (sym (made (texts ++ more)) ∙ ap (try_all listed_column) (lists_settled texts more pairs places all) ∙ made texts)
+
+rows_settled : (texts : List Text) (blocks : List CellBlock) (index : List Text → Option (List CellValue)) (axis : AxisValue) → IsSettled blocks_value texts blocks → ((more : List Text) → index (texts ++ more) ≡ index texts)
+    → ((texts : List Text) → frame_labels (blocks_value texts blocks) (index texts) ≡ Ok (axis_labels texts axis)) → IsSettled labels_value texts axis.tuples
+rows_settled texts blocks index axis columns given labels = λ more.
+    ok_same (axis_labels (texts ++ more) axis) (axis_labels texts axis) (sym (labels (texts ++ more)) ∙ (λ j. frame_labels (columns more j) (given more j)) ∙ labels texts)
+
+pub frame_settled : (texts : List Text) (pairs : List (Label × Argument)) (es : List (Label × ℕ)) (index : List Text → Option (List CellValue)) (blocks : List CellBlock) (axis : AxisValue) (headings : HeadingList) (made : NumberedTable)
+    → All (λ (p : Label × Argument). IsSettled list_seen texts p.1) pairs → All (λ (k : Label). IsSettled label_datum texts k) (keys_of es) → ((more : List Text) → index (texts ++ more) ≡ index texts)
+    → ((texts : List Text) → try_all listed_column (lists_seen texts pairs (values_of es)) ≡ Ok (blocks_value texts blocks))
+    → ((texts : List Text) → frame_labels (blocks_value texts blocks) (index texts) ≡ Ok (axis_labels texts axis)) → axis.names ≡ None ∷ [] → headings ≡ record { columns_name = None; labels = map (λ key. Some key) (keys_of es) }
+    → made ≡ table_with Frame axis headings (map block_column blocks)
+    → IsSettled table_value texts made
+frame_settled texts pairs es index blocks axis headings made values ks given columns labels names headed made_is =
+    let cells : IsSettled columns_value texts (map block_column blocks) = blocks_settled texts pairs (values_of es) blocks values columns in
+    subst (IsSettled table_value texts) (sym (made_is ∙ ap (λ h. table_with Frame axis h (map block_column blocks)) headed))
+    (table_settled texts (made_frame axis (keys_of es) blocks)
+    (λ more. refl)
+    (subst (IsSettled headings_value texts) (sym names) (λ more. refl))
+    (rows_settled texts blocks index axis cells given labels)
+    (labels_settled texts (keys_of es) ks)
+    cells)
+
+-- labels of columns, which differ
+all_some : (ks : List Label) → All IsSome (map some_label ks)
+all_some [] = All-nil IsSome
+all_some (k ∷ ks) = All-cons IsSome (Some k) (map some_label ks) refl (all_some ks)
+
+abbrev label_in : Label → Option Label → Label
+label_in d None = d
+label_in d (Some l) = l
+
+some_apart : (ks : List Label) → AllPairs (λ a b. a ≢ b) ks → AllPairs (λ a b. a ≢ b) (map some_label ks)
+some_apart [] apart i j d lt below = absurd (omega (arith, below))
+some_apart (k ∷ ks) apart i j d lt below =
+    let count : length (map some_label (k ∷ ks)) ≡ length (k ∷ ks) = length-map (k ∷ ks) some_label in
+    λ same. apart i j k lt (omega (arith, below, count))
+    (ap (label_in k) (sym (get_or-map some_label (k ∷ ks) i k d (omega (arith, lt, below, count))) ∙ same ∙ get_or-map some_label (k ∷ ks) j k d (omega (arith, below, count))))
+
+no_series : Frame ≡ Series → ⊥
+no_series e = cc
+
+pub keys_fit : (ks : List Label) (headings : HeadingList) → IsDistinct same_number ks → headings ≡ record { columns_name = None; labels = map (λ key. Some key) ks } → AreHeadings Frame headings.columns_name headings.labels
+keys_fit ks headings distinct is =
+    subst (λ (h : HeadingList). AreHeadings Frame h.columns_name h.labels) (sym is)
+    (record {
+      single = λ e. absurd (no_series e);
+      nameless = λ e. absurd (no_series e);
+      labelled = λ e. all_some ks;
+      different = λ e. some_apart ks (AllPairs-from_IsDistinct number_decides ks distinct);
+    })
+
+-- the columns are those of the keys
+abbrev more_made : {B : Type 0} → Result B FaultValue → Result (List B) FaultValue → Result (List B) FaultValue
+more_made first rest = then_value first (λ y. then_value rest (λ ys. Ok (y ∷ ys)))
+
+one_more : {B : Type 0} (n : ℕ) (first : Result B FaultValue) (rest : Result (List B) FaultValue) (ys : List B) → ((more : List B) → rest ≡ Ok more → n ≡ length more) → more_made first rest ≡ Ok ys → suc n ≡ length ys
+one_more n (Ok y) (Ok more) ys later is = ap suc (later more refl) ∙ ap length (ok_same (y ∷ more) ys is)
+one_more n (Ok y) (Err fault) ys later is = cc
+one_more n (Err fault) rest ys later is = cc
+
+made_count : {A B : Type 0} (f : A → Result B FaultValue) (xs : List A) (ys : List B) → try_all f xs ≡ Ok ys → length xs ≡ length ys
+made_count f [] ys is = ap length (ok_same [] ys is)
+made_count f (x ∷ xs) ys is = one_more (length xs) (f x) (try_all f xs) ys (made_count f xs) is
+
+pub frame_whole : (pairs : List (Label × Argument)) (es : List (Label × ℕ)) (blocks : List CellBlock) (axis : AxisValue) (headings : HeadingList)
+    → try_all listed_column (lists_seen [] pairs (values_of es)) ≡ Ok (blocks_value [] blocks) → HaveRows (length axis.tuples) (map block_column blocks)
+    → headings ≡ record { columns_name = None; labels = map (λ key. Some key) (keys_of es) } → AreHeadings Frame headings.columns_name headings.labels
+    → IsWhole (table_with Frame axis headings (map block_column blocks))
+frame_whole pairs es blocks axis headings columns filled headed fits =
+    record {
+      headed = ap (λ (h : HeadingList). length h.labels) headed ∙ length-map (keys_of es) some_label ∙ length-map es (λ e. e.0) ∙ sym (length-map es (λ e. e.1))
+          ∙ sym (length-map (values_of es) (λ place. list_at [] (slice_get pairs place))) ∙ made_count listed_column (lists_seen [] pairs (values_of es)) (blocks_value [] blocks) columns
+          ∙ length-map (map block_column blocks) (column_value []);
+      filled = filled;
+      headings = fits;
+    }

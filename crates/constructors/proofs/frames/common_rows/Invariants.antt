@@ -1,0 +1,9 @@
+use Rattle.std.proofs.Common.{◌≡◌, List, drop}
+use Rattle.meaning.specs.Text.{Text}
+use Rattle.form_parts.specs.Makes.{blocks_value}
+use Rattle.constructors.specs.Made.{same_rows, common_rows}
+use Rattle.constructors.proofs.frames.common_rows.Given as goal
+
+-- the columns so far have as many rows as the first
+abbrev pub invariant-loop-place : goal.invariant-loop-place
+invariant-loop-place l = (texts : List Text) → same_rows l.rows (drop l.place (blocks_value texts l.columns)) ≡ common_rows (blocks_value texts l.columns)

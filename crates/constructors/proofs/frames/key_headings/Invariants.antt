@@ -1,0 +1,10 @@
+use Rattle.std.proofs.Common.{◌≡◌, ◌++◌, map, Some, None}
+use Rattle.indexmap.specs.IndexMap.{keys}
+use Rattle.constructors.proofs.frames.key_headings.Given as goal
+
+-- the headings so far, before the other keys
+abbrev pub invariant-loop-label : goal.invariant-loop-label
+invariant-loop-label l = record {
+  nameless : l.headings.columns_name ≡ None;
+  labels : l.headings.labels ++ map (λ key. Some key) l.label-iterator ≡ map (λ key. Some key) (keys l.places);
+}

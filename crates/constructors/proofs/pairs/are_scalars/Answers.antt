@@ -1,0 +1,12 @@
+use Rattle.std.proofs.Common.{rules}
+use Rattle.std.specs.Prelude.{◌↔◌, IsTrue}
+use Rattle.std.specs.List.{All}
+use Rattle.form_meaning.specs.Binding as plain
+use Rattle.frame_store.specs.Arguments.{item_of}
+use Rattle.signatures.proofs.FormLaws.{each_told}
+use Rattle.constructors.proofs.pairs.are_scalars.Goals as goal
+
+pub returns : goal.returns
+returns c = λ live texts.
+    let told : IsTrue c.all.result ↔ All (λ item. IsTrue (plain.is_scalar (item_of live texts item))) c.args.items.now = search rules in
+    each_told plain.is_scalar live texts c.args.items.now c.all.result told

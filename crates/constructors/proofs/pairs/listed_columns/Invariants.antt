@@ -1,0 +1,16 @@
+use Rattle.std.proofs.Common.{◌≡◌, ◌<◌, ℕ, All, List, length}
+use Rattle.indexmap.specs.IndexMap.{values}
+use Rattle.meaning.specs.Text.{Text}
+use Rattle.form_meaning.specs.Finish.{try_all}
+use Rattle.frame_store.specs.Parts.{IsSingle}
+use Rattle.constructors.specs.Pairs.{lists_seen, listed_column}
+use Rattle.constructors.proofs.ColumnLaws.{columns_with}
+use Rattle.constructors.proofs.pairs.listed_columns.Given as goal
+
+-- the columns so far, before those at the other places
+abbrev pub invariant-loop-place : goal.invariant-loop-place
+invariant-loop-place l = record {
+  single : All IsSingle l.columns;
+  inside : All (λ (place : ℕ). place < length l.pairs) l.place-iterator;
+  whole : (texts : List Text) → columns_with texts l.pairs l.columns l.place-iterator ≡ try_all listed_column (lists_seen texts l.pairs (values l.places));
+}

@@ -1,0 +1,51 @@
+-- The pairs of a dict, by where their last values stand.
+use Rattle.std.specs.Prelude.{ℕ, List, map, slice_get, Option, Some, None, Result, if◌then◌else◌}
+use Rattle.cell_core.specs.declared.cell.Label.{Label}
+use Rattle.meaning.specs.Text.{Text}
+use Rattle.meaning.specs.Cell.{CellValue, LabelValue, label_datum}
+use Rattle.meaning.specs.Fault.{FaultValue}
+use Rattle.table_meaning.specs.Table.{ColumnOf}
+use Rattle.table_meaning.specs.Value.{Given, GivenList, nothing, list_in}
+use Rattle.form_meaning.specs.Binding.{each, is_scalar}
+use Rattle.form_meaning.specs.Select.{cells_of}
+use Rattle.form_meaning.specs.Set.{list_column}
+use Rattle.form_meaning.specs.Make.{on}
+use Rattle.frame_store.specs.Objects.{Tables}
+use Rattle.frame_store.specs.Arguments.{argument_of}
+use Rattle.frame_store.specs.declared.arguments.Argument.{Argument}
+
+-- the value at a place
+abbrev pub value_in : Tables → List Text → Option (Label × Argument) → Given
+value_in live texts None = nothing
+value_in live texts (Some p) = argument_of live texts p.1
+
+-- keys, each with the place of its value among the pairs
+abbrev pub entry_seen : Tables → List Text → List (Label × Argument) → Label × ℕ → LabelValue × Given
+entry_seen live texts pairs e = (label_datum texts e.0, value_in live texts (slice_get pairs e.1))
+
+abbrev pub entries_seen : Tables → List Text → List (Label × Argument) → List (Label × ℕ) → List (LabelValue × Given)
+entries_seen live texts pairs es = map (entry_seen live texts pairs) es
+
+-- the scalars of a list that has nothing else
+abbrev pub alone : Option GivenList → Option (List CellValue)
+alone None = None
+alone (Some parts) = if each is_scalar parts then Some (cells_of parts) else None
+
+abbrev pub scalars_in : Given → Option (List CellValue)
+scalars_in g = alone (list_in g)
+
+-- the same of an argument; an object is no scalar, so its table doesn't matter
+abbrev pub list_seen : List Text → Argument → Option (List CellValue)
+list_seen texts a = scalars_in (argument_of (λ id. None) texts a)
+
+-- and of the values at these places
+abbrev pub list_at : List Text → Option (Label × Argument) → Option (List CellValue)
+list_at texts None = None
+list_at texts (Some p) = list_seen texts p.1
+
+abbrev pub lists_seen : List Text → List (Label × Argument) → List ℕ → List (Option (List CellValue))
+lists_seen texts pairs places = map (λ place. list_at texts (slice_get pairs place)) places
+
+-- the column of a list; anything but a list of scalars is a TypeError
+abbrev pub listed_column : Option (List CellValue) → Result (ColumnOf CellValue) FaultValue
+listed_column cells = on cells list_column

@@ -1,0 +1,106 @@
+// The pairs of a dict, and the columns that their values are.
+ghost use Rattle.std.specs.Prelude.{◌≡◌, ◌<◌, ℕ, List, All, map, length, IfOk};
+ghost use Rattle.std.specs.Option.{option_map};
+ghost use Rattle.indexmap.specs.IndexMap.{keys, values};
+ghost use Rattle.cell_core.specs.declared.cell.Label.{Label as OneLabel};
+ghost use Rattle.meaning.specs.Text.{Text as OneText};
+ghost use Rattle.meaning.specs.Cell.{label_datum};
+ghost use Rattle.table_meaning.specs.Settled.{IsSettled};
+ghost use Rattle.form_meaning.specs.Binding as plain;
+ghost use Rattle.form_meaning.specs.Finish.{try_all};
+ghost use Rattle.form_meaning.specs.Make as make;
+ghost use Rattle.form_parts.specs.Makes.{MakesBy, blocks_value};
+ghost use Rattle.frame_store.specs.declared.arguments.Argument.{Argument as OneArgument};
+ghost use Rattle.frame_store.specs.Objects.{Tables};
+ghost use Rattle.frame_store.specs.Arguments.{item_of, items_of, entries_of};
+ghost use Rattle.frame_store.specs.Parts.{IsSingle};
+ghost use Rattle.constructors.specs.Scalars.{scalars, column_seen};
+ghost use Rattle.constructors.specs.Pairs.{entries_seen, list_seen, lists_seen, listed_column};
+
+use crate::scalars::list_column;
+use cell_core::{Code, Label, NoMemory, TextDict};
+use frame_store::{Argument, Blocks, Item, OpFault, Value};
+use indexmap::IndexMap;
+use nullable_array::Column;
+use std::alloc::Global;
+
+// The keys, each with the place of its last value. Texts are told apart by their numbers.
+pub(crate) fn last_places(
+    alloc: Global,
+    dict: &TextDict,
+    pairs: &[(Label, Argument)],
+) -> Result<IndexMap<Label, usize>, NoMemory>
+    requires { All (λ (p : OneLabel × OneArgument). IsSettled label_datum dict.now p.0) pairs.now }
+    ensures inside { IfOk result (λ places. All (λ (place : ℕ). place < length pairs.now) (values places)) }
+    ensures settled { IfOk result (λ places. All (λ (key : OneLabel). IsSettled label_datum dict.now key) (keys places)) }
+    ensures pairs { IfOk result (λ places. (live : Tables) → entries_seen live dict.now pairs.now places.entries ≡ make.pairs_in (entries_of live dict.now pairs.now)) }
+{
+    // Equal texts have equal numbers: `TextDict::len` says so.
+    let _ = dict.len();
+    let mut places = IndexMap::new(alloc);
+    for place in 0..pairs.len() {
+        places.insert(pairs[place].0, place)?;
+    }
+    Ok(places)
+}
+
+fn is_scalar(item: &Item) -> bool
+    ensures { (live : Tables) (texts : List OneText) → result ≡ plain.is_scalar (item_of live texts item.now) }
+{
+    match item {
+        Item::One(Value::Scalar(_)) => true,
+        Item::One(Value::Object(_)) => false,
+        Item::Row(_) => false,
+    }
+}
+
+// Whether each part of a list is a scalar.
+fn are_scalars(items: &[Item]) -> bool
+    ensures { (live : Tables) (texts : List OneText) → result ≡ plain.each plain.is_scalar (items_of live texts items.now) }
+{
+    items.iter().all(is_scalar)
+}
+
+// The parts of a list that has scalars alone.
+fn scalar_list(argument: &Argument) -> Option<&[Item]>
+    ensures { (texts : List OneText) → option_map (λ items. scalars texts items.now) result ≡ list_seen texts argument.now }
+{
+    match argument.list() {
+        Some(items) => {
+            if are_scalars(items) {
+                Some(items)
+            } else {
+                None
+            }
+        }
+        None => None,
+    }
+}
+
+// The column of a list of scalars.
+fn listed_column(alloc: Global, argument: &Argument) -> Result<Column, OpFault>
+    ensures { (texts : List OneText) → MakesBy column_seen texts result (listed_column (list_seen texts argument.now)) }
+{
+    match scalar_list(argument) {
+        Some(items) => list_column(alloc, items),
+        None => Err(OpFault::Refused(Code::WrongKind)),
+    }
+}
+
+// The columns of the values at these places, in the order of the keys.
+pub(crate) fn listed_columns(
+    alloc: Global,
+    pairs: &[(Label, Argument)],
+    places: &IndexMap<Label, usize>,
+) -> Result<Blocks, OpFault>
+    requires { All (λ (place : ℕ). place < length pairs.now) (values places.now) }
+    ensures single { IfOk result (All IsSingle) }
+    ensures columns { (texts : List OneText) → MakesBy blocks_value texts result (try_all listed_column (lists_seen texts pairs.now (values places.now))) }
+{
+    let mut columns = Blocks::new(alloc);
+    for place in places.values() {
+        let column = listed_column(alloc, &pairs[*place].1)?;
+        columns.push(column.into_block())?;
+    }
+    Ok(columns)
+}
