@@ -8,3 +8,4 @@ pub mod GivenLaws
 pub mod CallLaws
 pub mod NameLaws
 pub mod BuiltLaws
+pub mod ListedLaws

@@ -26,6 +26,7 @@ fn is_built(method: Method) -> bool
             | Method::Isna
             | Method::Notna
             | Method::Fillna
+            | Method::Isin
             | Method::Astype
             | Method::Shift
             | Method::Cumsum

@@ -25,6 +25,7 @@ mod cells;
 mod column_methods;
 mod column_ops;
 mod columns;
+mod listed;
 mod made;
 mod renaming;
 mod series;

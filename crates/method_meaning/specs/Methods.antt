@@ -170,12 +170,13 @@ answer_for method.ToFrame gs t = limited (as_frame t)
 -- no other number of arguments is bound, and no other method is built
 answer_for m gs t = Err not_built
 
--- Whether the method is built; one that isn't answers so before its arguments are looked at. `isin`, and `rename` of a frame, are defined above and not built yet.
+-- Whether the method is built; one that isn't answers so before its arguments are looked at. `rename` of a frame is defined above and not built yet.
 abbrev pub is_built : Method → Bool
 is_built method.Copy = true
 is_built method.Isna = true
 is_built method.Notna = true
 is_built method.Fillna = true
+is_built method.Isin = true
 is_built method.Astype = true
 is_built method.Shift = true
 is_built method.Cumsum = true
