@@ -9,3 +9,4 @@ pub mod CallLaws
 pub mod NameLaws
 pub mod BuiltLaws
 pub mod ListedLaws
+pub mod RenameLaws

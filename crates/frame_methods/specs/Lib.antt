@@ -9,3 +9,4 @@ pub mod Kinds
 pub mod Calls
 pub mod Faults
 pub mod Listed
+pub mod Renames

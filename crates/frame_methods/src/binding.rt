@@ -40,6 +40,7 @@ fn is_built(method: Method) -> bool
             | Method::Count
             | Method::Nunique
             | Method::RenameSeries
+            | Method::RenameFrame
             | Method::ToFrame
     )
 }

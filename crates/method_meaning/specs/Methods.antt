@@ -170,7 +170,7 @@ answer_for method.ToFrame gs t = limited (as_frame t)
 -- no other number of arguments is bound, and no other method is built
 answer_for m gs t = Err not_built
 
--- Whether the method is built; one that isn't answers so before its arguments are looked at. `rename` of a frame is defined above and not built yet.
+-- whether the method is built; one that isn't answers so before its arguments are looked at
 abbrev pub is_built : Method → Bool
 is_built method.Copy = true
 is_built method.Isna = true
@@ -190,5 +190,6 @@ is_built method.All = true
 is_built method.Count = true
 is_built method.Nunique = true
 is_built method.RenameSeries = true
+is_built method.RenameFrame = true
 is_built method.ToFrame = true
 is_built m = false
