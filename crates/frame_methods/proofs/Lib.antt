@@ -8,3 +8,5 @@ pub mod GivenLaws
 pub mod CallLaws
 pub mod NameLaws
 pub mod BuiltLaws
+pub mod ListedLaws
+pub mod RenameLaws

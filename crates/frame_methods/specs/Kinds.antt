@@ -25,6 +25,7 @@ is_column_method method.Cumsum = true
 is_column_method method.Cummin = true
 is_column_method method.Cummax = true
 is_column_method method.Fillna = true
+is_column_method method.Isin = true
 is_column_method method.Shift = true
 is_column_method method.Astype = true
 is_column_method m = false

@@ -8,3 +8,5 @@ pub mod Given
 pub mod Kinds
 pub mod Calls
 pub mod Faults
+pub mod Listed
+pub mod Renames

@@ -13,7 +13,7 @@ ghost use Rattle.frame_methods.specs.Given.{given_for};
 ghost use Rattle.frame_methods.specs.Made.{made_value};
 ghost use Rattle.frame_methods.specs.Kinds.{summary_method, is_column_method, is_made_method};
 
-use crate::column_methods::{astype, fillna, shift_rows};
+use crate::column_methods::{astype, fillna, isin, shift_rows};
 use crate::column_ops::{Cumulated, Marked};
 use crate::made::Made;
 use crate::summaries::{Summary, summarize};
@@ -85,6 +85,7 @@ fn column_table(
             on,
         ),
         Method::Fillna => fillna(alloc, store, dict, args, on),
+        Method::Isin => isin(alloc, store, dict, args, on),
         Method::Shift => shift_rows(alloc, store, dict, args, on),
         Method::Astype => astype(alloc, store, dict, args, on),
         _ => unreachable!(),

@@ -26,6 +26,7 @@ fn is_built(method: Method) -> bool
             | Method::Isna
             | Method::Notna
             | Method::Fillna
+            | Method::Isin
             | Method::Astype
             | Method::Shift
             | Method::Cumsum
@@ -39,6 +40,7 @@ fn is_built(method: Method) -> bool
             | Method::Count
             | Method::Nunique
             | Method::RenameSeries
+            | Method::RenameFrame
             | Method::ToFrame
     )
 }

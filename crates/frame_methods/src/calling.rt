@@ -22,7 +22,7 @@ ghost use Rattle.frame_methods.specs.Faults.{IsChained};
 use crate::answers::made;
 use crate::binding::{bound_method, exists, no_attribute};
 use crate::made::Made;
-use crate::renaming::{rename_series, to_frame};
+use crate::renaming::{rename_frame, rename_series, to_frame};
 use cell_core::{Code, TextDict};
 use form_meaning::Method;
 use form_parts::placed;
@@ -79,6 +79,7 @@ fn answer(
     match method {
         Method::Copy => copied(alloc, store, dict, on),
         Method::RenameSeries => rename_series(alloc, store, dict, args, on),
+        Method::RenameFrame => rename_frame(alloc, store, dict, args, on),
         Method::ToFrame => to_frame(alloc, store, dict, on),
         _ => {
             let made = made(alloc, store, dict, method, args, &store.read(on));

@@ -5,8 +5,10 @@ ghost use Rattle.cell_core.specs.declared.cell.Kind.{Kind as CellKind};
 ghost use Rattle.cell_core.specs.declared.cell.Kind.TheVariants.{Boolean};
 ghost use Rattle.meaning.specs.Cell.{datum, holds};
 ghost use Rattle.frame_methods.specs.Cells.{missing_mark, filled_cell};
+ghost use Rattle.frame_methods.specs.Listed.{listed_mark};
 
 use cell_core::{Cell, Kind, NoMemory};
+use indexmap::IndexSet;
 use nullable_array::{ColRef, Column};
 use std::alloc::Global;
 
@@ -75,6 +77,28 @@ impl CellOp for Fill {
     }
 
     ghost held = { λ s from to c texts fits. fill_held s.value from to c texts fits };
+}
+
+// Whether a cell is among these. Texts are told apart by their numbers.
+#[derive(Drop)]
+pub(crate) struct Listed {
+    pub(crate) values: IndexSet<Cell>,
+}
+
+impl CellOp for Listed {
+    ghost use Rattle.frame_methods.specs.Listed.{listed_held};
+
+    ghost made = { λ s. listed_mark s.values.keys };
+
+    ghost fits = { λ _ _ to. to ≡ Boolean };
+
+    fn cell(&self, cell: Cell) -> Cell
+        ensures { result ≡ listed_mark self.now.values.keys cell }
+    {
+        Cell::Bool(self.values.contains(&cell))
+    }
+
+    ghost held = { λ s from to c texts fits _. listed_held s.values.keys to c texts fits };
 }
 
 // The column of what is made of each cell.

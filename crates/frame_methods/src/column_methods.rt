@@ -11,12 +11,14 @@ ghost use Rattle.frame_store.specs.Arguments.{arguments_of};
 ghost use Rattle.frame_store.specs.Shown.{Makes};
 ghost use Rattle.frame_methods.specs.Given.{given_for};
 
+use crate::cells::Listed;
 use crate::column_ops::{Cast, Filled, Shifted};
+use crate::listed::listed_cells;
 use crate::tables::columns_table;
 use cell_core::{Code, Kind, TextDict};
 use form_meaning::Method;
 use frame_store::{Named, ObjRef, OpFault, Store, Table};
-use signatures::{parameters, scalar_at, text_at, whole_at};
+use signatures::{list_at, parameters, scalar_at, text_at, whole_at};
 use std::alloc::Global;
 
 // A scalar in place of NA.
@@ -38,6 +40,28 @@ pub(crate) fn fillna(
         return Err(OpFault::Refused(Code::WrongKind));
     };
     columns_table(alloc, dict, &Filled { value }, on)
+}
+
+// Whether each cell is in the list.
+pub(crate) fn isin(
+    alloc: Global,
+    store: &Store,
+    dict: &mut TextDict,
+    args: &[Named],
+    on: &ObjRef<'_>,
+) -> Result<Table, OpFault>
+    requires whole { IsWhole on.now }
+    requires settled { IsSettled table_value dict.old on.now }
+    requires given { IsSettled (arguments_of (tables store.now)) dict.old args.now }
+    ensures longer { IsLonger dict.old dict.new }
+    ensures settled { IfOk result (IsSettled table_value dict.new) }
+    ensures answer { Makes dict.new result (answer_for Method.Isin (given_for Method.Isin (arguments_of (tables store.now) dict.old args.now)) (table_value dict.old on.now)) }
+{
+    let Some(items) = list_at(parameters(Method::Isin), args, 0) else {
+        return Err(OpFault::Refused(Code::WrongKind));
+    };
+    let values = listed_cells(alloc, dict, items)?;
+    columns_table(alloc, dict, &Listed { values }, on)
 }
 
 // The cells some rows further.

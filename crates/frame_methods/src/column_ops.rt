@@ -7,8 +7,10 @@ ghost use Rattle.method_meaning.specs.Methods.{filled_column, shifted_column, ca
 ghost use Rattle.nullable_array.specs.Folds.{cumulation_of};
 ghost use Rattle.frame_methods.specs.Columns.{table_column, MakesColumn};
 ghost use Rattle.frame_methods.specs.Marks.{marked_column};
+ghost use Rattle.frame_methods.specs.Listed.{listed_column};
+ghost use Rattle.frame_store.specs.Shown.{cells_value};
 
-use crate::cells::{Fill, Mark, map_cells};
+use crate::cells::{Fill, Listed, Mark, map_cells};
 use crate::columns::ColumnOp;
 use cell_core::{Cell, Code, Kind, TextDict};
 use form_parts::refusal_of;
@@ -77,6 +79,32 @@ impl ColumnOp for Filled {
     ghost lasts = { λ s earlier later. filled_lasts s.value earlier later };
 
     ghost stays = { λ s earlier later. filled_stays s.value earlier later };
+}
+
+// Whether each cell is in a list.
+impl ColumnOp for Listed {
+    ghost use Rattle.frame_methods.specs.Listed.{listed_stays, listed_lasts};
+
+    ghost answer = { λ s texts. listed_column (cells_value texts s.values.keys) };
+
+    ghost given = { λ s texts. AreGiven texts s.values.keys };
+
+    fn column(&self, alloc: Global, dict: &mut TextDict, a: ColRef<'_>) -> Result<Column, OpFault>
+        requires own { AreGiven dict.old self.now.values.keys }
+        requires cells { AreGiven dict.old a.cells }
+        ensures longer { IsLonger dict.old dict.new }
+        ensures given { IfOk result (λ c. AreGiven dict.new c.cells) }
+        ensures rows { IfOk result (λ c. length c.cells ≡ length a.entry.cells) }
+        ensures answer { MakesColumn dict.new result (listed_column (cells_value dict.old self.now.values.keys) (column_value dict.old (table_column a.entry))) }
+    {
+        // Equal texts have equal numbers: `TextDict::len` says so.
+        let _ = dict.len();
+        Ok(map_cells(alloc, self, Kind::Boolean, a)?)
+    }
+
+    ghost lasts = { λ s earlier later. listed_lasts s.values.keys earlier later };
+
+    ghost stays = { λ s earlier later. listed_stays s.values.keys earlier later };
 }
 
 // The cells some rows further down, or up where the number is below 0.

@@ -2,7 +2,7 @@
 //!
 //! [`method`] calls a method of a value by its name, with the arguments of a script, and answers a
 //! scalar or a new object. [`exists`] says whether a value has a method of a name. What a method
-//! answers for its arguments is its definition on whole tables (`form_meaning/specs/Methods.antt`);
+//! answers for its arguments is its definition on whole tables (`method_meaning/specs/Methods.antt`);
 //! the refusals that all methods share come from the table of signatures (the crate `signatures`).
 //!
 //! A method that makes new cells makes them column by column (`columns`), each by an operation of its
@@ -25,7 +25,9 @@ mod cells;
 mod column_methods;
 mod column_ops;
 mod columns;
+mod listed;
 mod made;
+mod relabelling;
 mod renaming;
 mod series;
 mod summaries;

@@ -170,12 +170,13 @@ answer_for method.ToFrame gs t = limited (as_frame t)
 -- no other number of arguments is bound, and no other method is built
 answer_for m gs t = Err not_built
 
--- Whether the method is built; one that isn't answers so before its arguments are looked at. `isin`, and `rename` of a frame, are defined above and not built yet.
+-- whether the method is built; one that isn't answers so before its arguments are looked at
 abbrev pub is_built : Method → Bool
 is_built method.Copy = true
 is_built method.Isna = true
 is_built method.Notna = true
 is_built method.Fillna = true
+is_built method.Isin = true
 is_built method.Astype = true
 is_built method.Shift = true
 is_built method.Cumsum = true
@@ -189,5 +190,6 @@ is_built method.All = true
 is_built method.Count = true
 is_built method.Nunique = true
 is_built method.RenameSeries = true
+is_built method.RenameFrame = true
 is_built method.ToFrame = true
 is_built m = false

@@ -11,7 +11,7 @@ use Rattle.frame_methods.proofs.calling.answer.Goals as goal
 
 pub made-made-requires : goal.made-made-requires
 made-made-requires c = record {
-  method = made_if_built c.args.method c.requires.built c.in_default.not-Copy c.in_default.not-RenameSeries c.in_default.not-ToFrame;
+  method = made_if_built c.args.method c.requires.built c.in_default.not-Copy c.in_default.not-RenameSeries c.in_default.not-RenameFrame c.in_default.not-ToFrame;
   whole = c.read.ensures.whole;
   settled = object_settled c.args.dict.now (tables c.args.store.now) c.args.on.0 c.read.result c.read.ensures.table c.requires.settled;
   given = c.requires.given;

@@ -1,0 +1,237 @@
+-- Cells that are in a list, by number and with texts.
+use Rattle.std.proofs.Common.{◌≡◌, ◌∙◌, ◌<◌, ◌+◌, refl, ap, sym, subst, ℕ, suc, Bool, true, false, ◌||◌, cond, List, [], ◌∷◌, ◌++◌, map, length, drop, get_or, Option, Some, None, IfSome, Result, Ok, arith, rules}
+use Rattle.std.specs.Option.{option_map}
+use Rattle.std.specs.Bool.{Decides}
+use Rattle.std.specs.List.{list_any}
+use Rattle.std.proofs.Math.Seq.{drop-cons}
+use Rattle.std.proofs.lemmas.List.{map-append}
+use Rattle.std.proofs.lemmas.List.Folds.{list_any-append}
+use Rattle.std.proofs.lemmas.List.Elements.{All-append, All-cons, All-nil, All-map}
+use Rattle.cell_core.specs.declared.cell.Cell.{Cell}
+use Rattle.cell_core.specs.declared.cell.Cell.TheVariants as cell
+use Rattle.cell_core.specs.declared.cell.Kind.TheVariants.{Boolean}
+use Rattle.cell_core.specs.declared.cell.Label.{Label}
+use Rattle.cell_core.specs.declared.cell.Label.TheVariants as label
+use Rattle.cell_core.specs.Texts.{AreDistinct}
+use Rattle.form_parts.specs.Labels.{label_of}
+use Rattle.form_parts.proofs.LabelLaws.{same_by_number}
+use Rattle.meaning.specs.Text.{Text}
+use Rattle.meaning.specs.Cell.{CellValue, na_cell, truth_cell, datum, label_datum, IsGiven, AreGiven}
+use Rattle.meaning.specs.Operator.{cell_label}
+use Rattle.meaning.specs.Reduce.{same_cell}
+use Rattle.meaning.specs.Fault.{FaultValue}
+use Rattle.nullable_array.specs.Columns.{CellColumn}
+use Rattle.table_meaning.specs.Settled.{IsSettled}
+use Rattle.table_meaning.specs.Table.{Table, column_value}
+use Rattle.table_meaning.specs.Value.{Entry, Given, GivenList, cell as one_cell, table, nothing, one, row, many, entries, more_given, scalar_in, list_in}
+use Rattle.form_meaning.specs.declared.Parameter.{Parameter}
+use Rattle.form_meaning.specs.Binding.{argument_at, same_label}
+use Rattle.form_meaning.specs.Make.{on}
+use Rattle.form_meaning.specs.Select.{cells_of}
+use Rattle.method_meaning.specs.Methods.{is_in, mapped, each_column}
+use Rattle.frame_store.specs.Objects.{Tables}
+use Rattle.frame_store.specs.Arguments.{item_of, items_of, arguments_of}
+use Rattle.frame_store.specs.declared.arguments.Named.{Named}
+use Rattle.frame_store.specs.Shown.{cells_value}
+use Rattle.frame_store.specs.declared.arguments.Value.TheVariants.{Object, Scalar}
+use Rattle.frame_store.specs.declared.arguments.Item.{Item, One as OneItem, Row' as RowItem'}
+use Rattle.frame_store.proofs.Settling.{cell_settled, cell_given}
+use Rattle.frame_methods.specs.Columns.{table_column}
+use Rattle.frame_methods.specs.Listed.{same_number, noted, listed_mark, listed_column, scalars, with_cell}
+
+same_decides : (a b : Cell) → Decides (same_number a b) (a ≡ b)
+same_decides a b = search rules
+
+-- a cell as a label, and back
+abbrev cell_back : Label → Cell
+cell_back label.Na = cell.Na
+cell_back (label.Int z) = cell.Int z
+cell_back (label.Bool b) = cell.Bool b
+cell_back (label.Text id) = cell.Text id
+
+back_again : (c : Cell) → cell_back (label_of c) ≡ c
+back_again cell.Na = refl
+back_again (cell.Int z) = refl
+back_again (cell.Bool b) = refl
+back_again (cell.Text id) = refl
+
+label_seen : (texts : List Text) (c : Cell) → label_datum texts (label_of c) ≡ cell_label (datum texts c)
+label_seen texts cell.Na = refl
+label_seen texts (cell.Int z) = refl
+label_seen texts (cell.Bool b) = refl
+label_seen texts (cell.Text id) = refl
+
+label_settled : (texts : List Text) (c : Cell) → IsGiven texts c → IsSettled label_datum texts (label_of c)
+label_settled texts c given = λ more. label_seen (texts ++ more) c ∙ ap cell_label (cell_settled texts c given more) ∙ sym (label_seen texts c)
+
+-- a test by numbers is the test by texts
+cell_by_number : (texts : List Text) (a b : Cell) → AreDistinct texts → IsGiven texts a → IsGiven texts b → same_number a b ≡ same_cell (datum texts a) (datum texts b)
+cell_by_number texts a b distinct f g =
+    let labels : Decides (same_number a b) (label_of a ≡ label_of b) = (
+      λ e. ap label_of ((same_decides a b).0 e),
+      λ e. (same_decides a b).1 (sym (back_again a) ∙ ap cell_back e ∙ back_again b),
+    ) in
+    same_by_number texts (label_of a) (label_of b) (same_number a b) distinct (label_settled texts a f) (label_settled texts b g) labels
+    ∙ (λ j. same_label (label_seen texts a j) (label_seen texts b j))
+
+any_by_number : (texts : List Text) (c : Cell) (values : List Cell) → AreDistinct texts → IsGiven texts c → AreGiven texts values
+    → list_any (same_cell (datum texts c)) (cells_value texts values) ≡ list_any (same_number c) values
+any_by_number texts c [] distinct here given = refl
+any_by_number texts c (v ∷ vs) distinct here given =
+    λ j. sym (cell_by_number texts c v distinct here (given 0 v (omega arith))) j || any_by_number texts c vs distinct here (λ k d lt. given (suc k) d (omega arith)) j
+
+marks : (texts : List Text) (values cells : List Cell) → AreDistinct texts → AreGiven texts values → AreGiven texts cells
+    → map (is_in (cells_value texts values)) (cells_value texts cells) ≡ cells_value texts (map (listed_mark values) cells)
+marks texts values [] distinct given all = refl
+marks texts values (c ∷ cs) distinct given all =
+    λ j. truth_cell (any_by_number texts c values distinct (all 0 c (omega arith)) given j) ∷ marks texts values cs distinct given (λ k d lt. all (suc k) d (omega arith)) j
+
+pub listed_answer : (texts : List Text) (values : List Cell) (a new : CellColumn) → AreDistinct texts → AreGiven texts values → AreGiven texts a.cells → new ≡ record { kind = Boolean; cells = map (listed_mark values) a.cells }
+    → listed_column (cells_value texts values) (column_value texts (table_column a)) ≡ Ok (column_value texts (table_column new))
+listed_answer texts values a new distinct given all is =
+    (λ j. Ok record { kind = Boolean; cells = marks texts values a.cells distinct given all j })
+    ∙ ap (λ n. Ok (column_value texts (table_column n))) (sym is)
+
+pub listed_given : (texts : List Text) (values : List Cell) (a new : CellColumn) → new ≡ record { kind = Boolean; cells = map (listed_mark values) a.cells } → AreGiven texts new.cells
+listed_given texts values a new is =
+    subst (λ (n : CellColumn). AreGiven texts n.cells) (sym is) (All-map (IsGiven texts) (listed_mark values) a.cells (λ k d lt. tt))
+
+-- the scalars of a list are the same among any objects
+cells_of_more : (g : Given) (rest : GivenList) → cells_of (more_given g rest) ≡ with_cell (scalar_in g) (cells_of rest)
+cells_of_more (one (one_cell c)) rest = refl
+cells_of_more (one (table t)) rest = refl
+cells_of_more nothing rest = refl
+cells_of_more (row parts) rest = refl
+cells_of_more (many parts) rest = refl
+cells_of_more (entries pairs) rest = refl
+
+scalar_same : (live other : Tables) (texts : List Text) (item : Item) → scalar_in (item_of live texts item) ≡ scalar_in (item_of other texts item)
+scalar_same live other texts (OneItem (Object id)) = refl
+scalar_same live other texts (OneItem (Scalar c)) = refl
+scalar_same live other texts (RowItem' shape parts) = refl
+
+any_objects : (live other : Tables) (texts : List Text) (items : List Item) → cells_of (items_of live texts items) ≡ cells_of (items_of other texts items)
+any_objects live other texts [] = refl
+any_objects live other texts (item ∷ rest) =
+    cells_of_more (item_of live texts item) (items_of live texts rest)
+    ∙ (λ j. with_cell (scalar_same live other texts item j) (any_objects live other texts rest j))
+    ∙ sym (cells_of_more (item_of other texts item) (items_of other texts rest))
+
+pub scalars_are : (live : Tables) (texts : List Text) (items : List Item) → cells_of (items_of live texts items) ≡ scalars texts items
+scalars_are live texts items = any_objects live (λ id. None) texts items
+
+-- the scalars from a part on
+abbrev IsScalarOf : Option Cell → Item → Type 0
+IsScalarOf o item = (live : Tables) (texts : List Text) → option_map (datum texts) o ≡ scalar_in (item_of live texts item)
+
+scalars_from : (texts : List Text) (items : List Item) (i : ℕ) (item : Item) (o : Option Cell) → i < length items → item ≡ get_or items i item → IsScalarOf o item
+    → scalars texts (drop i items) ≡ with_cell (option_map (datum texts) o) (scalars texts (drop (i + 1) items))
+scalars_from texts items i item o lt is scalar =
+    let next : suc i ≡ i + 1 = omega arith in
+    ap (scalars texts) (drop-cons items i item lt ∙ (λ j. sym is j ∷ drop (next j) items))
+    ∙ cells_of_more (item_of (λ id. None) texts item) (items_of (λ id. None) texts (drop (i + 1) items))
+    ∙ ap (λ c. with_cell c (scalars texts (drop (i + 1) items))) (sym (scalar (λ id. None) texts))
+
+-- a cell and those after it are settled where they are so together
+abbrev first_or : CellValue → List CellValue → CellValue
+first_or d [] = d
+first_or d (v ∷ vs) = v
+
+abbrev others : List CellValue → List CellValue
+others [] = []
+others (v ∷ vs) = vs
+
+abbrev AreBoth : List Text → Option Cell → (List Text → List CellValue) → Type 0
+AreBoth texts o rest = IfSome o (IsGiven texts) × ((more : List Text) → rest (texts ++ more) ≡ rest texts)
+
+pub both_settled : (texts : List Text) (o : Option Cell) (rest : List Text → List CellValue)
+    → ((more : List Text) → with_cell (option_map (datum (texts ++ more)) o) (rest (texts ++ more)) ≡ with_cell (option_map (datum texts) o) (rest texts)) → AreBoth texts o rest
+both_settled texts None rest settled = (tt, settled)
+both_settled texts (Some c) rest settled = (cell_given texts c (λ more. ap (first_or na_cell) (settled more)), λ more. ap others (settled more))
+
+pub first_settled : (texts : List Text) (items : List Item) (i : ℕ) (item : Item) (o : Option Cell) → i < length items → item ≡ get_or items i item → IsScalarOf o item
+    → IsSettled scalars texts (drop i items) → AreBoth texts o (λ ts. scalars ts (drop (i + 1) items))
+first_settled texts items i item o lt is scalar settled =
+    both_settled texts o (λ ts. scalars ts (drop (i + 1) items))
+    (λ more. sym (scalars_from (texts ++ more) items i item o lt is scalar) ∙ settled more ∙ scalars_from texts items i item o lt is scalar)
+
+-- one cell more among the different ones
+pub noted_given : (texts : List Text) (values : List Cell) (o : Option Cell) → AreGiven texts values → IfSome o (IsGiven texts) → AreGiven texts (noted values o)
+noted_given texts values None given here = given
+noted_given texts values (Some c) given here = go (list_any (same_number c) values)
+  where
+    go : (b : Bool) → AreGiven texts (cond b values (values ++ c ∷ []))
+    go true = given
+    go false = All-append (IsGiven texts) values (c ∷ []) given (All-cons (IsGiven texts) c [] here (All-nil (IsGiven texts)))
+
+-- what passes at a cell passes where the cell is
+passes_at : (test : CellValue → Bool) (texts : List Text) (c : Cell) (values : List Cell) → list_any (same_number c) values ≡ true → test (datum texts c) ≡ true → list_any test (cells_value texts values) ≡ true
+passes_at test texts c [] among passes = cc
+passes_at test texts c (v ∷ vs) among passes = go (passes_at test texts c vs) (same_number c v) refl among
+  where
+    or_true : (b : Bool) → (b || true) ≡ true
+    or_true true = refl
+    or_true false = refl
+
+    go : (list_any (same_number c) vs ≡ true → test (datum texts c) ≡ true → list_any test (cells_value texts vs) ≡ true) → (b : Bool) → same_number c v ≡ b → (b || list_any (same_number c) vs) ≡ true
+        → list_any test (cells_value texts (v ∷ vs)) ≡ true
+    go later true same is = ap (λ b. b || list_any test (cells_value texts vs)) (ap (λ x. test (datum texts x)) (sym ((same_decides c v).0 same)) ∙ passes)
+    go later false same is = ap (λ b. test (datum texts v) || b) (later is passes) ∙ or_true (test (datum texts v))
+
+or_more : (a t r : Bool) → (t ≡ true → a ≡ true) → (a || r) ≡ (a || (t || r))
+or_more true t r same = refl
+or_more false true r same = let wrong : false ≡ true = same refl in cc
+or_more false false r same = refl
+
+or_last : (a t r : Bool) → ((a || (t || false)) || r) ≡ (a || (t || r))
+or_last true t r = refl
+or_last false true r = refl
+or_last false false r = refl
+
+noted_more : (test : CellValue → Bool) (texts : List Text) (values : List Cell) (c : Cell) (r : Bool)
+    → (list_any test (cells_value texts (noted values (Some c))) || r) ≡ (list_any test (cells_value texts values) || (test (datum texts c) || r))
+noted_more test texts values c r = go (list_any (same_number c) values) refl
+  where
+    go : (b : Bool) → list_any (same_number c) values ≡ b → (list_any test (cells_value texts (cond b values (values ++ c ∷ []))) || r) ≡ (list_any test (cells_value texts values) || (test (datum texts c) || r))
+    go true among = or_more (list_any test (cells_value texts values)) (test (datum texts c)) r (passes_at test texts c values among)
+    go false among =
+        ap (λ l. list_any test l || r) (map-append (datum texts) values (c ∷ []))
+        ∙ ap (λ b. b || r) (list_any-append test (cells_value texts values) (datum texts c ∷ []))
+        ∙ or_last (list_any test (cells_value texts values)) (test (datum texts c)) r
+
+noted_any : (test : CellValue → Bool) (texts : List Text) (values : List Cell) (o : Option Cell) (rest : List CellValue)
+    → (list_any test (cells_value texts (noted values o)) || list_any test rest) ≡ (list_any test (cells_value texts values) || list_any test (with_cell (option_map (datum texts) o) rest))
+noted_any test texts values None rest = refl
+noted_any test texts values (Some c) rest = noted_more test texts values c (list_any test rest)
+
+pub noted_step : (texts : List Text) (items : List Item) (i : ℕ) (item : Item) (o : Option Cell) (values values' : List Cell) (test : CellValue → Bool) (all : Bool) → i < length items → item ≡ get_or items i item → IsScalarOf o item → values' ≡ noted values o
+    → (list_any test (cells_value texts values) || list_any test (scalars texts (drop i items))) ≡ all
+    → (list_any test (cells_value texts values') || list_any test (scalars texts (drop (i + 1) items))) ≡ all
+noted_step texts items i item o values values' test all lt is scalar more before =
+    ap (λ l. list_any test (cells_value texts l) || list_any test (scalars texts (drop (i + 1) items))) more
+    ∙ noted_any test texts values o (scalars texts (drop (i + 1) items))
+    ∙ ap (λ l. list_any test (cells_value texts values) || list_any test l) (sym (scalars_from texts items i item o lt is scalar))
+    ∙ before
+
+-- the scalars of a list that was given
+some_same : {A : Type 0} (a b : A) → Some a ≡ Some b → a ≡ b
+some_same a b e = cc
+
+pub items_settled : (live : Tables) (dict : List Text) (ps : List Parameter) (args : List Named) (place : ℕ) (items : List Item)
+    → ((live : Tables) (texts : List Text) → Some (items_of live texts items) ≡ list_in (argument_at ps (arguments_of live texts args) place))
+    → IsSettled (arguments_of live) dict args → IsSettled scalars dict items
+items_settled live dict ps args place items is settled = λ more.
+    sym (scalars_are live (dict ++ more) items)
+    ∙ ap cells_of (some_same (items_of live (dict ++ more) items) (items_of live dict items) (is live (dict ++ more) ∙ ap (λ gs. list_in (argument_at ps gs place)) (settled more) ∙ sym (is live dict)))
+    ∙ scalars_are live dict items
+
+abbrev isin_of : Table → GivenList → Result Entry FaultValue
+isin_of t parts = each_column (listed_column (cells_of parts)) t
+
+pub isin_meant : (live : Tables) (dict : List Text) (items : List Item) (values : List Cell) (o : Option GivenList) (t : Table) → Some (items_of live dict items) ≡ o
+    → ((test : CellValue → Bool) → list_any test (cells_value dict values) ≡ list_any test (scalars dict items))
+    → each_column (listed_column (cells_value dict values)) t ≡ on o (isin_of t)
+isin_meant live dict items values o t is same =
+    ap (λ (f : CellValue → CellValue). each_column (mapped Boolean f) t) (λ j c. truth_cell (same (same_cell c) j))
+    ∙ ap (λ cells. each_column (listed_column cells) t) (sym (scalars_are live dict items))
+    ∙ ap (λ p. on p (isin_of t)) is

@@ -1,0 +1,502 @@
+-- Columns under new labels, by number and with texts.
+use Rattle.std.proofs.Common.{◌≡◌, ◌∙◌, ◌<◌, ◌+◌, refl, ap, sym, subst, ℕ, zero, suc, Bool, true, false, not, ◌||◌, ◌&&◌, cond, List, [], ◌∷◌, ◌++◌, map, length, drop, get_or, slice_index_or, Option, Some, None, Result, Ok, Err, All, if◌then◌else◌, arith, rules}
+use Rattle.std.specs.Prelude.{◌≢◌, IsSome, AllPairs, IfOk, IfErr, is_some, unwrap_or}
+use Rattle.std.specs.Option.{option_map}
+use Rattle.std.specs.Bool.{Decides}
+use Rattle.std.specs.List.{list_any, list_all}
+use Rattle.std.proofs.Math.Seq.{drop-cons}
+use Rattle.std.proofs.lemmas.List.{get_or-map}
+use Rattle.std.proofs.lemmas.List.Elements.{All-cons, All-nil}
+use Rattle.std.proofs.lemmas.List.Folds.{list_any-append}
+use Rattle.std.specs.Map.{lookup}
+use Rattle.indexmap.specs.IndexMap.{insert_entry, insert_all}
+use Rattle.indexmap.specs.IndexSet.{insert_key}
+use Rattle.cell_core.specs.declared.cell.Cell.{Cell}
+use Rattle.cell_core.specs.declared.cell.Label.{Label}
+use Rattle.cell_core.specs.Texts.{AreDistinct}
+use Rattle.form_parts.proofs.LabelLaws.{same_by_number, heading_label}
+use Rattle.meaning.specs.Text.{Text}
+use Rattle.meaning.specs.Cell.{LabelValue, na, datum, label_datum}
+use Rattle.meaning.specs.Operator.{cell_label}
+use Rattle.cell_core.specs.declared.grid.Shape.TheVariants.{Frame}
+use Rattle.meaning.specs.Fault.{FaultValue, wrong_kind, then_value}
+use Rattle.meaning.specs.FaultOf.{fault_of}
+use Rattle.table_meaning.specs.Settled.{IsSettled}
+use Rattle.table_meaning.specs.Table.{NumberedTable, Table, table_value, heading_value}
+use Rattle.table_meaning.specs.Valid.{AreHeadings}
+use Rattle.table_meaning.specs.Value.{Entry, Given, GivenPairs, no_entries, more_entries, dict_in, cell as one_cell, table, nothing, one, row, many, entries, scalar_in}
+use Rattle.form_meaning.specs.declared.Parameter.{Parameter}
+use Rattle.form_meaning.specs.Binding.{same_label, is_scalar, argument_at}
+use Rattle.form_meaning.specs.Finish as finish
+use Rattle.form_meaning.specs.Finish.{first_repeated, unless_repeated, limited}
+use Rattle.form_meaning.specs.Make.{on, with_pair, pairs_onto, pairs_in}
+use Rattle.form_parts.specs.Makes.{MakesBy}
+use Rattle.method_meaning.specs.Methods.{is_scalar_pair, new_label, renamed_heading, renamed_frame}
+use Rattle.frame_store.specs.Objects.{Tables}
+use Rattle.frame_store.specs.Arguments.{argument_of, entries_of, arguments_of}
+use Rattle.frame_store.specs.Parts.{HeadingList}
+use Rattle.frame_store.specs.declared.arguments.Named.{Named}
+use Rattle.frame_store.specs.declared.fault.OpFault.{OpFault}
+use Rattle.frame_store.specs.declared.fault.OpFault.TheVariants.{Refused, NoMemory}
+use Rattle.frame_store.specs.Shown.{Shown, headings_value, FormAnswers}
+use Rattle.selections.specs.Picked.{headed_by}
+use Rattle.frame_methods.specs.Faults.{NamesRepeated}
+use Rattle.frame_store.specs.declared.arguments.Value.TheVariants.{Object, Scalar}
+use Rattle.frame_store.specs.declared.arguments.Argument.{Argument, Nothing, One, Row, Many, Table'}
+use Rattle.frame_methods.specs.Renames.{same_number, same_heading, label_pair, given_label, given_labels, pair_seen, pairs_seen, have_labels, found_label, heading_by, label_from, heading_from, repeated_heading, relabelled, labels_seen}
+
+label_decides : (a b : Label) → Decides (same_number a b) (a ≡ b)
+label_decides a b = search rules
+
+some_same : {A : Type 0} (a b : A) → Some a ≡ Some b → a ≡ b
+some_same a b e = cc
+
+heading_decides : (a b : Option Label) → Decides (same_heading a b) (a ≡ b)
+heading_decides None None = (λ e. refl, λ e. refl)
+heading_decides None (Some b) = (λ e. cc, λ e. cc)
+heading_decides (Some a) None = (λ e. cc, λ e. cc)
+heading_decides (Some a) (Some b) = (λ e. ap (λ l. Some l) ((label_decides a b).0 e), λ e. (label_decides a b).1 (some_same a b e))
+
+-- a list that is settled, part by part
+abbrev first_or : {Y : Type 0} → Y → List Y → Y
+first_or d [] = d
+first_or d (y ∷ ys) = y
+
+abbrev others : {Y : Type 0} → List Y → List Y
+others [] = []
+others (y ∷ ys) = ys
+
+head_settled : {X Y : Type 0} (view : List Text → X → Y) (texts : List Text) (x : X) (xs : List X) → IsSettled (λ ts. map (view ts)) texts (x ∷ xs) → IsSettled view texts x
+head_settled view texts x xs settled = λ more. ap (first_or (view texts x)) (settled more)
+
+rest_settled : {X Y : Type 0} (view : List Text → X → Y) (texts : List Text) (x : X) (xs : List X) → IsSettled (λ ts. map (view ts)) texts (x ∷ xs) → IsSettled (λ ts. map (view ts)) texts xs
+rest_settled view texts x xs settled = λ more. ap others (settled more)
+
+key_settled : (texts : List Text) (e : Label × Option Label) (es : List (Label × Option Label)) → IsSettled pairs_seen texts (e ∷ es) → IsSettled label_datum texts e.0
+key_settled texts e es settled = λ more. ap (λ p. p.0) (head_settled pair_seen texts e es settled more)
+
+found_settled : (texts : List Text) (e : Label × Option Label) (es : List (Label × Option Label)) → IsSettled pairs_seen texts (e ∷ es) → IsSettled heading_value texts e.1
+found_settled texts e es settled = λ more. ap (λ p. p.1) (head_settled pair_seen texts e es settled more)
+
+-- one pair more
+inserted_settled : (texts : List Text) (es : List (Label × Option Label)) (k : Label) (v : Option Label) → IsSettled pairs_seen texts es → IsSettled label_datum texts k → IsSettled heading_value texts v
+    → IsSettled pairs_seen texts (insert_entry same_number es k v)
+inserted_settled texts [] k v settled key value = λ more j. (key more j, value more j) ∷ []
+inserted_settled texts (e ∷ es) k v settled key value = go (inserted_settled texts es k v (rest_settled pair_seen texts e es settled) key value) (same_number k e.0)
+  where
+    go : IsSettled pairs_seen texts (insert_entry same_number es k v) → (b : Bool) → IsSettled pairs_seen texts (if b then (e.0, v) ∷ es else e ∷ insert_entry same_number es k v)
+    go later true = λ more j. (key_settled texts e es settled more j, value more j) ∷ rest_settled pair_seen texts e es settled more j
+    go later false = λ more j. head_settled pair_seen texts e es settled more j ∷ later more j
+
+inserted_seen : (texts : List Text) (es : List (Label × Option Label)) (k : Label) (v : Option Label) → AreDistinct texts → IsSettled pairs_seen texts es → IsSettled label_datum texts k
+    → pairs_seen texts (insert_entry same_number es k v) ≡ insert_entry same_label (pairs_seen texts es) (label_datum texts k) (heading_value texts v)
+inserted_seen texts [] k v distinct settled key = refl
+inserted_seen texts (e ∷ es) k v distinct settled key =
+    go (inserted_seen texts es k v distinct (rest_settled pair_seen texts e es settled) key) (same_number k e.0)
+    ∙ ap (λ b. if b then (label_datum texts e.0, heading_value texts v) ∷ pairs_seen texts es else pair_seen texts e ∷ insert_entry same_label (pairs_seen texts es) (label_datum texts k) (heading_value texts v))
+    (same_by_number texts k e.0 (same_number k e.0) distinct key (key_settled texts e es settled) (label_decides k e.0))
+  where
+    go : pairs_seen texts (insert_entry same_number es k v) ≡ insert_entry same_label (pairs_seen texts es) (label_datum texts k) (heading_value texts v) → (b : Bool)
+        → pairs_seen texts (if b then (e.0, v) ∷ es else e ∷ insert_entry same_number es k v)
+        ≡ (if b then (label_datum texts e.0, heading_value texts v) ∷ pairs_seen texts es else pair_seen texts e ∷ insert_entry same_label (pairs_seen texts es) (label_datum texts k) (heading_value texts v))
+    go later true = refl
+    go later false = ap (λ l. pair_seen texts e ∷ l) later
+
+-- the pair at a place
+given_at : (texts : List Text) (pairs : List (Label × Argument)) (i : ℕ) (d : Label × Argument) → i < length pairs → IsSettled given_labels texts pairs → IsSettled given_label texts (slice_index_or pairs i d)
+given_at texts pairs i d lt settled = λ more.
+    sym (get_or-map (given_label (texts ++ more)) pairs i d (na, None) lt) ∙ ap (λ l. slice_index_or l i (na, None)) (settled more) ∙ get_or-map (given_label texts) pairs i d (na, None) lt
+
+abbrev IsScalarOf : Option Cell → Argument → Type 0
+IsScalarOf o a = (live : Tables) (texts : List Text) → option_map (datum texts) o ≡ scalar_in (argument_of live texts a)
+
+abbrev IsNameOf : Option Label → Option Cell → Type 0
+IsNameOf name o = (texts : List Text) → heading_value texts name ≡ option_map cell_label (option_map (datum texts) o)
+
+name_seen : (texts : List Text) (a : Argument) (o : Option Cell) (name : Option Label) → IsScalarOf o a → IsNameOf name o → heading_value texts name ≡ option_map cell_label (scalar_in (argument_of (λ id. None) texts a))
+name_seen texts a o name scalar named = named texts ∙ ap (option_map cell_label) (scalar (λ id. None) texts)
+
+pub labels_settled : (texts : List Text) (pairs : List (Label × Argument)) (i : ℕ) (p : Label × Argument) (o : Option Cell) (name : Option Label) (es es' : List (Label × Option Label)) → IsSettled given_labels texts pairs
+    → i < length pairs → p ≡ get_or pairs i p → IsScalarOf o p.1 → IsNameOf name o → es' ≡ insert_entry same_number es p.0 name → IsSettled pairs_seen texts es → IsSettled pairs_seen texts es'
+labels_settled texts pairs i p o name es es' given lt is scalar named more settled =
+    let here : IsSettled given_label texts p = subst (IsSettled given_label texts) (sym is) (given_at texts pairs i p lt given) in
+    subst (IsSettled pairs_seen texts) (sym more)
+    (inserted_settled texts es p.0 name settled (λ m. ap (λ v. v.0) (here m)) (λ m. name_seen (texts ++ m) p.1 o name scalar named ∙ ap (λ v. v.1) (here m) ∙ sym (name_seen texts p.1 o name scalar named)))
+
+pub labels_step : (texts : List Text) (pairs : List (Label × Argument)) (i : ℕ) (p : Label × Argument) (o : Option Cell) (name : Option Label) (es es' : List (Label × Option Label)) (whole : List (LabelValue × Option LabelValue)) → AreDistinct texts → IsSettled given_labels texts pairs
+    → i < length pairs → p ≡ get_or pairs i p → IsScalarOf o p.1 → IsNameOf name o → es' ≡ insert_entry same_number es p.0 name → IsSettled pairs_seen texts es
+    → insert_all same_label (pairs_seen texts es) (given_labels texts (drop i pairs)) ≡ whole → insert_all same_label (pairs_seen texts es') (given_labels texts (drop (i + 1) pairs)) ≡ whole
+labels_step texts pairs i p o name es es' whole distinct given lt is scalar named more settled before =
+    let here : IsSettled given_label texts p = subst (IsSettled given_label texts) (sym is) (given_at texts pairs i p lt given) in
+    let next : suc i ≡ i + 1 = omega arith in
+    ap (λ l. insert_all same_label l (given_labels texts (drop (i + 1) pairs)))
+    (ap (pairs_seen texts) more ∙ inserted_seen texts es p.0 name distinct settled (λ m. ap (λ v. v.0) (here m)) ∙ ap (insert_entry same_label (pairs_seen texts es) (label_datum texts p.0)) (name_seen texts p.1 o name scalar named))
+    ∙ ap (λ l. insert_all same_label (pairs_seen texts es) (given_labels texts l)) (sym (drop-cons pairs i p lt ∙ (λ j. sym is j ∷ drop (next j) pairs)))
+    ∙ before
+
+-- the label of a key
+label_found : (texts : List Text) (es : List (Label × Option Label)) (l : Label) → AreDistinct texts → IsSettled pairs_seen texts es → IsSettled label_datum texts l
+    → heading_value texts (found_label (lookup (same_number l) es)) ≡ label_from (pairs_seen texts es) (label_datum texts l)
+label_found texts [] l distinct settled here = refl
+label_found texts (e ∷ es) l distinct settled here =
+    go (label_found texts es l distinct (rest_settled pair_seen texts e es settled) here) (same_number l e.0)
+    ∙ ap (λ b. if b then heading_value texts e.1 else label_from (pairs_seen texts es) (label_datum texts l))
+    (same_by_number texts e.0 l (same_number l e.0) distinct (key_settled texts e es settled) here (λ s. sym ((label_decides l e.0).0 s), λ s. (label_decides l e.0).1 (sym s)))
+  where
+    go : heading_value texts (found_label (lookup (same_number l) es)) ≡ label_from (pairs_seen texts es) (label_datum texts l) → (b : Bool)
+        → heading_value texts (found_label (cond b (Some e.1) (lookup (same_number l) es))) ≡ (if b then heading_value texts e.1 else label_from (pairs_seen texts es) (label_datum texts l))
+    go later true = refl
+    go later false = later
+
+or_old : (texts : List Text) (o : Option Label) (l : Label) → label_datum texts (unwrap_or o l) ≡ unwrap_or (heading_value texts o) (label_datum texts l)
+or_old texts None l = refl
+or_old texts (Some n) l = refl
+
+heading_seen : (texts : List Text) (es : List (Label × Option Label)) (h : Option Label) → AreDistinct texts → IsSettled pairs_seen texts es → IsSettled heading_value texts h
+    → heading_value texts (heading_by es h) ≡ heading_from (pairs_seen texts es) (heading_value texts h)
+heading_seen texts es None distinct settled here = refl
+heading_seen texts es (Some l) distinct settled here =
+    ap (λ v. Some v) (or_old texts (found_label (lookup (same_number l) es)) l ∙ ap (λ o. unwrap_or o (label_datum texts l)) (label_found texts es l distinct settled (heading_label texts (Some l) l refl here)))
+
+headings_seen : (texts : List Text) (es : List (Label × Option Label)) (hs : List (Option Label)) → AreDistinct texts → IsSettled pairs_seen texts es → IsSettled headings_value texts hs
+    → headings_value texts (map (heading_by es) hs) ≡ map (heading_from (pairs_seen texts es)) (headings_value texts hs)
+headings_seen texts es [] distinct settled here = refl
+headings_seen texts es (h ∷ hs) distinct settled here =
+    λ j. heading_seen texts es h distinct settled (head_settled heading_value texts h hs here) j ∷ headings_seen texts es hs distinct settled (rest_settled heading_value texts h hs here) j
+
+-- new headings are settled
+lookup_settled : (texts : List Text) (test : Label → Bool) (es : List (Label × Option Label)) → IsSettled pairs_seen texts es → IsSettled heading_value texts (found_label (lookup test es))
+lookup_settled texts test [] settled = λ more. refl
+lookup_settled texts test (e ∷ es) settled = go (lookup_settled texts test es (rest_settled pair_seen texts e es settled)) (test e.0)
+  where
+    go : IsSettled heading_value texts (found_label (lookup test es)) → (b : Bool) → IsSettled heading_value texts (found_label (cond b (Some e.1) (lookup test es)))
+    go later true = found_settled texts e es settled
+    go later false = later
+
+either_settled : (texts : List Text) (o : Option Label) (l : Label) → IsSettled heading_value texts o → IsSettled heading_value texts (Some l) → IsSettled heading_value texts (Some (unwrap_or o l))
+either_settled texts None l found old = old
+either_settled texts (Some n) l found old = found
+
+heading_settled : (texts : List Text) (es : List (Label × Option Label)) (h : Option Label) → IsSettled pairs_seen texts es → IsSettled heading_value texts h → IsSettled heading_value texts (heading_by es h)
+heading_settled texts es None settled here = λ more. refl
+heading_settled texts es (Some l) settled here = either_settled texts (found_label (lookup (same_number l) es)) l (lookup_settled texts (same_number l) es settled) here
+
+pub headings_settled : (texts : List Text) (es : List (Label × Option Label)) (hs : List (Option Label)) → IsSettled pairs_seen texts es → IsSettled headings_value texts hs → IsSettled headings_value texts (map (heading_by es) hs)
+headings_settled texts es [] settled here = λ more. refl
+headings_settled texts es (h ∷ hs) settled here = λ more j.
+    heading_settled texts es h settled (head_settled heading_value texts h hs here) more j ∷ headings_settled texts es hs settled (rest_settled heading_value texts h hs here) more j
+
+heading_labelled : (es : List (Label × Option Label)) (h : Option Label) → IsSome h → IsSome (heading_by es h)
+heading_labelled es None some = cc
+heading_labelled es (Some l) some = some
+
+pub headings_labelled : (es : List (Label × Option Label)) (hs : List (Option Label)) → All IsSome hs → All IsSome (map (heading_by es) hs)
+headings_labelled es [] all = All-nil IsSome
+headings_labelled es (h ∷ hs) all = All-cons IsSome (heading_by es h) (map (heading_by es) hs) (heading_labelled es h (all 0 h (omega arith))) (headings_labelled es hs (λ k d lt. all (suc k) d (omega arith)))
+
+-- a heading that stands again
+same_seen : (texts : List Text) (a b : Option Label) → AreDistinct texts → IsSettled heading_value texts a → IsSettled heading_value texts b → same_heading a b ≡ finish.same_heading (heading_value texts a) (heading_value texts b)
+same_seen texts None None distinct f g = refl
+same_seen texts None (Some b) distinct f g = refl
+same_seen texts (Some a) None distinct f g = refl
+same_seen texts (Some a) (Some b) distinct f g = same_by_number texts a b (same_number a b) distinct (heading_label texts (Some a) a refl f) (heading_label texts (Some b) b refl g) (label_decides a b)
+
+any_seen : (texts : List Text) (h : Option Label) (hs : List (Option Label)) → AreDistinct texts → IsSettled heading_value texts h → IsSettled headings_value texts hs
+    → list_any (same_heading h) hs ≡ list_any (finish.same_heading (heading_value texts h)) (headings_value texts hs)
+any_seen texts h [] distinct here settled = refl
+any_seen texts h (g ∷ gs) distinct here settled =
+    λ j. same_seen texts h g distinct here (head_settled heading_value texts g gs settled) j || any_seen texts h gs distinct here (rest_settled heading_value texts g gs settled) j
+
+pub repeated_seen : (texts : List Text) (hs : List (Option Label)) → AreDistinct texts → IsSettled headings_value texts hs → heading_value texts (repeated_heading hs) ≡ first_repeated (headings_value texts hs)
+repeated_seen texts [] distinct settled = refl
+repeated_seen texts (h ∷ hs) distinct settled =
+    go (repeated_seen texts hs distinct (rest_settled heading_value texts h hs settled)) (list_any (same_heading h) hs)
+    ∙ ap (λ b. if b then heading_value texts h else first_repeated (headings_value texts hs)) (any_seen texts h hs distinct (head_settled heading_value texts h hs settled) (rest_settled heading_value texts h hs settled))
+  where
+    go : heading_value texts (repeated_heading hs) ≡ first_repeated (headings_value texts hs) → (b : Bool)
+        → heading_value texts (if b then h else repeated_heading hs) ≡ (if b then heading_value texts h else first_repeated (headings_value texts hs))
+    go later true = refl
+    go later false = later
+
+-- headings of which none stands again are different
+or_first : (a b : Bool) → (a || b) ≡ false → a ≡ false
+or_first true b e = cc
+or_first false b e = refl
+
+or_second : (a b : Bool) → (a || b) ≡ false → b ≡ false
+or_second true b e = cc
+or_second false b e = e
+
+not_both : (b : Bool) → b ≡ false → b ≡ true → ⊥
+not_both true f t = cc
+not_both false f t = cc
+
+not_among : (h : Option Label) (hs : List (Option Label)) → list_any (same_heading h) hs ≡ false → (j : ℕ) (d : Option Label) → j < length hs → h ≢ slice_index_or hs j d
+not_among h [] none j d lt = absurd (omega arith)
+not_among h (g ∷ gs) none zero d lt = λ e. not_both (same_heading h g) (or_first (same_heading h g) (list_any (same_heading h) gs) none) ((heading_decides h g).1 e)
+not_among h (g ∷ gs) none (suc j) d lt = not_among h gs (or_second (same_heading h g) (list_any (same_heading h) gs) none) j d (omega arith)
+
+not_again : (b : Bool) (h rest : Option Label) → IsSome h → (if b then h else rest) ≡ None → b ≡ false
+not_again true None rest some none = cc
+not_again true (Some l) rest some none = cc
+not_again false h rest some none = refl
+
+none_later : (b : Bool) (h rest : Option Label) → IsSome h → (if b then h else rest) ≡ None → rest ≡ None
+none_later true None rest some none = cc
+none_later true (Some l) rest some none = cc
+none_later false h rest some none = none
+
+pub different : (hs : List (Option Label)) → All IsSome hs → repeated_heading hs ≡ None → AllPairs (λ a b. a ≢ b) hs
+different [] all none i j d before lt = absurd (omega arith)
+different (h ∷ hs) all none i zero d before lt = absurd (omega arith)
+different (h ∷ hs) all none zero (suc j) d before lt =
+    not_among h hs (not_again (list_any (same_heading h) hs) h (repeated_heading hs) (all 0 h (omega arith)) none) j d (omega arith)
+different (h ∷ hs) all none (suc i) (suc j) d before lt =
+    different hs (λ k g below. all (suc k) g (omega arith)) (none_later (list_any (same_heading h) hs) h (repeated_heading hs) (all 0 h (omega arith)) none) i j d (omega arith) (omega arith)
+
+-- one heading more, from the last on
+among : (q h : Option Label) (keys : List (Option Label)) → list_any (same_heading h) keys ≡ true → same_heading q h ≡ true → list_any (same_heading q) keys ≡ true
+among q h keys there same = ap (λ x. list_any (same_heading x) keys) ((heading_decides q h).0 same) ∙ there
+
+or_there : (a k : Bool) → (a ≡ true → k ≡ true) → k ≡ (a || k)
+or_there true k there = there refl
+or_there false k there = refl
+
+or_swapped : (a k : Bool) → (k || (a || false)) ≡ (a || k)
+or_swapped true true = refl
+or_swapped true false = refl
+or_swapped false true = refl
+or_swapped false false = refl
+
+key_more : (q h : Option Label) (keys : List (Option Label)) → list_any (same_heading q) (insert_key same_heading keys h) ≡ (same_heading q h || list_any (same_heading q) keys)
+key_more q h keys = go (list_any (same_heading h) keys) refl
+  where
+    go : (b : Bool) → list_any (same_heading h) keys ≡ b → list_any (same_heading q) (cond b keys (keys ++ h ∷ [])) ≡ (same_heading q h || list_any (same_heading q) keys)
+    go true there = or_there (same_heading q h) (list_any (same_heading q) keys) (among q h keys there)
+    go false there = list_any-append (same_heading q) keys (h ∷ []) ∙ or_swapped (same_heading q h) (list_any (same_heading q) keys)
+
+drop_at : (hs : List (Option Label)) (p : ℕ) (d : Option Label) → p < length hs → drop p hs ≡ slice_index_or hs p d ∷ drop (p + 1) hs
+drop_at hs p d lt = let next : suc p ≡ p + 1 = omega arith in drop-cons hs p d lt ∙ ap (λ n. slice_index_or hs p d ∷ drop n hs) next
+
+pub later_step : (hs keys keys' : List (Option Label)) (p : ℕ) (d q : Option Label) → p < length hs → ((q : Option Label) → list_any (same_heading q) keys ≡ list_any (same_heading q) (drop (p + 1) hs))
+    → keys' ≡ insert_key same_heading keys (slice_index_or hs p d) → list_any (same_heading q) keys' ≡ list_any (same_heading q) (drop p hs)
+later_step hs keys keys' p d q lt so_far more =
+    ap (list_any (same_heading q)) more
+    ∙ key_more q (slice_index_or hs p d) keys
+    ∙ ap (λ b. same_heading q (slice_index_or hs p d) || b) (so_far q)
+    ∙ ap (list_any (same_heading q)) (sym (drop_at hs p d lt))
+
+not_not : (b : Bool) → false ≡ not b → b ≡ true
+not_not true e = refl
+not_not false e = cc
+
+not_true : (b : Bool) → true ≡ not b → b ≡ false
+not_true true e = cc
+not_true false e = refl
+
+repeated_from : (hs keys : List (Option Label)) (p : ℕ) (d found : Option Label) (b : Bool) → p < length hs → ((q : Option Label) → list_any (same_heading q) keys ≡ list_any (same_heading q) (drop (p + 1) hs))
+    → found ≡ repeated_heading (drop (p + 1) hs) → list_any (same_heading (slice_index_or hs p d)) keys ≡ b → (if b then slice_index_or hs p d else found) ≡ repeated_heading (drop p hs)
+repeated_from hs keys p d found b lt so_far was there =
+    let h = slice_index_or hs p d in
+    (λ j. if (sym there ∙ so_far h) j then h else was j)
+    ∙ ap repeated_heading (sym (drop_at hs p d lt))
+
+-- a heading that stands again, and one that doesn't
+pub repeated_here : (hs keys : List (Option Label)) (p : ℕ) (d found : Option Label) → p < length hs → ((q : Option Label) → list_any (same_heading q) keys ≡ list_any (same_heading q) (drop (p + 1) hs))
+    → found ≡ repeated_heading (drop (p + 1) hs) → false ≡ not (list_any (same_heading (slice_index_or hs p d)) keys) → slice_index_or hs p d ≡ repeated_heading (drop p hs)
+repeated_here hs keys p d found lt so_far was new = repeated_from hs keys p d found true lt so_far was (not_not (list_any (same_heading (slice_index_or hs p d)) keys) new)
+
+pub repeated_later : (hs keys : List (Option Label)) (p : ℕ) (d found : Option Label) → p < length hs → ((q : Option Label) → list_any (same_heading q) keys ≡ list_any (same_heading q) (drop (p + 1) hs))
+    → found ≡ repeated_heading (drop (p + 1) hs) → true ≡ not (list_any (same_heading (slice_index_or hs p d)) keys) → found ≡ repeated_heading (drop p hs)
+repeated_later hs keys p d found lt so_far was new = repeated_from hs keys p d found false lt so_far was (not_true (list_any (same_heading (slice_index_or hs p d)) keys) new)
+
+-- the pairs of a dict as labels
+scalar_same : (live other : Tables) (texts : List Text) (a : Argument) → scalar_in (argument_of live texts a) ≡ scalar_in (argument_of other texts a)
+scalar_same live other texts Nothing = refl
+scalar_same live other texts (One (Object id)) = refl
+scalar_same live other texts (One (Scalar c)) = refl
+scalar_same live other texts (Row l) = refl
+scalar_same live other texts (Many l) = refl
+scalar_same live other texts (Table' shape parts) = refl
+
+pair_more : (ps : List (LabelValue × Given)) (k : LabelValue) (v : Given) → map label_pair (with_pair ps k v) ≡ insert_entry same_label (map label_pair ps) k (option_map cell_label (scalar_in v))
+pair_more [] k v = refl
+pair_more (p ∷ ps) k v = go (pair_more ps k v) (same_label k p.0)
+  where
+    go : map label_pair (with_pair ps k v) ≡ insert_entry same_label (map label_pair ps) k (option_map cell_label (scalar_in v)) → (b : Bool)
+        → map label_pair (if b then (p.0, v) ∷ ps else p ∷ with_pair ps k v)
+        ≡ (if b then (p.0, option_map cell_label (scalar_in v)) ∷ map label_pair ps else label_pair p ∷ insert_entry same_label (map label_pair ps) k (option_map cell_label (scalar_in v)))
+    go later true = refl
+    go later false = ap (λ l. label_pair p ∷ l) later
+
+pairs_more : (live : Tables) (texts : List Text) (ps : List (LabelValue × Given)) (pairs : List (Label × Argument))
+    → map label_pair (pairs_onto ps (entries_of live texts pairs)) ≡ insert_all same_label (map label_pair ps) (given_labels texts pairs)
+pairs_more live texts ps [] = refl
+pairs_more live texts ps (p ∷ rest) =
+    pairs_more live texts (with_pair ps (label_datum texts p.0) (argument_of live texts p.1)) rest
+    ∙ ap (λ l. insert_all same_label l (given_labels texts rest))
+    (pair_more ps (label_datum texts p.0) (argument_of live texts p.1)
+    ∙ ap (λ s. insert_entry same_label (map label_pair ps) (label_datum texts p.0) (option_map cell_label s)) (scalar_same live (λ id. None) texts p.1))
+
+pub pairs_are : (live : Tables) (texts : List Text) (pairs : List (Label × Argument)) → map label_pair (pairs_in (entries_of live texts pairs)) ≡ insert_all same_label [] (given_labels texts pairs)
+pairs_are live texts pairs = pairs_more live texts [] pairs
+
+scalar_labelled : (g : Given) → is_some (option_map cell_label (scalar_in g)) ≡ is_scalar g
+scalar_labelled (one (one_cell c)) = refl
+scalar_labelled (one (table t)) = refl
+scalar_labelled nothing = refl
+scalar_labelled (row parts) = refl
+scalar_labelled (many parts) = refl
+scalar_labelled (entries pairs) = refl
+
+pairs_labelled : (ps : List (LabelValue × Given)) → have_labels (map label_pair ps) ≡ list_all is_scalar_pair ps
+pairs_labelled [] = refl
+pairs_labelled (p ∷ ps) = λ j. scalar_labelled p.1 j && pairs_labelled ps j
+
+label_same : (ps : List (LabelValue × Given)) (l : LabelValue) → label_from (map label_pair ps) l ≡ new_label ps l
+label_same [] l = refl
+label_same (p ∷ ps) l = ap (λ o. if same_label p.0 l then option_map cell_label (scalar_in p.1) else o) (label_same ps l)
+
+heading_same : (ps : List (LabelValue × Given)) (h : Option LabelValue) → heading_from (map label_pair ps) h ≡ renamed_heading ps h
+heading_same ps None = refl
+heading_same ps (Some l) = ap (λ o. Some (unwrap_or o l)) (label_same ps l)
+
+headings_same : (ps : List (LabelValue × Given)) (hs : List (Option LabelValue)) → map (heading_from (map label_pair ps)) hs ≡ map (renamed_heading ps) hs
+headings_same ps [] = refl
+headings_same ps (h ∷ hs) = λ j. heading_same ps h j ∷ headings_same ps hs j
+
+abbrev pub under : Table → List (Option LabelValue) → Table
+under t hs = record t { headings = hs }
+
+abbrev pub limited_under : Table → Result (List (Option LabelValue)) FaultValue → Result Entry FaultValue
+limited_under t r = then_value r (λ hs. limited (under t hs))
+
+abbrev when : {A : Type 0} → Bool → Option LabelValue → Result A FaultValue → Result A FaultValue
+when b o rest = if b then unless_repeated o rest else Err wrong_kind
+
+later_limited : (t : Table) (b : Bool) (o : Option LabelValue) (hs : List (Option LabelValue)) → when b o (limited (under t hs)) ≡ limited_under t (when b o (Ok hs))
+later_limited t true None hs = refl
+later_limited t true (Some l) hs = refl
+later_limited t false o hs = refl
+
+pub frame_relabelled : (t : Table) (ps : List (LabelValue × Given)) → renamed_frame t ps ≡ limited_under t (relabelled (map label_pair ps) t.headings)
+frame_relabelled t ps =
+    (λ j. when (sym (pairs_labelled ps) j) (first_repeated (sym (headings_same ps t.headings) j)) (limited (under t (sym (headings_same ps t.headings) j))))
+    ∙ later_limited t (have_labels (map label_pair ps)) (first_repeated (map (heading_from (map label_pair ps)) t.headings)) (map (heading_from (map label_pair ps)) t.headings)
+
+-- what is meant, by number
+label_there : (texts : List Text) (o : Option Label) → is_some (heading_value texts o) ≡ is_some o
+label_there texts None = refl
+label_there texts (Some l) = refl
+
+labels_there : (texts : List Text) (es : List (Label × Option Label)) → have_labels (pairs_seen texts es) ≡ have_labels es
+labels_there texts [] = refl
+labels_there texts (e ∷ es) = λ j. label_there texts e.1 j && labels_there texts es j
+
+pub relabelled_by : (texts : List Text) (es : List (Label × Option Label)) (hs : List (Option Label)) (all : List (LabelValue × Option LabelValue)) → AreDistinct texts → IsSettled pairs_seen texts es → IsSettled headings_value texts hs → pairs_seen texts es ≡ all
+    → relabelled all (headings_value texts hs) ≡ when (have_labels es) (heading_value texts (repeated_heading (map (heading_by es) hs))) (Ok (headings_value texts (map (heading_by es) hs)))
+relabelled_by texts es hs all distinct settled here is =
+    let seen = headings_seen texts es hs distinct settled here in
+    ap (λ l. relabelled l (headings_value texts hs)) (sym is)
+    ∙ (λ j. when (labels_there texts es j) (first_repeated (sym seen j)) (Ok (sym seen j)))
+    ∙ ap (λ o. when (have_labels es) o (Ok (headings_value texts (map (heading_by es) hs)))) (sym (repeated_seen texts (map (heading_by es) hs) distinct (headings_settled texts es hs settled here)))
+
+abbrev heads : Option Label → List (Option Label) → HeadingList
+heads name hs = record { columns_name = name; labels = hs }
+
+-- a frame's new headings
+pub new_heads : (es : List (Label × Option Label)) (name : Option Label) (hs new : List (Option Label)) (r : Result HeadingList OpFault) → new ≡ map (heading_by es) hs → All IsSome hs
+    → IfOk r (λ made. repeated_heading new ≡ None) → IfOk r (λ made. made ≡ heads name new) → IfOk r (λ made. AreHeadings Frame made.columns_name made.labels)
+new_heads es name hs new (Ok made) is all none same =
+    let labels : All IsSome new = subst (All IsSome) (sym is) (headings_labelled es hs all) in
+    let ours : AreHeadings Frame name new =
+    record {
+      single = λ e. cc;
+      nameless = λ e. cc;
+      labelled = λ e. labels;
+      different = λ e. different new labels none;
+    } in
+    subst (λ (h : HeadingList). AreHeadings Frame h.columns_name h.labels) (sym same) ours
+new_heads es name hs new (Err fault) is all none same = tt
+
+pub new_settled : (texts : List Text) (es : List (Label × Option Label)) (name : Option Label) (hs new : List (Option Label)) (r : Result HeadingList OpFault) → new ≡ map (heading_by es) hs → IsSettled pairs_seen texts es → IsSettled headings_value texts hs
+    → IfOk r (λ made. made ≡ heads name new) → IfOk r (λ made. IsSettled headings_value texts made.labels)
+new_settled texts es name hs new (Ok made) is settled here same =
+    subst (λ (h : HeadingList). IsSettled headings_value texts h.labels) (sym same) (subst (IsSettled headings_value texts) (sym is) (headings_settled texts es hs settled here))
+new_settled texts es name hs new (Err fault) is settled here same = tt
+
+-- what is made is what is meant
+unless_all : (texts : List Text) (new : List (Option Label)) (name : Option Label) (r : Result HeadingList OpFault)
+    → IfOk r (λ made. repeated_heading new ≡ None) → IfOk r (λ made. made ≡ heads name new) → IfErr r (λ fault. NamesRepeated fault (repeated_heading new))
+    → MakesBy labels_seen texts r (when true (heading_value texts (repeated_heading new)) (Ok (headings_value texts new)))
+unless_all texts new name (Ok made) none same refused =
+    ap (λ o. when true (heading_value texts o) (Ok (headings_value texts new))) none ∙ ap (λ h. Ok (labels_seen texts h)) (sym same)
+unless_all texts new name (Err (Refused code)) none same refused =
+    ap (λ o. when true (heading_value texts o) (Ok (headings_value texts new))) refused.1 ∙ ap (λ c. Err (fault_of texts c)) (sym refused.2)
+unless_all texts new name (Err NoMemory) none same refused = tt
+
+pub new_meant : (texts : List Text) (es : List (Label × Option Label)) (name : Option Label) (hs new : List (Option Label)) (all : List (LabelValue × Option LabelValue)) (r : Result HeadingList OpFault) → AreDistinct texts → IsSettled pairs_seen texts es
+    → IsSettled headings_value texts hs → pairs_seen texts es ≡ all → new ≡ map (heading_by es) hs → have_labels es ≡ true
+    → IfOk r (λ made. repeated_heading new ≡ None) → IfOk r (λ made. made ≡ heads name new) → IfErr r (λ fault. NamesRepeated fault (repeated_heading new)) → MakesBy labels_seen texts r (relabelled all (headings_value texts hs))
+new_meant texts es name hs new all r distinct settled here is same labels none made refused =
+    subst (MakesBy labels_seen texts r)
+    (sym
+    (relabelled_by texts es hs all distinct settled here is
+    ∙ (λ j. when (labels j) (heading_value texts (repeated_heading (sym same j))) (Ok (headings_value texts (sym same j))))))
+    (unless_all texts new name r none made refused)
+
+pub no_labels : (texts : List Text) (es : List (Label × Option Label)) (all : List (LabelValue × Option LabelValue)) (hs : List (Option LabelValue)) → pairs_seen texts es ≡ all → have_labels es ≡ false → relabelled all hs ≡ Err wrong_kind
+no_labels texts es all hs is none =
+    ap (λ b. when b (first_repeated (map (heading_from all) hs)) (Ok (map (heading_from all) hs))) (ap have_labels (sym is) ∙ labels_there texts es ∙ none)
+
+-- the pairs of a dict that was given
+abbrev labels_in : GivenPairs → List (LabelValue × Option LabelValue)
+labels_in no_entries = []
+labels_in (more_entries k v rest) = (k, option_map cell_label (scalar_in v)) ∷ labels_in rest
+
+labels_are : (live : Tables) (texts : List Text) (pairs : List (Label × Argument)) → labels_in (entries_of live texts pairs) ≡ given_labels texts pairs
+labels_are live texts [] = refl
+labels_are live texts (p ∷ rest) = λ j. (label_datum texts p.0, option_map cell_label (scalar_same live (λ id. None) texts p.1 j)) ∷ labels_are live texts rest j
+
+pub pairs_settled : (live : Tables) (dict : List Text) (ps : List Parameter) (args : List Named) (place : ℕ) (pairs : List (Label × Argument))
+    → ((live : Tables) (texts : List Text) → Some (entries_of live texts pairs) ≡ dict_in (argument_at ps (arguments_of live texts args) place))
+    → IsSettled (arguments_of live) dict args → IsSettled given_labels dict pairs
+pairs_settled live dict ps args place pairs is settled = λ more.
+    sym (labels_are live (dict ++ more) pairs)
+    ∙ ap labels_in (some_same (entries_of live (dict ++ more) pairs) (entries_of live dict pairs) (is live (dict ++ more) ∙ ap (λ gs. dict_in (argument_at ps gs place)) (settled more) ∙ sym (is live dict)))
+    ∙ labels_are live dict pairs
+
+-- a frame under the labels of a dict
+abbrev pub frame_of : Table → GivenPairs → Result Entry FaultValue
+frame_of t pairs = renamed_frame t (pairs_in pairs)
+
+abbrev pub relabelled_with : List Text → List (Label × Argument) → List (Option LabelValue) → Result (List (Option LabelValue)) FaultValue
+relabelled_with texts pairs hs = relabelled (insert_all same_label [] (given_labels texts pairs)) hs
+
+frame_meant : (live : Tables) (texts : List Text) (pairs : List (Label × Argument)) (o : Option GivenPairs) (t : Table) → Some (entries_of live texts pairs) ≡ o → on o (frame_of t) ≡ limited_under t (relabelled_with texts pairs t.headings)
+frame_meant live texts pairs o t is =
+    ap (λ p. on p (frame_of t)) (sym is)
+    ∙ frame_relabelled t (pairs_in (entries_of live texts pairs))
+    ∙ ap (λ es. limited_under t (relabelled es t.headings)) (pairs_are live texts pairs)
+
+pub frame_refused : (live : Tables) (texts : List Text) (pairs : List (Label × Argument)) (o : Option GivenPairs) (source t : NumberedTable) (fault : OpFault) (objects : Shown) → Some (entries_of live texts pairs) ≡ o → source ≡ t
+    → MakesBy labels_seen texts (Err fault) (relabelled_with texts pairs (headings_value texts source.headings)) → FormAnswers texts (Err fault) (on o (frame_of (table_value texts t))) objects objects
+frame_refused live texts pairs o source t (Refused code) objects is at makes = (
+  frame_meant live texts pairs o (table_value texts t) is
+      ∙ ap (λ (n : NumberedTable). limited_under (table_value texts t) (relabelled_with texts pairs (headings_value texts n.headings))) (sym at)
+      ∙ ap (limited_under (table_value texts t)) makes,
+  refl,
+)
+frame_refused live texts pairs o source t NoMemory objects is at makes = refl
+
+abbrev named_under : List Text → NumberedTable → HeadingList → Option Label → Table
+named_under texts t h name = record (under (table_value texts t) (labels_seen texts h)) { columns_name = heading_value texts name }
+
+pub frame_renamed : (live : Tables) (texts : List Text) (pairs : List (Label × Argument)) (o : Option GivenPairs) (source t : NumberedTable) (h : HeadingList) → Some (entries_of live texts pairs) ≡ o → source ≡ t → h.columns_name ≡ source.columns_name
+    → relabelled_with texts pairs (headings_value texts source.headings) ≡ Ok (labels_seen texts h) → limited (table_value texts (headed_by t.shape h t)) ≡ on o (frame_of (table_value texts t))
+frame_renamed live texts pairs o source t h is at name makes =
+    ap (λ n. limited (named_under texts t h n)) (name ∙ ap (λ (n : NumberedTable). n.columns_name) at)
+    ∙ sym
+    (frame_meant live texts pairs o (table_value texts t) is
+    ∙ ap (λ (n : NumberedTable). limited_under (table_value texts t) (relabelled_with texts pairs (headings_value texts n.headings))) (sym at)
+    ∙ ap (limited_under (table_value texts t)) makes)

@@ -1,0 +1,15 @@
+use Rattle.std.proofs.Common.{◌<◌, length, arith}
+use Rattle.frame_methods.proofs.ListedLaws.{first_settled, noted_given, noted_step}
+use Rattle.frame_methods.proofs.listed.listed_cells.Goals as goal
+
+pub loop-item-preserved : goal.loop-item-preserved
+loop-item-preserved c =
+    let lt : c.loop-item.item-index < length c.args.items.now = omega arith in
+    let both = first_settled c.args.dict.now c.args.items.now c.loop-item.item-index c.item-item.result c.scalar.result lt c.item-item.is c.scalar.ensures c.loop-item.invariant.settled in
+    record {
+      settled = both.1;
+      given = rw c.in_ok-note.ensures (noted_given c.args.dict.now c.loop-item.values.keys c.scalar.result c.loop-item.invariant.given both.0);
+      same = λ texts test.
+          noted_step texts c.args.items.now c.loop-item.item-index c.item-item.result c.scalar.result c.loop-item.values.keys c.note.new.values.keys test _ lt c.item-item.is c.scalar.ensures c.in_ok-note.ensures
+          (c.loop-item.invariant.same texts test);
+    }

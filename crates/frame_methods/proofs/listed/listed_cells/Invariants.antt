@@ -1,0 +1,16 @@
+use Rattle.std.proofs.Common.{◌≡◌, ◌||◌, Bool, List, drop}
+use Rattle.std.specs.List.{list_any}
+use Rattle.meaning.specs.Text.{Text}
+use Rattle.meaning.specs.Cell.{CellValue, AreGiven}
+use Rattle.table_meaning.specs.Settled.{IsSettled}
+use Rattle.frame_store.specs.Shown.{cells_value}
+use Rattle.frame_methods.specs.Listed.{scalars}
+use Rattle.frame_methods.proofs.listed.listed_cells.Given as goal
+
+-- the scalars so far, before the others
+abbrev pub invariant-loop-item : goal.invariant-loop-item
+invariant-loop-item l = record {
+  settled : IsSettled scalars l.dict (drop l.item-index l.items);
+  given : AreGiven l.dict l.values.keys;
+  same : (texts : List Text) (test : CellValue → Bool) → (list_any test (cells_value texts l.values.keys) || list_any test (scalars texts (drop l.item-index l.items))) ≡ list_any test (scalars texts l.items);
+}

@@ -1,0 +1,13 @@
+use Rattle.std.proofs.Common.{◌≡◌, drop, []}
+use Rattle.indexmap.specs.IndexMap.{insert_all}
+use Rattle.table_meaning.specs.Settled.{IsSettled}
+use Rattle.form_meaning.specs.Binding.{same_label}
+use Rattle.frame_methods.specs.Renames.{given_labels, pairs_seen}
+use Rattle.frame_methods.proofs.relabelling.last_labels.Given as goal
+
+-- the labels so far, before the others
+abbrev pub invariant-loop-key : goal.invariant-loop-key
+invariant-loop-key l = record {
+  settled : IsSettled pairs_seen l.dict l.labels.entries;
+  last : insert_all same_label (pairs_seen l.dict l.labels.entries) (given_labels l.dict (drop l.key-index l.pairs)) ≡ insert_all same_label [] (given_labels l.dict l.pairs);
+}

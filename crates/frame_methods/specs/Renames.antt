@@ -1,0 +1,81 @@
+-- Columns under the labels that a dict gives them.
+use Rattle.std.specs.Prelude.{Bool, List, [], ◌∷◌, map, is_some, unwrap_or, Option, Some, None, Result, Ok, Err, if◌then◌else◌}
+use Rattle.std.specs.Option.{option_map, option_eq}
+use Rattle.std.specs.List.{list_any, list_all}
+use Rattle.std.specs.Map.{lookup}
+use Rattle.cell_core.specs.declared.cell.Label.{Label}
+use Rattle.cell_core.specs.contracts.cell.LabelPartialEq.TheImpl.{eq-value}
+use Rattle.meaning.specs.Text.{Text}
+use Rattle.meaning.specs.Cell.{LabelValue, label_datum}
+use Rattle.meaning.specs.Operator.{cell_label}
+use Rattle.meaning.specs.Fault.{FaultValue, wrong_kind}
+use Rattle.table_meaning.specs.Table.{heading_value}
+use Rattle.table_meaning.specs.Value.{Given, scalar_in}
+use Rattle.form_meaning.specs.Binding.{same_label}
+use Rattle.form_meaning.specs.Finish.{first_repeated, unless_repeated}
+use Rattle.frame_store.specs.Parts.{HeadingList}
+use Rattle.frame_store.specs.Shown.{headings_value}
+use Rattle.frame_store.specs.Arguments.{argument_of}
+use Rattle.frame_store.specs.declared.arguments.Argument.{Argument}
+
+-- equal labels, where equal texts have one number
+abbrev pub same_number : Label → Label → Bool
+same_number a b = eq-value.it a b
+
+abbrev pub same_heading : Option Label → Option Label → Bool
+same_heading a b = option_eq same_number a b
+
+-- a key of a dict, and the label that its value is; none where that is no scalar
+abbrev pub label_pair : LabelValue × Given → LabelValue × Option LabelValue
+label_pair p = (p.0, option_map cell_label (scalar_in p.1))
+
+-- the pairs of a dict as they were given; an object is no label, so its table doesn't matter
+abbrev pub given_label : List Text → Label × Argument → LabelValue × Option LabelValue
+given_label texts p = (label_datum texts p.0, option_map cell_label (scalar_in (argument_of (λ id. None) texts p.1)))
+
+abbrev pub given_labels : List Text → List (Label × Argument) → List (LabelValue × Option LabelValue)
+given_labels texts pairs = map (given_label texts) pairs
+
+-- keys with their labels, with texts
+abbrev pub pair_seen : List Text → Label × Option Label → LabelValue × Option LabelValue
+pair_seen texts e = (label_datum texts e.0, heading_value texts e.1)
+
+abbrev pub pairs_seen : List Text → List (Label × Option Label) → List (LabelValue × Option LabelValue)
+pairs_seen texts es = map (pair_seen texts) es
+
+-- each key has a label
+abbrev pub have_labels : {L : Type 0} → List (L × Option L) → Bool
+have_labels es = list_all is_some (map (λ e. e.1) es)
+
+-- the label of a key, if it has one, and else the old label
+abbrev pub found_label : Option (Option Label) → Option Label
+found_label None = None
+found_label (Some o) = o
+
+abbrev pub label_by : List (Label × Option Label) → Label → Label
+label_by es l = unwrap_or (found_label (lookup (same_number l) es)) l
+
+abbrev pub heading_by : List (Label × Option Label) → Option Label → Option Label
+heading_by es None = None
+heading_by es (Some l) = Some (label_by es l)
+
+-- the same with texts
+abbrev pub label_from : List (LabelValue × Option LabelValue) → LabelValue → Option LabelValue
+label_from [] l = None
+label_from (e ∷ es) l = if same_label e.0 l then e.1 else label_from es l
+
+abbrev pub heading_from : List (LabelValue × Option LabelValue) → Option LabelValue → Option LabelValue
+heading_from es None = None
+heading_from es (Some l) = Some (unwrap_or (label_from es l) l)
+
+-- the first heading that stands again at a later place
+abbrev pub repeated_heading : List (Option Label) → Option Label
+repeated_heading [] = None
+repeated_heading (h ∷ hs) = if list_any (same_heading h) hs then h else repeated_heading hs
+
+-- headings under the labels of these pairs, which must all be labels; no heading may stand twice
+abbrev pub relabelled : List (LabelValue × Option LabelValue) → List (Option LabelValue) → Result (List (Option LabelValue)) FaultValue
+relabelled es hs = if have_labels es then unless_repeated (first_repeated (map (heading_from es) hs)) (Ok (map (heading_from es) hs)) else Err wrong_kind
+
+abbrev pub labels_seen : List Text → HeadingList → List (Option LabelValue)
+labels_seen texts h = headings_value texts h.labels
