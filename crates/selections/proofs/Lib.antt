@@ -4,3 +4,6 @@ pub mod PlaceLaws
 pub mod SubscriptLaws
 pub mod SelectLaws
 pub mod ChangeLaws
+pub mod ColumnLaws
+pub mod PutLaws
+pub mod AssignLaws

@@ -1,15 +1,17 @@
 -- Columns by their labels.
-use Rattle.std.proofs.Common.{◌≡◌, ◌∙◌, ℕ, suc, ◌+◌, ◌<◌, Bool, true, false, ◌||◌, List, [], ◌∷◌, ◌++◌, length, take, drop, map, refl, ap, sym, subst, arith, if◌then◌else◌, append_assoc, append-nil, Option, Some, None, Result, Ok, Err}
-use Rattle.std.specs.Prelude.{slice_index_or, slice_get}
+use Rattle.std.proofs.Common.{◌≡◌, ◌∙◌, ℕ, suc, ◌+◌, ◌<◌, Bool, true, false, ◌||◌, List, [], ◌∷◌, ◌++◌, length, take, drop, map, refl, ap, sym, subst, arith, if◌then◌else◌, All, append_assoc, append-nil, Option, Some, None, Result, Ok, Err}
+use Rattle.std.specs.Prelude.{◌≢◌, slice_index_or, slice_get}
 use Rattle.std.specs.Option.{option_map}
 use Rattle.std.specs.List.{list_any}
 use Rattle.std.proofs.lemmas.List.{length-map, map-append, take_more}
+use Rattle.std.proofs.lemmas.List.Elements.{All-cons, All-nil}
 use Rattle.std.proofs.Math.ListN.{get_or-map}
 use Rattle.std.proofs.Math.Seq.{drop-cons, drop-length}
 use Rattle.std.proofs.lemmas.Option.{get_or_from_slice_get}
 use Rattle.cell_core.specs.declared.cell.Cell.{Cell}
 use Rattle.cell_core.specs.declared.cell.Cell.TheVariants.{Na}
 use Rattle.cell_core.specs.declared.cell.Label.{Label}
+use Rattle.cell_core.specs.Texts.{AreDistinct}
 use Rattle.meaning.specs.Text.{Text}
 use Rattle.meaning.specs.Cell.{na_cell, LabelValue, na, datum, label_datum}
 use Rattle.meaning.specs.Operator.{cell_label}
@@ -20,6 +22,7 @@ use Rattle.table_meaning.specs.Table.{NumberedTable, Table, heading_value}
 use Rattle.form_meaning.specs.Finish.{same_heading, first_repeated, try_all}
 use Rattle.form_meaning.specs.Select.{place_of_label, column_place}
 use Rattle.form_parts.specs.Makes.{MakesBy}
+use Rattle.form_parts.proofs.LabelLaws.{value_decides, label_given, label_one, heading_label}
 use Rattle.frame_store.specs.declared.fault.OpFault.{OpFault}
 use Rattle.frame_store.specs.declared.fault.OpFault.TheVariants.{Refused, NoMemory}
 use Rattle.frame_store.specs.Parts.{HeadingList}
@@ -242,3 +245,32 @@ headings_more t places k place heading before after lt at is was pushed =
     let all : headings_at t (take k places) ++ heading ∷ [] ≡ headings_at t (take (k + 1) places) =
     ap (λ h. headings_at t (take k places) ++ h ∷ []) here ∙ sym (ap (headings_at t) (take_more places k 0 lt) ∙ map-append (heading_of t) (take k places) (slice_index_or places k 0 ∷ [])) in
     pushed ∙ ap (λ (h : HeadingList). record h { labels = h.labels ++ heading ∷ [] }) was ∙ ap (λ (l : List (Option Label)). record { columns_name = t.columns_name; labels = l }) all
+
+-- the column that is met has the label itself
+pub met_is : (texts : List Text) (label : Label) (heading : Option Label) (b : Bool) → AreDistinct texts → IsSettled label_datum texts label → IsSettled heading_value texts heading
+    → b ≡ same_heading (heading_value texts (Some label)) (heading_value texts heading) → b ≡ true → heading ≡ Some label
+met_is texts label None b distinct settled there same is_so = let wrong : true ≡ false = sym is_so ∙ same in cc
+met_is texts label (Some x) b distinct settled there same is_so =
+    let one : label ≡ x =
+    label_one texts label x distinct (label_given texts label settled) (label_given texts x (heading_label texts (Some x) x refl there)) ((value_decides (label_datum texts label) (label_datum texts x)).0 (sym same ∙ is_so)) in
+    ap (λ l. Some l) (sym one)
+
+-- and no column has it where none is met
+abbrev some_place : Bool → Option ℕ → Option ℕ
+some_place b o = if b then Some 0 else option_map suc o
+
+none_later : (b : Bool) (o : Option ℕ) → some_place b o ≡ None → (b ≡ false) × (o ≡ None)
+none_later true o e = cc
+none_later false None e = (refl, refl)
+none_later false (Some k) e = cc
+
+pub absent_is : (texts : List Text) (headings : List (Option Label)) (label : Label) → place_of_label (headings_value texts headings) (label_datum texts label) ≡ None → All (λ heading. heading ≢ Some label) headings
+absent_is texts [] label none = All-nil (λ heading. heading ≢ Some label)
+absent_is texts (h ∷ hs) label none =
+    let both = none_later (same_heading (Some (label_datum texts label)) (heading_value texts h)) (place_of_label (headings_value texts hs) (label_datum texts label)) none in
+    let apart : h ≢ Some label = λ e.
+    let met : same_heading (Some (label_datum texts label)) (heading_value texts h) ≡ true =
+    ap (λ o. same_heading (Some (label_datum texts label)) (heading_value texts o)) e ∙ (value_decides (label_datum texts label) (label_datum texts label)).1 refl in
+    let wrong : true ≡ false = sym met ∙ both.0 in
+    cc in
+    All-cons (λ heading. heading ≢ Some label) h hs apart (absent_is texts hs label both.1)

@@ -1,5 +1,5 @@
 // Columns by their labels.
-ghost use Rattle.std.specs.Prelude.{◌≡◌, ◌<◌, ◌≤◌, ◌∷◌, [], length, map, drop, All, None, IfOk, IfSome};
+ghost use Rattle.std.specs.Prelude.{◌≡◌, ◌≢◌, ◌<◌, ◌≤◌, ◌∷◌, [], length, map, drop, slice_index_or, All, Some, None, IfOk, IfSome, IfNone};
 ghost use Rattle.std.specs.List.{list_any};
 ghost use Rattle.cell_core.specs.declared.code.Code.TheVariants.{NoKey, BadValue};
 ghost use Rattle.cell_core.specs.declared.code.Reason.TheVariants.{Repeated};
@@ -41,7 +41,11 @@ pub(crate) fn place_of_label(dict: &TextDict, on: &ObjRef<'_>, label: Label) -> 
     requires label { IsSettled label_datum dict.now label }
     ensures place { result ≡ meant.place_of_label (headings_value dict.now on.now.headings) (label_datum dict.now label) }
     ensures inside { IfSome result (λ place. place < length on.now.columns) }
+    ensures met { IfSome result (λ place. slice_index_or on.now.headings place None ≡ Some label) }
+    ensures absent { IfNone result (All (λ heading. heading ≢ Some label) on.now.headings) }
 {
+    // Equal texts have equal numbers: `TextDict::len` says so.
+    let _ = dict.len();
     for place in 0..on.columns() {
         if same_heading(dict, Some(label), on.heading(place)) {
             return Some(place);
