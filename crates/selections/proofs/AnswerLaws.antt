@@ -1,5 +1,5 @@
 -- What a form answers with a new object.
-use Rattle.std.proofs.Common.{◌≡◌, ◌∙◌, ℕ, ◌+◌, Bool, true, false, List, [], ◌∷◌, ◌++◌, length, map, ap, sym, subst, arith, nat_eq, if◌then◌else◌, Option, Some, None, option_map, Result, Ok, Err}
+use Rattle.std.proofs.Common.{◌≡◌, ◌∙◌, ℕ, ◌+◌, Bool, true, List, [], ◌∷◌, ◌++◌, length, map, ap, sym, subst, arith, nat_eq, if◌then◌else◌, Option, Some, None, option_map, Result, Ok, Err}
 use Rattle.std.specs.Prelude.{is_some, IsSome}
 use Rattle.std.specs.List.{range_with_len}
 use Rattle.std.proofs.lemmas.List.{length-map}
@@ -14,11 +14,8 @@ use Rattle.table_meaning.specs.Table.{ColumnOf, NumberedTable, Table, table_valu
 use Rattle.table_meaning.specs.Value as value
 use Rattle.table_meaning.specs.Value.{Entry}
 use Rattle.form_meaning.specs.Finish.{within_limits, limited}
-use Rattle.frame_store.specs.declared.arguments.Value.{Value}
 use Rattle.frame_store.specs.declared.arguments.Value.TheVariants.{Object}
 use Rattle.frame_store.specs.declared.object.ObjId.{ObjId}
-use Rattle.frame_store.specs.declared.fault.OpFault.{OpFault}
-use Rattle.frame_store.specs.declared.fault.OpFault.TheVariants.{NoMemory}
 use Rattle.frame_store.specs.Parts.{HeadingList}
 use Rattle.frame_store.specs.Objects.{Tables, with_object, table_or}
 use Rattle.frame_store.specs.Shown.{Shown, shown, with_shown, table_in, headings_value, columns_value, FormAnswers}

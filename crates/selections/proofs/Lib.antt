@@ -1,2 +1,9 @@
 pub mod PickedLaws
 pub mod AnswerLaws
+pub mod PlaceLaws
+pub mod SubscriptLaws
+pub mod SelectLaws
+pub mod ChangeLaws
+pub mod ColumnLaws
+pub mod PutLaws
+pub mod AssignLaws

@@ -1,4 +1,4 @@
-use Rattle.std.proofs.Common.{◌≡◌, ◌∙◌, ap, subst, sym, length}
+use Rattle.std.proofs.Common.{◌∙◌, ap, subst, sym, length}
 use Rattle.std.specs.List.{range_with_len}
 use Rattle.table_meaning.specs.Table.{NumberedTable, table_value}
 use Rattle.form_meaning.specs.Finish.{limited}

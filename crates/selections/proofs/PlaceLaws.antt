@@ -1,0 +1,276 @@
+-- Columns by their labels.
+use Rattle.std.proofs.Common.{◌≡◌, ◌∙◌, ℕ, suc, ◌+◌, ◌<◌, Bool, true, false, ◌||◌, List, [], ◌∷◌, ◌++◌, length, take, drop, map, refl, ap, sym, subst, arith, if◌then◌else◌, All, append_assoc, append-nil, Option, Some, None, Result, Ok, Err}
+use Rattle.std.specs.Prelude.{◌≢◌, slice_index_or, slice_get}
+use Rattle.std.specs.Option.{option_map}
+use Rattle.std.specs.List.{list_any}
+use Rattle.std.proofs.lemmas.List.{length-map, map-append, take_more}
+use Rattle.std.proofs.lemmas.List.Elements.{All-cons, All-nil}
+use Rattle.std.proofs.Math.ListN.{get_or-map}
+use Rattle.std.proofs.Math.Seq.{drop-cons, drop-length}
+use Rattle.std.proofs.lemmas.Option.{get_or_from_slice_get}
+use Rattle.cell_core.specs.declared.cell.Cell.{Cell}
+use Rattle.cell_core.specs.declared.cell.Cell.TheVariants.{Na}
+use Rattle.cell_core.specs.declared.cell.Label.{Label}
+use Rattle.cell_core.specs.Texts.{AreDistinct}
+use Rattle.meaning.specs.Text.{Text}
+use Rattle.meaning.specs.Cell.{na_cell, LabelValue, na, datum, label_datum}
+use Rattle.meaning.specs.Operator.{cell_label}
+use Rattle.meaning.specs.Fault.{FaultValue, then_value}
+use Rattle.meaning.specs.FaultOf.{fault_of}
+use Rattle.table_meaning.specs.Settled.{IsSettled}
+use Rattle.table_meaning.specs.Table.{NumberedTable, Table, heading_value}
+use Rattle.form_meaning.specs.Finish.{same_heading, first_repeated, try_all}
+use Rattle.form_meaning.specs.Select.{place_of_label, column_place}
+use Rattle.form_parts.specs.Makes.{MakesBy}
+use Rattle.form_parts.proofs.LabelLaws.{value_decides, label_given, label_one, heading_label}
+use Rattle.frame_store.specs.declared.fault.OpFault.{OpFault}
+use Rattle.frame_store.specs.declared.fault.OpFault.TheVariants.{Refused, NoMemory}
+use Rattle.frame_store.specs.Parts.{HeadingList}
+use Rattle.frame_store.specs.Shown.{headings_value, cells_value}
+use Rattle.selections.specs.Selected.{as_it_is, heading_of, headings_at}
+
+-- a heading as it is seen
+pub heading_seen : (texts : List Text) (headings : List (Option Label)) (place : ℕ) → slice_index_or (headings_value texts headings) place None ≡ heading_value texts (slice_index_or headings place None)
+heading_seen texts headings place = get_or-map (heading_value texts) headings place None
+
+pub heading_settled : (texts : List Text) (headings : List (Option Label)) (place : ℕ) (heading : Option Label) → heading ≡ slice_index_or headings place None → IsSettled headings_value texts headings → IsSettled heading_value texts heading
+heading_settled texts headings place heading is settled =
+    subst (IsSettled heading_value texts) (sym is)
+    (λ more. sym (heading_seen (texts ++ more) headings place) ∙ ap (λ l. slice_index_or l place None) (settled more) ∙ heading_seen texts headings place)
+
+-- a place after so many others
+abbrev pub moved : ℕ → Option ℕ → Option ℕ
+moved n o = option_map (λ k. n + k) o
+
+pub moved_none : (o : Option ℕ) → moved 0 o ≡ o
+moved_none None = refl
+moved_none (Some k) = ap Some (let e : 0 + k ≡ k = omega arith in e)
+
+moved_suc : (n : ℕ) (o : Option ℕ) → moved n (option_map suc o) ≡ moved (n + 1) o
+moved_suc n None = refl
+moved_suc n (Some k) = ap Some (let e : n + suc k ≡ n + 1 + k = omega arith in e)
+
+abbrev place_if : List (Option LabelValue) → LabelValue → ℕ → Bool → Option ℕ
+place_if hs l n b = moved n (if b then Some 0 else option_map suc (place_of_label (drop (suc n) hs) l))
+
+from_place : (hs : List (Option LabelValue)) (l : LabelValue) (n : ℕ) (b : Bool) → n < length hs → same_heading (Some l) (slice_index_or hs n None) ≡ b → moved n (place_of_label (drop n hs) l) ≡ place_if hs l n b
+from_place hs l n b lt is = ap (λ t. moved n (place_of_label t l)) (drop-cons hs n None lt) ∙ ap (place_if hs l n) is
+
+there : (texts : List Text) (headings : List (Option Label)) (place : ℕ) → place < length headings → place < length (headings_value texts headings)
+there texts headings place lt = omega (arith, lt, length-map headings (heading_value texts))
+
+seen_as : (texts : List Text) (headings : List (Option Label)) (label : Label) (place : ℕ) (heading : Option Label) (b : Bool) → heading ≡ slice_index_or headings place None
+    → b ≡ same_heading (heading_value texts (Some label)) (heading_value texts heading) → same_heading (Some (label_datum texts label)) (slice_index_or (headings_value texts headings) place None) ≡ b
+seen_as texts headings label place heading b is same =
+    ap (same_heading (Some (label_datum texts label))) (heading_seen texts headings place ∙ ap (heading_value texts) (sym is)) ∙ sym same
+
+-- the first column with the label is met, or passed
+pub place_met : (texts : List Text) (headings : List (Option Label)) (label : Label) (place : ℕ) (heading : Option Label) (b : Bool) (whole : Option ℕ) → place < length headings → heading ≡ slice_index_or headings place None
+    → b ≡ same_heading (heading_value texts (Some label)) (heading_value texts heading) → b ≡ true → moved place (place_of_label (drop place (headings_value texts headings)) (label_datum texts label)) ≡ whole → Some place ≡ whole
+place_met texts headings label place heading b whole lt is same is_so before =
+    ap Some (let e : place ≡ place + 0 = omega arith in e)
+    ∙ sym (from_place (headings_value texts headings) (label_datum texts label) place true (there texts headings place lt) (seen_as texts headings label place heading b is same ∙ is_so))
+    ∙ before
+
+pub place_passed : (texts : List Text) (headings : List (Option Label)) (label : Label) (place : ℕ) (heading : Option Label) (b : Bool) (whole : Option ℕ) → place < length headings → heading ≡ slice_index_or headings place None
+    → b ≡ same_heading (heading_value texts (Some label)) (heading_value texts heading) → b ≡ false → moved place (place_of_label (drop place (headings_value texts headings)) (label_datum texts label)) ≡ whole
+    → moved (place + 1) (place_of_label (drop (place + 1) (headings_value texts headings)) (label_datum texts label)) ≡ whole
+place_passed texts headings label place heading b whole lt is same other before =
+    let next : place + 1 ≡ suc place = omega arith in
+    let l = label_datum texts label in
+    let hs = headings_value texts headings in
+    ap (λ n. moved (place + 1) (place_of_label (drop n hs) l)) next
+    ∙ sym (moved_suc place (place_of_label (drop (suc place) hs) l))
+    ∙ sym (from_place hs l place false (there texts headings place lt) (seen_as texts headings label place heading b is same ∙ other))
+    ∙ before
+
+pub no_place : (texts : List Text) (headings : List (Option Label)) (label : Label) (place : ℕ) (whole : Option ℕ) → place ≡ length headings → moved place (place_of_label (drop place (headings_value texts headings)) (label_datum texts label)) ≡ whole → None ≡ whole
+no_place texts headings label place whole end before =
+    let hs = headings_value texts headings in
+    let all : place ≡ length hs = end ∙ sym (length-map headings (heading_value texts)) in
+    sym (ap (λ t. moved place (place_of_label t (label_datum texts label))) (ap (λ n. drop n hs) all ∙ drop-length hs)) ∙ before
+
+-- a cell of a list that was given
+cell_seen : (texts : List Text) (cells : List Cell) (k : ℕ) (cell : Cell) → slice_get cells k ≡ Some cell → slice_index_or (cells_value texts cells) k na_cell ≡ datum texts cell
+cell_seen texts cells k cell at = get_or-map (datum texts) cells k Na ∙ ap (datum texts) (get_or_from_slice_get cells k cell Na at)
+
+pub label_settled : (texts : List Text) (label : Label) (cell : Cell) → ((texts : List Text) → label_datum texts label ≡ cell_label (datum texts cell)) → IsSettled datum texts cell → IsSettled label_datum texts label
+label_settled texts label cell seen settled = λ more. seen (texts ++ more) ∙ ap cell_label (settled more) ∙ sym (seen texts)
+
+pub listed_settled : (texts : List Text) (cells : List Cell) (k : ℕ) (cell : Cell) (label : Label) → slice_get cells k ≡ Some cell → ((texts : List Text) → label_datum texts label ≡ cell_label (datum texts cell))
+    → IsSettled cells_value texts cells → IsSettled label_datum texts label
+listed_settled texts cells k cell label at seen settled =
+    label_settled texts label cell seen (λ more. sym (cell_seen (texts ++ more) cells k cell at) ∙ ap (λ l. slice_index_or l k na_cell) (settled more) ∙ cell_seen texts cells k cell at)
+
+-- what f makes of each, after what was made so far
+abbrev pub made_after : {A B : Type 0} → (A → Result B FaultValue) → List B → List A → Result (List B) FaultValue
+made_after f made xs = then_value (try_all f xs) (λ ys. Ok (made ++ ys))
+
+more_made : {B : Type 0} (made : List B) (y : B) (r : Result (List B) FaultValue) → then_value (then_value r (λ ys. Ok (y ∷ ys))) (λ ys. Ok (made ++ ys)) ≡ then_value r (λ ys. Ok ((made ++ y ∷ []) ++ ys))
+more_made made y (Ok ys) = ap (λ l. Ok l) (sym (append_assoc made (y ∷ []) ys))
+more_made made y (Err fault) = refl
+
+module _ {A B : Type 0} where
+  abbrev joined : (A → Result B FaultValue) → List B → List A → Result B FaultValue → Result (List B) FaultValue
+  joined f made xs r = then_value (then_value r (λ y. then_value (try_all f xs) (λ ys. Ok (y ∷ ys)))) (λ ys. Ok (made ++ ys))
+
+  one_more : (f : A → Result B FaultValue) (made : List B) (x : A) (xs : List A) (y : B) → f x ≡ Ok y → made_after f made (x ∷ xs) ≡ made_after f (made ++ y ∷ []) xs
+  one_more f made x xs y is = ap (joined f made xs) is ∙ more_made made y (try_all f xs)
+
+  one_refused : (f : A → Result B FaultValue) (made : List B) (x : A) (xs : List A) (fault : FaultValue) → f x ≡ Err fault → made_after f made (x ∷ xs) ≡ Err fault
+  one_refused f made x xs fault is = ap (joined f made xs) is
+
+  pub all_made : (f : A → Result B FaultValue) (made : List B) (xs : List A) (k : ℕ) (whole : Result (List B) FaultValue) → k ≡ length xs → made_after f made (drop k xs) ≡ whole → whole ≡ Ok made
+  all_made f made xs k whole end before = sym before ∙ ap (made_after f made) (ap (λ n. drop n xs) end ∙ drop-length xs) ∙ ap (λ l. Ok l) (append-nil made)
+
+  pub none_made : (f : A → Result B FaultValue) (xs : List A) → made_after f [] xs ≡ try_all f xs
+  none_made f xs = go (try_all f xs)
+    where
+      go : (r : Result (List B) FaultValue) → then_value r (λ ys. Ok ys) ≡ r
+      go (Ok ys) = refl
+      go (Err fault) = refl
+
+-- the labels that cells are
+abbrev pub labels_seen : List Text → List Cell → List LabelValue
+labels_seen texts cells = map cell_label (cells_value texts cells)
+
+labels_count : (texts : List Text) (cells : List Cell) → length (labels_seen texts cells) ≡ length cells
+labels_count texts cells = length-map (cells_value texts cells) cell_label ∙ length-map cells (datum texts)
+
+label_at : (texts : List Text) (cells : List Cell) (k : ℕ) (cell : Cell) (label : Label) → slice_get cells k ≡ Some cell → label_datum texts label ≡ cell_label (datum texts cell) → slice_index_or (labels_seen texts cells) k na ≡ label_datum texts label
+label_at texts cells k cell label at seen = get_or-map cell_label (cells_value texts cells) k na_cell ∙ ap cell_label (cell_seen texts cells k cell at) ∙ sym seen
+
+from_label : (texts : List Text) (cells : List Cell) (k : ℕ) (cell : Cell) (label : Label) → k < length cells → slice_get cells k ≡ Some cell → label_datum texts label ≡ cell_label (datum texts cell)
+    → drop k (labels_seen texts cells) ≡ label_datum texts label ∷ drop (suc k) (labels_seen texts cells)
+from_label texts cells k cell label lt at seen =
+    drop-cons (labels_seen texts cells) k na (omega (arith, lt, labels_count texts cells))
+    ∙ ap (λ l. l ∷ drop (suc k) (labels_seen texts cells)) (label_at texts cells k cell label at seen)
+
+-- one more label has a column
+pub places_more : (texts : List Text) (t : Table) (cells : List Cell) (k : ℕ) (cell : Cell) (label : Label) (place : ℕ) (places places' : List ℕ) (whole : Result (List ℕ) FaultValue)
+    → k < length cells → slice_get cells k ≡ Some cell → label_datum texts label ≡ cell_label (datum texts cell) → column_place t (label_datum texts label) ≡ Ok place → places' ≡ places ++ place ∷ []
+    → made_after (column_place t) places (drop k (labels_seen texts cells)) ≡ whole → made_after (column_place t) places' (drop (k + 1) (labels_seen texts cells)) ≡ whole
+places_more texts t cells k cell label place places places' whole lt at seen found pushed before =
+    let next : k + 1 ≡ suc k = omega arith in
+    (λ j. made_after (column_place t) (pushed j) (drop (next j) (labels_seen texts cells)))
+    ∙ sym (one_more (column_place t) places (label_datum texts label) (drop (suc k) (labels_seen texts cells)) place found)
+    ∙ ap (made_after (column_place t) places) (sym (from_label texts cells k cell label lt at seen))
+    ∙ before
+
+-- or none
+pub places_refused : (texts : List Text) (t : Table) (cells : List Cell) (k : ℕ) (cell : Cell) (label : Label) (places : List ℕ) (fault : OpFault) (whole : Result (List ℕ) FaultValue)
+    → k < length cells → slice_get cells k ≡ Some cell → label_datum texts label ≡ cell_label (datum texts cell) → MakesBy as_it_is texts (Err fault) (column_place t (label_datum texts label))
+    → made_after (column_place t) places (drop k (labels_seen texts cells)) ≡ whole → MakesBy as_it_is texts (Err fault) whole
+places_refused texts t cells k cell label places fault whole lt at seen refused before = go fault refused
+  where
+    go : (f : OpFault) → MakesBy as_it_is texts (Err f) (column_place t (label_datum texts label)) → MakesBy as_it_is texts (Err f) whole
+    go (Refused code) m =
+        sym before
+        ∙ ap (made_after (column_place t) places) (from_label texts cells k cell label lt at seen)
+        ∙ one_refused (column_place t) places (label_datum texts label) (drop (suc k) (labels_seen texts cells)) (fault_of texts code) m
+    go NoMemory m = tt
+
+pub no_more_places : (texts : List Text) (t : Table) (cells : List Cell) (k : ℕ) (places : List ℕ) (whole : Result (List ℕ) FaultValue) → k ≡ length cells → made_after (column_place t) places (drop k (labels_seen texts cells)) ≡ whole
+    → whole ≡ Ok places
+no_more_places texts t cells k places whole end before = all_made (column_place t) places (labels_seen texts cells) k whole (end ∙ sym (labels_count texts cells)) before
+
+-- the headings from a place on
+abbrev pub headings_from : List Text → NumberedTable → List ℕ → ℕ → List (Option LabelValue)
+headings_from texts t places k = headings_value texts (headings_at t (drop k places))
+
+from_heading : (texts : List Text) (t : NumberedTable) (places : List ℕ) (k place : ℕ) (heading : Option Label) → k < length places → slice_get places k ≡ Some place → heading ≡ slice_index_or t.headings place None
+    → headings_from texts t places k ≡ heading_value texts heading ∷ headings_from texts t places (suc k)
+from_heading texts t places k place heading lt at is =
+    ap (λ l. headings_value texts (headings_at t l)) (drop-cons places k 0 lt)
+    ∙ ap (λ h. heading_value texts h ∷ headings_from texts t places (suc k)) (ap (heading_of t) (get_or_from_slice_get places k place 0 at) ∙ sym is)
+
+none_from : (texts : List Text) (t : NumberedTable) (places : List ℕ) (k : ℕ) → k ≡ length places → headings_from texts t places k ≡ []
+none_from texts t places k end = ap (λ l. headings_value texts (headings_at t l)) (ap (λ n. drop n places) end ∙ drop-length places)
+
+-- a heading is met again, or not
+pub again_met : (texts : List Text) (t : NumberedTable) (places : List ℕ) (k place : ℕ) (heading other : Option Label) (b whole : Bool) → k < length places → slice_get places k ≡ Some place → other ≡ slice_index_or t.headings place None
+    → b ≡ same_heading (heading_value texts heading) (heading_value texts other) → b ≡ true → list_any (same_heading (heading_value texts heading)) (headings_from texts t places k) ≡ whole → true ≡ whole
+again_met texts t places k place heading other b whole lt at is same is_so before =
+    let test = same_heading (heading_value texts heading) in
+    sym (ap (list_any test) (from_heading texts t places k place other lt at is) ∙ ap (λ c. c || list_any test (headings_from texts t places (suc k))) (sym same ∙ is_so)) ∙ before
+
+pub again_passed : (texts : List Text) (t : NumberedTable) (places : List ℕ) (k place : ℕ) (heading other : Option Label) (b whole : Bool) → k < length places → slice_get places k ≡ Some place → other ≡ slice_index_or t.headings place None
+    → b ≡ same_heading (heading_value texts heading) (heading_value texts other) → b ≡ false → list_any (same_heading (heading_value texts heading)) (headings_from texts t places k) ≡ whole
+    → list_any (same_heading (heading_value texts heading)) (headings_from texts t places (k + 1)) ≡ whole
+again_passed texts t places k place heading other b whole lt at is same other_one before =
+    let test = same_heading (heading_value texts heading) in
+    let next : k + 1 ≡ suc k = omega arith in
+    ap (λ n. list_any test (headings_from texts t places n)) next
+    ∙ sym (ap (list_any test) (from_heading texts t places k place other lt at is) ∙ ap (λ c. c || list_any test (headings_from texts t places (suc k))) (sym same ∙ other_one))
+    ∙ before
+
+pub again_none : (texts : List Text) (t : NumberedTable) (places : List ℕ) (k : ℕ) (heading : Option Label) (whole : Bool) → k ≡ length places → list_any (same_heading (heading_value texts heading)) (headings_from texts t places k) ≡ whole → false ≡ whole
+again_none texts t places k heading whole end before = sym (ap (list_any (same_heading (heading_value texts heading))) (none_from texts t places k end)) ∙ before
+
+-- the first heading that stands again
+abbrev repeated_if : Option LabelValue → List (Option LabelValue) → Bool → Option LabelValue
+repeated_if h hs b = if b then h else first_repeated hs
+
+from_repeated : (texts : List Text) (t : NumberedTable) (places : List ℕ) (k place : ℕ) (heading : Option Label) (b : Bool) → k < length places → slice_get places k ≡ Some place → heading ≡ slice_index_or t.headings place None
+    → b ≡ list_any (same_heading (heading_value texts heading)) (headings_value texts (headings_at t (drop (k + 1) places)))
+    → first_repeated (headings_from texts t places k) ≡ repeated_if (heading_value texts heading) (headings_from texts t places (suc k)) b
+from_repeated texts t places k place heading b lt at is same =
+    let next : suc k ≡ k + 1 = omega arith in
+    ap first_repeated (from_heading texts t places k place heading lt at is)
+    ∙ ap (repeated_if (heading_value texts heading) (headings_from texts t places (suc k))) (ap (λ n. list_any (same_heading (heading_value texts heading)) (headings_from texts t places n)) next ∙ sym same)
+
+pub repeated_met : (texts : List Text) (t : NumberedTable) (places : List ℕ) (k place : ℕ) (heading : Option Label) (b : Bool) (whole : Option LabelValue) → k < length places → slice_get places k ≡ Some place → heading ≡ slice_index_or t.headings place None
+    → b ≡ list_any (same_heading (heading_value texts heading)) (headings_value texts (headings_at t (drop (k + 1) places))) → b ≡ true → first_repeated (headings_from texts t places k) ≡ whole → heading_value texts heading ≡ whole
+repeated_met texts t places k place heading b whole lt at is same is_so before =
+    sym (from_repeated texts t places k place heading b lt at is same ∙ ap (repeated_if (heading_value texts heading) (headings_from texts t places (suc k))) is_so) ∙ before
+
+pub repeated_passed : (texts : List Text) (t : NumberedTable) (places : List ℕ) (k place : ℕ) (heading : Option Label) (b : Bool) (whole : Option LabelValue) → k < length places → slice_get places k ≡ Some place → heading ≡ slice_index_or t.headings place None
+    → b ≡ list_any (same_heading (heading_value texts heading)) (headings_value texts (headings_at t (drop (k + 1) places))) → b ≡ false → first_repeated (headings_from texts t places k) ≡ whole
+    → first_repeated (headings_from texts t places (k + 1)) ≡ whole
+repeated_passed texts t places k place heading b whole lt at is same other before =
+    let next : k + 1 ≡ suc k = omega arith in
+    ap (λ n. first_repeated (headings_from texts t places n)) next
+    ∙ sym (from_repeated texts t places k place heading b lt at is same ∙ ap (repeated_if (heading_value texts heading) (headings_from texts t places (suc k))) other)
+    ∙ before
+
+pub repeated_none : (texts : List Text) (t : NumberedTable) (places : List ℕ) (k : ℕ) (whole : Option LabelValue) → k ≡ length places → first_repeated (headings_from texts t places k) ≡ whole → None ≡ whole
+repeated_none texts t places k whole end before = sym (ap first_repeated (none_from texts t places k end)) ∙ before
+
+-- one more heading
+pub headings_more : (t : NumberedTable) (places : List ℕ) (k place : ℕ) (heading : Option Label) (before after : HeadingList) → k < length places → slice_get places k ≡ Some place → heading ≡ slice_index_or t.headings place None
+    → before ≡ record { columns_name = t.columns_name; labels = headings_at t (take k places) } → after ≡ record before { labels = before.labels ++ heading ∷ [] }
+    → after ≡ record { columns_name = t.columns_name; labels = headings_at t (take (k + 1) places) }
+headings_more t places k place heading before after lt at is was pushed =
+    let here : heading ≡ heading_of t (slice_index_or places k 0) = is ∙ ap (heading_of t) (sym (get_or_from_slice_get places k place 0 at)) in
+    let all : headings_at t (take k places) ++ heading ∷ [] ≡ headings_at t (take (k + 1) places) =
+    ap (λ h. headings_at t (take k places) ++ h ∷ []) here ∙ sym (ap (headings_at t) (take_more places k 0 lt) ∙ map-append (heading_of t) (take k places) (slice_index_or places k 0 ∷ [])) in
+    pushed ∙ ap (λ (h : HeadingList). record h { labels = h.labels ++ heading ∷ [] }) was ∙ ap (λ (l : List (Option Label)). record { columns_name = t.columns_name; labels = l }) all
+
+-- the column that is met has the label itself
+pub met_is : (texts : List Text) (label : Label) (heading : Option Label) (b : Bool) → AreDistinct texts → IsSettled label_datum texts label → IsSettled heading_value texts heading
+    → b ≡ same_heading (heading_value texts (Some label)) (heading_value texts heading) → b ≡ true → heading ≡ Some label
+met_is texts label None b distinct settled there same is_so = let wrong : true ≡ false = sym is_so ∙ same in cc
+met_is texts label (Some x) b distinct settled there same is_so =
+    let one : label ≡ x =
+    label_one texts label x distinct (label_given texts label settled) (label_given texts x (heading_label texts (Some x) x refl there)) ((value_decides (label_datum texts label) (label_datum texts x)).0 (sym same ∙ is_so)) in
+    ap (λ l. Some l) (sym one)
+
+-- and no column has it where none is met
+abbrev some_place : Bool → Option ℕ → Option ℕ
+some_place b o = if b then Some 0 else option_map suc o
+
+none_later : (b : Bool) (o : Option ℕ) → some_place b o ≡ None → (b ≡ false) × (o ≡ None)
+none_later true o e = cc
+none_later false None e = (refl, refl)
+none_later false (Some k) e = cc
+
+pub absent_is : (texts : List Text) (headings : List (Option Label)) (label : Label) → place_of_label (headings_value texts headings) (label_datum texts label) ≡ None → All (λ heading. heading ≢ Some label) headings
+absent_is texts [] label none = All-nil (λ heading. heading ≢ Some label)
+absent_is texts (h ∷ hs) label none =
+    let both = none_later (same_heading (Some (label_datum texts label)) (heading_value texts h)) (place_of_label (headings_value texts hs) (label_datum texts label)) none in
+    let apart : h ≢ Some label = λ e.
+    let met : same_heading (Some (label_datum texts label)) (heading_value texts h) ≡ true =
+    ap (λ o. same_heading (Some (label_datum texts label)) (heading_value texts o)) e ∙ (value_decides (label_datum texts label) (label_datum texts label)).1 refl in
+    let wrong : true ≡ false = sym met ∙ both.0 in
+    cc in
+    All-cons (λ heading. heading ≢ Some label) h hs apart (absent_is texts hs label both.1)

@@ -1,0 +1,158 @@
+-- What is read of subscripts and lists.
+use Rattle.std.proofs.Common.{◌≡◌, ◌∙◌, ℕ, suc, ℤ, ◌+◌, ◌-◌, ◌<◌, ◌≤◌, Bool, true, false, ◌&&◌, List, [], ◌∷◌, ◌++◌, length, take, drop, get_or, refl, ap, sym, arith, if◌then◌else◌, append-nil, append_assoc, Option, Some, None, Err}
+use Rattle.std.specs.Prelude.{slice_get, nat_lt}
+use Rattle.std.specs.Option.{option_map}
+use Rattle.std.specs.List.{list_all}
+use Rattle.std.proofs.lemmas.List.{length-map, map-append, take_rest}
+use Rattle.std.proofs.Math.Seq.{drop-cons, drop-length}
+use Rattle.std.proofs.lemmas.Bool.Decides.{nat_tests}
+use Rattle.std.proofs.lemmas.Option.{get_or_from_slice_get}
+use Rattle.cell_core.specs.declared.cell.Cell.{Cell}
+use Rattle.cell_core.specs.declared.cell.Cell.TheVariants.{Na}
+use Rattle.meaning.specs.Text.{Text}
+use Rattle.meaning.specs.Cell.{CellValue, na_cell, int_cell, truth_cell, text_cell, datum}
+use Rattle.meaning.specs.Place.{place_of}
+use Rattle.meaning.specs.Fault.{out_of_range}
+use Rattle.meaning.specs.Tree.{iloc}
+use Rattle.table_meaning.specs.Table.{NumberedTable, table_value, tuple_value}
+use Rattle.table_meaning.specs.Value.{Given, GivenList, GivenSub, cell, table, nothing, one, row, many, entries, more_given, key_given, span_given, scalar_in}
+use Rattle.form_meaning.specs.Binding.{is_truth, each, is_scalar}
+use Rattle.form_meaning.specs.Select.{cells_of, are_truths, position_of, row_found, row_place}
+use Rattle.frame_store.specs.Objects.{Tables}
+use Rattle.frame_store.specs.Arguments.{item_of, items_of}
+use Rattle.frame_store.specs.declared.arguments.Item.{Item}
+use Rattle.frame_store.specs.Shown.{cells_value}
+use Rattle.selections.specs.Selected.{only_key, whole_key, scalars_in}
+
+-- the position is the whole number that the one key is
+pub position_key : (first : GivenSub) (second : Option GivenSub) → position_of iloc first second ≡ whole_key (only_key first second)
+position_key (key_given (one (cell (int_cell z)))) None = refl
+position_key (key_given (one (cell (truth_cell b)))) None = refl
+position_key (key_given (one (cell (text_cell t)))) None = refl
+position_key (key_given (one (cell na_cell))) None = refl
+position_key (key_given (one (table t))) None = refl
+position_key (key_given nothing) None = refl
+position_key (key_given (row parts)) None = refl
+position_key (key_given (many parts)) None = refl
+position_key (key_given (entries pairs)) None = refl
+position_key (key_given (one (cell (int_cell z)))) (Some other) = refl
+position_key (key_given (one (cell (truth_cell b)))) (Some other) = refl
+position_key (key_given (one (cell (text_cell t)))) (Some other) = refl
+position_key (key_given (one (cell na_cell))) (Some other) = refl
+position_key (key_given (one (table t))) (Some other) = refl
+position_key (key_given nothing) (Some other) = refl
+position_key (key_given (row parts)) (Some other) = refl
+position_key (key_given (many parts)) (Some other) = refl
+position_key (key_given (entries pairs)) (Some other) = refl
+position_key (span_given from to by) None = refl
+position_key (span_given from to by) (Some other) = refl
+
+-- the row of a position
+pub row_is : (texts : List Text) (t : NumberedTable) (position : ℤ) (count : ℕ) (found : Option ℕ) → count ≡ length t.labels → found ≡ place_of position count → row_place (table_value texts t) position ≡ row_found (table_value texts t) position found
+row_is texts t position count found is same =
+    ap (row_found (table_value texts t) position) (ap (place_of position) (length-map t.labels (tuple_value texts) ∙ sym is) ∙ sym same)
+
+pub out_is : (texts : List Text) (t : NumberedTable) (position : ℤ) (count : ℕ) → count ≡ length t.labels → row_found (table_value texts t) position None ≡ Err (out_of_range position count)
+out_is texts t position count is = ap (λ n. Err (out_of_range position n)) (length-map t.labels (tuple_value texts) ∙ sym is)
+
+-- what stands after the first part
+abbrev pub after : {X : Type 0} → List X → List X
+after xs = take (length xs - 1) (drop 1 xs)
+
+first_of : {X : Type 0} (xs : List X) (x : X) → x ≡ get_or xs 0 x → 1 ≤ length xs → xs ≡ x ∷ after xs
+first_of [] x is some = absurd (omega (arith, some))
+first_of (y ∷ ys) x is some = λ i. sym is i ∷ sym (take_rest (y ∷ ys) 1) i
+
+-- a scalar before others
+abbrev with_scalar : Option CellValue → Option (List CellValue) → Option (List CellValue)
+with_scalar None rest = None
+with_scalar (Some c) rest = option_map (λ cs. c ∷ cs) rest
+
+abbrev if_scalars : GivenList → Bool → Option (List CellValue)
+if_scalars parts b = if b then Some (cells_of parts) else None
+
+scalar_more : (c : CellValue) (rest : GivenList) (b : Bool) → if_scalars (more_given (one (cell c)) rest) b ≡ option_map (λ cs. c ∷ cs) (if_scalars rest b)
+scalar_more c rest true = refl
+scalar_more c rest false = refl
+
+scalars_more : (g : Given) (rest : GivenList) → scalars_in (more_given g rest) ≡ with_scalar (scalar_in g) (scalars_in rest)
+scalars_more (one (cell c)) rest = scalar_more c rest (each is_scalar rest)
+scalars_more (one (table t)) rest = refl
+scalars_more nothing rest = refl
+scalars_more (row parts) rest = refl
+scalars_more (many parts) rest = refl
+scalars_more (entries pairs) rest = refl
+
+from_item : (live : Tables) (texts : List Text) (items : List Item) (item : Item) (o : Option Cell) → item ≡ get_or items 0 item → 1 ≤ length items
+    → ((live : Tables) (texts : List Text) → option_map (datum texts) o ≡ scalar_in (item_of live texts item)) → scalars_in (items_of live texts items) ≡ with_scalar (option_map (datum texts) o) (scalars_in (items_of live texts (after items)))
+from_item live texts items item o is some scalar =
+    ap (λ l. scalars_in (items_of live texts l)) (first_of items item is some)
+    ∙ scalars_more (item_of live texts item) (items_of live texts (after items))
+    ∙ ap (λ c. with_scalar c (scalars_in (items_of live texts (after items)))) (sym (scalar live texts))
+
+-- scalars after those so far
+abbrev pub scalars_after : List Text → List Cell → Option (List CellValue) → Option (List CellValue)
+scalars_after texts made rest = option_map (λ cs. cells_value texts made ++ cs) rest
+
+one_scalar : (texts : List Text) (made : List Cell) (c : Cell) (rest : Option (List CellValue)) → scalars_after texts made (option_map (λ cs. datum texts c ∷ cs) rest) ≡ scalars_after texts (made ++ c ∷ []) rest
+one_scalar texts made c None = refl
+one_scalar texts made c (Some cs) =
+    ap (λ l. Some l) (sym (append_assoc (cells_value texts made) (datum texts c ∷ []) cs) ∙ ap (λ l. l ++ cs) (sym (map-append (datum texts) made (c ∷ []))))
+
+pub scalar_pushed : (live : Tables) (texts : List Text) (items : List Item) (item : Item) (c : Cell) (made made' : List Cell) (whole : Option (List CellValue)) → item ≡ get_or items 0 item → 1 ≤ length items
+    → ((live : Tables) (texts : List Text) → Some (datum texts c) ≡ scalar_in (item_of live texts item)) → made' ≡ made ++ c ∷ []
+    → scalars_after texts made (scalars_in (items_of live texts items)) ≡ whole → scalars_after texts made' (scalars_in (items_of live texts (after items))) ≡ whole
+scalar_pushed live texts items item c made made' whole is some scalar pushed before =
+    ap (λ l. scalars_after texts l (scalars_in (items_of live texts (after items)))) pushed
+    ∙ sym (one_scalar texts made c (scalars_in (items_of live texts (after items))))
+    ∙ ap (scalars_after texts made) (sym (from_item live texts items item (Some c) is some scalar))
+    ∙ before
+
+pub scalar_refused : (live : Tables) (texts : List Text) (items : List Item) (item : Item) (made : List Cell) (whole : Option (List CellValue)) → item ≡ get_or items 0 item → 1 ≤ length items
+    → ((live : Tables) (texts : List Text) → None ≡ scalar_in (item_of live texts item)) → scalars_after texts made (scalars_in (items_of live texts items)) ≡ whole → None ≡ whole
+scalar_refused live texts items item made whole is some scalar before =
+    sym (ap (scalars_after texts made) (from_item live texts items item None is some scalar)) ∙ before
+
+abbrev some_of : List Item → Type 0
+some_of items = 1 ≤ length items
+
+no_items : (items : List Item) → length items < 1 → items ≡ []
+no_items [] lt = refl
+no_items (x ∷ xs) lt = absurd (omega (arith, lt))
+
+pub scalars_done : (live : Tables) (texts : List Text) (items : List Item) (made : List Cell) (whole : Option (List CellValue)) → length items < 1 → scalars_after texts made (scalars_in (items_of live texts items)) ≡ whole → Some (cells_value texts made) ≡ whole
+scalars_done live texts items made whole none before =
+    ap (λ l. Some l) (sym (append-nil (cells_value texts made))) ∙ sym (ap (λ l. scalars_after texts made (scalars_in (items_of live texts l))) (no_items items none)) ∙ before
+
+pub scalars_begun : (texts : List Text) (o : Option (List CellValue)) → scalars_after texts [] o ≡ o
+scalars_begun texts None = refl
+scalars_begun texts (Some cs) = refl
+
+-- whether all cells from one on pass a test
+abbrev pub all_from : (CellValue → Bool) → List Text → List Cell → ℕ → Bool
+all_from test texts cells k = list_all test (cells_value texts (drop k cells))
+
+from_cell : (test : CellValue → Bool) (texts : List Text) (cells : List Cell) (k : ℕ) (c : Cell) → k < length cells → slice_get cells k ≡ Some c → all_from test texts cells k ≡ (test (datum texts c) && all_from test texts cells (suc k))
+from_cell test texts cells k c lt at =
+    ap (λ l. list_all test (cells_value texts l)) (drop-cons cells k Na lt)
+    ∙ ap (λ x. test (datum texts x) && all_from test texts cells (suc k)) (get_or_from_slice_get cells k c Na at)
+
+pub test_passed : (test : CellValue → Bool) (texts : List Text) (cells : List Cell) (k : ℕ) (c : Cell) (b whole : Bool) → k < length cells → slice_get cells k ≡ Some c → b ≡ test (datum texts c) → b ≡ true → all_from test texts cells k ≡ whole
+    → all_from test texts cells (k + 1) ≡ whole
+test_passed test texts cells k c b whole lt at same is_so before =
+    let next : k + 1 ≡ suc k = omega arith in
+    ap (all_from test texts cells) next ∙ sym (from_cell test texts cells k c lt at ∙ ap (λ t. t && all_from test texts cells (suc k)) (sym same ∙ is_so)) ∙ before
+
+pub test_failed : (test : CellValue → Bool) (texts : List Text) (cells : List Cell) (k : ℕ) (c : Cell) (b whole : Bool) → k < length cells → slice_get cells k ≡ Some c → b ≡ test (datum texts c) → b ≡ false → all_from test texts cells k ≡ whole → false ≡ whole
+test_failed test texts cells k c b whole lt at same other before =
+    sym (from_cell test texts cells k c lt at ∙ ap (λ t. t && all_from test texts cells (suc k)) (sym same ∙ other)) ∙ before
+
+pub tests_done : (test : CellValue → Bool) (texts : List Text) (cells : List Cell) (k : ℕ) (whole : Bool) → k ≡ length cells → all_from test texts cells k ≡ whole → true ≡ whole
+tests_done test texts cells k whole end before = sym (ap (λ l. list_all test (cells_value texts l)) (ap (λ n. drop n cells) end ∙ drop-length cells)) ∙ before
+
+positive : (n : ℕ) → 0 < n → nat_lt 0 n ≡ true
+positive n lt = grind (arith, nat_tests)
+
+pub truths_are : (texts : List Text) (cells : List Cell) (b : Bool) → 0 < length cells → b ≡ list_all is_truth (cells_value texts cells) → b ≡ are_truths (cells_value texts cells)
+truths_are texts cells b lt is =
+    is ∙ ap (λ t. t && list_all is_truth (cells_value texts cells)) (sym (positive (length (cells_value texts cells)) (omega (arith, lt, length-map cells (datum texts)))))

@@ -1,0 +1,8 @@
+use Rattle.std.proofs.Common.{◌<◌, length, arith}
+use Rattle.selections.proofs.PlaceLaws.{headings_more}
+use Rattle.selections.proofs.labels.headings_at.Goals as goal
+
+pub loop-k-preserved : goal.loop-k-preserved
+loop-k-preserved c =
+    let lt : c.loop-k.k < length c.args.places.now = omega arith in
+    headings_more c.args.on.now c.args.places.now c.loop-k.k c.at.result.now c.heading.result c.loop-k.headings c.push.new.self lt c.at.ensures c.heading.ensures.value c.loop-k.invariant c.in_ok-push.ensures.ok

@@ -1,0 +1,7 @@
+use Rattle.std.proofs.Common.{◌≡◌, take}
+use Rattle.selections.specs.Selected.{headings_at}
+use Rattle.selections.proofs.labels.headings_at.Given as goal
+
+-- the headings so far
+abbrev pub invariant-loop-k : goal.invariant-loop-k
+invariant-loop-k l = l.headings ≡ record { columns_name = l.on.columns_name; labels = headings_at l.on (take l.k l.places) }

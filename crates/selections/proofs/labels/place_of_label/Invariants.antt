@@ -1,0 +1,10 @@
+use Rattle.std.proofs.Common.{◌≡◌, drop}
+use Rattle.meaning.specs.Cell.{label_datum}
+use Rattle.form_meaning.specs.Select.{place_of_label}
+use Rattle.frame_store.specs.Shown.{headings_value}
+use Rattle.selections.proofs.PlaceLaws.{moved}
+use Rattle.selections.proofs.labels.place_of_label.Given as goal
+
+-- no column so far has the label
+abbrev pub invariant-loop-place : goal.invariant-loop-place
+invariant-loop-place l = moved l.place (place_of_label (drop l.place (headings_value l.dict l.on.headings)) (label_datum l.dict l.label)) ≡ place_of_label (headings_value l.dict l.on.headings) (label_datum l.dict l.label)

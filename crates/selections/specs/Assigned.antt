@@ -1,0 +1,37 @@
+-- What settings are made of.
+use Rattle.std.specs.Prelude.{ℕ, ◌+◌, List, map, length, nat_lt, replicate, unwrap_or, Option, Result, Ok, Err, if◌then◌else◌}
+use Rattle.cell_core.specs.declared.cell.Cell.{Cell}
+use Rattle.cell_core.specs.declared.cell.Cell.TheVariants.{Na}
+use Rattle.meaning.specs.Text.{Text}
+use Rattle.meaning.specs.Cell.{CellValue, LabelValue, datum}
+use Rattle.meaning.specs.Fault.{FaultValue, limit}
+use Rattle.multi_index.specs.Axes.{AxisValue}
+use Rattle.nullable_array.specs.Columns.{CellColumn}
+use Rattle.table_meaning.specs.Table.{ColumnOf, NumberedTable}
+use Rattle.form_meaning.specs.Finish.{within_limits}
+use Rattle.form_meaning.specs.Select.{place_of_label}
+
+-- a column of a kernel as a column of a table, and with texts
+abbrev pub table_column : CellColumn → ColumnOf Cell
+table_column c = record { kind = c.kind; cells = c.cells }
+
+abbrev pub column_seen : List Text → CellColumn → ColumnOf CellValue
+column_seen texts c = record { kind = c.kind; cells = map (datum texts) c.cells }
+
+-- how many columns there are after one was put at a place
+abbrev pub count_after : ℕ → ℕ → ℕ
+count_after columns place = if nat_lt place columns then columns else columns + 1
+
+-- the place at which a column of the label is put, of a table that isn't beyond the limits
+abbrev pub put_place : ℕ → List (Option LabelValue) → LabelValue → Result ℕ FaultValue
+put_place rows headings l =
+    if within_limits rows (count_after (length headings) (unwrap_or (place_of_label headings l) (length headings)))
+    then Ok (unwrap_or (place_of_label headings l) (length headings))
+    else Err limit
+
+-- the columns of missing cells, and the table of them with the rows of an axis
+abbrev pub missing_cells : ℕ → ColumnOf Cell → ColumnOf Cell
+missing_cells rows c = record { kind = c.kind; cells = replicate rows Na }
+
+abbrev pub with_axis : NumberedTable → AxisValue → NumberedTable
+with_axis t axis = record t { labels = axis.tuples; level_names = axis.names; columns = map (missing_cells (length axis.tuples)) t.columns }

@@ -1,0 +1,148 @@
+// Columns by their labels.
+ghost use Rattle.std.specs.Prelude.{◌≡◌, ◌≢◌, ◌<◌, ◌≤◌, ◌∷◌, [], length, map, drop, slice_index_or, All, Some, None, IfOk, IfSome, IfNone};
+ghost use Rattle.std.specs.List.{list_any};
+ghost use Rattle.cell_core.specs.declared.code.Code.TheVariants.{NoKey, BadValue};
+ghost use Rattle.cell_core.specs.declared.code.Reason.TheVariants.{Repeated};
+ghost use Rattle.meaning.specs.Cell.{label_datum};
+ghost use Rattle.meaning.specs.Operator.{cell_label};
+ghost use Rattle.table_meaning.specs.Settled.{IsSettled};
+ghost use Rattle.table_meaning.specs.Table.{heading_value, table_value};
+ghost use Rattle.table_meaning.specs.Valid.{IsWhole};
+ghost use Rattle.form_meaning.specs.Finish as finish;
+ghost use Rattle.form_meaning.specs.Select as meant;
+ghost use Rattle.frame_store.specs.declared.fault.OpFault.TheVariants.{Refused};
+ghost use Rattle.frame_store.specs.Shown.{headings_value, cells_value};
+ghost use Rattle.form_parts.specs.Makes.{MakesBy};
+ghost use Rattle.selections.specs.Selected.{as_it_is, headings_at as meant_headings};
+
+use cell_core::{Cells, Code, Grid, Label, NoMemory, Places, Reason, TextDict, Tuple};
+use form_parts::{label_of, same_heading};
+use frame_store::{Headings, ObjRef, OpFault};
+use std::alloc::Global;
+
+// The fault of a label that no column has.
+fn missing(alloc: Global, label: Label) -> OpFault
+    ensures { result ≡ Refused (NoKey (label ∷ [])) }
+{
+    OpFault::Refused(Code::NoKey(Tuple::of(alloc, &[label])))
+}
+
+// The fault of a label that two columns would have.
+pub(crate) fn repeated(alloc: Global, label: Label) -> OpFault
+    ensures { result ≡ Refused (BadValue (Repeated (label ∷ []))) }
+{
+    OpFault::Refused(Code::BadValue(Reason::Repeated(Tuple::of(alloc, &[label]))))
+}
+
+// The place of the first column with the label.
+pub(crate) fn place_of_label(dict: &TextDict, on: &ObjRef<'_>, label: Label) -> Option<usize>
+    requires whole { IsWhole on.now }
+    requires settled { IsSettled headings_value dict.now on.now.headings }
+    requires label { IsSettled label_datum dict.now label }
+    ensures place { result ≡ meant.place_of_label (headings_value dict.now on.now.headings) (label_datum dict.now label) }
+    ensures inside { IfSome result (λ place. place < length on.now.columns) }
+    ensures met { IfSome result (λ place. slice_index_or on.now.headings place None ≡ Some label) }
+    ensures absent { IfNone result (All (λ heading. heading ≢ Some label) on.now.headings) }
+{
+    // Equal texts have equal numbers: `TextDict::len` says so.
+    let _ = dict.len();
+    for place in 0..on.columns() {
+        if same_heading(dict, Some(label), on.heading(place)) {
+            return Some(place);
+        }
+    }
+    None
+}
+
+// The same, or a refusal: no column has the label.
+pub(crate) fn column_place(
+    alloc: Global,
+    dict: &TextDict,
+    on: &ObjRef<'_>,
+    label: Label,
+) -> Result<usize, OpFault>
+    requires whole { IsWhole on.now }
+    requires settled { IsSettled headings_value dict.now on.now.headings }
+    requires label { IsSettled label_datum dict.now label }
+    ensures answer { MakesBy as_it_is dict.now result (meant.column_place (table_value dict.now on.now) (label_datum dict.now label)) }
+    ensures inside { IfOk result (λ place. place < length on.now.columns) }
+{
+    match place_of_label(dict, on, label) {
+        Some(place) => Ok(place),
+        None => Err(missing(alloc, label)),
+    }
+}
+
+// The places of the columns with these labels, in their order, or the first label that no column has.
+pub(crate) fn column_places(
+    alloc: Global,
+    dict: &TextDict,
+    on: &ObjRef<'_>,
+    cells: &Cells,
+) -> Result<Places, OpFault>
+    requires whole { IsWhole on.now }
+    requires settled { IsSettled headings_value dict.now on.now.headings }
+    requires cells { IsSettled cells_value dict.now cells.now }
+    ensures answer { MakesBy as_it_is dict.now result (finish.try_all (meant.column_place (table_value dict.now on.now)) (map cell_label (cells_value dict.now cells.now))) }
+    ensures inside { IfOk result (All (λ place. place < length on.now.columns)) }
+{
+    let mut places = Places::new(alloc);
+    for k in 0..cells.len() {
+        let label = label_of(*cells.at(k));
+        places.push(column_place(alloc, dict, on, label)?)?;
+    }
+    Ok(places)
+}
+
+// The headings of the columns at these places.
+pub(crate) fn headings_at(
+    alloc: Global,
+    on: &ObjRef<'_>,
+    places: &Places,
+) -> Result<Headings, NoMemory>
+    requires { All (λ place. place < length on.now.columns) places.now }
+    ensures { IfOk result (λ made. made ≡ record { columns_name = on.now.columns_name; labels = meant_headings on.now places.now }) }
+{
+    let mut headings = Headings::new(alloc, on.columns_name());
+    for k in 0..places.len() {
+        headings.push(on.heading(*places.at(k)))?;
+    }
+    Ok(headings)
+}
+
+// Whether a heading stands at one of the places from one on.
+fn stands_again(
+    dict: &TextDict,
+    on: &ObjRef<'_>,
+    places: &Places,
+    heading: Option<Label>,
+    from: usize,
+) -> bool
+    requires settled { IsSettled headings_value dict.now on.now.headings }
+    requires inside { All (λ place. place < length on.now.columns) places.now }
+    requires heading { IsSettled heading_value dict.now heading }
+    requires from { from ≤ length places.now }
+    ensures { result ≡ list_any (finish.same_heading (heading_value dict.now heading)) (headings_value dict.now (meant_headings on.now (drop from places.now))) }
+{
+    for k in from..places.len() {
+        if same_heading(dict, heading, on.heading(*places.at(k))) {
+            return true;
+        }
+    }
+    false
+}
+
+// The first heading at these places that stands again at a later one.
+pub(crate) fn first_repeated(dict: &TextDict, on: &ObjRef<'_>, places: &Places) -> Option<Label>
+    requires settled { IsSettled headings_value dict.now on.now.headings }
+    requires inside { All (λ place. place < length on.now.columns) places.now }
+    ensures { heading_value dict.now result ≡ finish.first_repeated (headings_value dict.now (meant_headings on.now places.now)) }
+{
+    for k in 0..places.len() {
+        let heading = on.heading(*places.at(k));
+        if stands_again(dict, on, places, heading, k + 1) {
+            return heading;
+        }
+    }
+    None
+}
