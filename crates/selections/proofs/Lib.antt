@@ -7,3 +7,4 @@ pub mod ChangeLaws
 pub mod ColumnLaws
 pub mod PutLaws
 pub mod AssignLaws
+pub mod CellLaws

@@ -1,9 +1,9 @@
 // What is selected from an object.
-ghost use Rattle.std.specs.Prelude.{◌≡◌, ◌<◌, List, length, map, All, IsSome, IfSome, Some};
+ghost use Rattle.std.specs.Prelude.{◌≡◌, ◌<◌, List, length, map, All, IsSome, IfSome, IfOk, Some};
 ghost use Rattle.std.specs.Option.{option_map};
 ghost use Rattle.cell_core.specs.declared.grid.Shape.TheVariants.{Frame};
 ghost use Rattle.meaning.specs.Text.{Text as OneText};
-ghost use Rattle.meaning.specs.Cell.{IsLonger, label_datum};
+ghost use Rattle.meaning.specs.Cell.{IsLonger, datum, label_datum};
 ghost use Rattle.meaning.specs.Operator.{cell_label};
 ghost use Rattle.meaning.specs.Tree.{iloc};
 ghost use Rattle.table_meaning.specs.Settled.{IsSettled};
@@ -221,7 +221,8 @@ fn positioned(
     second: Option<&Subscript>,
 ) -> Result<Cell, OpFault>
     requires live { IsSome (tables store.now on.0) }
-    ensures { (texts : List OneText) → MakesBy scalar_value texts result (meant.access_result (table (table_value texts (table_at (tables store.now) on.0))) iloc (subscript_of (tables store.now) texts first.now) (option_map (λ s. subscript_of (tables store.now) texts s.now) second.entry)) }
+    ensures given { (texts : List OneText) → IsSettled table_value texts (table_at (tables store.now) on.0) → IfOk result (λ c. IsSettled datum texts c) }
+    ensures cell { (texts : List OneText) → MakesBy scalar_value texts result (meant.access_result (table (table_value texts (table_at (tables store.now) on.0))) iloc (subscript_of (tables store.now) texts first.now) (option_map (λ s. subscript_of (tables store.now) texts s.now) second.entry)) }
 {
     match position_in(first, second) {
         Some(position) => cell_at(store, on, position),
