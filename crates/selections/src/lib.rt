@@ -33,3 +33,6 @@ pub use assigning::assign;
 pub use new_objects::{as_frame, copied, derived, derived_within, headed_by, renamed};
 pub use removing::remove;
 pub use selecting::select;
+
+#[cfg(test)]
+mod tests;
