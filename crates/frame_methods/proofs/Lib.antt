@@ -10,3 +10,4 @@ pub mod NameLaws
 pub mod BuiltLaws
 pub mod ListedLaws
 pub mod RenameLaws
+pub mod TestLaws

@@ -35,3 +35,6 @@ mod tables;
 
 pub use binding::exists;
 pub use calling::method;
+
+#[cfg(test)]
+mod tests;
