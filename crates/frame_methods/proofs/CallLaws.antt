@@ -51,7 +51,7 @@ cell_of (value.table t) = na_cell
 -- a scalar
 pub scalar_answered : (earlier texts : List Text) (tables : Tables) (m : Result Made OpFault) (one : Made) (c : Cell) (meant : Result Entry FaultValue)
     → m ≡ Ok one → one ≡ made.Scalar c → IfOk m (IsSettled made_value texts) → IsLonger earlier texts → IsSettled shown earlier tables → MakesBy made_value texts m meant
-    → (meant ≡ Ok (value.cell (datum texts c))) × (shown texts tables ≡ shown earlier tables) × IsSettled datum texts c
+    → (meant ≡ Ok (value.cell (datum texts c))) × ((shown texts tables ≡ shown earlier tables) × IsSettled datum texts c)
 scalar_answered earlier texts tables m one c meant was is given longer settled makes =
     let here : IsSettled made_value texts (made.Scalar c) = subst (λ (r : Result Made OpFault). IfOk r (IsSettled made_value texts)) (was ∙ ap Ok is) given in
     (subst (λ (r : Result Made OpFault). MakesBy made_value texts r meant) (was ∙ ap Ok is) makes, (seen_later shown earlier texts tables longer settled, λ more. ap cell_of (here more)))
