@@ -6,4 +6,6 @@ mod harness;
 #[cfg(test)]
 mod rows;
 #[cfg(test)]
+mod tables;
+#[cfg(test)]
 mod trouble;

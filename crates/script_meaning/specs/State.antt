@@ -1,8 +1,8 @@
 -- What names stand for.
 use Rattle.std.specs.Prelude.{Bool, true, false, ◌&&◌, ◌||◌, not, List, [], ◌∷◌, Option, Some, None, if◌then◌else◌, filter}
 use Rattle.meaning.specs.Text.{Text, same_text}
-use Rattle.script_meaning.specs.Table.{Table}
-use Rattle.script_meaning.specs.Value.{Entry, table, is_table}
+use Rattle.table_meaning.specs.Table.{Table}
+use Rattle.table_meaning.specs.Value.{Entry, table, is_table}
 
 -- The names in the order in which they were first bound, the value of each, and which names stand for one object. A name that isn't bound, or bound to a scalar, stands for no object.
 pub record State : Type 0 where

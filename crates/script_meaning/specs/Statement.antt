@@ -3,12 +3,13 @@ use Rattle.std.specs.Prelude.{Bool, true, false, [], ◌++◌, codes, Option, So
 use Rattle.std.specs.Fmt.{signed_decimal}
 use Rattle.meaning.specs.Text.{Text}
 use Rattle.meaning.specs.Cell.{CellValue, na_cell, int_cell, truth_cell, text_cell}
-use Rattle.script_meaning.specs.Table.{Table}
-use Rattle.script_meaning.specs.State.{State, with_new, with_object, with_table, without_name}
-use Rattle.script_meaning.specs.Value.{Entry, cell, table}
-use Rattle.meaning.specs.Fault.{FaultValue, wrong_kind, not_built}
-use Rattle.script_meaning.specs.Expression.{named_by, value_of_name, value_of, given_of, target_of, set_result}
+use Rattle.meaning.specs.Fault.{FaultValue, not_built}
 use Rattle.meaning.specs.Tree as tree
+use Rattle.table_meaning.specs.Table.{Table}
+use Rattle.table_meaning.specs.Value.{Entry, Given, cell, table}
+use Rattle.form_meaning.specs.Set.{assign_result, removal_result}
+use Rattle.script_meaning.specs.State.{State, with_new, with_object, with_table, without_name}
+use Rattle.script_meaning.specs.Expression.{Target, named_by, value_of_name, value_of, given_of, target_of}
 
 -- The state that it leaves and the text that it prints, or the first fault, which leaves the state as it was. The mark says that a setting of an object without a name was reached.
 pub data Answer : Type 0 where
@@ -48,16 +49,14 @@ abbrev pub print_answer : State → Text → Entry → Answer
 print_answer s end (cell c) = done s (cell_text c ++ end) false
 print_answer s end (table t) = refused not_built false
 
--- a scalar has no columns
-abbrev pub removal_answer : Entry → Answer
-removal_answer (cell c) = refused wrong_kind false
-removal_answer (table t) = refused not_built false
+abbrev pub assigned : Entry → Target → Given → Result Table FaultValue
+assigned v target g = assign_result v target.way target.first target.second g
 
 abbrev pub statement_result : State → tree.Form → Answer
 statement_result s tree.import_pandas = done s [] false
 statement_result s (tree.bind x e) = then_answer (value_of s e) (λ v. done (with_value s x (named_by e) v) [] false)
 statement_result s (tree.put x step a) =
-    then_answer (given_of s a) (λ g. then_answer (value_of s x) (λ v. then_answer (target_of s step) (λ t. set_answer s (named_by x) (set_result v t g))))
+    then_answer (given_of s a) (λ g. then_answer (value_of s x) (λ v. then_answer (target_of s step) (λ target. set_answer s (named_by x) (assigned v target g))))
 statement_result s (tree.drop_name n) = then_answer (value_of_name n (s.value n)) (λ v. done (without_name s n) [] false)
-statement_result s (tree.drop_column n x) = then_answer (value_of_name n (s.value n)) (λ v. then_answer (value_of s x) (λ k. removal_answer v))
+statement_result s (tree.drop_column n x) = then_answer (value_of_name n (s.value n)) (λ v. then_answer (value_of s x) (λ k. set_answer s (Some n) (removal_result v k)))
 statement_result s (tree.print x end) = then_answer (value_of s x) (print_answer s end)

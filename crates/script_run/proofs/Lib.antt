@@ -1,15 +1,3 @@
-pub mod Numbers
-pub mod Bindings
-pub mod LiveObjects
-pub mod States
-pub mod Worlds
-pub mod Trees
-pub mod SeenLaws
-pub mod Faulting
-pub mod Naming
-pub mod Binding
-pub mod Answering
-pub mod Settings
 pub mod RunLaws
 pub mod FileLaws
 pub mod Quoting

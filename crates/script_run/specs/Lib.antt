@@ -1,12 +1,2 @@
-pub mod Values
-pub mod Bindings
-pub mod Faults
-pub mod Adding
-pub mod Seen
-pub mod Parts
-pub mod Work
-pub mod Setting
-pub mod Apart
-pub mod Session
 pub mod Ends
 pub mod Exit

@@ -7,17 +7,15 @@ ghost use Rattle.meaning.specs.FaultText.{fault_text};
 ghost use Rattle.script_meaning.specs.Run.{line_about, warning_line};
 ghost use Rattle.script_meaning.specs.Statement.{statement_result};
 ghost use Rattle.script_syntax.specs.View.{form_of};
-ghost use Rattle.script_run.specs.Session.{state_of};
+ghost use Rattle.script_session.specs.Session.{state_of};
 ghost use Rattle.script_run.specs.Ends.{EndsWithLine, GoesOn, Stops, Warned};
 
 use crate::ending::end_with;
-use crate::fault::StepFault;
-use crate::file_names::FileNames;
-use crate::session::Session;
 use crate::status::Status;
 use crate::text::{line_of_fault, line_of_warning};
 use cell_core::{Fault, TextDict};
 use outside_io::{Files, Sink, write_piece};
+use script_session::{FileNames, Session, StepFault};
 use script_syntax::Statement;
 use std::alloc::Global;
 

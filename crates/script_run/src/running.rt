@@ -9,12 +9,11 @@ ghost use Rattle.script_run.specs.Ends.{Ends, EndsByMeaning, EndsWithLine, Is};
 
 use crate::advance::advance;
 use crate::ending::{end_with, say_unread};
-use crate::file_names::FileNames;
-use crate::session::Session;
 use crate::status::Status;
 use crate::text::{line_of_absence, line_of_syntax};
 use crate::words::script_path;
 use outside_io::{Files, ReadFault, Sink, read_whole};
+use script_session::{FileNames, Session};
 use script_syntax::{ParseFault, Script, parse};
 use std::alloc::Global;
 

@@ -1,6 +1,6 @@
 use Rattle.std.proofs.lemmas.Result.{err_from_is_err_and}
 use Rattle.meaning.specs.FaultOf.{fault_of}
-use Rattle.script_run.specs.Session.{state_of, texts_of}
+use Rattle.script_session.specs.Session.{state_of, texts_of}
 use Rattle.script_run.proofs.RunLaws.{stops_warning, stops_refused_warning, stops_refused}
 use Rattle.script_run.proofs.advance.advance.Goals as goal
 

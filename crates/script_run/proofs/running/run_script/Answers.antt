@@ -4,7 +4,7 @@ use Rattle.outside_io.proofs.Appended.{appended-appended, appended-nil}
 use Rattle.script_meaning.specs.Run.{after_texts, statements_result}
 use Rattle.script_syntax.specs.View.{statement_of}
 use Rattle.script_syntax.specs.ScriptView.{statements_of}
-use Rattle.script_run.specs.Session.{state_of}
+use Rattle.script_session.specs.Session.{state_of}
 use Rattle.script_run.proofs.RunLaws.{next-result, ends_after, ends_done, after-after}
 use Rattle.script_run.proofs.running.run_script.Goals as goal
 

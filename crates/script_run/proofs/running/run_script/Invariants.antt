@@ -3,7 +3,7 @@ use Rattle.outside_io.specs.Sink.{appended}
 use Rattle.script_meaning.specs.State.{no_names}
 use Rattle.script_meaning.specs.Run.{after_texts, statements_result}
 use Rattle.script_syntax.specs.ScriptView.{statements_of}
-use Rattle.script_run.specs.Session.{state_of}
+use Rattle.script_session.specs.Session.{state_of}
 use Rattle.script_run.proofs.running.run_script.Given as goal
 
 -- what was written, and then what the statements that are left print, is what all of them print

@@ -1,0 +1,27 @@
+-- The number of rows as a whole number of 64 bits.
+use Rattle.std.proofs.Common.{◌≡◌, ℕ, ℤ, pos, length, Some, Ok, sym, ◌∙◌, ap, ◌<◌, w64, to_z, of_z}
+use Rattle.std.specs.Int.{int_wrap, cast_signed}
+use Rattle.std.proofs.lemmas.Int.{of_z-to_z}
+use Rattle.std.proofs.lemmas.List.{length-map}
+use native.Mathlib.Nat.{mod-eq_of_lt}
+use Rattle.meaning.specs.Cell.{int_cell}
+use Rattle.table_meaning.specs.Table.{NumberedTable, table_value, tuple_value}
+use Rattle.table_meaning.specs.Value.{cell, table}
+use Rattle.form_meaning.specs.Select.{length_result}
+use Rattle.frame_store.specs.Objects.{table_or}
+use Rattle.frame_store.specs.declared.object.ObjId.{ObjId}
+use Rattle.frame_store.specs.declared.arguments.Value.{Value}
+use Rattle.frame_store.specs.declared.arguments.Value.TheVariants.{Object}
+use Rattle.script_session.specs.Values.{World, entry_in}
+
+wrapped : (n : ℕ) → n < 18446744073709551616 → int_wrap w64 (pos n) ≡ cast_signed w64 n
+unfolding int_wrap
+wrapped n small = ap (λ k. cast_signed w64 k) (mod-eq_of_lt small)
+
+pub length_answer : (w : World) (on : Value) (id : ObjId) (t : NumberedTable) (n : ℕ) (z : ℤ) → on ≡ Object id → w.tables id.0 ≡ Some t → n ≡ length t.labels → n < 18446744073709551616 → z ≡ cast_signed w64 n
+    → length_result (entry_in w on) ≡ Ok (cell (int_cell (to_z w64 (of_z w64 z))))
+length_answer w on id t n z is at rows small signed =
+    ap (λ v. length_result (entry_in w v)) is
+    ∙ ap (λ o. length_result (table (table_value w.texts (table_or o)))) at
+    ∙ ap (λ k. Ok (cell (int_cell (int_wrap w64 (pos k))))) (length-map t.labels (tuple_value w.texts) ∙ sym rows)
+    ∙ ap (λ y. Ok (cell (int_cell y))) (wrapped n small ∙ sym (ap (λ z. to_z w64 (of_z w64 z)) signed ∙ ap (to_z w64) (of_z-to_z w64 n small)))

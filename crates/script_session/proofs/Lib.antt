@@ -1,0 +1,14 @@
+pub mod Numbers
+pub mod Bindings
+pub mod LiveObjects
+pub mod Views
+pub mod Worlds
+pub mod Naming
+pub mod States
+pub mod Binding
+pub mod Faulting
+pub mod Parts
+pub mod Trees
+pub mod Answering
+pub mod Settings
+pub mod Lengths

@@ -1,0 +1,39 @@
+use Rattle.std.proofs.Common.{refl, sym, ◌∙◌, ap}
+use Rattle.script_session.specs.Bindings.{Bindings, state_over}
+use Rattle.script_session.specs.Work.{names_in, tables_in, world_of, state_in}
+use Rattle.script_session.proofs.States.{state_swept, refused_kept}
+use Rattle.script_session.proofs.Naming.{live_are_named, named_live}
+use Rattle.script_session.proofs.Answering.{done_after, refused_after, state_refused, live_refused}
+use Rattle.script_session.proofs.session.Session.perform.Goals as goal
+
+pub returns-clause-done : goal.returns-clause-done
+returns-clause-done c =
+    let p = c.perform-result.new.self in
+    let w = c.sweep.new.self in
+    let e = c.sweep.ensures in
+    done_after c.perform-result.result _ (state_in p) (state_in w) c.perform-result.ensures.done (sym (state_swept (names_in w) (names_in w) (world_of p) (world_of w) refl e.texts e.kept ∙ ap (λ (b : Bindings). state_over b (world_of p)) e.names))
+
+pub returns-clause-refused : goal.returns-clause-refused
+returns-clause-refused c = refused_after c.perform-result.result _ _ _ c.perform-result.ensures.refused (sym c.sweep.ensures.texts)
+
+pub returns-clause-same : goal.returns-clause-same
+returns-clause-same c =
+    let s = c.args.self.now.work in
+    let p = c.perform-result.new.self in
+    let w = c.sweep.new.self in
+    let e = c.sweep.ensures in
+    let same = refused_kept s p c.perform-result.result c.perform-result.ensures.names c.perform-result.ensures.kept in
+    state_refused c.perform-result.result (state_in s) (state_in p) (names_in p) (names_in w) (world_of p) (world_of w) same refl e.names e.texts e.kept
+
+pub returns-clause-objects : goal.returns-clause-objects
+returns-clause-objects c =
+    let s = c.args.self.now.work in
+    let p = c.perform-result.new.self in
+    let w = c.sweep.new.self in
+    let e = c.sweep.ensures in
+    live_refused c.perform-result.result (names_in s) (names_in p) (names_in w) (world_of s) (world_of p) (world_of w) c.perform-result.ensures.names c.perform-result.ensures.kept e.names e.texts e.kept e.named c.args.self.now.swept (named_live s.names.entries s.unique (tables_in s) s.live)
+
+pub returns-clause-live : goal.returns-clause-live
+returns-clause-live c =
+    let w = c.sweep.new.self in
+    live_are_named w.names.entries w.unique (world_of w) w.live c.sweep.ensures.named

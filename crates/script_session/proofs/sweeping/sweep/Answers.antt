@@ -1,0 +1,25 @@
+use Rattle.std.proofs.Common.{sym, ◌∙◌, subst}
+use Rattle.frame_store.specs.Objects.{tables}
+use Rattle.script_session.specs.Bindings.{bindings_of, AreNoted}
+use Rattle.script_session.proofs.LiveObjects.{noted_named, noted_ended, kept_ended}
+use Rattle.script_session.proofs.sweeping.sweep.Goals as goal
+
+pub loop-id-preserved-then-not-is_named : goal.loop-id-preserved-then-not-is_named
+loop-id-preserved-then-not-is_named c =
+    let bs = bindings_of c.args.names.now.entries in
+    let unnamed = sym c.is_named.ensures ∙ c.if-not-is_named.true in
+    let before = subst (λ ts. AreNoted bs ts (tables c.loop-id.store)) c.in-Some.ensures.items c.loop-id.invariant.noted in
+    record {
+      noted = noted_ended bs c.pop.new.self.items c.in-Some.id (tables c.loop-id.store) _ before c.end.ensures;
+      kept = kept_ended bs c.in-Some.id (tables c.args.store.now) _ _ c.loop-id.invariant.kept unnamed c.end.ensures;
+    }
+
+pub loop-id-preserved : goal.loop-id-preserved
+loop-id-preserved c =
+    let bs = bindings_of c.args.names.now.entries in
+    let named = sym c.is_named.ensures ∙ c.if-not-is_named.false in
+    let before = subst (λ ts. AreNoted bs ts (tables c.loop-id.store)) c.in-Some.ensures.items c.loop-id.invariant.noted in
+    record {
+      noted = noted_named bs c.pop.new.self.items c.in-Some.id (tables c.loop-id.store) before named;
+      kept = c.loop-id.invariant.kept;
+    }

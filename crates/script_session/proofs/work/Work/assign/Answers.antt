@@ -1,0 +1,20 @@
+use Rattle.frame_store.specs.Objects.{tables}
+use Rattle.script_session.specs.Values.{World}
+use Rattle.script_session.specs.Faults.{Sets}
+use Rattle.script_session.specs.Work.{names_in, world_of}
+use Rattle.script_session.proofs.Worlds.{live_set, noted_set, given_after}
+use Rattle.script_session.proofs.work.Work.assign.Goals as goal
+
+pub invariant_of-self : goal.invariant_of-self
+invariant_of-self c =
+    let s = c.args.self.now in
+    let e = c.assign.ensures in
+    let new : World = record { tables = tables c.assign.new.store; texts = c.assign.new.dict } in
+    let sets : Sets c.assign.result c.args.on _ (world_of s) new = (e.answers, e.longer) in
+    record {
+      unique = s.unique;
+      settled = e.settled;
+      live = live_set (world_of s) new (names_in s) c.assign.result c.args.on _ sets s.live;
+      given = given_after (names_in s) s.dict _ e.longer s.given;
+      noted = noted_set (world_of s) new (names_in s) s.temps.items c.assign.result c.args.on _ c.requires.on.live sets s.noted;
+    }

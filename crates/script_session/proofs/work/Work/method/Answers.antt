@@ -1,0 +1,34 @@
+use Rattle.frame_store.specs.Objects.{tables}
+use Rattle.script_session.specs.Values.{World}
+use Rattle.script_session.specs.Faults.{Forms}
+use Rattle.script_session.specs.Work.{names_in, world_of}
+use Rattle.script_session.proofs.Worlds.{form_keeps, live_after, given_after, noted_made, noted_refused}
+use Rattle.script_session.proofs.work.Work.method.Goals as goal
+
+pub invariant_of-self-in-Break-branch-2 : goal.invariant_of-self-in-Break-branch-2
+invariant_of-self-in-Break-branch-2 c =
+    let s = c.args.self.now in
+    let e = c.method.ensures in
+    let new : World = record { tables = tables c.method.new.store; texts = c.method.new.dict } in
+    let answers : Forms c.method.result _ (world_of s) new = (e.answers, e.longer) in
+    record {
+      unique = s.unique;
+      settled = e.settled;
+      live = live_after (names_in s) (world_of s) new (form_keeps c.method.result _ (world_of s) new answers) s.live;
+      given = given_after (names_in s) s.dict _ e.longer s.given;
+      noted = noted_refused (names_in s) s.temps.items _ c.method.result c.in_err-made.field-0.0 _ (world_of s) new c.in_err-made.was answers c.reserve.ensures.items s.noted;
+    }
+
+pub invariant_of-self-2 : goal.invariant_of-self-2
+invariant_of-self-2 c =
+    let s = c.args.self.now in
+    let e = c.method.ensures in
+    let new : World = record { tables = tables c.method.new.store; texts = c.method.new.dict } in
+    let answers : Forms c.method.result _ (world_of s) new = (e.answers, e.longer) in
+    record {
+      unique = s.unique;
+      settled = e.settled;
+      live = live_after (names_in s) (world_of s) new (form_keeps c.method.result _ (world_of s) new answers) s.live;
+      given = given_after (names_in s) s.dict _ e.longer s.given;
+      noted = noted_made (names_in s) s.temps.items _ _ c.method.result c.in_ok-made.made _ (world_of s) new c.in_ok-made.was answers c.reserve.ensures.items c.note.ensures s.noted;
+    }

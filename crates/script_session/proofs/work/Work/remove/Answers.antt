@@ -1,0 +1,22 @@
+use Rattle.frame_store.specs.Objects.{tables}
+use Rattle.frame_store.proofs.Settling.{longer_self}
+use Rattle.form_meaning.specs.Set.{removal_result}
+use Rattle.script_session.specs.Values.{World, entry_in}
+use Rattle.script_session.specs.Faults.{Sets}
+use Rattle.script_session.specs.Work.{names_in, world_of}
+use Rattle.script_session.proofs.Worlds.{live_set, noted_set}
+use Rattle.script_session.proofs.work.Work.remove.Goals as goal
+
+pub invariant_of-self : goal.invariant_of-self
+invariant_of-self c =
+    let s = c.args.self.now in
+    let e = c.remove.ensures in
+    let new : World = record { tables = tables c.remove.new.store; texts = s.dict } in
+    let sets : Sets c.remove.result c.args.on (removal_result (entry_in (world_of s) c.args.on) (entry_in (world_of s) c.args.label)) (world_of s) new = (e.answers, longer_self s.dict) in
+    record {
+      unique = s.unique;
+      settled = e.settled;
+      live = live_set (world_of s) new (names_in s) c.remove.result c.args.on _ sets s.live;
+      given = s.given;
+      noted = noted_set (world_of s) new (names_in s) s.temps.items c.remove.result c.args.on _ c.requires.on.live sets s.noted;
+    }

@@ -1,0 +1,16 @@
+-- A setting and a removal change one object alone.
+use Rattle.std.specs.Prelude.{◌≡◌, false, Option, Some, None}
+use Rattle.meaning.specs.Text.{Text, same_text}
+use Rattle.script_meaning.specs.State.{State}
+use Rattle.script_meaning.specs.Expression.{named_by}
+use Rattle.meaning.specs.Tree as tree
+
+-- A setting through a name changes the values of that name and of the names of its object alone, and a setting on an object without a name changes nothing. A removal of a column is one through its name.
+abbrev pub IsSetApart : Option Text → State → State → Type 0
+IsSetApart None old new = new ≡ old
+IsSetApart (Some n) old new = (m : Text) → same_text n m ≡ false → old.paired n m ≡ false → new.value m ≡ old.value m
+
+abbrev pub ChangesOneObject : tree.Form → State → State → Type 0
+ChangesOneObject (tree.put x step a) old new = IsSetApart (named_by x) old new
+ChangesOneObject (tree.drop_column n x) old new = IsSetApart (Some n) old new
+ChangesOneObject form old new = Unit {0}

@@ -1,0 +1,62 @@
+-- Values in the midst of a statement, as the objects and the texts show them.
+use Rattle.std.specs.Prelude.{◌≡◌, ℕ, List, IsSome}
+use Rattle.meaning.specs.Text.{Text}
+use Rattle.meaning.specs.Cell.{IsLonger}
+use Rattle.table_meaning.specs.Settled.{IsSettled}
+use Rattle.table_meaning.specs.Value.{Entry}
+use Rattle.frame_store.specs.Objects.{Tables}
+use Rattle.frame_store.specs.Arguments.{entry_of, item_of, items_of, argument_of, entries_of, arguments_of, subscript_of, IsLive, IsLiveItem, AreLiveItems, IsLiveArgument, AreLivePairs, AreLive, IsLiveSubscript}
+use Rattle.frame_store.specs.Shown.{Shown, shown}
+use Rattle.frame_store.specs.declared.arguments.Value.{Value}
+use Rattle.frame_store.specs.declared.arguments.Item.{Item}
+use Rattle.frame_store.specs.declared.arguments.Argument.{Argument}
+use Rattle.frame_store.specs.declared.arguments.Named.{Named}
+use Rattle.frame_store.specs.declared.arguments.Subscript.{Subscript}
+use Rattle.cell_core.specs.declared.cell.Label.{Label}
+
+-- the table of each live object, and the texts by number
+pub record World : Type 0 where
+  pub tables : Tables
+  pub texts : List Text
+
+-- the tables with texts
+abbrev pub objects_of : World → Shown
+objects_of w = shown w.texts w.tables
+
+abbrev pub entry_in : World → Value → Entry
+entry_in w v = entry_of w.tables w.texts v
+
+-- each text of a table was given its number
+abbrev pub IsSettledWorld : World → Type 0
+IsSettledWorld w = IsSettled shown w.texts w.tables
+
+-- the objects that were live are live with the same tables, and the texts have their numbers
+pub record Keeps (old new : World) : Type 0 where
+  pub objects : (id : ℕ) → IsSome (old.tables id) → objects_of new id ≡ objects_of old id
+  pub texts : IsLonger old.texts new.texts
+
+-- something that is made of values, by its sight: its objects are live, and its texts were given their numbers
+pub record IsKnown {X Y : Type 0} (alive : Tables → X → Type 0) (view : Tables → List Text → X → Y) (w : World) (x : X) : Type 0 where
+  pub live : alive w.tables x
+  pub given : IsSettled (view w.tables) w.texts x
+
+abbrev pub IsKnownValue : World → Value → Type 0
+IsKnownValue w v = IsKnown IsLive entry_of w v
+
+abbrev pub IsKnownItem : World → Item → Type 0
+IsKnownItem w item = IsKnown IsLiveItem item_of w item
+
+abbrev pub AreKnownItems : World → List Item → Type 0
+AreKnownItems w items = IsKnown AreLiveItems items_of w items
+
+abbrev pub IsKnownArgument : World → Argument → Type 0
+IsKnownArgument w a = IsKnown IsLiveArgument argument_of w a
+
+abbrev pub AreKnownPairs : World → List (Label × Argument) → Type 0
+AreKnownPairs w pairs = IsKnown AreLivePairs entries_of w pairs
+
+abbrev pub AreKnownArguments : World → List Named → Type 0
+AreKnownArguments w args = IsKnown AreLive arguments_of w args
+
+abbrev pub IsKnownSubscript : World → Subscript → Type 0
+IsKnownSubscript w s = IsKnown IsLiveSubscript subscript_of w s

@@ -1,0 +1,298 @@
+// Forms on values. What they make is noted.
+ghost use Rattle.std.specs.Prelude.{◌≡◌, ◌<◌, List, Some, IfOk, IfErr, OnOk, IfSome, true, is_some, option_map, vec_len, vec_capacity};
+ghost use Rattle.meaning.specs.Text.{Text as OneText};
+ghost use Rattle.meaning.specs.Cell.{label_datum};
+ghost use Rattle.meaning.specs.Operator.{cell_label};
+ghost use Rattle.table_meaning.specs.Value.{cell};
+ghost use Rattle.table_meaning.specs.Settled.{IsSettled};
+ghost use Rattle.form_meaning.specs.Signature.{function_named};
+ghost use Rattle.form_meaning.specs.Functions.{make_result};
+ghost use Rattle.form_meaning.specs.Infix.{infix_result, sign_result};
+ghost use Rattle.form_meaning.specs.Select.{length_result, select_result};
+ghost use Rattle.form_meaning.specs.Set.{assign_result, removal_result};
+ghost use Rattle.method_meaning.specs.Calls.{chain_result, has_method};
+ghost use Rattle.frame_store.specs.Objects.{tables};
+ghost use Rattle.frame_store.specs.Arguments.{argument_of, arguments_of, entry_of, subscript_of, IsLive};
+ghost use Rattle.frame_store.specs.Shown.{FormAnswers};
+ghost use Rattle.frame_methods.specs.Calls.{chain_of};
+ghost use Rattle.selections.specs.Selected.{way_of};
+ghost use Rattle.nullable_array.specs.Tasks.{operator_of};
+ghost use Rattle.script_tokens.specs.View.{binary_of};
+ghost use Rattle.script_syntax.specs.View.{literal_of, unary_of};
+ghost use Rattle.script_meaning.specs.Expression.{cell_of, is_minus};
+ghost use Rattle.script_session.specs.Values.{Keeps, IsKnownValue, IsKnownArgument, AreKnownArguments, IsKnownSubscript, entry_in, objects_of};
+ghost use Rattle.script_session.specs.Bindings.{value_at, noted, IsOf};
+ghost use Rattle.script_session.specs.Faults.{Forms, Sets, IsNoName, IsNoAttribute};
+
+use crate::literal::cell_of;
+use crate::names::find;
+use crate::work::Work;
+use cell_core::{Cell, Code, Grid, Label, Words};
+use constructors::function_exists;
+use form_parts::label_of;
+use frame_methods::exists;
+use frame_store::{Argument, Chain, NamedList, ObjId, OpFault, Selector, Store, Subscript, Value};
+use nullable_array::Binary as Operator;
+use script_syntax::{Binary, Literal, Unary};
+use std::alloc::Global;
+
+impl Work {
+    ghost use Rattle.script_session.specs.Work.{names_in, world_of};
+
+    // The value of a name.
+    pub fn named(&self, name: &Words) -> Result<Value, OpFault>
+        ensures found { IfOk result (λ v. value_at (names_in self.now) name.now ≡ Some v) }
+        ensures known { IfOk result (λ v. IsKnownValue (world_of self.now) v) }
+        ensures fault { IfErr result (λ f. IsNoName f name.now (value_at (names_in self.now) name.now)) }
+    {
+        match find(&self.names, name.as_str()) {
+            Some(value) => Ok(value),
+            None => {
+                let name = Words::from_text(self.alloc, name.as_str())?;
+                Err(OpFault::Refused(Code::NoName(name)))
+            }
+        }
+    }
+
+    // A value that is written out.
+    pub fn literal(&mut self, literal: &Literal) -> Result<Value, OpFault>
+        ensures names { names_in self.new ≡ names_in self.old }
+        ensures kept { Keeps (world_of self.old) (world_of self.new) }
+        ensures value { IfOk result (λ v. entry_in (world_of self.new) v ≡ cell (cell_of (literal_of literal.now))) }
+        ensures object { IfOk result (λ v. IsOf (names_in self.new) None v) }
+        ensures known { IfOk result (λ v. IsKnownValue (world_of self.new) v) }
+        ensures memory { IfErr result (λ f. f ≡ OpFault.NoMemory) }
+    {
+        let cell = cell_of(&mut self.dict, literal)?;
+        Ok(Value::Scalar(cell))
+    }
+
+    // A key of a dict that is written out.
+    pub fn key(&mut self, literal: &Literal) -> Result<Label, OpFault>
+        ensures names { names_in self.new ≡ names_in self.old }
+        ensures kept { Keeps (world_of self.old) (world_of self.new) }
+        ensures label { IfOk result (λ l. label_datum (world_of self.new).texts l ≡ cell_label (cell_of (literal_of literal.now))) }
+        ensures given { IfOk result (λ l. IsSettled label_datum (world_of self.new).texts l) }
+        ensures memory { IfErr result (λ f. f ≡ OpFault.NoMemory) }
+    {
+        let cell = cell_of(&mut self.dict, literal)?;
+        Ok(label_of(cell))
+    }
+
+    // An operator between two values.
+    pub fn infix(&mut self, op: Binary, a: Value, b: Value) -> Result<Value, OpFault>
+        requires left { IsKnownValue (world_of self.old) a }
+        requires right { IsKnownValue (world_of self.old) b }
+        ensures names { names_in self.new ≡ names_in self.old }
+        ensures answers { Forms result (infix_result (binary_of op) (entry_in (world_of self.old) a) (entry_in (world_of self.old) b)) (world_of self.old) (world_of self.new) }
+    {
+        self.temps.reserve(1)?;
+        let operator = operator_of(op);
+        let made = frame_ops::infix(self.alloc, &mut self.store, &mut self.dict, operator, a, b)?;
+        note(&mut self.temps, made);
+        Ok(made)
+    }
+
+    // A sign before a value.
+    pub fn sign(&mut self, op: Unary, a: Value) -> Result<Value, OpFault>
+        requires { IsKnownValue (world_of self.old) a }
+        ensures names { names_in self.new ≡ names_in self.old }
+        ensures answers { Forms result (sign_result (is_minus (unary_of op)) (entry_in (world_of self.old) a)) (world_of self.old) (world_of self.new) }
+    {
+        self.temps.reserve(1)?;
+        let negate = is_minus(op);
+        let made = frame_ops::invert_or_negate(
+            self.alloc,
+            &mut self.store,
+            &mut self.dict,
+            negate,
+            a,
+        )?;
+        note(&mut self.temps, made);
+        Ok(made)
+    }
+
+    // What a function of `pd` gives.
+    pub fn make(&mut self, function: &Words, args: &NamedList) -> Result<Value, OpFault>
+        requires { AreKnownArguments (world_of self.old) args.now.items.items }
+        ensures names { names_in self.new ≡ names_in self.old }
+        ensures answers { Forms result (make_result function.now (arguments_of (world_of self.old).tables (world_of self.old).texts args.now.items.items)) (world_of self.old) (world_of self.new) }
+    {
+        self.temps.reserve(1)?;
+        let name = function.as_str();
+        let made = constructors::make(self.alloc, &mut self.store, &mut self.dict, name, args)?;
+        note(&mut self.temps, made);
+        Ok(made)
+    }
+
+    // What a method gives.
+    pub fn method(&mut self, on: Value, chain: &Chain, args: &NamedList) -> Result<Value, OpFault>
+        requires on { IsKnownValue (world_of self.old) on }
+        requires arguments { AreKnownArguments (world_of self.old) args.now.items.items }
+        ensures names { names_in self.new ≡ names_in self.old }
+        ensures answers { Forms result (chain_result (entry_in (world_of self.old) on) (chain_of chain.now) (arguments_of (world_of self.old).tables (world_of self.old).texts args.now.items.items)) (world_of self.old) (world_of self.new) }
+    {
+        self.temps.reserve(1)?;
+        let made = frame_methods::method(
+            self.alloc,
+            &mut self.store,
+            &mut self.dict,
+            on,
+            chain,
+            args,
+        )?;
+        note(&mut self.temps, made);
+        Ok(made)
+    }
+
+    // What brackets or an accessor give.
+    pub fn select(
+        &mut self,
+        on: Value,
+        by: Selector,
+        first: &Subscript,
+        second: &Option<Subscript>,
+    ) -> Result<Value, OpFault>
+        requires on { IsKnownValue (world_of self.old) on }
+        requires first { IsKnownSubscript (world_of self.old) first.now }
+        requires second { IfSome second.now (IsKnownSubscript (world_of self.old)) }
+        ensures names { names_in self.new ≡ names_in self.old }
+        ensures answers { Forms result (select_result (entry_in (world_of self.old) on) (way_of by) (subscript_of (world_of self.old).tables (world_of self.old).texts first.now) (option_map (subscript_of (world_of self.old).tables (world_of self.old).texts) second.now)) (world_of self.old) (world_of self.new) }
+    {
+        self.temps.reserve(1)?;
+        let second = second.as_ref();
+        let made = selections::select(
+            self.alloc,
+            &mut self.store,
+            &mut self.dict,
+            on,
+            by,
+            first,
+            second,
+        )?;
+        note(&mut self.temps, made);
+        Ok(made)
+    }
+
+    // What brackets or an accessor name is set.
+    pub fn assign(
+        &mut self,
+        on: Value,
+        by: Selector,
+        first: &Subscript,
+        second: &Option<Subscript>,
+        value: &Argument,
+    ) -> Result<(), OpFault>
+        requires on { IsKnownValue (world_of self.old) on }
+        requires first { IsKnownSubscript (world_of self.old) first.now }
+        requires second { IfSome second.now (IsKnownSubscript (world_of self.old)) }
+        requires value { IsKnownArgument (world_of self.old) value.now }
+        ensures names { names_in self.new ≡ names_in self.old }
+        ensures sets { Sets result on (assign_result (entry_in (world_of self.old) on) (way_of by) (subscript_of (world_of self.old).tables (world_of self.old).texts first.now) (option_map (subscript_of (world_of self.old).tables (world_of self.old).texts) second.now) (argument_of (world_of self.old).tables (world_of self.old).texts value.now)) (world_of self.old) (world_of self.new) }
+    {
+        let second = second.as_ref();
+        selections::assign(
+            self.alloc,
+            &mut self.store,
+            &mut self.dict,
+            on,
+            by,
+            first,
+            second,
+            value,
+        )
+    }
+
+    // A column is taken out.
+    pub fn remove(&mut self, on: Value, label: Value) -> Result<(), OpFault>
+        requires on { IsKnownValue (world_of self.old) on }
+        requires label { IsKnownValue (world_of self.old) label }
+        ensures names { names_in self.new ≡ names_in self.old }
+        ensures sets { Sets result on (removal_result (entry_in (world_of self.old) on) (entry_in (world_of self.old) label)) (world_of self.old) (world_of self.new) }
+    {
+        selections::remove(self.alloc, &mut self.store, &self.dict, on, label)
+    }
+
+    // The number of rows.
+    pub fn length(&self, on: Value) -> Result<Value, OpFault>
+        requires { IsKnownValue (world_of self.now) on }
+        ensures { FormAnswers (world_of self.now).texts result (length_result (entry_in (world_of self.now) on)) (objects_of (world_of self.now)) (objects_of (world_of self.now)) }
+    {
+        match on {
+            Value::Object(id) => {
+                let rows = self.store.read(id).rows() as u64;
+                Ok(Value::Scalar(Cell::Int(rows.cast_signed())))
+            }
+            Value::Scalar(_) => Err(OpFault::Refused(Code::WrongKind)),
+        }
+    }
+}
+
+// An object that was made is noted.
+fn note(temps: &mut Vec<ObjId>, made: Value)
+    requires { vec_len temps.old < vec_capacity temps.old }
+    ensures { temps.new.items ≡ noted temps.old.items made }
+{
+    if let Value::Object(id) = made {
+        temps.push_reserved(id);
+    }
+}
+
+// The operator of a column's kernel.
+fn operator_of(op: Binary) -> Operator
+    ensures { operator_of result ≡ binary_of op }
+{
+    match op {
+        Binary::Add => Operator::Add,
+        Binary::Sub => Operator::Sub,
+        Binary::Mul => Operator::Mul,
+        Binary::FloorDiv => Operator::FloorDiv,
+        Binary::Mod => Operator::Mod,
+        Binary::Eq => Operator::Eq,
+        Binary::Ne => Operator::Ne,
+        Binary::Lt => Operator::Lt,
+        Binary::Le => Operator::Le,
+        Binary::Gt => Operator::Gt,
+        Binary::Ge => Operator::Ge,
+        Binary::And => Operator::And,
+        Binary::Or => Operator::Or,
+        Binary::Xor => Operator::Xor,
+    }
+}
+
+fn is_minus(op: Unary) -> bool
+    ensures { result ≡ is_minus (unary_of op) }
+{
+    match op {
+        Unary::Minus => true,
+        Unary::Invert => false,
+    }
+}
+
+// Whether the value has a method of this name, or an AttributeError.
+pub fn expect_method(alloc: Global, store: &Store, on: Value, name: &str) -> Result<(), OpFault>
+    requires { IsLive (tables store.now) on }
+    ensures known { (texts : List OneText) → OnOk result (has_method (entry_of (tables store.now) texts on) name.now ≡ true) }
+    ensures fault { (texts : List OneText) → IfErr result (λ f. IsNoAttribute f name.now (has_method (entry_of (tables store.now) texts on) name.now)) }
+{
+    expect_known(alloc, exists(store, on, name), name)
+}
+
+// Whether `pd` has a function of this name, or an AttributeError.
+pub fn expect_function(alloc: Global, name: &str) -> Result<(), OpFault>
+    ensures known { OnOk result (is_some (function_named name.now) ≡ true) }
+    ensures fault { IfErr result (λ f. IsNoAttribute f name.now (is_some (function_named name.now))) }
+{
+    expect_known(alloc, function_exists(name), name)
+}
+
+fn expect_known(alloc: Global, known: bool, name: &str) -> Result<(), OpFault>
+    ensures known { OnOk result (known ≡ true) }
+    ensures fault { IfErr result (λ f. IsNoAttribute f name.now known) }
+{
+    if known {
+        return Ok(());
+    }
+    let name = Words::from_text(alloc, name)?;
+    Err(OpFault::Refused(Code::NoAttribute(name)))
+}

@@ -1,0 +1,227 @@
+// Statements. What they make is noted.
+ghost use Rattle.std.specs.Prelude.{◌≡◌, [], Ok, IfOk, IfErr, IfSome, OnOk, OnErr, is_some, option_map, ◌<◌, vec_len, vec_capacity};
+ghost use Rattle.meaning.specs.Tree as tree;
+ghost use Rattle.frame_store.specs.Arguments.{subscript_of};
+ghost use Rattle.selections.specs.Selected.{way_of};
+ghost use Rattle.script_meaning.specs.State.{without_name};
+ghost use Rattle.script_meaning.specs.Expression.{named_by, target_of};
+ghost use Rattle.script_meaning.specs.Statement.{done, is_chained, statement_result};
+ghost use Rattle.script_syntax.specs.View.{expr_of, step_of, arg_of, form_of};
+ghost use Rattle.script_session.specs.Values.{Keeps, IsKnownValue, IsKnownSubscript};
+ghost use Rattle.script_session.specs.Bindings.{bound, unbound, value_at, noted_old, AreNamed, KeepNamed};
+ghost use Rattle.script_session.specs.Faults.{IsFault, IsStepFault, marked_fault};
+
+use crate::fault::{Outcome, StepFault};
+use crate::names::{bind, unbind};
+use crate::printing::printed_cell;
+use crate::sweeping::{release, sweep};
+use crate::words::selector_of;
+use crate::work::Work;
+use cell_core::{Code, NoMemory, Words};
+use frame_store::{ObjId, OpFault, Selector, Subscript, Value};
+use script_syntax::{Arg, Expr, Form, Step};
+use std::alloc::Global;
+
+impl Work {
+    ghost use Rattle.script_session.specs.Work.{names_in, tables_in, world_of, state_in};
+
+    // Does the statement.
+    pub fn perform(&mut self, form: &Form) -> Result<Outcome, StepFault>
+        ensures done { IfOk result (λ o. statement_result (state_in self.old) (form_of form.now) ≡ done (state_in self.new) o.printed o.warned) }
+        ensures refused { IfErr result (λ f. IsStepFault (world_of self.new).texts f (statement_result (state_in self.old) (form_of form.now))) }
+        ensures names { OnErr result (names_in self.new ≡ names_in self.old) }
+        ensures kept { OnErr result (Keeps (world_of self.old) (world_of self.new)) }
+    {
+        match form {
+            Form::Import => Ok(quiet(self.alloc, false)),
+            Form::Bind(name, expr) => self.bind(name, expr),
+            Form::Put(target, step, arg) => self.put(target, step, arg),
+            Form::DropName(name) => self.drop_name(name),
+            Form::DropColumn(name, key) => self.drop_column(name, key),
+            Form::Print(expr, end) => self.print(expr, end),
+        }
+    }
+
+    // Ends what no name stands for.
+    pub fn sweep(&mut self)
+        ensures names { names_in self.new ≡ names_in self.old }
+        ensures texts { (world_of self.new).texts ≡ (world_of self.old).texts }
+        ensures named { AreNamed (names_in self.new) (tables_in self.new) }
+        ensures kept { KeepNamed (names_in self.new) (tables_in self.old) (tables_in self.new) }
+    {
+        sweep(&self.names, &mut self.temps, &mut self.store);
+    }
+
+    // Takes a name out, with its object if no other name stands for it. Answers whether it was there.
+    pub fn forget(&mut self, name: &str) -> bool
+        ensures there { result ≡ is_some (value_at (names_in self.old) name.now) }
+        ensures state { state_in self.new ≡ without_name (state_in self.old) name.now }
+        ensures named { AreNamed (names_in self.old) (tables_in self.old) → AreNamed (names_in self.new) (tables_in self.new) }
+    {
+        let left = unbind(&mut self.names, name);
+        release(&self.names, &mut self.store, left);
+        left.is_some()
+    }
+}
+
+impl Work {
+    ghost use Rattle.script_session.specs.Work.{names_in, world_of, state_in};
+
+    // `name = expr`
+    fn bind(&mut self, name: &Words, expr: &Expr) -> Result<Outcome, StepFault>
+        ensures done { IfOk result (λ o. statement_result (state_in self.old) (tree.bind name.now (expr_of expr.now)) ≡ done (state_in self.new) o.printed o.warned) }
+        ensures refused { IfErr result (λ f. IsStepFault (world_of self.new).texts f (statement_result (state_in self.old) (tree.bind name.now (expr_of expr.now)))) }
+        ensures names { OnErr result (names_in self.new ≡ names_in self.old) }
+        ensures kept { OnErr result (Keeps (world_of self.old) (world_of self.new)) }
+    {
+        let value = self.evaluate(expr)?;
+        self.set_name(name.as_str(), value)?;
+        Ok(quiet(self.alloc, false))
+    }
+
+    // `target.step = arg`
+    fn put(&mut self, target: &Expr, step: &Step, arg: &Arg) -> Result<Outcome, StepFault>
+        ensures done { IfOk result (λ o. statement_result (state_in self.old) (tree.put (expr_of target.now) (step_of step.now) (arg_of arg.now)) ≡ done (state_in self.new) o.printed o.warned) }
+        ensures refused { IfErr result (λ f. IsStepFault (world_of self.new).texts f (statement_result (state_in self.old) (tree.put (expr_of target.now) (step_of step.now) (arg_of arg.now)))) }
+        ensures names { OnErr result (names_in self.new ≡ names_in self.old) }
+        ensures kept { OnErr result (Keeps (world_of self.old) (world_of self.new)) }
+    {
+        let value = self.given(arg)?;
+        let on = self.evaluate(target)?;
+        let (by, first, second) = self.target(step)?;
+        let warned = is_chained(target);
+        match self.assign(on, by, &first, &second, &value) {
+            Ok(()) => Ok(quiet(self.alloc, warned)),
+            Err(fault) => Err(marked(fault, warned)),
+        }
+    }
+
+    // The last step of a target: what stands before its brackets, and in them.
+    fn target(&mut self, step: &Step) -> Result<(Selector, Subscript, Option<Subscript>), OpFault>
+        ensures names { names_in self.new ≡ names_in self.old }
+        ensures kept { Keeps (world_of self.old) (world_of self.new) }
+        ensures value { IfOk result (λ p. target_of (state_in self.old) (step_of step.now) ≡ Ok (record { way = way_of p.0; first = subscript_of (world_of self.new).tables (world_of self.new).texts p.1; second = option_map (subscript_of (world_of self.new).tables (world_of self.new).texts) p.2 })) }
+        ensures first { IfOk result (λ p. IsKnownSubscript (world_of self.new) p.1) }
+        ensures second { IfOk result (λ p. IfSome p.2 (IsKnownSubscript (world_of self.new))) }
+        ensures fault { IfErr result (λ f. IsFault (world_of self.new).texts f (target_of (state_in self.old) (step_of step.now))) }
+    {
+        match step {
+            Step::Item(arg) => {
+                let key = self.given(arg)?;
+                Ok((Selector::Plain, Subscript::Key(key), None))
+            }
+            Step::Access(by, first, second) => {
+                let (first, second) = self.subscripts(first, second)?;
+                Ok((selector_of(*by), first, second))
+            }
+            Step::Method(_, _)
+            | Step::Group(_, _, _, _)
+            | Step::Rolling(_, _, _)
+            | Step::Expanding(_, _, _) => Err(OpFault::Refused(Code::NotBuilt)),
+        }
+    }
+
+    // `del name`
+    fn drop_name(&mut self, name: &Words) -> Result<Outcome, StepFault>
+        ensures done { IfOk result (λ o. statement_result (state_in self.old) (tree.drop_name name.now) ≡ done (state_in self.new) o.printed o.warned) }
+        ensures refused { IfErr result (λ f. IsStepFault (world_of self.new).texts f (statement_result (state_in self.old) (tree.drop_name name.now))) }
+        ensures names { OnErr result (names_in self.new ≡ names_in self.old) }
+        ensures kept { OnErr result (Keeps (world_of self.old) (world_of self.new)) }
+    {
+        self.named(name)?;
+        self.forget(name.as_str());
+        Ok(quiet(self.alloc, false))
+    }
+
+    // `del name[key]`
+    fn drop_column(&mut self, name: &Words, key: &Expr) -> Result<Outcome, StepFault>
+        ensures done { IfOk result (λ o. statement_result (state_in self.old) (tree.drop_column name.now (expr_of key.now)) ≡ done (state_in self.new) o.printed o.warned) }
+        ensures refused { IfErr result (λ f. IsStepFault (world_of self.new).texts f (statement_result (state_in self.old) (tree.drop_column name.now (expr_of key.now)))) }
+        ensures names { OnErr result (names_in self.new ≡ names_in self.old) }
+        ensures kept { OnErr result (Keeps (world_of self.old) (world_of self.new)) }
+    {
+        let on = self.named(name)?;
+        let label = self.evaluate(key)?;
+        self.remove(on, label)?;
+        Ok(quiet(self.alloc, false))
+    }
+
+    // `print(expr, end=end)`
+    fn print(&mut self, expr: &Expr, end: &Words) -> Result<Outcome, StepFault>
+        ensures done { IfOk result (λ o. statement_result (state_in self.old) (tree.print (expr_of expr.now) end.now) ≡ done (state_in self.new) o.printed o.warned) }
+        ensures refused { IfErr result (λ f. IsStepFault (world_of self.new).texts f (statement_result (state_in self.old) (tree.print (expr_of expr.now) end.now))) }
+        ensures names { OnErr result (names_in self.new ≡ names_in self.old) }
+        ensures kept { OnErr result (Keeps (world_of self.old) (world_of self.new)) }
+    {
+        let value = self.evaluate(expr)?;
+        match value {
+            Value::Scalar(cell) => {
+                let printed = printed_cell(self.alloc, &self.dict, cell, end.as_str())?;
+                Ok(Outcome {
+                    printed,
+                    warned: false,
+                })
+            }
+            Value::Object(_) => Err(StepFault::Refused {
+                code: Code::NotBuilt,
+                warned: false,
+            }),
+        }
+    }
+
+    // The name gets the value. The object that it stood for is noted.
+    fn set_name(&mut self, name: &str, value: Value) -> Result<(), NoMemory>
+        requires { IsKnownValue (world_of self.old) value }
+        ensures ok { OnOk result (names_in self.new ≡ bound (names_in self.old) name.now value) }
+        ensures err { OnErr result (names_in self.new ≡ names_in self.old) }
+        ensures world { world_of self.new ≡ world_of self.old }
+    {
+        self.temps.reserve(1)?;
+        let left = bind(self.alloc, &mut self.names, name, value)?;
+        note_left(&mut self.temps, left);
+        Ok(())
+    }
+}
+
+// The object that a name stood for is noted.
+fn note_left(temps: &mut Vec<ObjId>, left: Option<Value>)
+    requires { vec_len temps.old < vec_capacity temps.old }
+    ensures { temps.new.items ≡ noted_old temps.old.items left }
+{
+    if let Some(Value::Object(id)) = left {
+        temps.push_reserved(id);
+    }
+}
+
+// The fault of a setting, with the mark of one on an object without a name.
+fn marked(fault: OpFault, warned: bool) -> StepFault
+    ensures { result ≡ marked_fault warned fault }
+{
+    match fault {
+        OpFault::Refused(code) => StepFault::Refused { code, warned },
+        OpFault::NoMemory => StepFault::NoMemory,
+    }
+}
+
+// Whether the object of a target is no name, in parentheses or not.
+fn is_chained(target: &Expr) -> bool
+    ensures { result ≡ is_chained (named_by (expr_of target.now)) }
+{
+    match target {
+        Expr::Name(_) => false,
+        Expr::Paren(inner) => is_chained(inner),
+        Expr::Literal(_) | Expr::Unary(_, _) | Expr::Infix(_, _, _) => true,
+        Expr::After(_, _) | Expr::Len(_) | Expr::Make(_, _) => true,
+    }
+}
+
+// Nothing printed.
+fn quiet(alloc: Global, warned: bool) -> Outcome
+    ensures printed { result.printed ≡ [] }
+    ensures warned { result.warned ≡ warned }
+{
+    Outcome {
+        printed: Words::new(alloc),
+        warned,
+    }
+}
