@@ -412,7 +412,11 @@ fn forms_that_are_not_built(rt: HostRuntime) -> Result<(), Fail> {
         rt.alloc(),
         b"x = pd.Series([1]).head()\n",
         "line 1: NotBuiltError\n",
-    )?;
+    )
+}
+
+#[test]
+fn brackets_that_are_not_built(rt: HostRuntime) -> Result<(), Fail> {
     expect_fault(
         &rt,
         rt.alloc(),
