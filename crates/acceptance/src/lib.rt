@@ -4,6 +4,8 @@
 #[cfg(test)]
 mod harness;
 #[cfg(test)]
+mod printed;
+#[cfg(test)]
 mod rows;
 #[cfg(test)]
 mod tables;

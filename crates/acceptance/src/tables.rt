@@ -380,18 +380,6 @@ fn forms_that_are_not_built(rt: HostRuntime) -> Result<(), Fail> {
     expect_fault(
         &rt,
         rt.alloc(),
-        b"print(pd.DataFrame({'a': [1]}))\n",
-        "line 1: NotBuiltError\n",
-    )?;
-    expect_fault(
-        &rt,
-        rt.alloc(),
-        b"print(pd.Series([1]))\n",
-        "line 1: NotBuiltError\n",
-    )?;
-    expect_fault(
-        &rt,
-        rt.alloc(),
         b"f = pd.DataFrame({'a': [1, 2]})\nx = pd.concat([f, f])\n",
         "line 2: NotBuiltError\n",
     )?;

@@ -3,11 +3,13 @@ use Rattle.std.specs.Prelude.{Bool, true, false, [], ◌++◌, codes, Option, So
 use Rattle.std.specs.Fmt.{signed_decimal}
 use Rattle.meaning.specs.Text.{Text}
 use Rattle.meaning.specs.Cell.{CellValue, na_cell, int_cell, truth_cell, text_cell}
-use Rattle.meaning.specs.Fault.{FaultValue, not_built}
+use Rattle.meaning.specs.Fault.{FaultValue}
 use Rattle.meaning.specs.Tree as tree
 use Rattle.table_meaning.specs.Table.{Table}
 use Rattle.table_meaning.specs.Value.{Entry, Given, cell, table}
 use Rattle.form_meaning.specs.Set.{assign_result, removal_result}
+use Rattle.format_meaning.specs.Print.{table_text_of}
+use Rattle.format_meaning.specs.Told.{levelled}
 use Rattle.script_meaning.specs.State.{State, with_new, with_object, with_table, without_name}
 use Rattle.script_meaning.specs.Expression.{Target, named_by, value_of_name, value_of, given_of, target_of}
 
@@ -45,9 +47,10 @@ cell_text (truth_cell true) = codes "True"
 cell_text (truth_cell false) = codes "False"
 cell_text (text_cell t) = t
 
-abbrev pub print_answer : State → Text → Entry → Answer
-print_answer s end (cell c) = done s (cell_text c ++ end) false
-print_answer s end (table t) = refused not_built false
+-- how a value is printed
+abbrev pub entry_text : Entry → Text
+entry_text (cell c) = cell_text c
+entry_text (table t) = table_text_of (levelled t)
 
 abbrev pub assigned : Entry → Target → Given → Result Table FaultValue
 assigned v target g = assign_result v target.way target.first target.second g
@@ -59,4 +62,4 @@ statement_result s (tree.put x step a) =
     then_answer (given_of s a) (λ g. then_answer (value_of s x) (λ v. then_answer (target_of s step) (λ target. set_answer s (named_by x) (assigned v target g))))
 statement_result s (tree.drop_name n) = then_answer (value_of_name n (s.value n)) (λ v. done (without_name s n) [] false)
 statement_result s (tree.drop_column n x) = then_answer (value_of_name n (s.value n)) (λ v. then_answer (value_of s x) (λ k. set_answer s (Some n) (removal_result v k)))
-statement_result s (tree.print x end) = then_answer (value_of s x) (print_answer s end)
+statement_result s (tree.print x end) = then_answer (value_of s x) (λ v. done s (entry_text v ++ end) false)

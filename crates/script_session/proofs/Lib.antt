@@ -12,3 +12,4 @@ pub mod Trees
 pub mod Answering
 pub mod Settings
 pub mod Lengths
+pub mod Printed

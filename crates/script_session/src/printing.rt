@@ -1,14 +1,55 @@
-// The printed texts of scalars.
+// The printed texts of values.
 ghost use Rattle.std.specs.Prelude.{◌≡◌, ◌++◌, IfOk};
 ghost use Rattle.meaning.specs.Cell.{datum};
-ghost use Rattle.script_meaning.specs.Statement.{cell_text};
+ghost use Rattle.frame_store.specs.Objects.{tables};
+ghost use Rattle.frame_store.specs.Arguments.{entry_of, IsLive};
+ghost use Rattle.script_meaning.specs.Statement.{cell_text, entry_text};
 
-use cell_core::{Cell, NoMemory, TextDict, Words};
+use cell_core::{Cell, Grid, NoMemory, Shape, TextDict, Words};
+use frame_format::{frame_text, series_text};
+use frame_store::{Store, Value};
 use itoa::Buffer;
 use std::alloc::Global;
 
+// The printed text of a value, and then the end.
+pub fn printed_value(
+    alloc: Global,
+    dict: &TextDict,
+    store: &Store,
+    value: Value,
+    end: &str,
+) -> Result<Words, NoMemory>
+    requires { IsLive (tables store.now) value }
+    ensures { IfOk result (λ text. text ≡ entry_text (entry_of (tables store.now) dict.now value) ++ end.now) }
+{
+    let mut text = value_text(alloc, dict, store, value)?;
+    text.push_str(end)?;
+    Ok(text)
+}
+
+fn value_text(
+    alloc: Global,
+    dict: &TextDict,
+    store: &Store,
+    value: Value,
+) -> Result<Words, NoMemory>
+    requires { IsLive (tables store.now) value }
+    ensures { IfOk result (λ text. text ≡ entry_text (entry_of (tables store.now) dict.now value)) }
+{
+    match value {
+        Value::Scalar(cell) => cell_text(alloc, dict, cell),
+        Value::Object(id) => {
+            let table = store.read(id);
+            match table.shape() {
+                Shape::Series => series_text(alloc, dict, &table),
+                Shape::Frame => frame_text(alloc, dict, &table),
+            }
+        }
+    }
+}
+
 // The text of a scalar.
-pub fn cell_text(alloc: Global, dict: &TextDict, cell: Cell) -> Result<Words, NoMemory>
+fn cell_text(alloc: Global, dict: &TextDict, cell: Cell) -> Result<Words, NoMemory>
     ensures { IfOk result (λ text. text ≡ cell_text (datum dict.now cell)) }
 {
     let mut digits = Buffer::new();
@@ -22,18 +63,4 @@ pub fn cell_text(alloc: Global, dict: &TextDict, cell: Cell) -> Result<Words, No
             Cell::Text(id) => dict.text(id),
         },
     )
-}
-
-// The printed text of a scalar: its text, and then the end.
-pub fn printed_cell(
-    alloc: Global,
-    dict: &TextDict,
-    cell: Cell,
-    end: &str,
-) -> Result<Words, NoMemory>
-    ensures { IfOk result (λ text. text ≡ cell_text (datum dict.now cell) ++ end.now) }
-{
-    let mut text = cell_text(alloc, dict, cell)?;
-    text.push_str(end)?;
-    Ok(text)
 }

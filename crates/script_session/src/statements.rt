@@ -13,7 +13,7 @@ ghost use Rattle.script_session.specs.Faults.{IsFault, IsStepFault, marked_fault
 
 use crate::fault::{Outcome, StepFault};
 use crate::names::{bind, unbind};
-use crate::printing::printed_cell;
+use crate::printing::printed_value;
 use crate::sweeping::{release, sweep};
 use crate::words::selector_of;
 use crate::work::Work;
@@ -154,19 +154,12 @@ impl Work {
         ensures kept { OnErr result (Keeps (world_of self.old) (world_of self.new)) }
     {
         let value = self.evaluate(expr)?;
-        match value {
-            Value::Scalar(cell) => {
-                let printed = printed_cell(self.alloc, &self.dict, cell, end.as_str())?;
-                Ok(Outcome {
-                    printed,
-                    warned: false,
-                })
-            }
-            Value::Object(_) => Err(StepFault::Refused {
-                code: Code::NotBuilt,
-                warned: false,
-            }),
-        }
+        let end = end.as_str();
+        let printed = printed_value(self.alloc, &self.dict, &self.store, value, end)?;
+        Ok(Outcome {
+            printed,
+            warned: false,
+        })
     }
 
     // The name gets the value. The object that it stood for is noted.

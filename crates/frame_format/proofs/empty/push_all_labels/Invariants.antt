@@ -1,0 +1,7 @@
+use Rattle.std.proofs.Common.{◌≡◌, ◌++◌, codes}
+use Rattle.std.specs.List.{join_by}
+use Rattle.format_meaning.specs.Print.{whole_label, places}
+use Rattle.frame_format.proofs.empty.push_all_labels.Given as goal
+
+abbrev pub invariant-loop-row : goal.invariant-loop-row
+invariant-loop-row g l = l.out ≡ l.fn.out ++ join_by (whole_label l.source) (codes ", ") (places l.row)

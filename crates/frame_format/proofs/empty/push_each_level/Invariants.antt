@@ -1,0 +1,8 @@
+use Rattle.std.proofs.Common.{◌≡◌, ◌++◌, codes}
+use Rattle.std.specs.List.{join_by}
+use Rattle.format_meaning.specs.Told.{label_at}
+use Rattle.format_meaning.specs.Print.{shown_label, places}
+use Rattle.frame_format.proofs.empty.push_each_level.Given as goal
+
+abbrev pub invariant-loop-level : goal.invariant-loop-level
+invariant-loop-level g l = l.out ≡ l.fn.out ++ join_by (λ level. shown_label (label_at l.source l.row level)) (codes ", ") (places l.level)

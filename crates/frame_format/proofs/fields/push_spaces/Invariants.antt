@@ -1,0 +1,6 @@
+use Rattle.std.proofs.Common.{◌≡◌, ◌++◌}
+use Rattle.format_meaning.specs.Print.{spaces}
+use Rattle.frame_format.proofs.fields.push_spaces.Given as goal
+
+abbrev pub invariant-loop : goal.invariant-loop
+invariant-loop l = l.out ≡ l.fn.out ++ spaces l.counter

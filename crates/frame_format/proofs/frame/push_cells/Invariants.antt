@@ -1,0 +1,8 @@
+use Rattle.std.proofs.Common.{◌≡◌, ◌++◌, slice_index}
+use Rattle.format_meaning.specs.Told.{cell_at}
+use Rattle.format_meaning.specs.Print.{shown_cell}
+use Rattle.frame_format.specs.Layouts.{set_columns}
+use Rattle.frame_format.proofs.frame.push_cells.Given as goal
+
+abbrev pub invariant-loop-column : goal.invariant-loop-column
+invariant-loop-column g l = l.out ≡ l.fn.out ++ set_columns l.column (slice_index l.widths) (λ column. shown_cell (cell_at l.source l.row column))

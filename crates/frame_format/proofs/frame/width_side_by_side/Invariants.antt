@@ -1,0 +1,5 @@
+use Rattle.std.proofs.Common.{◌≡◌, ◌+◌, ◌-◌, length, sum, take}
+use Rattle.frame_format.proofs.frame.width_side_by_side.Given as goal
+
+abbrev pub invariant-loop-width : goal.invariant-loop-width
+invariant-loop-width l = l.total ≡ sum (take l.width-index l.widths) + (length l.widths - 1)

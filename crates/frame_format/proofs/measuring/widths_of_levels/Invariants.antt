@@ -1,0 +1,6 @@
+use Rattle.std.proofs.Common.{◌≡◌, map}
+use Rattle.format_meaning.specs.Print.{level_width, places}
+use Rattle.frame_format.proofs.measuring.widths_of_levels.Given as goal
+
+abbrev pub invariant-loop-level : goal.invariant-loop-level
+invariant-loop-level g l = l.widths.items ≡ map (level_width l.source) (places l.level)

@@ -1,0 +1,13 @@
+use Rattle.std.proofs.Common.{◌≡◌, ◌++◌, map}
+use Rattle.csv.specs.Records.{fields_of}
+use Rattle.format_meaning.specs.Told.{cell_at}
+use Rattle.format_meaning.specs.CsvWrite.{cell_field}
+use Rattle.format_meaning.specs.Print.{places}
+use Rattle.frame_format.specs.Written.{IsFilled}
+use Rattle.frame_format.proofs.records.put_cells.Given as goal
+
+abbrev pub invariant-loop-column : goal.invariant-loop-column
+invariant-loop-column g l = record {
+  fields : fields_of l.record ≡ fields_of l.fn.record ++ map (λ column. cell_field (cell_at l.source l.row column)) (places l.column);
+  filled : IsFilled l.record;
+}

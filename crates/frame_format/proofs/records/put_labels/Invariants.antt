@@ -1,0 +1,13 @@
+use Rattle.std.proofs.Common.{◌≡◌, ◌++◌, map}
+use Rattle.csv.specs.Records.{fields_of}
+use Rattle.format_meaning.specs.Told.{label_at}
+use Rattle.format_meaning.specs.CsvWrite.{label_field}
+use Rattle.format_meaning.specs.Print.{places}
+use Rattle.frame_format.specs.Written.{IsFilled}
+use Rattle.frame_format.proofs.records.put_labels.Given as goal
+
+abbrev pub invariant-loop-level : goal.invariant-loop-level
+invariant-loop-level g l = record {
+  fields : fields_of l.record ≡ fields_of l.fn.record ++ map (λ level. label_field (label_at l.source l.row level)) (places l.level);
+  filled : IsFilled l.record;
+}

@@ -1,0 +1,9 @@
+use Rattle.std.proofs.Common.{◌≡◌, OnOk, string_bytes, subst, Option, sym}
+use Rattle.cell_core.specs.Values.{LabelValue}
+use Rattle.format_meaning.specs.Print.{shown_name}
+use Rattle.frame_format.proofs.ToldLaws.{columns_name_seen}
+use Rattle.frame_format.proofs.source.Source.show_columns_name.Goals as goal
+
+pub returns : goal.returns
+returns g c =
+    subst (λ (n : Option LabelValue). OnOk c.show_name.result (string_bytes c.show_name.new.text ≡ shown_name n)) (columns_name_seen _ c.self.inside.dict.now _ _ (sym c.self.view_is) c.columns_name.ensures) c.show_name.ensures

@@ -1,0 +1,15 @@
+use Rattle.std.proofs.Common.{◌≡◌, OnOk, string_bytes, subst, sym}
+use Rattle.cell_core.specs.Values.{CellValue}
+use Rattle.format_meaning.specs.CsvWrite.{cell_field}
+use Rattle.frame_format.proofs.ToldLaws.{row_within, column_within, cell_seen}
+use Rattle.frame_format.proofs.source.Source.write_cell.Goals as goal
+
+pub cell-requires-clause-row : goal.cell-requires-clause-row
+cell-requires-clause-row g c = row_within _ _ _ _ (sym c.self.view_is) c.requires.row
+
+pub cell-requires-clause-column : goal.cell-requires-clause-column
+cell-requires-clause-column g c = column_within _ _ _ _ (sym c.self.view_is) c.requires.column
+
+pub returns : goal.returns
+returns g c =
+    subst (λ (x : CellValue). OnOk c.write_cell.result (string_bytes c.write_cell.new.text ≡ cell_field x)) (cell_seen _ c.self.inside.dict.now _ _ _ _ (sym c.self.view_is) c.requires.row c.requires.column c.cell.ensures) c.write_cell.ensures

@@ -1,0 +1,178 @@
+// A table with its texts.
+ghost use Rattle.std.specs.Prelude.{◌≡◌, ◌<◌, [], ℕ, length, slice_index_or, OnOk, string_bytes, is_some};
+ghost use Rattle.table_meaning.specs.Table.{column_at};
+ghost use Rattle.format_meaning.specs.Told.{told, label_at, level_name, cell_at, heading_at};
+ghost use Rattle.format_meaning.specs.Print.{shown_cell, shown_label, shown_name, same_above};
+ghost use Rattle.format_meaning.specs.CsvWrite.{cell_field, label_field, name_field, heading_field};
+
+use crate::texts;
+use cell_core::{Grid, Kind, NoMemory, TextDict};
+use std::marker::Model;
+
+/// A grid, and the texts of its labels and cells. A contract sees it as the whole table.
+///
+/// Each `show` and each `write` puts the text of a part, as it is in a printed table or in a record,
+/// in the place of what stood in `text`.
+#[derive(Drop)]
+pub(crate) struct Source<'a, G: Grid> {
+    dict: &'a TextDict,
+    grid: &'a G,
+}
+
+impl<'a, G: Grid> Model for Source<'a, G> {
+    ghost use Rattle.table_meaning.specs.Table.{Table};
+    ghost use Rattle.format_meaning.specs.Told.{told};
+
+    ghost Value = { Table };
+
+    ghost view = { λ s. told s.dict.now (G.table s.grid.now) };
+}
+
+impl<'a, G: Grid> Source<'a, G> {
+    pub(crate) fn new(dict: &'a TextDict, grid: &'a G) -> Source<'a, G>
+        ensures { result ≡ told dict.now (G.table grid.now) }
+    {
+        Source { dict, grid }
+    }
+
+    pub(crate) fn rows(&self) -> usize
+        ensures { result ≡ length self.now.labels }
+    {
+        self.grid.rows()
+    }
+
+    pub(crate) fn columns(&self) -> usize
+        ensures count { result ≡ length self.now.columns }
+        ensures headings { length self.now.headings ≡ length self.now.columns }
+    {
+        self.grid.columns()
+    }
+
+    pub(crate) fn levels(&self) -> usize
+        ensures count { result ≡ length self.now.level_names }
+        ensures tuples { (row : ℕ) → row < length self.now.labels → length (slice_index_or self.now.labels row []) ≡ length self.now.level_names }
+    {
+        self.grid.levels()
+    }
+
+    pub(crate) fn kind(&self, column: usize) -> Kind
+        requires { column < length self.now.columns }
+        ensures { result ≡ (column_at self.now.columns column).kind }
+    {
+        self.grid.kind(column)
+    }
+
+    pub(crate) fn has_level_name(&self, level: usize) -> bool
+        requires { level < length self.now.level_names }
+        ensures { result ≡ is_some (level_name self.now level) }
+    {
+        self.grid.level_name(level).is_some()
+    }
+
+    pub(crate) fn has_heading(&self, column: usize) -> bool
+        requires { column < length self.now.columns }
+        ensures { result ≡ is_some (heading_at self.now column) }
+    {
+        self.grid.heading(column).is_some()
+    }
+
+    /// Whether a row's label at a level is that of the row above.
+    pub(crate) fn same_above(&self, row: usize, level: usize) -> bool
+        requires row { row < length self.now.labels }
+        requires level { level < length self.now.level_names }
+        ensures { result ≡ same_above self.now row level }
+    {
+        if row == 0 {
+            return false;
+        }
+        let above = self.grid.label(row - 1, level);
+        let label = self.grid.label(row, level);
+        texts::same_label(self.dict, above, label)
+    }
+
+    pub(crate) fn show_label(
+        &self,
+        text: &mut String,
+        row: usize,
+        level: usize,
+    ) -> Result<(), NoMemory>
+        requires row { row < length self.now.labels }
+        requires level { level < length self.now.level_names }
+        ensures { OnOk result (string_bytes text.new ≡ shown_label (label_at self.now row level)) }
+    {
+        texts::show_label(text, self.dict, self.grid.label(row, level))
+    }
+
+    pub(crate) fn show_cell(
+        &self,
+        text: &mut String,
+        row: usize,
+        column: usize,
+    ) -> Result<(), NoMemory>
+        requires row { row < length self.now.labels }
+        requires column { column < length self.now.columns }
+        ensures { OnOk result (string_bytes text.new ≡ shown_cell (cell_at self.now row column)) }
+    {
+        texts::show_cell(text, self.dict, self.grid.cell(row, column))
+    }
+
+    pub(crate) fn show_level_name(&self, text: &mut String, level: usize) -> Result<(), NoMemory>
+        requires { level < length self.now.level_names }
+        ensures { OnOk result (string_bytes text.new ≡ shown_name (level_name self.now level)) }
+    {
+        texts::show_name(text, self.dict, self.grid.level_name(level))
+    }
+
+    pub(crate) fn show_heading(&self, text: &mut String, column: usize) -> Result<(), NoMemory>
+        requires { column < length self.now.columns }
+        ensures { OnOk result (string_bytes text.new ≡ shown_name (heading_at self.now column)) }
+    {
+        texts::show_name(text, self.dict, self.grid.heading(column))
+    }
+
+    pub(crate) fn show_columns_name(&self, text: &mut String) -> Result<(), NoMemory>
+        ensures { OnOk result (string_bytes text.new ≡ shown_name self.now.columns_name) }
+    {
+        texts::show_name(text, self.dict, self.grid.columns_name())
+    }
+
+    pub(crate) fn write_label(
+        &self,
+        text: &mut String,
+        row: usize,
+        level: usize,
+    ) -> Result<(), NoMemory>
+        requires row { row < length self.now.labels }
+        requires level { level < length self.now.level_names }
+        ensures { OnOk result (string_bytes text.new ≡ label_field (label_at self.now row level)) }
+    {
+        texts::write_label(text, self.dict, self.grid.label(row, level))
+    }
+
+    pub(crate) fn write_cell(
+        &self,
+        text: &mut String,
+        row: usize,
+        column: usize,
+    ) -> Result<(), NoMemory>
+        requires row { row < length self.now.labels }
+        requires column { column < length self.now.columns }
+        ensures { OnOk result (string_bytes text.new ≡ cell_field (cell_at self.now row column)) }
+    {
+        texts::write_cell(text, self.dict, self.grid.cell(row, column))
+    }
+
+    pub(crate) fn write_level_name(&self, text: &mut String, level: usize) -> Result<(), NoMemory>
+        requires { level < length self.now.level_names }
+        ensures { OnOk result (string_bytes text.new ≡ name_field (level_name self.now level)) }
+    {
+        texts::write_name(text, self.dict, self.grid.level_name(level))
+    }
+
+    pub(crate) fn write_heading(&self, text: &mut String, column: usize) -> Result<(), NoMemory>
+        requires { column < length self.now.columns }
+        ensures { OnOk result (string_bytes text.new ≡ heading_field (heading_at self.now column)) }
+    {
+        texts::write_heading(text, self.dict, self.grid.heading(column))
+    }
+}
