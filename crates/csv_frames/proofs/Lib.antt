@@ -1,0 +1,11 @@
+pub mod RecordLaws
+pub mod CutLaws
+pub mod LabelLaws
+pub mod SkippedLaws
+pub mod SettledLaws
+pub mod ColumnLaws
+pub mod KindLaws
+pub mod ReadLaws
+pub mod LargeLaws
+pub mod DifferentLaws
+pub mod FilledLaws

@@ -1,0 +1,9 @@
+use Rattle.std.proofs.Common.{◌≡◌, drop}
+use Rattle.meaning.specs.Text.{Text}
+use Rattle.csv_meaning.specs.CsvRead.{kind_listed, named_kind}
+use Rattle.csv_frames.specs.Views.{entries_seen, kinds_seen, kind_at}
+use Rattle.csv_frames.proofs.kinds.kinds_by_label.Given as goal
+
+-- the kinds so far, before the others
+abbrev pub invariant-loop-k : goal.invariant-loop-k
+invariant-loop-k l = (label : Text) → kind_listed (kind_at (kinds_seen l.named.entries) label) (entries_seen l.dict (drop l.k l.kinds)) label ≡ named_kind (entries_seen l.dict l.kinds) label

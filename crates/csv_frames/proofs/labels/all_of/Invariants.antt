@@ -1,0 +1,11 @@
+use Rattle.std.proofs.Common.{◌≡◌, [], length}
+use Rattle.csv_meaning.specs.CsvRead.{with_texts}
+use Rattle.csv_frames.specs.Views.{texts_seen}
+use Rattle.csv_frames.proofs.labels.all_of.Given as goal
+
+-- the texts so far, before the others
+abbrev pub invariant-loop-rest : goal.invariant-loop-rest
+invariant-loop-rest l = with_texts l.all (texts_seen l.rest) ≡ with_texts [] (texts_seen l.texts)
+
+abbrev pub decreases-loop-rest : goal.decreases-loop-rest
+decreases-loop-rest l = length l.rest

@@ -1,0 +1,19 @@
+use Rattle.std.proofs.Common.{◌≡◌, ◌<◌, ◌^◌, length, sym, subst, arith}
+use Rattle.std.specs.Prelude.{Result, Ok, Err, IfOk}
+use Rattle.std.specs.List.{IsDistinct}
+use Rattle.std.proofs.lemmas.List.{length-map}
+use Rattle.meaning.specs.Text.{same_text}
+use Rattle.csv_frames.specs.Views.{texts_seen}
+use Rattle.csv_frames.proofs.DifferentLaws.{labels_differ}
+use Rattle.csv_frames.proofs.labels.labels_of.Goals as goal
+
+so : {A E : Type 0} (r : Result A E) (P Q : A → Type 0) → ((x : A) → P x → Q x) → IfOk r P → IfOk r Q
+so (Ok x) P Q f h = f x h
+so (Err e) P Q f h = h
+
+pub returns-clause-different : goal.returns-clause-different
+returns-clause-different c =
+    let header = texts_seen c.as_slice.result.now in
+    let size : length header ≡ length c.as_slice.result.now = length-map c.as_slice.result.now _ in
+    let small : length header < 2 ^ 64 = omega (arith, size) in
+    so c.different_labels.result _ _ (λ labels is. subst (IsDistinct same_text) (sym is) (labels_differ header small)) c.different_labels.ensures

@@ -1,0 +1,75 @@
+-- What is seen of records and of the columns that are read.
+use Rattle.std.specs.Prelude.{◌≡◌, ◌≢◌, ℕ, List, [], ◌∷◌, map, drop, length, All, AllPairs, string_bytes, Option, Some, None, Result, Ok, Err, if◌then◌else◌}
+use Rattle.std.specs.declared.string.String.{String}
+use Rattle.cell_core.specs.declared.cell.Kind.{Kind}
+use Rattle.cell_core.specs.declared.cell.Cell.{Cell}
+use Rattle.cell_core.specs.declared.cell.Label.{Label}
+use Rattle.meaning.specs.Text.{Text, same_text}
+use Rattle.meaning.specs.Cell.{CellValue, datum, text_of, LabelValue, text}
+use Rattle.nullable_array.specs.Columns.{CellColumn}
+use Rattle.table_meaning.specs.Table.{ColumnOf, tuple_value}
+use Rattle.csv_meaning.specs.CsvRead.{CsvValue, CsvRefusal, not_utf8, no_record, long_record, not_of_kind, beyond_limits, field_in}
+use Rattle.csv_frames.specs.declared.table.NamedKind.{NamedKind}
+use Rattle.csv_frames.specs.declared.table.CsvTable.{CsvTable}
+use Rattle.csv_frames.specs.declared.table.CsvFault.{CsvFault}
+use Rattle.csv_frames.specs.declared.table.CsvFault.TheVariants.{NotUtf8, NoColumn, LongRow, NotCast, TooLarge, NoMemory}
+
+-- the records after the header
+abbrev pub rows_under : List (List Text) → List (List Text)
+rows_under records = drop 1 records
+
+-- the fields of a column
+abbrev pub column_fields : ℕ → List (List Text) → List Text
+column_fields place rows = map (field_in place) rows
+
+abbrev pub texts_seen : {Y : Type 0} → List (String Y) → List Text
+texts_seen texts = map string_bytes texts
+
+-- the labels of columns, each a tuple of its own
+abbrev pub label_tuples : List Text → List (List LabelValue)
+label_tuples labels = map (λ l. text l ∷ []) labels
+
+abbrev pub tuples_seen : List Text → List (List Label) → List (List LabelValue)
+tuples_seen texts tuples = map (tuple_value texts) tuples
+
+-- a column, and columns, with texts
+abbrev pub column_seen : List Text → CellColumn → ColumnOf CellValue
+column_seen texts c = record { kind = c.kind; cells = map (datum texts) c.cells }
+
+abbrev pub cells_seen : List Text → List Cell → List CellValue
+cells_seen texts cells = map (datum texts) cells
+
+abbrev pub columns_seen : List Text → List CellColumn → List (ColumnOf CellValue)
+columns_seen texts columns = map (column_seen texts) columns
+
+-- the kinds that are named for labels
+abbrev pub entries_seen : List Text → List NamedKind → List (Text × Kind)
+entries_seen texts kinds = map (λ n. (text_of texts n.label, n.kind)) kinds
+
+-- the same, kept by label
+abbrev pub kinds_seen : {Y : Type 0} → List (String Y × Kind) → List (Text × Kind)
+kinds_seen entries = map (λ e. (string_bytes e.0, e.1)) entries
+
+abbrev pub kind_at : List (Text × Kind) → Text → Option Kind
+kind_at [] label = None
+kind_at (n ∷ ns) label = if same_text label n.0 then Some n.1 else kind_at ns label
+
+-- the columns of a file, with texts
+abbrev pub csv_seen : List Text → CsvTable → CsvValue
+csv_seen texts t = record { rows = t.rows; labels = tuples_seen texts t.labels; columns = columns_seen texts t.columns }
+
+-- each column has a label of its own, and a cell for each row
+pub record PartsFit (t : CsvTable) : Type 0 where
+  pub headed : length t.labels ≡ length t.columns
+  pub different : AllPairs (λ a b. a ≢ b) t.labels
+  pub filled : All (λ (c : CellColumn). length c.cells ≡ t.rows) t.columns
+
+-- What reading a file answers is what is meant, or its first refusal is. After a refusal no text was given a number; want of memory may come in place of any answer.
+abbrev pub ReadAnswers : List Text → List Text → Result CsvTable CsvFault → Result CsvValue CsvRefusal → Type 0
+ReadAnswers old new (Ok t) meant = meant ≡ Ok (csv_seen new t)
+ReadAnswers old new (Err (NotUtf8 place)) meant = (meant ≡ Err (not_utf8 place)) × (new ≡ old)
+ReadAnswers old new (Err NoColumn) meant = (meant ≡ Err no_record) × (new ≡ old)
+ReadAnswers old new (Err (LongRow number width length)) meant = (meant ≡ Err (long_record number width length)) × (new ≡ old)
+ReadAnswers old new (Err NotCast) meant = (meant ≡ Err not_of_kind) × (new ≡ old)
+ReadAnswers old new (Err TooLarge) meant = (meant ≡ Err beyond_limits) × (new ≡ old)
+ReadAnswers old new (Err NoMemory) meant = Unit {0}
