@@ -1,5 +1,6 @@
 // Words that are no run, scripts at the limits, and files and sinks that fail.
 use crate::harness::{AMPLE, files_with, run_words};
+use itoa::Buffer;
 use outside_io::MemFiles;
 use script_run::Status;
 use std::alloc::{AllocError, Global};
@@ -91,6 +92,27 @@ fn a_script_has_at_most_ten_thousand_statements(rt: HostRuntime) -> Result<(), F
     expect_end(&rt, &script, Status::Done, "")?;
     let script = repeated(rt.alloc(), b"a = pd.Series([1])\n", 10_001)?;
     expect_end(&rt, &script, Status::Syntax, "line 10001: SyntaxError\n")
+}
+
+// A script that makes a frame of so many columns without a row.
+fn frame_of_columns(alloc: Global, columns: usize) -> Result<Vec<u8>, AllocError> {
+    let mut script = Vec::new(alloc);
+    let mut digits = Buffer::new();
+    script.extend_from_slice(b"f = pd.DataFrame({")?;
+    for column in 0..columns {
+        script.extend_from_slice(digits.format(column).as_bytes())?;
+        script.extend_from_slice(b":[],")?;
+    }
+    script.extend_from_slice(b"})\n")?;
+    Ok(script)
+}
+
+#[test]
+fn a_frame_has_at_most_65_536_columns(rt: HostRuntime) -> Result<(), Fail> {
+    let script = frame_of_columns(rt.alloc(), 1 << 16)?;
+    expect_end(&rt, &script, Status::Done, "")?;
+    let script = frame_of_columns(rt.alloc(), (1 << 16) + 1)?;
+    expect_end(&rt, &script, Status::Fault, "line 1: LimitError\n")
 }
 
 #[test]
