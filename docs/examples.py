@@ -3,7 +3,7 @@
 
     python3 docs/examples.py PROGRAM [FILE ..]
 
-In each FILE (by default docs/LANGUAGE.md, docs/METHODS.md and docs/FORMATS.md) a fenced block `pdscript` is a script. The
+In each FILE (by default LANGUAGE.md, METHODS.md, FORMATS.md and FROM_PANDAS.md of docs/) a fenced block `pdscript` is a script. The
 blocks `output` and `errors` that follow it are what it writes on its two streams, and a block that isn't
 there means nothing. Ends with 1 where an example writes anything else, and names it by its line.
 """
@@ -32,7 +32,7 @@ def main():
     program, files = os.path.abspath(sys.argv[1]), sys.argv[2:]
     here = os.path.dirname(os.path.abspath(__file__))
     failed = done = 0
-    for name in files or [os.path.join(here, page) for page in ("LANGUAGE.md", "METHODS.md", "FORMATS.md")]:
+    for name in files or [os.path.join(here, page) for page in ("LANGUAGE.md", "METHODS.md", "FORMATS.md", "FROM_PANDAS.md")]:
         with open(name, encoding="utf-8") as text:
             all_examples = examples(text.read())
         for example in all_examples:
