@@ -1,11 +1,13 @@
 #!/usr/bin/env python3
-"""Runs the examples of the documents on the built program.
+"""Runs the examples of the documents, and the scripts of examples/, on the built program.
 
     python3 docs/examples.py PROGRAM [FILE ..]
 
-In each FILE (by default LANGUAGE.md, METHODS.md, FORMATS.md and FROM_PANDAS.md of docs/) a fenced block `pdscript` is a script. The
-blocks `output` and `errors` that follow it are what it writes on its two streams, and a block that isn't
-there means nothing. Ends with 1 where an example writes anything else, and names it by its line.
+In each FILE (by default LANGUAGE.md, METHODS.md, FORMATS.md and FROM_PANDAS.md of docs/) a fenced block `pdscript`
+is a script. The blocks `output` and `errors` that follow it are what it writes on its two streams, and a block that
+isn't there means nothing. Where no FILE is given each script examples/NAME.pds is run too; it writes NAME.out and
+NAME.err, and nothing on a stream whose file isn't there. Ends with 1 where an example writes anything else, and
+names it by its file and line.
 """
 import os
 import re
@@ -28,26 +30,50 @@ def examples(text):
     return found
 
 
+def documented(name):
+    """The examples of a document."""
+    with open(name, encoding="utf-8") as text:
+        return [dict(example, file=name) for example in examples(text.read())]
+
+
+def text_of(name):
+    """What a file holds; nothing where it isn't there."""
+    if not os.path.exists(name):
+        return ""
+    with open(name, encoding="utf-8") as text:
+        return text.read()
+
+
+def stored(folder):
+    """The scripts of a folder, each with what it writes."""
+    found = []
+    for name in sorted(os.listdir(folder)):
+        path, kind = os.path.splitext(os.path.join(folder, name))
+        if kind == ".pds":
+            found.append({"file": path + kind, "line": 1, "script": text_of(path + kind), "output": text_of(path + ".out"), "errors": text_of(path + ".err")})
+    return found
+
+
 def main():
     program, files = os.path.abspath(sys.argv[1]), sys.argv[2:]
     here = os.path.dirname(os.path.abspath(__file__))
-    failed = done = 0
-    for name in files or [os.path.join(here, page) for page in ("LANGUAGE.md", "METHODS.md", "FORMATS.md", "FROM_PANDAS.md")]:
-        with open(name, encoding="utf-8") as text:
-            all_examples = examples(text.read())
-        for example in all_examples:
-            with tempfile.TemporaryDirectory() as folder:
-                path = os.path.join(folder, "script.pds")
-                with open(path, "w", encoding="utf-8") as out:
-                    out.write(example["script"])
-                ran = subprocess.run([program, path], capture_output=True, timeout=60)
-            done += 1
-            wrote = (ran.stdout.decode(), ran.stderr.decode())
-            if wrote != (example["output"], example["errors"]):
-                failed += 1
-                print("%s:%d: wrote %r" % (name, example["line"], wrote))
-    print("%d examples, %d failed" % (done, failed))
-    return 1 if failed or not done else 0
+    pages = files or [os.path.join(here, page) for page in ("LANGUAGE.md", "METHODS.md", "FORMATS.md", "FROM_PANDAS.md")]
+    all_examples = [example for name in pages for example in documented(name)]
+    if not files:
+        all_examples += stored(os.path.join(os.path.dirname(here), "examples"))
+    failed = 0
+    for example in all_examples:
+        with tempfile.TemporaryDirectory() as folder:
+            path = os.path.join(folder, "script.pds")
+            with open(path, "w", encoding="utf-8") as out:
+                out.write(example["script"])
+            ran = subprocess.run([program, path], capture_output=True, timeout=60)
+        wrote = (ran.stdout.decode(), ran.stderr.decode())
+        if wrote != (example["output"], example["errors"]):
+            failed += 1
+            print("%s:%d: wrote %r" % (example["file"], example["line"], wrote))
+    print("%d examples, %d failed" % (len(all_examples), failed))
+    return 1 if failed or not all_examples else 0
 
 
 if __name__ == "__main__":
