@@ -1,8 +1,8 @@
 -- Laws of the labels of columns.
-use Rattle.std.proofs.Common.{◌≡◌, ℕ, suc, ◌+◌, ◌-◌, ◌<◌, Bool, true, false, not, ◌||◌, cond, if◌then◌else◌, List, [], ◌∷◌, ◌++◌, length, nat_eq, refl, sym, ap, ◌∙◌, arith}
+use Rattle.std.proofs.Common.{◌≡◌, ℕ, suc, ◌+◌, ◌-◌, ◌<◌, Bool, true, false, not, ◌||◌, cond, List, [], ◌∷◌, length, nat_eq, refl, sym, ap, ◌∙◌, arith}
 use Rattle.std.specs.List.{list_any, position_or_len, range_with_len}
 use Rattle.std.proofs.lemmas.Bool.Decides.{nat_tests}
-use Rattle.cell_core.specs.Texts.{with_text, number_of}
+use Rattle.cell_core.specs.Texts.{number_of}
 use Rattle.meaning.specs.Text.{Text, same_text}
 use Rattle.csv_meaning.specs.CsvRead.{with_number, is_free, free_label}
 
@@ -46,11 +46,3 @@ pub number_passed : (taken : List Text) (label : Text) (n columns : ℕ) → n <
 number_passed taken label n columns lt before free =
     let here : first_free taken label columns n ≡ 1 + first_free taken label columns (n + 1) = from_number (is_free taken label) n columns lt ∙ ap (λ b. cond (not b) (1 + first_free taken label columns (n + 1)) 0) (sym free) in
     omega arith
-
--- a text that isn't new changes nothing
-kept_if : (texts : List Text) (t : Text) (any new : Bool) → new ≡ not any → new ≡ false → (if any then texts else texts ++ t ∷ []) ≡ texts
-kept_if texts t true new is old = refl
-kept_if texts t false new is old = absurd (grind arith)
-
-pub text_kept : (texts texts' : List Text) (t : Text) (new : Bool) → texts' ≡ with_text texts t → new ≡ not (list_any (same_text t) texts) → new ≡ false → texts' ≡ texts
-text_kept texts texts' t new put is old = put ∙ kept_if texts t (list_any (same_text t) texts) new is old
