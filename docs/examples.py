@@ -5,9 +5,10 @@
 
 In each FILE (by default LANGUAGE.md, METHODS.md, FORMATS.md and FROM_PANDAS.md of docs/) a fenced block `pdscript`
 is a script. The blocks `output` and `errors` that follow it are what it writes on its two streams, and a block that
-isn't there means nothing. Where no FILE is given each script examples/NAME.pds is run too; it writes NAME.out and
-NAME.err, and nothing on a stream whose file isn't there. Ends with 1 where an example writes anything else, and
-names it by its file and line.
+isn't there means nothing. A block `csv NAME` is a file that the next script is given by the word NAME=PATH. Where no
+FILE is given each script examples/NAME.pds is run too, with a word FILE.csv=PATH for each file examples/FILE.csv; it
+writes NAME.out and NAME.err, and nothing on a stream whose file isn't there. Ends with 1 where an example writes
+anything else, and names it by its file and line.
 """
 import os
 import re
@@ -15,16 +16,19 @@ import subprocess
 import sys
 import tempfile
 
-FENCE = re.compile(r"^```(pdscript|output|errors)\n(.*?)^```$", re.M | re.S)
+FENCE = re.compile(r"^```(?:(pdscript|output|errors)|csv (\S+))\n(.*?)^```$", re.M | re.S)
 
 
 def examples(text):
-    """Each script with its line, its output and its errors."""
-    found = []
+    """Each script with its line, its files, its output and its errors."""
+    found, files = [], {}
     for block in FENCE.finditer(text):
-        kind, body = block.groups()
-        if kind == "pdscript":
-            found.append({"line": text.count("\n", 0, block.start()) + 1, "script": body, "output": "", "errors": ""})
+        kind, name, body = block.groups()
+        if name:
+            files[name] = body
+        elif kind == "pdscript":
+            found.append({"line": text.count("\n", 0, block.start()) + 1, "script": body, "files": files, "output": "", "errors": ""})
+            files = {}
         else:
             found[-1][kind] = body
     return found
@@ -45,13 +49,23 @@ def text_of(name):
 
 
 def stored(folder):
-    """The scripts of a folder, each with what it writes."""
+    """The scripts of a folder, each with all files of the folder and what it writes."""
+    names = sorted(os.listdir(folder))
+    files = {name: text_of(os.path.join(folder, name)) for name in names if name.endswith(".csv")}
     found = []
-    for name in sorted(os.listdir(folder)):
+    for name in names:
         path, kind = os.path.splitext(os.path.join(folder, name))
         if kind == ".pds":
-            found.append({"file": path + kind, "line": 1, "script": text_of(path + kind), "output": text_of(path + ".out"), "errors": text_of(path + ".err")})
+            found.append({"file": path + kind, "line": 1, "script": text_of(path + kind), "files": files, "output": text_of(path + ".out"), "errors": text_of(path + ".err")})
     return found
+
+
+def placed(folder, name, body):
+    """The path of a file with this text in a folder."""
+    path = os.path.join(folder, name)
+    with open(path, "w", encoding="utf-8") as out:
+        out.write(body)
+    return path
 
 
 def main():
@@ -64,10 +78,9 @@ def main():
     failed = 0
     for example in all_examples:
         with tempfile.TemporaryDirectory() as folder:
-            path = os.path.join(folder, "script.pds")
-            with open(path, "w", encoding="utf-8") as out:
-                out.write(example["script"])
-            ran = subprocess.run([program, path], capture_output=True, timeout=60)
+            words = [program, placed(folder, "script.pds", example["script"])]
+            words += [name + "=" + placed(folder, name, body) for name, body in example["files"].items()]
+            ran = subprocess.run(words, capture_output=True, timeout=60)
         wrote = (ran.stdout.decode(), ran.stderr.decode())
         if wrote != (example["output"], example["errors"]):
             failed += 1

@@ -193,6 +193,20 @@ fn series_and_columns_are_renamed(rt: HostRuntime) -> Result<(), Fail> {
 }
 
 #[test]
+fn tables_are_written_as_csv(rt: HostRuntime) -> Result<(), Fail> {
+    let script =
+        b"f = pd.DataFrame({'g': [1, 1, 2], 'v': [3, 4, 5]})\nprint(f.to_csv(index=False), end='')\ns = pd.Series(['a,b', pd.NA], index=['x', True])\nprint(s.to_csv(), end='')\nprint((f['g'] > 1).to_csv(index=False), end='')\nprint(f[[]].to_csv(True), end='')\nprint(f[[]].to_csv(index=False))\n";
+    expect_run(
+        &rt,
+        rt.alloc(),
+        script,
+        Status::Fault,
+        "g,v\n1,3\n1,4\n2,5\n,0\nx,\"a,b\"\nTrue,\ng\nFalse\nFalse\nTrue\n\"\"\n0\n1\n2\n",
+        "line 7: ValueError: no columns\n",
+    )
+}
+
+#[test]
 fn constructors_take_labels_names_and_kinds(rt: HostRuntime) -> Result<(), Fail> {
     let script =
         b"s = pd.Series(['1', pd.NA], index=['x', True], name='n', dtype='Int64')\nt = pd.Series([10, 20], ['x', True])\nprint((s + t).iloc[0])\nprint((s + t).iloc[1])\nf = pd.DataFrame({'a': [1], 'b': [2], 'a': [3]}, index=[7])\nprint(f['a'].iloc[0])\nprint(f.sum().iloc[0])\nprint((s + pd.Series([10, 20])).iloc[0])\n";
@@ -382,12 +396,6 @@ fn forms_that_are_not_built(rt: HostRuntime) -> Result<(), Fail> {
         rt.alloc(),
         b"f = pd.DataFrame({'a': [1, 2]})\nx = pd.concat([f, f])\n",
         "line 2: NotBuiltError\n",
-    )?;
-    expect_fault(
-        &rt,
-        rt.alloc(),
-        b"x = pd.read_csv('orders')\n",
-        "line 1: NotBuiltError\n",
     )?;
     expect_fault(
         &rt,

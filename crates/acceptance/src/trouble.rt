@@ -38,6 +38,19 @@ fn words_that_are_no_run_get_the_usage_line(rt: HostRuntime) -> Result<(), Fail>
 }
 
 #[test]
+fn words_of_files_are_names_with_paths(rt: HostRuntime) -> Result<(), Fail> {
+    expect_usage(&rt, &["pdscript", "s", ""])?;
+    expect_usage(&rt, &["pdscript", "s", "-"])?;
+    expect_usage(&rt, &["pdscript", "s", "="])?;
+    expect_usage(&rt, &["pdscript", "s", "=t"])?;
+    expect_usage(&rt, &["pdscript", "s", "t="])?;
+    expect_usage(&rt, &["pdscript", "s", "-t=t"])?;
+    expect_usage(&rt, &["pdscript", "s", "t=t", "u"])?;
+    expect_usage(&rt, &["pdscript", "s", "t=t", "t=u"])?;
+    expect_usage(&rt, &["pdscript", "s", "t=t", "u=u", "t=t"])
+}
+
+#[test]
 fn a_dash_alone_is_a_path(rt: HostRuntime) -> Result<(), Fail> {
     let mut files = MemFiles::new(rt.alloc());
     files.hold("-", SCRIPT)?;

@@ -15,6 +15,19 @@ fn gives_each_text_one_number(rt: HostRuntime) -> Result<(), Fail> {
 }
 
 #[test]
+fn drops_the_last_texts(rt: HostRuntime) -> Result<(), Fail> {
+    let mut dict = TextDict::new(rt.alloc());
+    let kept = dict.intern("a")?;
+    let dropped = dict.intern("b")?;
+    dict.truncate(1);
+    assert_eq!(rt; dict.len(), 1);
+    assert_eq!(rt; dict.text(kept), "a");
+    assert_eq!(rt; dict.text(dropped), "");
+    assert_eq!(rt; dict.intern("c")?, dropped);
+    Ok(())
+}
+
+#[test]
 fn orders_labels(rt: HostRuntime) -> Result<(), Fail> {
     let mut dict = TextDict::new(rt.alloc());
     let later = dict.intern("b")?;

@@ -1,71 +1,141 @@
--- Laws of columns, field by field.
-use Rattle.std.proofs.Common.{◌≡◌, ◌∙◌, ◌+◌, ◌<◌, ◌≤◌, ℕ, suc, refl, ap, sym, List, [], ◌∷◌, ◌++◌, length, drop, get_or, map, arith, Option, None, Bool, true, false, ◌||◌, min, inl, inr}
-use Rattle.std.proofs.lemmas.List.{drop_more, drop_all}
-use Rattle.std.proofs.lemmas.Bool.{cases_order}
-use Rattle.csv_frames.specs.Cuts.{record_at}
-use Rattle.cell_core.specs.Texts.{IsLonger}
-use Rattle.cell_core.specs.declared.cell.Cell.{Cell}
-use Rattle.cell_core.specs.declared.cell.Kind.{Kind}
+-- Laws of the columns that all records have.
+use Rattle.std.proofs.Common.{◌≡◌, ◌∙◌, ◌+◌, ◌<◌, ℕ, suc, refl, ap, sym, subst, Bool, true, false, ◌||◌, List, [], ◌∷◌, ◌++◌, length, map, get_or, Option, Some, None, unwrap_or, arith}
+use Rattle.std.specs.List.{list_all, list_any}
+use Rattle.std.proofs.lemmas.List.{length-map, get_or-map}
 use Rattle.meaning.specs.Text.{Text}
-use Rattle.meaning.specs.Cell.{CellValue, datum}
+use Rattle.meaning.specs.Cell.{CellValue, Kind, Int64}
 use Rattle.nullable_array.specs.Columns.{CellColumn}
 use Rattle.table_meaning.specs.Settled.{IsSettled}
 use Rattle.table_meaning.specs.Table.{ColumnOf}
-use Rattle.csv_meaning.specs.CsvRead.{field_in, cell_of_field, column_of_fields, columns_from, is_misfit, has_misfit}
-use Rattle.csv_frames.specs.Views.{column_fields, column_seen, columns_seen, cells_seen}
-use Rattle.csv_frames.proofs.SettledLaws.{seen_more}
+use Rattle.table_meaning.specs.Valid.{within_limits}
+use Rattle.csv_meaning.specs.CsvRead.{is_missing, kind_of_fields, cell_of_field, column_of_fields, columns_from}
+use Rattle.csv_frames.specs.Views.{column_fields, column_seen, columns_seen}
+use Rattle.csv_frames.specs.Growing.{is_mixed, kind_so_far, column_so_far, Grown, AreGrown, GrownTo}
+use Rattle.csv_frames.specs.declared.growing.Growing.{Growing}
+use Rattle.csv_frames.specs.declared.growing.Growing.TheVariants as growing
+use Rattle.csv_frames.specs.declared.growth.Growth.{Growth}
+use Rattle.csv_frames.proofs.KindsLaws.{all_na, kind_missing}
+use Rattle.csv_frames.proofs.GrowingLaws.{na_seen, mixed_up}
 
--- one cell more
-pub cells_step : (old new : List Text) (kind : Kind) (place row : ℕ) (records : List (List Text)) (field : Text) (cell : Cell) (cells cells' : List Cell) (whole : List CellValue)
-    → row < length records → field ≡ field_in place (record_at records row) → datum new cell ≡ cell_of_field kind field
-    → IsLonger old new → IsSettled cells_seen old cells → cells' ≡ cells ++ cell ∷ []
-    → cells_seen old cells ++ map (cell_of_field kind) (column_fields place (drop row records)) ≡ whole
-    → cells_seen new cells' ++ map (cell_of_field kind) (column_fields place (drop (row + 1) records)) ≡ whole
-cells_step old new kind place row records field cell cells cells' whole lt read made longer settled pushed before =
-    seen_more datum old new cells cells' cell longer settled pushed (cell_of_field kind (field_in place (record_at records row))) (map (cell_of_field kind) (column_fields place (drop (row + 1) records))) whole
-    (made ∙ ap (cell_of_field kind) read)
-    (ap (λ l. cells_seen old cells ++ map (cell_of_field kind) (column_fields place l)) (sym (drop_more records row [] lt)) ∙ before)
+missing_column : (named : Option Kind) (fields : List Text) → named ≡ None → list_all is_missing fields ≡ true → record { kind = Int64; cells = map (cell_of_field Int64) fields } ≡ column_of_fields named fields
+missing_column named fields unnamed missing =
+    let kind : Int64 ≡ unwrap_or named (kind_of_fields fields) = sym (kind_missing fields missing) ∙ ap (λ k. unwrap_or k (kind_of_fields fields)) (sym unnamed) in
+    λ i. record { kind = kind i; cells = map (cell_of_field (kind i)) fields }
 
--- one column more
-pub columns_step : (old new : List Text) (kinds : List (Option Kind)) (place : ℕ) (named : Option Kind) (rows : List (List Text)) (column : CellColumn) (columns columns' : List CellColumn) (whole : List (ColumnOf CellValue))
-    → place < length kinds → named ≡ get_or kinds place None → column_seen new column ≡ column_of_fields named (column_fields place rows)
-    → IsLonger old new → IsSettled columns_seen old columns → columns' ≡ columns ++ column ∷ []
-    → columns_seen old columns ++ columns_from place (drop place kinds) rows ≡ whole
-    → columns_seen new columns' ++ columns_from (place + 1) (drop (place + 1) kinds) rows ≡ whole
-columns_step old new kinds place named rows column columns columns' whole lt is made longer settled pushed before =
-    let next : suc place ≡ place + 1 = omega arith in
-    seen_more column_seen old new columns columns' column longer settled pushed (column_of_fields (get_or kinds place None) (column_fields place rows)) (columns_from (place + 1) (drop (place + 1) kinds) rows) whole
-    (made ∙ ap (λ k. column_of_fields k (column_fields place rows)) is)
-    (ap (λ n. columns_seen old columns ++ column_of_fields (get_or kinds place None) (column_fields place rows) ∷ columns_from n (drop (place + 1) kinds) rows) (sym next)
-    ∙ ap (λ l. columns_seen old columns ++ columns_from place l rows) (sym (drop_more kinds place None lt))
-    ∙ before)
+module _ (texts : List Text) (named : Option Kind) (fields : List Text) where
+  column_right : (g : Growing) → Grown texts named fields g → is_mixed g ≡ false → column_seen texts (column_so_far (length fields) g) ≡ column_of_fields named fields
+  column_right growing.Missing grown kept =
+      (λ i. record { kind = Int64; cells = (na_seen texts (length fields) ∙ sym (all_na Int64 fields grown.1)) i })
+      ∙ missing_column named fields grown.0 grown.1
+  column_right (growing.Cells column) grown kept = grown.1
+  column_right growing.Mixed grown kept = mixed_up kept
 
-no_fields : (kinds : List (Option Kind)) → has_misfit kinds [] ≡ false
-no_fields [] = refl
-no_fields (k ∷ ks) = refl
+  column_settled : (g : Growing) → Grown texts named fields g → IsSettled column_seen texts (column_so_far (length fields) g)
+  column_settled growing.Missing grown = λ more i. record { kind = Int64; cells = (na_seen (texts ++ more) (length fields) ∙ sym (na_seen texts (length fields))) i }
+  column_settled (growing.Cells column) grown = grown.0
+  column_settled growing.Mixed grown = λ more. refl
 
--- a field and those after it
-misfit_from : (kinds : List (Option Kind)) (fields : List Text) (place : ℕ) (named : Option Kind) (field : Text) → place < length kinds → place < length fields → named ≡ get_or kinds place None → field ≡ field_in place fields
-    → has_misfit (drop place kinds) (drop place fields) ≡ (is_misfit named field || has_misfit (drop (place + 1) kinds) (drop (place + 1) fields))
-misfit_from kinds fields place named field lt within is read =
-    ap (λ l. has_misfit l (drop place fields)) (drop_more kinds place None lt)
-    ∙ ap (has_misfit (get_or kinds place None ∷ drop (place + 1) kinds)) (drop_more fields place [] within)
-    ∙ ap (λ t. is_misfit (get_or kinds place None) t || has_misfit (drop (place + 1) kinds) (drop (place + 1) fields)) (sym read)
-    ∙ ap (λ k. is_misfit k field || has_misfit (drop (place + 1) kinds) (drop (place + 1) fields)) (sym is)
+  kind_right : (g : Growing) → Grown texts named fields g → kind_so_far g ≡ unwrap_or named (kind_of_fields fields)
+  kind_right growing.Missing grown = ap (λ (c : ColumnOf CellValue). c.kind) (missing_column named fields grown.0 grown.1)
+  kind_right (growing.Cells column) grown = ap (λ (c : ColumnOf CellValue). c.kind) grown.1
+  kind_right growing.Mixed grown = sym grown.1 ∙ ap (λ k. unwrap_or k (kind_of_fields fields)) (sym grown.0)
 
-module _ (kinds : List (Option Kind)) (fields : List Text) (place : ℕ) (before : has_misfit (drop place kinds) (drop place fields) ≡ has_misfit kinds fields) where
-  module _ (named : Option Kind) (field : Text) (misfit : Bool) (lt : place < length kinds) (within : place < length fields) (is : named ≡ get_or kinds place None) (read : field ≡ field_in place fields) (test : misfit ≡ is_misfit named field) where
-    pub misfit_found : misfit ≡ true → true ≡ has_misfit kinds fields
-    misfit_found found = ap (λ b. b || has_misfit (drop (place + 1) kinds) (drop (place + 1) fields)) (sym found ∙ test) ∙ sym (misfit_from kinds fields place named field lt within is read) ∙ before
+never_mixed : (texts : List Text) (kind : Kind) (fields : List Text) (g : Growing) → Grown texts (Some kind) fields g → is_mixed g ≡ false
+never_mixed texts kind fields growing.Missing grown = refl
+never_mixed texts kind fields (growing.Cells column) grown = refl
+never_mixed texts kind fields growing.Mixed grown = no_kind grown.0
+  where
+    no_kind : Some kind ≡ None → true ≡ false
+    no_kind e = Prim.cc
 
-    pub misfit_passed : misfit ≡ false → has_misfit (drop (place + 1) kinds) (drop (place + 1) fields) ≡ has_misfit kinds fields
-    misfit_passed passed = ap (λ b. b || has_misfit (drop (place + 1) kinds) (drop (place + 1) fields)) (sym passed ∙ test) ∙ sym (misfit_from kinds fields place named field lt within is read) ∙ before
+neither : (a b : Bool) → a || b ≡ false → (a ≡ false) × (b ≡ false)
+neither true b e = mixed_up e
+neither false b e = (refl, e)
 
-  -- no kind or no field is left
-  pub misfit_done : min (length kinds) (length fields) ≤ place → false ≡ has_misfit kinds fields
-  misfit_done le =
-      elim (cases_order (length kinds) place) [
-        | inl same ↦ sym (ap (λ l. has_misfit l (drop place fields)) (drop_all place kinds (omega arith))) ∙ before
-        | inr (inl below) ↦ sym (ap (λ l. has_misfit l (drop place fields)) (drop_all place kinds (omega arith))) ∙ before
-        | inr (inr above) ↦ sym (ap (has_misfit (drop place kinds)) (drop_all place fields (omega arith)) ∙ no_fields (drop place kinds)) ∙ before
-      ]
+-- columns from a place on
+abbrev EachGrown : List Text → List (List Text) → ℕ → List (Option Kind) → List Growing → Type 0
+EachGrown texts rows start kinds columns = (k : ℕ) → k < length kinds → Grown texts (get_or kinds k None) (column_fields (start + k) rows) (get_or columns k growing.Missing)
+
+module _ (texts : List Text) (rows : List (List Text)) where
+  first_grown : (start : ℕ) (named : Option Kind) (kinds : List (Option Kind)) (g : Growing) (columns : List Growing) → EachGrown texts rows start (named ∷ kinds) (g ∷ columns) → Grown texts named (column_fields start rows) g
+  first_grown start named kinds g columns each =
+      let same : start + 0 ≡ start = omega arith in
+      subst (λ n. Grown texts named (column_fields n rows) g) same (each 0 (omega arith))
+
+  others_grown : (start : ℕ) (named : Option Kind) (kinds : List (Option Kind)) (g : Growing) (columns : List Growing) → EachGrown texts rows start (named ∷ kinds) (g ∷ columns) → EachGrown texts rows (suc start) kinds columns
+  others_grown start named kinds g columns each = λ k lt.
+      let same : start + suc k ≡ suc start + k = omega arith in
+      subst (λ n. Grown texts (get_or kinds k None) (column_fields n rows) (get_or columns k growing.Missing)) same (each (suc k) (omega arith))
+
+  all_right : (start count : ℕ) → count ≡ length rows → (kinds : List (Option Kind)) (columns : List Growing) → length columns ≡ length kinds → EachGrown texts rows start kinds columns → list_any is_mixed columns ≡ false
+      → columns_seen texts (map (column_so_far count) columns) ≡ columns_from start kinds rows
+  all_right start count size [] [] same each kept = refl
+  all_right start count size [] (g ∷ gs) same each kept = absurd (omega (arith, same))
+  all_right start count size (k ∷ ks) [] same each kept = absurd (omega (arith, same))
+  all_right start count size (k ∷ ks) (g ∷ gs) same each kept =
+      let both = neither (is_mixed g) (list_any is_mixed gs) kept in
+      let fields = column_fields start rows in
+      let long : count ≡ length fields = size ∙ sym (length-map rows _) in
+      let one = ap (λ n. column_seen texts (column_so_far n g)) long ∙ column_right texts k fields g (first_grown start k ks g gs each) both.0 in
+      let more = all_right (suc start) count size ks gs (omega (arith, same)) (others_grown start k ks g gs each) both.1 in
+      λ i. one i ∷ more i
+
+  all_settled : (start count : ℕ) → count ≡ length rows → (kinds : List (Option Kind)) (columns : List Growing) → length columns ≡ length kinds → EachGrown texts rows start kinds columns
+      → IsSettled columns_seen texts (map (column_so_far count) columns)
+  all_settled start count size [] [] same each = λ further. refl
+  all_settled start count size [] (g ∷ gs) same each = absurd (omega (arith, same))
+  all_settled start count size (k ∷ ks) [] same each = absurd (omega (arith, same))
+  all_settled start count size (k ∷ ks) (g ∷ gs) same each = λ further.
+      let fields = column_fields start rows in
+      let long : count ≡ length fields = size ∙ sym (length-map rows _) in
+      let settled = subst (λ n. IsSettled column_seen texts (column_so_far n g)) (sym long) (column_settled texts k fields g (first_grown start k ks g gs each)) in
+      let more = all_settled (suc start) count size ks gs (omega (arith, same)) (others_grown start k ks g gs each) further in
+      λ i. settled further i ∷ more i
+
+  -- with each kind named, the columns are the same
+  same_columns : (start : ℕ) (kinds : List (Option Kind)) (columns : List Growing) → length columns ≡ length kinds → EachGrown texts rows start kinds columns
+      → columns_from start (map (λ g. Some (kind_so_far g)) columns) rows ≡ columns_from start kinds rows
+  same_columns start [] [] same each = refl
+  same_columns start [] (g ∷ gs) same each = absurd (omega (arith, same))
+  same_columns start (k ∷ ks) [] same each = absurd (omega (arith, same))
+  same_columns start (k ∷ ks) (g ∷ gs) same each =
+      let fields = column_fields start rows in
+      let kind = kind_right texts k fields g (first_grown start k ks g gs each) in
+      let more = same_columns (suc start) ks gs (omega (arith, same)) (others_grown start k ks g gs each) in
+      λ i. record { kind = kind i; cells = map (cell_of_field (kind i)) fields } ∷ more i
+
+none_mixed : (columns : List Growing) → ((k : ℕ) → k < length columns → is_mixed (get_or columns k growing.Missing) ≡ false) → list_any is_mixed columns ≡ false
+none_mixed [] each = refl
+none_mixed (g ∷ gs) each = ap (λ b. b || list_any is_mixed gs) (each 0 (omega arith)) ∙ none_mixed gs (λ k lt. each (suc k) (omega arith))
+
+module _ (texts : List Text) (kinds : List (Option Kind)) (rows : List (List Text)) (columns : List Growing) (grown : AreGrown texts kinds rows columns) where
+  each_grown : EachGrown texts rows 0 kinds columns
+  each_grown = λ k lt.
+      let same : k ≡ 0 + k = omega arith in
+      subst (λ n. Grown texts (get_or kinds k None) (column_fields n rows) (get_or columns k growing.Missing)) same (grown.each k lt)
+
+  module _ (count : ℕ) (size : count ≡ length rows) (made : List CellColumn) (is : made ≡ map (column_so_far count) columns) where
+    pub columns_settled : IsSettled columns_seen texts made
+    columns_settled = subst (IsSettled columns_seen texts) (sym is) (all_settled texts rows 0 count size kinds columns grown.count each_grown)
+
+    pub columns_right : list_any is_mixed columns ≡ false → columns_seen texts made ≡ columns_from 0 kinds rows
+    columns_right kept = ap (columns_seen texts) is ∙ all_right texts rows 0 count size kinds columns grown.count each_grown kept
+
+  -- the records once more, with each kind named
+  module _ (new : List Text) (found : List (Option Kind)) (are : found ≡ map (λ g. Some (kind_so_far g)) columns) (again : Growth) (within : within_limits (length rows) (length kinds) ≡ true) (read : GrownTo new found rows again) where
+    as_many : length kinds ≡ length found
+    as_many = sym (ap length are ∙ length-map columns _ ∙ grown.count)
+
+    pub again_grown : AreGrown new found rows again.columns.items
+    again_grown = read.columns (ap (within_limits (length rows)) (sym as_many) ∙ within)
+
+    pub again_kept : list_any is_mixed again.columns.items ≡ false
+    again_kept = none_mixed again.columns.items (λ k lt.
+        let few : k < length found = omega (arith, lt, again_grown.count) in
+        let here : k < length columns = omega (arith, few, as_many, grown.count) in
+        let named : get_or found k None ≡ Some (kind_so_far (get_or columns k growing.Missing)) = ap (λ l. get_or l k None) are ∙ get_or-map (λ g. Some (kind_so_far g)) columns k growing.Missing None here in
+        never_mixed new (kind_so_far (get_or columns k growing.Missing)) (column_fields k rows) (get_or again.columns.items k growing.Missing)
+        (subst (λ n. Grown new n (column_fields k rows) (get_or again.columns.items k growing.Missing)) named (again_grown.each k few)))
+
+    pub again_same : columns_from 0 found rows ≡ columns_from 0 kinds rows
+    again_same = ap (λ k. columns_from 0 k rows) are ∙ same_columns texts rows 0 kinds columns grown.count each_grown

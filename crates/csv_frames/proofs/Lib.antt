@@ -1,8 +1,12 @@
+pub mod FieldLaws
+pub mod KindsLaws
+pub mod GrowingLaws
 pub mod RecordLaws
-pub mod CutLaws
 pub mod LabelLaws
 pub mod SkippedLaws
 pub mod SettledLaws
+pub mod MisfitLaws
+pub mod GrowthLaws
 pub mod ColumnLaws
 pub mod KindLaws
 pub mod ReadLaws

@@ -1,22 +1,20 @@
--- All records of a text are `records` of it.
-use Rattle.std.proofs.Common.{◌≡◌, ◌∷◌, [], refl, sym, ap, List, ℕ, Some, None, Bool, true, false, length, zero, suc, ◌<◌, ◌≤◌, ◌+◌, arith, ◌∙◌, subst, inl, inr}
+-- Laws of records that are read one after the other.
+use Rattle.std.proofs.Common.{◌++◌, length-append, length-drop, ◌≡◌, ◌∷◌, [], refl, sym, ap, List, ℕ, Option, Some, None, Bool, true, false, length, zero, suc, ◌<◌, ◌≤◌, ◌+◌, arith, ◌∙◌, subst, inl, inr}
 use Rattle.csv.specs.Machine.{Read, next_record, ends_at_end, step, is_end, fields_after, in_field, start_field, start_record, after_end, ends_with, is_byte}
 use Rattle.csv.specs.declared.parser.Action.{Action}
 use Rattle.csv.specs.declared.parser.Terminator.{Terminator}
 use Rattle.csv.specs.declared.parser.Terminator.TheVariants as term
 use Rattle.std.specs.Prelude.{if◌then◌else◌, ◌==◌, ◌&&◌, ◌⊎◌, ◌-◌, unwrap_or}
-use Rattle.csv.specs.Reading.{AreRecords, Reached, records, records_from, records_next, strip_bom, is_bom, default_config}
+use Rattle.std.specs.Borrow.{Bor}
+use Rattle.csv.specs.declared.reader.Trim.TheVariants as trim
+use Rattle.csv.specs.Reading.{Reached, Ready, ReadRecord, records_from, records_next, strip_bom, is_bom, default_config}
+use Rattle.csv.specs.declared.reader.Reader.{Reader}
+use Rattle.csv.proofs.ReadFacts.{rows-end, rows-more}
+use Rattle.csv_frames.specs.Rows.{Reads, IsNext, known, records_after, rows_left, rows_under, file_records, file_rows}
 use Rattle.std.proofs.lemmas.Option.{cond_some}
 use Rattle.csv.specs.declared.parser.Config.{Config}
 use Rattle.csv.specs.declared.parser.State.{State}
 use Rattle.csv.specs.declared.parser.State.TheVariants as st
-
-from_reached : (cfg : Config) (n : ℕ) (s s2 : State) (xs ys : List ℕ) (rows : List (List (List ℕ))) → Reached cfg s xs rows s2 ys → next_record cfg s2 [] [] ys ≡ None → length rows < n → records_from cfg n s xs ≡ rows
-unfolding Reached records_from
-from_reached cfg zero s s2 xs ys rows r e l = absurd (omega arith)
-from_reached cfg (suc n) s s2 xs ys [] r e l = ap (records_next (records_from cfg n)) (subst (λ t. next_record cfg t [] [] xs ≡ None) (sym r.0) (subst (λ t. next_record cfg s2 [] [] t ≡ None) (sym r.1) e))
-from_reached cfg (suc n) s s2 xs ys (x ∷ rows) r e l =
-    ap (records_next (records_from cfg n)) r.1 ∙ rw (r.2, from_reached cfg n r.0.1 s2 r.0.2 ys rows r.3 e (omega arith)) refl
 
 abbrev Quiet : State × Action → Type 0
 Quiet a = is_end a.1 ≡ true → ends_at_end a.0 ≡ false
@@ -87,24 +85,65 @@ zero_or : (n : ℕ) → (n ≡ 0) ⊎ (0 < n)
 zero_or zero = inl refl
 zero_or (suc n) = inr (omega arith)
 
-few : (cfg : Config) (s s2 : State) (xs ys : List ℕ) (rows : List (List (List ℕ))) → Reached cfg s xs rows s2 ys → ends_at_end s ≡ false → length rows ≤ length xs
-unfolding Reached
-few cfg s s2 xs ys [] r e = omega arith
-few cfg s s2 xs ys (x ∷ rows) r e =
-    let t = took cfg s [] [] xs r.0 r.1 in
+-- a record from where none was begun leaves fewer bytes
+fewer : (cfg : Config) (s : State) (xs : List ℕ) (p : Read) → ends_at_end s ≡ false → next_record cfg s [] [] xs ≡ Some p → length p.2 < length xs
+fewer cfg s xs p e is =
+    let t = took cfg s [] [] xs p is in
     let l = t.less in
-    let k = few cfg r.0.1 s2 r.0.2 ys rows r.3 t.quiet_after in
-    let some : length xs ≡ 0 → ⊥ = λ z. no (sym e ∙ t.some z) in
     elim (zero_or (length xs)) [
-      | inl z ↦ absurd (some z)
+      | inl z ↦ no (sym e ∙ t.some z)
       | inr z ↦ omega arith
     ]
 
--- what a reader went through is `records`
-pub exact : (cfg : Config) (xs : List ℕ) (rows : List (List (List ℕ))) → AreRecords cfg st.StartRecord xs rows → records cfg xs ≡ rows
-exact cfg xs rows r =
-    let k = few cfg st.StartRecord r.0 xs r.1 rows r.2 refl in
-    from_reached cfg (length xs + 1) st.StartRecord r.0 xs r.1 rows r.2 r.3 (omega arith)
+-- more turns than bytes give all records
+fuel : (cfg : Config) (n m : ℕ) (s : State) (xs : List ℕ) → ends_at_end s ≡ false → length xs < n → length xs < m → records_from cfg n s xs ≡ records_from cfg m s xs
+unfolding records_from
+fuel cfg zero m s xs e l k = absurd (omega arith)
+fuel cfg (suc n) zero s xs e l k = absurd (omega arith)
+fuel cfg (suc n) (suc m) s xs e l k = by (fuel cfg n m) (next_record cfg s [] [] xs) refl
+  where
+    by : ((t : State) (ys : List ℕ) → ends_at_end t ≡ false → length ys < n → length ys < m → records_from cfg n t ys ≡ records_from cfg m t ys) → (r : Option Read) → next_record cfg s [] [] xs ≡ r → records_next (records_from cfg n) r ≡ records_next (records_from cfg m) r
+    by more None is = refl
+    by more (Some p) is =
+        let f = fewer cfg s xs p e is in
+        ap (λ rows. p.0 ∷ rows) (more p.1 p.2 (took cfg s [] [] xs p is).quiet_after (omega arith) (omega arith))
+
+turned : (cfg : Config) (s : State) (xs : List ℕ) (r : Option Read) → next_record cfg s [] [] xs ≡ r → records_from cfg (length xs + 1) s xs ≡ records_next (records_from cfg (length xs)) r
+unfolding records_from
+turned cfg s xs r is =
+    let next : length xs + 1 ≡ suc (length xs) = omega arith in
+    ap (λ n. records_from cfg n s xs) next ∙ ap (records_next (records_from cfg (length xs))) is
+
+-- the first record, and those after it
+one_more : (cfg : Config) (s : State) (xs : List ℕ) (p : Read) → ends_at_end s ≡ false → next_record cfg s [] [] xs ≡ Some p → records_from cfg (length xs + 1) s xs ≡ p.0 ∷ records_from cfg (length p.2 + 1) p.1 p.2
+one_more cfg s xs p e is =
+    let f = fewer cfg s xs p e is in
+    turned cfg s xs (Some p) is ∙ ap (λ rows. p.0 ∷ rows) (fuel cfg (length xs) (length p.2 + 1) p.1 p.2 (took cfg s [] [] xs p is).quiet_after (omega arith) (omega arith))
+
+-- what a read says of the records that are left
+pub read_next : (a b : Reader (Bor (List ℕ))) (found : Bool) (fields : List (List ℕ)) → Reads a → (b.trim ≡ trim.None) → Ready b → ReadRecord known a b found fields → IsNext a found fields b
+unfolding Reached
+read_next a b true fields reads trims ready read =
+    let y = reads.known.0 in
+    let m = rows-more known a b fields default_config a.state y y [] reads.config reads.known.1 (refl, refl) read in
+    let p = m.2.0 in
+    let is = m.2.1 in
+    let reached = m.2.3 in
+    let after : rows_left b ≡ records_from default_config (length p.2 + 1) p.1 p.2 =
+    ap (records_after b) m.1 ∙ ap (λ (s : State). records_from default_config (length m.0 + 1) s m.0) (sym reached.0) ∙ ap (λ (l : List ℕ). records_from default_config (length l + 1) p.1 l) (sym reached.1) in
+    let first : rows_left a ≡ p.0 ∷ records_from default_config (length p.2 + 1) p.1 p.2 = ap (records_after a) reads.known.1 ∙ one_more default_config a.state y p reads.quiet is in (
+      first ∙ ap (λ f. f ∷ records_from default_config (length p.2 + 1) p.1 p.2) (sym m.2.2) ∙ ap (λ rows. fields ∷ rows) (sym after),
+      record {
+        trim = trims;
+        ready = ready;
+        config = read.2 ∙ reads.config;
+        quiet = ap ends_at_end (sym reached.0) ∙ (took default_config a.state [] [] y p is).quiet_after;
+        known = (m.0, m.1);
+      },
+    )
+read_next a b false fields reads trims ready read =
+    let y = reads.known.0 in
+    ap (records_after a) reads.known.1 ∙ turned default_config a.state y None (rows-end known a b fields default_config y reads.config reads.known.1 read)
 
 strip-shorter : (xs : List ℕ) → length (strip_bom xs) ≤ length xs
 unfolding strip_bom
@@ -117,6 +156,33 @@ strip-shorter (a ∷ b ∷ c ∷ rest) = by (is_bom a b c)
     by true = omega arith
     by false = omega arith
 
--- a text has no more records than bytes
-pub no_more : (text : List ℕ) (s2 : State) (ys : List ℕ) (rows : List (List (List ℕ))) → Reached default_config st.StartRecord (strip_bom text) rows s2 ys → length rows ≤ length text
-no_more text s2 ys rows r = omega (arith, few default_config st.StartRecord s2 (strip_bom text) ys rows r refl, strip-shorter text)
+turns : (cfg : Config) (n : ℕ) (s : State) (xs : List ℕ) → length (records_from cfg n s xs) ≤ n
+unfolding records_from
+turns cfg zero s xs = omega arith
+turns cfg (suc n) s xs = by (turns cfg n) (next_record cfg s [] [] xs)
+  where
+    by : ((t : State) (ys : List ℕ) → length (records_from cfg n t ys) ≤ n) → (r : Option Read) → length (records_next (records_from cfg n) r) ≤ suc n
+    by few None = omega arith
+    by few (Some p) = let k = few p.1 p.2 in omega arith
+
+-- a text has no more records than bytes, but for one
+pub few_records : (bytes : List ℕ) → length (file_records bytes) ≤ length bytes + 1
+few_records bytes = omega (arith, turns default_config (length (strip_bom bytes) + 1) st.StartRecord (strip_bom bytes), strip-shorter bytes)
+
+module _ (a b : Reader (Bor (List ℕ))) (found : Bool) (row : List (List ℕ)) (next : IsNext a found row b) where
+  pub none_left : found ≡ false → rows_left a ≡ []
+  none_left is = subst (λ f. IsNext a f row b) is next
+
+  pub one_left : found ≡ true → (rows_left a ≡ row ∷ rows_left b) × Reads b
+  one_left is = subst (λ f. IsNext a f row b) is next
+
+  -- the header
+  pub no_header : (bytes : List ℕ) → rows_left a ≡ file_records bytes → found ≡ false → file_rows bytes ≡ []
+  no_header bytes all is = ap rows_under (sym all ∙ none_left is)
+
+  pub under_header : (bytes : List ℕ) → rows_left a ≡ file_records bytes → found ≡ true → file_rows bytes ≡ rows_left b
+  under_header bytes all is = ap rows_under (sym all ∙ (one_left is).0)
+
+-- the records of a front of the file
+pub few_before : (bytes : List ℕ) (before rest : List (List (List ℕ))) → before ++ rest ≡ file_rows bytes → length before ≤ length bytes + 1
+few_before bytes before rest is = omega (arith, few_records bytes, length-drop 1 (file_records bytes), ap length is, length-append before rest)

@@ -1,3 +1,4 @@
 pub mod Views
-pub mod Cuts
+pub mod Rows
+pub mod Growing
 pub mod Labels

@@ -1,5 +1,5 @@
 -- What is seen of records and of the columns that are read.
-use Rattle.std.specs.Prelude.{◌≡◌, ◌≢◌, ℕ, List, [], ◌∷◌, map, drop, length, All, AllPairs, string_bytes, Option, Some, None, Result, Ok, Err, if◌then◌else◌}
+use Rattle.std.specs.Prelude.{◌≡◌, ◌≢◌, ℕ, List, [], ◌∷◌, map, length, All, AllPairs, string_bytes, Option, Some, None, IfSome, Result, Ok, Err, if◌then◌else◌}
 use Rattle.std.specs.declared.string.String.{String}
 use Rattle.cell_core.specs.declared.cell.Kind.{Kind}
 use Rattle.cell_core.specs.declared.cell.Cell.{Cell}
@@ -13,10 +13,6 @@ use Rattle.csv_frames.specs.declared.table.NamedKind.{NamedKind}
 use Rattle.csv_frames.specs.declared.table.CsvTable.{CsvTable}
 use Rattle.csv_frames.specs.declared.table.CsvFault.{CsvFault}
 use Rattle.csv_frames.specs.declared.table.CsvFault.TheVariants.{NotUtf8, NoColumn, LongRow, NotCast, TooLarge, NoMemory}
-
--- the records after the header
-abbrev pub rows_under : List (List Text) → List (List Text)
-rows_under records = drop 1 records
 
 -- the fields of a column
 abbrev pub column_fields : ℕ → List (List Text) → List Text
@@ -64,12 +60,21 @@ pub record PartsFit (t : CsvTable) : Type 0 where
   pub different : AllPairs (λ a b. a ≢ b) t.labels
   pub filled : All (λ (c : CellColumn). length c.cells ≡ t.rows) t.columns
 
--- What reading a file answers is what is meant, or its first refusal is. After a refusal no text was given a number; want of memory may come in place of any answer.
+-- what a fault says of a file, but for want of memory
+abbrev pub refusal_of : CsvFault → Option CsvRefusal
+refusal_of (NotUtf8 place) = Some (not_utf8 place)
+refusal_of NoColumn = Some no_record
+refusal_of (LongRow number width length) = Some (long_record number width length)
+refusal_of NotCast = Some not_of_kind
+refusal_of TooLarge = Some beyond_limits
+refusal_of NoMemory = None
+
+-- What reading a file answers is what is meant, or its first refusal is. Want of memory may come in place of any answer.
+abbrev pub ReadsAs : List Text → Result CsvTable CsvFault → Result CsvValue CsvRefusal → Type 0
+ReadsAs texts (Ok t) meant = meant ≡ Ok (csv_seen texts t)
+ReadsAs texts (Err fault) meant = IfSome (refusal_of fault) (λ refusal. meant ≡ Err refusal)
+
+-- The same; after a refusal no text was given a number.
 abbrev pub ReadAnswers : List Text → List Text → Result CsvTable CsvFault → Result CsvValue CsvRefusal → Type 0
 ReadAnswers old new (Ok t) meant = meant ≡ Ok (csv_seen new t)
-ReadAnswers old new (Err (NotUtf8 place)) meant = (meant ≡ Err (not_utf8 place)) × (new ≡ old)
-ReadAnswers old new (Err NoColumn) meant = (meant ≡ Err no_record) × (new ≡ old)
-ReadAnswers old new (Err (LongRow number width length)) meant = (meant ≡ Err (long_record number width length)) × (new ≡ old)
-ReadAnswers old new (Err NotCast) meant = (meant ≡ Err not_of_kind) × (new ≡ old)
-ReadAnswers old new (Err TooLarge) meant = (meant ≡ Err beyond_limits) × (new ≡ old)
-ReadAnswers old new (Err NoMemory) meant = Unit {0}
+ReadAnswers old new (Err fault) meant = IfSome (refusal_of fault) (λ refusal. (meant ≡ Err refusal) × (new ≡ old))

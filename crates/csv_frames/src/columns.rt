@@ -1,98 +1,56 @@
 // The columns of records.
-ghost use Rattle.std.specs.Prelude.{◌≡◌, map, IfOk};
-ghost use Rattle.std.specs.List.{list_all};
+ghost use Rattle.std.specs.Prelude.{◌≡◌, ◌≤◌, ◌^◌, false, length, map, Some, IfOk};
+ghost use Rattle.std.specs.List.{list_any};
 ghost use Rattle.meaning.specs.Cell.{IsLonger};
 ghost use Rattle.table_meaning.specs.Settled.{IsSettled};
-ghost use Rattle.csv_meaning.specs.CsvRead as meant;
-ghost use Rattle.csv_frames.specs.Views.{rows_under, column_fields, texts_seen, label_tuples, tuples_seen, column_seen, columns_seen};
+ghost use Rattle.csv_frames.specs.Growing.{is_mixed, kind_so_far, column_so_far};
+ghost use Rattle.csv_frames.specs.Views.{texts_seen, label_tuples, tuples_seen};
 
-use crate::fields::{cell_of_field, is_of_kind};
-use crate::records::Records;
+use crate::growing::Growing;
 use crate::table::Columns;
 use cell_core::{Kind, Label, NoMemory, TextDict, Tuple, Tuples};
-use nullable_array::Column;
 use std::alloc::Global;
 
-// Whether all fields of a column can be cells of the kind.
-fn are_of_kind(kind: Kind, records: &Records, place: usize) -> bool
-    ensures { result ≡ list_all (meant.is_of_kind kind) (column_fields place (rows_under records.now)) }
+/// Whether the cells of a column weren't kept.
+pub(crate) fn has_mixed(columns: &[Growing]) -> bool
+    ensures { result ≡ list_any is_mixed columns.now }
 {
-    for row in 1..records.len() {
-        if !is_of_kind(kind, records.field(row, place)) {
-            return false;
+    for place in 0..columns.len() {
+        if columns[place].is_mixed() {
+            return true;
         }
     }
-    true
+    false
 }
 
-// The kind of a column's fields.
-fn kind_of_fields(records: &Records, place: usize) -> Kind
-    ensures { result ≡ meant.kind_of_fields (column_fields place (rows_under records.now)) }
+/// The kinds of the columns, each named.
+pub(crate) fn kinds_found(
+    alloc: Global,
+    columns: Vec<Growing>,
+) -> Result<Vec<Option<Kind>>, NoMemory>
+    ensures { IfOk result (λ kinds. kinds.items ≡ map (λ g. Some (kind_so_far g)) columns.items) }
 {
-    if are_of_kind(Kind::Int64, records, place) {
-        Kind::Int64
-    } else if are_of_kind(Kind::Boolean, records, place) {
-        Kind::Boolean
-    } else {
-        Kind::Text
+    let mut kinds = Vec::new(alloc);
+    for column in columns {
+        kinds.push(Some(column.kind()))?;
     }
+    Ok(kinds)
 }
 
-// The column of the kind at a place.
-fn column_of_kind(
+/// The columns of so many records.
+pub(crate) fn columns_of(
     alloc: Global,
-    dict: &mut TextDict,
-    kind: Kind,
-    records: &Records,
-    place: usize,
-) -> Result<Column, NoMemory>
-    ensures longer { IsLonger dict.old dict.new }
-    ensures settled { IfOk result (IsSettled column_seen dict.new) }
-    ensures column { IfOk result (λ column. column_seen dict.new column ≡ record { kind = kind; cells = map (meant.cell_of_field kind) (column_fields place (rows_under records.now)) }) }
-{
-    let mut column = Column::new(alloc, kind);
-    for row in 1..records.len() {
-        let cell = cell_of_field(dict, kind, records.field(row, place))?;
-        column.push(cell)?;
-    }
-    Ok(column)
-}
-
-// The column at a place, of the kind that is named for it or else of its fields' kind.
-fn column_of_fields(
-    alloc: Global,
-    dict: &mut TextDict,
-    named: Option<Kind>,
-    records: &Records,
-    place: usize,
-) -> Result<Column, NoMemory>
-    ensures longer { IsLonger dict.old dict.new }
-    ensures settled { IfOk result (IsSettled column_seen dict.new) }
-    ensures column { IfOk result (λ column. column_seen dict.new column ≡ meant.column_of_fields named (column_fields place (rows_under records.now))) }
-{
-    let kind = match named {
-        Some(kind) => kind,
-        None => kind_of_fields(records, place),
-    };
-    column_of_kind(alloc, dict, kind, records, place)
-}
-
-/// A column for each of these kinds, in their order.
-pub(crate) fn columns_of_kinds(
-    alloc: Global,
-    dict: &mut TextDict,
-    kinds: &[Option<Kind>],
-    records: &Records,
+    rows: usize,
+    columns: Vec<Growing>,
 ) -> Result<Columns, NoMemory>
-    ensures longer { IsLonger dict.old dict.new }
-    ensures settled { IfOk result (IsSettled columns_seen dict.new) }
-    ensures columns { IfOk result (λ columns. columns_seen dict.new columns ≡ meant.columns_from 0 kinds.now (rows_under records.now)) }
+    requires { list_any is_mixed columns.items ≡ false }
+    ensures { IfOk result (λ made. made ≡ map (column_so_far rows) columns.items) }
 {
-    let mut columns = Columns::new(alloc);
-    for place in 0..kinds.len() {
-        columns.push(column_of_fields(alloc, dict, kinds[place], records, place)?)?;
+    let mut made = Columns::new(alloc);
+    for column in columns {
+        made.push(column.into_column(alloc, rows)?)?;
     }
-    Ok(columns)
+    Ok(made)
 }
 
 /// The labels, each as a tuple of its own.

@@ -1,5 +1,5 @@
 // Fields, and the cells that they are.
-ghost use Rattle.std.specs.Prelude.{◌≡◌, List, ℕ, true, IfOk};
+ghost use Rattle.std.specs.Prelude.{◌≡◌, ◌∷◌, [], List, ℕ, true, option_map, IfOk, IfSome};
 ghost use Rattle.meaning.specs.Cell.{datum, holds, IsLonger};
 ghost use Rattle.table_meaning.specs.Settled.{IsSettled};
 ghost use Rattle.csv_meaning.specs.CsvRead as meant;
@@ -49,25 +49,42 @@ pub(crate) fn is_of_kind(kind: Kind, field: &str) -> bool
     }
 }
 
-/// The field as a cell of the kind; missing where it can't be one. A text gets a number.
-pub(crate) fn cell_of_field(dict: &mut TextDict, kind: Kind, field: &str) -> Result<Cell, NoMemory>
+/// The kind of a column that has this field alone.
+pub(crate) fn kind_of_field(field: &str) -> Kind
+    ensures { result ≡ meant.kind_of_fields (field.now ∷ []) }
+{
+    if is_of_kind(Kind::Int64, field) {
+        Kind::Int64
+    } else if is_of_kind(Kind::Boolean, field) {
+        Kind::Boolean
+    } else {
+        Kind::Text
+    }
+}
+
+/// The field as a cell of the kind, if it can be one. A text gets a number.
+pub(crate) fn field_cell(
+    dict: &mut TextDict,
+    kind: Kind,
+    field: &str,
+) -> Result<Option<Cell>, NoMemory>
     ensures longer { IsLonger dict.old dict.new }
-    ensures settled { IfOk result (IsSettled datum dict.new) }
-    ensures value { IfOk result (λ cell. datum dict.new cell ≡ meant.cell_of_field kind field.now) }
-    ensures held { IfOk result (λ cell. (texts : List (List ℕ)) → holds kind (datum texts cell) ≡ true) }
+    ensures settled { IfOk result (λ cell. IfSome cell (IsSettled datum dict.new)) }
+    ensures value { IfOk result (λ cell. option_map (datum dict.new) cell ≡ meant.field_cell kind field.now) }
+    ensures held { IfOk result (λ cell. IfSome cell (λ c. (texts : List (List ℕ)) → holds kind (datum texts c) ≡ true)) }
 {
     if is_missing(field) {
-        return Ok(Cell::Na);
+        return Ok(Some(Cell::Na));
     }
     match kind {
         Kind::Int64 => Ok(match number_of_text(field) {
-            Some(number) => Cell::Int(number),
-            None => Cell::Na,
+            Some(number) => Some(Cell::Int(number)),
+            None => None,
         }),
         Kind::Boolean => Ok(match truth_of_text(field) {
-            Some(truth) => Cell::Bool(truth),
-            None => Cell::Na,
+            Some(truth) => Some(Cell::Bool(truth)),
+            None => None,
         }),
-        Kind::Text => Ok(Cell::Text(dict.intern(field)?)),
+        Kind::Text => Ok(Some(Cell::Text(dict.intern(field)?))),
     }
 }

@@ -1,15 +1,16 @@
 // The labels of columns.
 ghost use Rattle.std.specs.Prelude.{◌≡◌, ◌<◌, ◌≤◌, [], not, IfOk, OnOk, length, string_bytes};
 ghost use Rattle.std.specs.List.{list_any, IsDistinct};
+ghost use Rattle.csv.specs.Records.{fields_of};
 ghost use Rattle.cell_core.specs.Texts.{with_text};
 ghost use Rattle.meaning.specs.Text.{same_text};
 ghost use Rattle.csv_meaning.specs.CsvRead as meant;
-ghost use Rattle.csv_frames.specs.Cuts.{record_at};
 ghost use Rattle.csv_frames.specs.Labels.{IsSkipped, AreSkipped};
 ghost use Rattle.csv_frames.specs.Views.{texts_seen};
 
-use crate::records::Records;
+use crate::records::field_in;
 use cell_core::{NoMemory, TextDict};
+use csv::StringRecord;
 use std::alloc::Global;
 
 // The label that stands at a place; an empty one is named by the place.
@@ -24,13 +25,12 @@ fn label_named(alloc: Global, place: usize, label: &str) -> Result<String, NoMem
 }
 
 // The labels that the header names.
-fn labels_named(alloc: Global, records: &Records) -> Result<Vec<String>, NoMemory>
-    requires { 0 < length records.now }
-    ensures { IfOk result (λ labels. texts_seen labels.items ≡ meant.labels_named 0 (record_at records.now 0)) }
+fn labels_named(alloc: Global, header: &StringRecord) -> Result<Vec<String>, NoMemory>
+    ensures { IfOk result (λ labels. texts_seen labels.items ≡ meant.labels_named 0 (fields_of header.now)) }
 {
     let mut labels = Vec::new(alloc);
-    for place in 0..records.width(0) {
-        labels.push(label_named(alloc, place, records.field(0, place))?)?;
+    for place in 0..header.len() {
+        labels.push(label_named(alloc, place, field_in(header, place))?)?;
     }
     Ok(labels)
 }
@@ -144,11 +144,10 @@ fn different_labels(alloc: Global, header: &[String]) -> Result<Vec<String>, NoM
 }
 
 /// The labels of the columns that the header gives, which all differ.
-pub(crate) fn labels_of(alloc: Global, records: &Records) -> Result<Vec<String>, NoMemory>
-    requires { 0 < length records.now }
-    ensures labels { IfOk result (λ labels. texts_seen labels.items ≡ meant.labels_of (record_at records.now 0)) }
+pub(crate) fn labels_of(alloc: Global, header: &StringRecord) -> Result<Vec<String>, NoMemory>
+    ensures labels { IfOk result (λ labels. texts_seen labels.items ≡ meant.labels_of (fields_of header.now)) }
     ensures different { IfOk result (λ labels. IsDistinct same_text (texts_seen labels.items)) }
 {
-    let labels = labels_named(alloc, records)?;
+    let labels = labels_named(alloc, header)?;
     different_labels(alloc, labels.as_slice())
 }

@@ -13,6 +13,8 @@
 
 mod columns;
 mod fields;
+mod growing;
+mod growth;
 mod kinds;
 mod labels;
 mod numbers;

@@ -1,178 +1,158 @@
 // Reading a file.
-ghost use Rattle.std.specs.Prelude.{◌≡◌, ◌<◌, ◌^◌, length, option_map, IfOk};
-ghost use Rattle.std.specs.List.{list_any, IsDistinct};
+ghost use Rattle.std.specs.Prelude.{◌≡◌, ◌∷◌, ◌≤◌, ◌^◌, true, length, None, IfOk, IfErr};
+ghost use Rattle.std.specs.List.{IsDistinct};
+ghost use Rattle.csv.specs.Records.{fields_of};
 ghost use Rattle.meaning.specs.Text.{same_text};
 ghost use Rattle.meaning.specs.Cell.{IsLonger};
 ghost use Rattle.table_meaning.specs.Settled.{IsSettled};
 ghost use Rattle.table_meaning.specs.Valid as valid;
 ghost use Rattle.csv_meaning.specs.CsvRead as meant;
-ghost use Rattle.csv_frames.specs.Cuts.{record_at};
-ghost use Rattle.csv_frames.specs.Views.{rows_under, texts_seen, entries_seen, csv_seen, PartsFit, ReadAnswers};
+ghost use Rattle.csv_frames.specs.Rows.{file_records, file_rows};
+ghost use Rattle.csv_frames.specs.Growing.{AreGrown};
+ghost use Rattle.csv_frames.specs.Views.{texts_seen, entries_seen, columns_seen, csv_seen, refusal_of, PartsFit, ReadsAs, ReadAnswers};
 
-use crate::columns::{columns_of_kinds, tuples_of};
-use crate::fields::is_of_kind;
+use crate::columns::{columns_of, has_mixed, kinds_found, tuples_of};
+use crate::growth::{Growth, MOST_COLUMNS, growth_of, is_within_limits};
 use crate::kinds::kinds_of_labels;
 use crate::labels::labels_of;
-use crate::records::{Records, records_of};
-use crate::table::{CsvFault, CsvTable, Entries};
-use cell_core::{Kind, NoMemory, TextDict};
+use crate::records::{next_record, reader_of};
+use crate::table::{Columns, CsvFault, CsvTable, Entries};
+use cell_core::{Kind, TextDict};
+use csv::StringRecord;
 use std::alloc::Global;
 
 const MOST_BYTES: usize = 1 << 28;
 
-const MOST_ROWS: usize = 1 << 26;
-
-const MOST_COLUMNS: usize = 1 << 16;
-
-const MOST_CELLS: usize = 1 << 26;
-
-fn is_within_limits(rows: usize, columns: usize) -> bool
-    ensures { result ≡ valid.within_limits rows columns }
+// The columns of a file's records. Where the cells of one weren't kept, the records are read once more, with the kind
+// of each column named.
+fn columns_read(
+    alloc: Global,
+    dict: &mut TextDict,
+    bytes: &[u8],
+    kinds: &[Option<Kind>],
+    growth: Growth,
+) -> Result<Columns, CsvFault>
+    requires small { length bytes.now ≤ 2 ^ 28 }
+    requires short { meant.first_long (length kinds.now) 2 (file_rows bytes.now) ≡ None }
+    requires within { valid.within_limits (length (file_rows bytes.now)) (length kinds.now) ≡ true }
+    requires rows { growth.rows ≡ length (file_rows bytes.now) }
+    requires grown { AreGrown dict.old kinds.now (file_rows bytes.now) growth.columns.items }
+    ensures longer { IsLonger dict.old dict.new }
+    ensures settled { IfOk result (IsSettled columns_seen dict.new) }
+    ensures read { IfOk result (λ columns. columns_seen dict.new columns ≡ meant.columns_from 0 kinds.now (file_rows bytes.now)) }
+    ensures fault { IfErr result (λ fault. refusal_of fault ≡ None) }
 {
-    rows <= MOST_ROWS && columns <= MOST_COLUMNS && rows * columns <= MOST_CELLS
-}
-
-// The number of the first record that is longer than the header, and its length.
-fn first_long(records: &Records) -> Option<(u64, u64)>
-    requires { 0 < length records.now }
-    ensures { option_map (λ p. meant.long_record p.0 (length (record_at records.now 0)) p.1) result ≡ meant.first_long (length (record_at records.now 0)) 2 (rows_under records.now) }
-{
-    let width = records.width(0);
-    for row in 1..records.len() {
-        let length = records.width(row);
-        if width < length {
-            return Some((row as u64 + 1, length as u64));
-        }
+    let rows = growth.rows;
+    if !has_mixed(growth.columns.as_slice()) {
+        return Ok(columns_of(alloc, rows, growth.columns)?);
     }
-    None
+    let found = kinds_found(alloc, growth.columns)?;
+    let again = growth_of(alloc, dict, bytes, kinds.len(), found.as_slice())?;
+    Ok(columns_of(alloc, rows, again.columns)?)
 }
 
-// Whether a field isn't of the kind that is named for its column.
-fn is_misfit(named: Option<Kind>, field: &str) -> bool
-    ensures { result ≡ meant.is_misfit named field.now }
-{
-    match named {
-        Some(kind) => !is_of_kind(kind, field),
-        None => false,
-    }
-}
-
-// Whether a record has such a field.
-fn has_misfit(kinds: &[Option<Kind>], records: &Records, row: usize) -> bool
-    requires { row < length records.now }
-    ensures { result ≡ meant.has_misfit kinds.now (record_at records.now row) }
-{
-    for place in 0..kinds.len().min(records.width(row)) {
-        if is_misfit(kinds[place], records.field(row, place)) {
-            return true;
-        }
-    }
-    false
-}
-
-// Whether a record after the header has such a field.
-fn have_misfit(kinds: &[Option<Kind>], records: &Records) -> bool
-    ensures { result ≡ list_any (meant.has_misfit kinds.now) (rows_under records.now) }
-{
-    for row in 1..records.len() {
-        if has_misfit(kinds, records, row) {
-            return true;
-        }
-    }
-    false
-}
-
-// The columns of the records, with these labels.
+// The columns of a file's records, with these labels.
 fn labelled_columns(
     alloc: Global,
     dict: &mut TextDict,
+    bytes: &[u8],
     labels: &[String],
     kinds: &[Option<Kind>],
-    records: &Records,
-) -> Result<CsvTable, NoMemory>
-    requires some { 0 < length records.now }
+    growth: Growth,
+) -> Result<CsvTable, CsvFault>
+    requires small { length bytes.now ≤ 2 ^ 28 }
     requires alike { length labels.now ≡ length kinds.now }
     requires different { IsDistinct same_text (texts_seen labels.now) }
+    requires short { meant.first_long (length kinds.now) 2 (file_rows bytes.now) ≡ None }
+    requires within { valid.within_limits (length (file_rows bytes.now)) (length kinds.now) ≡ true }
+    requires rows { growth.rows ≡ length (file_rows bytes.now) }
+    requires grown { AreGrown dict.old kinds.now (file_rows bytes.now) growth.columns.items }
     ensures parts { IfOk result PartsFit }
     ensures longer { IsLonger dict.old dict.new }
     ensures settled { IfOk result (IsSettled csv_seen dict.new) }
-    ensures read { IfOk result (λ read. csv_seen dict.new read ≡ meant.labelled_columns (texts_seen labels.now) kinds.now (rows_under records.now)) }
+    ensures read { IfOk result (λ table. csv_seen dict.new table ≡ meant.labelled_columns (texts_seen labels.now) kinds.now (file_rows bytes.now)) }
+    ensures fault { IfErr result (λ fault. refusal_of fault ≡ None) }
 {
+    let rows = growth.rows;
+    let columns = columns_read(alloc, dict, bytes, kinds, growth)?;
     let labels = tuples_of(alloc, dict, labels)?;
-    let columns = columns_of_kinds(alloc, dict, kinds, records)?;
     Ok(CsvTable {
-        rows: records.len() - 1,
+        rows,
         labels,
         columns,
     })
 }
 
-// The same, if the fields are of the named kinds and the columns within the limits.
+// The same, if no record is too long, the fields are of the named kinds and the columns within the limits.
 fn columns_of_rows(
     alloc: Global,
     dict: &mut TextDict,
+    bytes: &[u8],
     labels: &[String],
     kinds: &[Option<Kind>],
-    records: &Records,
 ) -> Result<CsvTable, CsvFault>
-    requires some { 0 < length records.now }
+    requires small { length bytes.now ≤ 2 ^ 28 }
     requires alike { length labels.now ≡ length kinds.now }
     requires different { IsDistinct same_text (texts_seen labels.now) }
     ensures longer { IsLonger dict.old dict.new }
     ensures settled { IfOk result (IsSettled csv_seen dict.new) }
     ensures parts { IfOk result PartsFit }
-    ensures answer { ReadAnswers dict.old dict.new result (meant.columns_of_rows (texts_seen labels.now) kinds.now (rows_under records.now)) }
+    ensures answer { ReadsAs dict.new result (meant.unless_refused (meant.first_long (length kinds.now) 2 (file_rows bytes.now)) (meant.columns_of_rows (texts_seen labels.now) kinds.now (file_rows bytes.now))) }
 {
-    if have_misfit(kinds, records) {
+    let growth = growth_of(alloc, dict, bytes, kinds.len(), kinds)?;
+    if !growth.fits {
         return Err(CsvFault::NotCast);
     }
-    if !is_within_limits(records.len() - 1, labels.len()) {
+    if !is_within_limits(growth.rows, kinds.len()) {
         return Err(CsvFault::TooLarge);
     }
-    Ok(labelled_columns(alloc, dict, labels, kinds, records)?)
+    labelled_columns(alloc, dict, bytes, labels, kinds, growth)
 }
 
-// The columns under the header, which is as long as the longest record.
+// The columns under a header.
 fn columns_under(
     alloc: Global,
     dict: &mut TextDict,
-    records: &Records,
+    bytes: &[u8],
+    header: &StringRecord,
     kinds: &Entries,
 ) -> Result<CsvTable, CsvFault>
-    requires { 0 < length records.now }
+    requires small { length bytes.now ≤ 2 ^ 28 }
+    requires header { file_records bytes.now ≡ fields_of header.now ∷ file_rows bytes.now }
     ensures longer { IsLonger dict.old dict.new }
     ensures settled { IfOk result (IsSettled csv_seen dict.new) }
     ensures parts { IfOk result PartsFit }
-    ensures answer { ReadAnswers dict.old dict.new result (meant.columns_under (entries_seen dict.old kinds.now) (record_at records.now 0) (rows_under records.now)) }
+    ensures answer { ReadsAs dict.new result (meant.columns_of_records (entries_seen dict.old kinds.now) (file_records bytes.now)) }
 {
-    // Without named kinds no label is asked for one, so none is made for a table that is too large.
-    if kinds.len() == 0 && !is_within_limits(records.len() - 1, records.width(0)) {
+    // Without named kinds no label is asked for one, so none is made for a table that is too wide.
+    if kinds.len() == 0 && MOST_COLUMNS < header.len() {
+        growth_of(alloc, dict, bytes, header.len(), &[])?;
         return Err(CsvFault::TooLarge);
     }
-    let labels = labels_of(alloc, records)?;
+    let labels = labels_of(alloc, header)?;
     let kinds = kinds_of_labels(alloc, dict, kinds, labels.as_slice())?;
-    columns_of_rows(alloc, dict, labels.as_slice(), kinds.as_slice(), records)
+    columns_of_rows(alloc, dict, bytes, labels.as_slice(), kinds.as_slice())
 }
 
-// The columns of a file's records.
-fn columns_of_records(
+// The columns of a text.
+fn columns_of_text(
     alloc: Global,
     dict: &mut TextDict,
-    records: &Records,
+    bytes: &[u8],
     kinds: &Entries,
 ) -> Result<CsvTable, CsvFault>
+    requires { length bytes.now ≤ 2 ^ 28 }
     ensures longer { IsLonger dict.old dict.new }
     ensures settled { IfOk result (IsSettled csv_seen dict.new) }
     ensures parts { IfOk result PartsFit }
-    ensures answer { ReadAnswers dict.old dict.new result (meant.columns_of_records (entries_seen dict.old kinds.now) records.now) }
+    ensures answer { ReadsAs dict.new result (meant.columns_of_records (entries_seen dict.old kinds.now) (file_records bytes.now)) }
 {
-    if records.len() == 0 {
+    let mut reader = reader_of(alloc, bytes);
+    let mut header = StringRecord::new(alloc);
+    if !next_record(&mut reader, &mut header)? {
         return Err(CsvFault::NoColumn);
     }
-    match first_long(records) {
-        Some((number, length)) => Err(CsvFault::LongRow(number, records.width(0) as u64, length)),
-        None => columns_under(alloc, dict, records, kinds),
-    }
+    columns_under(alloc, dict, bytes, &header, kinds)
 }
 
 /// The columns of a file of comma-separated values, whose first record is the header. A text, also a label, gets its
@@ -210,6 +190,10 @@ pub fn read_csv(
     if let Err(error) = str::from_utf8(bytes) {
         return Err(CsvFault::NotUtf8(error.valid_up_to() as u64));
     }
-    let records = records_of(alloc, bytes)?;
-    columns_of_records(alloc, dict, &records, kinds)
+    let texts = dict.len();
+    let table = columns_of_text(alloc, dict, bytes, kinds);
+    if table.is_err() {
+        dict.truncate(texts);
+    }
+    table
 }

@@ -173,6 +173,14 @@ fn tells_kinds_from_fields(rt: HostRuntime) -> Result<(), Fail> {
 }
 
 #[test]
+fn keeps_the_cells_before_a_value(rt: HostRuntime) -> Result<(), Fail> {
+    let file = b"a,b,c,d,e\n,NA,,1,True\n7,x,True,,\n,y,,z,0\n";
+    let wanted =
+        "a Int64: NA 7 NA\nb string: NA x y\nc boolean: NA True NA\nd string: 1 NA z\ne string: True NA 0\n";
+    assert_reads(&rt, rt.alloc(), file, &[], wanted)
+}
+
+#[test]
 fn takes_named_kinds(rt: HostRuntime) -> Result<(), Fail> {
     let kinds = [
         ("a", Kind::Boolean),
@@ -211,6 +219,13 @@ fn refuses_a_long_record(rt: HostRuntime) -> Result<(), Fail> {
         b"a,b\n1,2\n3,4,5\n6,7,8,9\n",
         &kinds,
         CsvFault::LongRow(3, 2, 3),
+    )?;
+    assert_refuses(
+        &rt,
+        rt.alloc(),
+        b"a\nx\n1\ny,z\n",
+        &[],
+        CsvFault::LongRow(4, 1, 2),
     )
 }
 

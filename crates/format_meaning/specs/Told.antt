@@ -1,5 +1,5 @@
 -- The table that a grid tells by row and column, and the parts of a table by row, column and level.
-use Rattle.std.specs.Prelude.{ℕ, List, [], length, map, slice_index_or, Option, None}
+use Rattle.std.specs.Prelude.{ℕ, List, [], slice_index_or, Option, None}
 use Rattle.cell_core.specs.Grids.{GridValue}
 use Rattle.meaning.specs.Text.{Text}
 use Rattle.meaning.specs.Cell.{CellValue, na_cell, LabelValue, na}
@@ -35,7 +35,3 @@ cell_at t row column = slice_index_or (column_at t.columns column).cells row na_
 
 abbrev pub heading_at : Table → ℕ → Option LabelValue
 heading_at t column = slice_index_or t.headings column None
-
--- a label for each level of each row. A table whose rows have one each is itself.
-abbrev pub levelled : Table → Table
-levelled t = record t { labels = map (λ tuple. tabulate (length t.level_names) (λ level. slice_index_or tuple level na)) t.labels }

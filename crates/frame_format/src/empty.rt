@@ -9,7 +9,7 @@ use crate::source::Source;
 use cell_core::{Grid, NoMemory, Words};
 
 /// Appends the three lines.
-pub(crate) fn empty_text<G: Grid>(
+pub(crate) fn push_empty<G: Grid>(
     out: &mut Words,
     text: &mut String,
     source: &Source<'_, G>,

@@ -6,7 +6,7 @@ ghost use Rattle.format_meaning.specs.Told.{told, cell_at, heading_at};
 ghost use Rattle.format_meaning.specs.Print.{titled_width, header_line, names_below, names_line, frame_line, frame_levels, frame_columns, filled_text, frame_text_of, level_title, level_text, shown_name, shown_cell, spaces, right_set, places};
 ghost use Rattle.frame_format.specs.Layouts.{IsFrameLayout, set_columns};
 
-use crate::empty::empty_text;
+use crate::empty::push_empty;
 use crate::fields::{push_left, push_right, push_spaces};
 use crate::measuring::{
     has_level_names, push_labels, push_names, width_of_cells, widths_of_levels,
@@ -40,7 +40,7 @@ pub fn frame_text<G: Grid>(alloc: Global, dict: &TextDict, grid: &G) -> Result<W
     let mut out = Words::new(alloc);
     let mut text = String::new(alloc);
     if source.rows() == 0 || source.columns() == 0 {
-        empty_text(&mut out, &mut text, &source)?;
+        push_empty(&mut out, &mut text, &source)?;
     } else {
         push_filled(alloc, &mut out, &mut text, &source)?;
     }

@@ -10,4 +10,5 @@ pub mod NameLaws
 pub mod BuiltLaws
 pub mod ListedLaws
 pub mod RenameLaws
+pub mod CsvLaws
 pub mod TestLaws

@@ -42,6 +42,7 @@ fn is_built(method: Method) -> bool
             | Method::RenameSeries
             | Method::RenameFrame
             | Method::ToFrame
+            | Method::ToCsv
     )
 }
 

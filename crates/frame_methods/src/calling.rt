@@ -21,6 +21,7 @@ ghost use Rattle.frame_methods.specs.Faults.{IsChained};
 
 use crate::answers::made;
 use crate::binding::{bound_method, exists, no_attribute};
+use crate::csv::to_csv;
 use crate::made::Made;
 use crate::renaming::{rename_frame, rename_series, to_frame};
 use cell_core::{Code, TextDict};
@@ -81,6 +82,10 @@ fn answer(
         Method::RenameSeries => rename_series(alloc, store, dict, args, on),
         Method::RenameFrame => rename_frame(alloc, store, dict, args, on),
         Method::ToFrame => to_frame(alloc, store, dict, on),
+        Method::ToCsv => {
+            let text = to_csv(alloc, store, dict, args, on);
+            answer_made(store, dict, text)
+        }
         _ => {
             let made = made(alloc, store, dict, method, args, &store.read(on));
             answer_made(store, dict, made)
@@ -115,7 +120,8 @@ fn call(
 /// A method of a value: `s.name(..)`, or one with `groupby`, `rolling` or `expanding` before it.
 ///
 /// The answer is a scalar, or a new object whose table is that of its own rows; no other object
-/// changes. The methods are those of the API reference of pandas, "Series" and "DataFrame".
+/// changes. The scalar that `to_csv` answers is a text, to which the dictionary gives a number. The
+/// methods are those of the API reference of pandas, "Series" and "DataFrame".
 ///
 /// # Errors
 ///

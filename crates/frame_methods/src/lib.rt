@@ -7,7 +7,8 @@
 //!
 //! A method that makes new cells makes them column by column (`columns`), each by an operation of its
 //! own (`column_ops`); one that gives an object's rows again under other headings does so by
-//! `Store::derive`; one that makes one cell of a column does so by a reduction (`summaries`).
+//! `Store::derive`; one that makes one cell of a column does so by a reduction (`summaries`). The text
+//! of a whole table, which `to_csv` answers, is made by `frame_format` (`csv`).
 //!
 //! ```text
 //! let mut args = NamedList::new(alloc);
@@ -25,6 +26,7 @@ mod cells;
 mod column_methods;
 mod column_ops;
 mod columns;
+mod csv;
 mod listed;
 mod made;
 mod relabelling;

@@ -5,6 +5,7 @@ ghost use Rattle.cell_core.specs.Grids.{AreRowsBelow};
 ghost use Rattle.table_meaning.specs.Table.{column_at};
 ghost use Rattle.table_meaning.specs.Change.{put_at, cut_columns, with_column, without_column, with_labels, with_values};
 ghost use Rattle.table_meaning.specs.Valid.{AreHeadings, IsWhole};
+ghost use Rattle.multi_index.specs.Axes.{HaveLevels};
 ghost use Rattle.frame_store.specs.Parts.{block_column, IsSingle, HaveRows, AreHeld, table_with, axis_of};
 
 use crate::blocks::Blocks;
@@ -188,6 +189,7 @@ impl Store {
         requires { IsSome (tables self.now on.0) }
         ensures table { tables self.now on.0 ≡ Some result }
         ensures whole { IsWhole result }
+        ensures levels { HaveLevels (length result.level_names) result.labels }
     {
         ObjRef {
             table: self.objects[on.0 as usize].whole(),

@@ -6,6 +6,7 @@ ghost use Rattle.cell_core.specs.Grids.{AreRowsBelow};
 ghost use Rattle.table_meaning.specs.Table.{column_at};
 ghost use Rattle.table_meaning.specs.Change.{put_at, cut_columns, with_column, without_column, with_labels, with_values};
 ghost use Rattle.table_meaning.specs.Valid.{AreHeadings, IsWhole};
+ghost use Rattle.multi_index.specs.Axes.{HaveLevels};
 ghost use Rattle.frame_store.specs.Parts.{block_column, IsSingle, HaveRows, AreHeld, table_with, axis_of, count_of};
 
 use crate::blocks::Blocks;
@@ -80,8 +81,9 @@ impl Table {
     pub(crate) fn whole(&self) -> &Table
         ensures same { result.now ≡ self.now }
         ensures whole { IsWhole result.now }
+        ensures levels { HaveLevels (length result.now.level_names) result.now.labels }
     {
-        let _ = &self.axis;
+        let _ = self.axis.levels();
         self
     }
 

@@ -1,12 +1,12 @@
 -- What each method answers for its arguments, as far as it is built.
-use Rattle.std.specs.Prelude.{ℤ, pos, Bool, true, false, not, List, [], ◌∷◌, map, Option, Some, None, option_map, unwrap_or, Result, Ok, Err, if◌then◌else◌}
+use Rattle.std.specs.Prelude.{ℤ, pos, nat_lt, Bool, true, false, not, ◌||◌, List, [], ◌∷◌, map, length, Option, Some, None, option_map, unwrap_or, Result, Ok, Err, if◌then◌else◌}
 use Rattle.std.specs.Int.{int_wrap, w64}
 use Rattle.std.specs.List.{list_any, list_all}
 use Rattle.cell_core.specs.declared.cell.Kind.{Kind}
 use Rattle.cell_core.specs.declared.cell.Kind.TheVariants.{Int64, Boolean, Text as string}
 use Rattle.cell_core.specs.declared.grid.Shape.{Shape}
 use Rattle.cell_core.specs.declared.grid.Shape.TheVariants.{Series, Frame}
-use Rattle.meaning.specs.Cell.{CellValue, na_cell, int_cell, truth_cell, LabelValue, int, holds}
+use Rattle.meaning.specs.Cell.{CellValue, na_cell, int_cell, truth_cell, text_cell, LabelValue, int, holds}
 use Rattle.meaning.specs.Column.{ColumnFault, shifted}
 use Rattle.meaning.specs.Cast.{cast_column}
 use Rattle.meaning.specs.Operator.{cell_label}
@@ -14,15 +14,16 @@ use Rattle.meaning.specs.Reduce as reduction
 use Rattle.meaning.specs.Reduce.{Reduction, is_present, same_cell, reduce_column, distinct_count}
 use Rattle.meaning.specs.Cumulate as cumulation
 use Rattle.meaning.specs.Cumulate.{Cumulation, cumulate_column}
-use Rattle.meaning.specs.Fault.{FaultValue, wrong_kind, not_built, then_value}
+use Rattle.meaning.specs.Fault.{FaultValue, wrong_kind, bad_value, no_columns, not_built, then_value}
 use Rattle.table_meaning.specs.Table.{ColumnOf, Table, column_at}
 use Rattle.table_meaning.specs.Value.{Entry, cell, Given, scalar_in, list_in, dict_in}
 use Rattle.form_meaning.specs.declared.Method.{Method}
 use Rattle.form_meaning.specs.declared.Method.TheVariants as method
-use Rattle.form_meaning.specs.Binding.{is_scalar, same_label, whole_in}
+use Rattle.form_meaning.specs.Binding.{is_scalar, same_label, whole_in, truth_in}
 use Rattle.form_meaning.specs.Finish.{limited, finished, value_of_column, fault_of_column, made_column, try_all, with_columns}
 use Rattle.form_meaning.specs.Select.{cells_of}
 use Rattle.form_meaning.specs.Make.{on, kind_given, pairs_in}
+use Rattle.format_meaning.specs.CsvWrite.{csv_text_of}
 
 -- each column by itself, or the first fault
 abbrev pub each_column : (ColumnOf CellValue → Result (ColumnOf CellValue) FaultValue) → Table → Result Entry FaultValue
@@ -146,6 +147,10 @@ renamed_frame t pairs = if list_all is_scalar_pair pairs then finished (record t
 abbrev pub as_frame : Table → Table
 as_frame t = record t { shape = Frame; headings = map (λ h. Some (label_or h (int (pos 0)))) t.headings }
 
+-- the table as CSV text; without the labels of the rows there must be a column
+abbrev pub csv_answer : Bool → Table → Result Entry FaultValue
+csv_answer index t = if index || nat_lt 0 (length t.columns) then Ok (cell (text_cell (csv_text_of index t))) else Err (bad_value no_columns)
+
 abbrev pub answer_for : Method → List Given → Table → Result Entry FaultValue
 answer_for method.Copy gs t = limited t
 answer_for method.Isna gs t = each_column (mapped Boolean missing_mark) t
@@ -167,6 +172,7 @@ answer_for method.Nunique gs t = summary distinct t
 answer_for method.RenameSeries (name ∷ []) t = limited (renamed_series t (option_map cell_label (scalar_in name)))
 answer_for method.RenameFrame (columns ∷ []) t = on (dict_in columns) (λ pairs. renamed_frame t (pairs_in pairs))
 answer_for method.ToFrame gs t = limited (as_frame t)
+answer_for method.ToCsv (index ∷ []) t = on (truth_in index) (λ b. csv_answer b t)
 -- no other number of arguments is bound, and no other method is built
 answer_for m gs t = Err not_built
 
@@ -192,4 +198,5 @@ is_built method.Nunique = true
 is_built method.RenameSeries = true
 is_built method.RenameFrame = true
 is_built method.ToFrame = true
+is_built method.ToCsv = true
 is_built m = false

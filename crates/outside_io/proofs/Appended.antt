@@ -1,5 +1,5 @@
 -- Bytes put at an end one piece after another.
-use Rattle.std.proofs.Common.{◌≡◌, ℕ, ◌+◌, ◌-◌, List, [], ◌++◌, Option, Some, None, length, take, drop, refl, sym, ◌∙◌, ap, append_assoc}
+use Rattle.std.proofs.Common.{◌≡◌, ◌≢◌, ℕ, ◌+◌, ◌-◌, ◌<◌, List, [], ◌++◌, Option, Some, None, length, take, drop, refl, sym, ◌∙◌, ap, append_assoc, arith, length-drop}
 use Rattle.std.proofs.Math.Seq.{take-add}
 use Rattle.std.proofs.lemmas.List.{take_rest, append-nil}
 use Rattle.outside_io.specs.Sink.{appended}
@@ -20,3 +20,9 @@ appended-take w piece i n =
 pub appended-nil : (w : Option (List ℕ)) → appended w [] ≡ w
 appended-nil None = refl
 appended-nil (Some old) = ap (λ (l : List ℕ). Some l) (append-nil old)
+
+-- something is left before the end
+pub drop_not_nil : (piece : List ℕ) (i : ℕ) → i < length piece → drop i piece ≢ []
+drop_not_nil piece i within none =
+    let left : length (drop i piece) ≡ 0 = ap length none in
+    omega (arith, length-drop i piece)

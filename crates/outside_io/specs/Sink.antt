@@ -1,5 +1,5 @@
 -- What a sink does with a piece.
-use Rattle.std.specs.Prelude.{◌≡◌, ◌<◌, ◌≤◌, ℕ, List, [], ◌++◌, take, Option, Some, None}
+use Rattle.std.specs.Prelude.{◌≡◌, ◌≢◌, ◌<◌, ◌≤◌, ℕ, List, [], ◌++◌, take, Option, Some, None}
 use Rattle.outside_io.specs.declared.sink.Put.{Put}
 use Rattle.outside_io.specs.declared.sink.Put.TheVariants.{Took, Failed}
 
@@ -21,3 +21,7 @@ taken_of Failed piece = []
 -- a front of the whole was appended
 abbrev pub AppendsFront : Option (List ℕ) → Option (List ℕ) → List ℕ → Type 0
 AppendsFront old new whole = (text : List ℕ) × (rest : List ℕ) × (new ≡ appended old text) × (whole ≡ text ++ rest)
+
+-- a front was appended that leaves at least one byte of the whole
+abbrev pub AppendsPart : Option (List ℕ) → Option (List ℕ) → List ℕ → Type 0
+AppendsPart old new whole = (text : List ℕ) × (rest : List ℕ) × (rest ≢ []) × (new ≡ appended old text) × (whole ≡ text ++ rest)

@@ -1,7 +1,7 @@
 // Where bytes go.
 ghost use Rattle.std.specs.Prelude.{◌≡◌, ◌<◌, ◌≤◌, [], List, ℕ, Option, length, IsOk, IsErr, OnOk, OnErr};
 ghost use Rattle.outside_io.specs.Count.{HasRisen};
-ghost use Rattle.outside_io.specs.Sink.{IsWithin, appended, taken_of, AppendsFront};
+ghost use Rattle.outside_io.specs.Sink.{IsWithin, appended, taken_of, AppendsPart};
 
 /// What a sink did with a piece.
 #[derive(Clone, Copy, Debug, PartialEq, Eq)]
@@ -38,11 +38,11 @@ pub enum WriteFault {
     Failed,
 }
 
-/// Writes the whole piece, or fails after a front of it, where a call of the sink failed. An empty
-/// piece is written without a call. Takes no memory.
+/// Writes the whole piece, or fails after a front of it that leaves at least one byte, where a call of
+/// the sink failed. An empty piece is written without a call. Takes no memory.
 pub fn write_piece<S: Sink>(sink: &mut S, piece: &[u8]) -> Result<(), WriteFault>
     ensures ok { OnOk result (S.written sink.new ≡ appended (S.written sink.old) piece.now) }
-    ensures err { OnErr result (AppendsFront (S.written sink.old) (S.written sink.new) piece.now) }
+    ensures err { OnErr result (AppendsPart (S.written sink.old) (S.written sink.new) piece.now) }
     ensures empty { piece.now ≡ [] → IsOk result }
 
     ensures faults { S.faults sink.old ≤ S.faults sink.new }

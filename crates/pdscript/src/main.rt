@@ -1,4 +1,4 @@
-//! `pdscript SCRIPT` runs a script of tables and prints what it prints.
+//! `pdscript SCRIPT NAME=PATH ..` runs a script over files of tables and prints what it prints.
 //!
 //! The program hands the words of its command line, the files of the machine and its two standard
 //! streams to `script_run::run`, and ends with the number of the status that this answers. Before

@@ -1,4 +1,5 @@
 pub mod State
+pub mod Reading
 pub mod Expression
 pub mod Statement
 pub mod Run

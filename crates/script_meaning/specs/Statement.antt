@@ -9,7 +9,7 @@ use Rattle.table_meaning.specs.Table.{Table}
 use Rattle.table_meaning.specs.Value.{Entry, Given, cell, table}
 use Rattle.form_meaning.specs.Set.{assign_result, removal_result}
 use Rattle.format_meaning.specs.Print.{table_text_of}
-use Rattle.format_meaning.specs.Told.{levelled}
+use Rattle.script_meaning.specs.Reading.{Files, Reading, Reads, at_once, then_or}
 use Rattle.script_meaning.specs.State.{State, with_new, with_object, with_table, without_name}
 use Rattle.script_meaning.specs.Expression.{Target, named_by, value_of_name, value_of, given_of, target_of}
 
@@ -18,9 +18,9 @@ pub data Answer : Type 0 where
   done : State → Text → Bool → Answer
   refused : FaultValue → Bool → Answer
 
-abbrev pub then_answer : {A : Type 0} → Result A FaultValue → (A → Answer) → Answer
-then_answer (Ok a) go = go a
-then_answer (Err fault) go = refused fault false
+-- a fault refuses the statement, and a value goes on
+abbrev pub then_answer : {A : Type 0} → Reads A → (A → Reading Answer) → Reading Answer
+then_answer r go = then_or (λ fault. refused fault false) r go
 
 -- a name that is bound to another name's object is that object; any other value is its own
 abbrev pub with_value : State → Text → Option Text → Entry → State
@@ -50,16 +50,18 @@ cell_text (text_cell t) = t
 -- how a value is printed
 abbrev pub entry_text : Entry → Text
 entry_text (cell c) = cell_text c
-entry_text (table t) = table_text_of (levelled t)
+entry_text (table t) = table_text_of t
 
 abbrev pub assigned : Entry → Target → Given → Result Table FaultValue
 assigned v target g = assign_result v target.way target.first target.second g
 
-abbrev pub statement_result : State → tree.Form → Answer
-statement_result s tree.import_pandas = done s [] false
-statement_result s (tree.bind x e) = then_answer (value_of s e) (λ v. done (with_value s x (named_by e) v) [] false)
-statement_result s (tree.put x step a) =
-    then_answer (given_of s a) (λ g. then_answer (value_of s x) (λ v. then_answer (target_of s step) (λ target. set_answer s (named_by x) (assigned v target g))))
-statement_result s (tree.drop_name n) = then_answer (value_of_name n (s.value n)) (λ v. done (without_name s n) [] false)
-statement_result s (tree.drop_column n x) = then_answer (value_of_name n (s.value n)) (λ v. then_answer (value_of s x) (λ k. set_answer s (Some n) (removal_result v k)))
-statement_result s (tree.print x end) = then_answer (value_of s x) (λ v. done s (entry_text v ++ end) false)
+abbrev pub statement_result : Files → State → tree.Form → Reading Answer
+statement_result files s tree.import_pandas = at_once (done s [] false)
+statement_result files s (tree.bind x e) = then_answer (value_of files s e) (λ v. at_once (done (with_value s x (named_by e) v) [] false))
+statement_result files s (tree.put x step a) =
+    then_answer (given_of files s a) (λ g. then_answer (value_of files s x) (λ v. then_answer (target_of files s step) (λ target.
+    at_once (set_answer s (named_by x) (assigned v target g)))))
+statement_result files s (tree.drop_name n) = then_answer (at_once (value_of_name n (s.value n))) (λ v. at_once (done (without_name s n) [] false))
+statement_result files s (tree.drop_column n x) =
+    then_answer (at_once (value_of_name n (s.value n))) (λ v. then_answer (value_of files s x) (λ k. at_once (set_answer s (Some n) (removal_result v k))))
+statement_result files s (tree.print x end) = then_answer (value_of files s x) (λ v. at_once (done s (entry_text v ++ end) false))

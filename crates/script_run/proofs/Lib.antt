@@ -1,3 +1,4 @@
+pub mod StepLaws
 pub mod RunLaws
 pub mod FileLaws
 pub mod Quoting

@@ -1,12 +1,23 @@
--- How a run ends, and what it wrote by then: `out` and `err` before it, where the sinks tell their bytes, `out'` and `err'` after it.
-use Rattle.std.specs.Prelude.{◌≡◌, ◌⊎◌, ℕ, List, ◌++◌, Option, codes}
+-- How a run ends, and what it wrote by then.
+use Rattle.std.specs.Prelude.{◌≡◌, ◌≢◌, ◌⊎◌, ◌<◌, ◌≤◌, ℕ, List, [], ◌++◌, length, Option, codes}
+use Rattle.outside_io.specs.Count.{HasRisen}
 use Rattle.outside_io.specs.Sink.{appended, AppendsFront}
 use Rattle.meaning.specs.Text.{Text}
-use Rattle.script_meaning.specs.Run.{RunResult, Ending, finished, fault, usage, syntax, after_texts, after_answer}
-use Rattle.script_meaning.specs.State.{State}
-use Rattle.script_meaning.specs.Statement.{Answer}
+use Rattle.script_meaning.specs.Run.{RunResult, Ending, finished, fault, usage, syntax, output_of, errors_of, fetches_of, before_fetch, before_byte}
+use Rattle.script_session.specs.Reads.{count_after}
 use Rattle.script_run.specs.declared.status.Status.{Status}
 use Rattle.script_run.specs.declared.status.Status.TheVariants.{Done, Fault, Usage, Syntax, Input, Output, Memory}
+
+-- What is seen of the outside: the bytes on the output and on the errors, where the sinks tell them, how many calls of each have failed, and how often a file was fetched.
+pub record Outside : Type 0 where
+  pub out : Option (List ℕ)
+  pub err : Option (List ℕ)
+  pub out_faults : ℕ
+  pub err_faults : ℕ
+  pub fetches : ℕ
+
+abbrev pub outside : {F O E : Type 0} → (F → ℕ) → (O → Option (List ℕ)) → (O → ℕ) → (E → Option (List ℕ)) → (E → ℕ) → F → O → E → Outside
+outside fetches out out_faults err err_faults f o e = record { out = out o; err = err e; out_faults = out_faults o; err_faults = err_faults e; fetches = fetches f }
 
 -- the status of a run that ends by its meaning
 abbrev pub status_of : Ending → Status
@@ -15,51 +26,48 @@ status_of fault = Fault
 status_of usage = Usage
 status_of syntax = Syntax
 
--- the run ends as a result that it may have, and all of that was written
-abbrev pub EndsAs : (RunResult → Type 0) → Status → Option (List ℕ) → Option (List ℕ) → Option (List ℕ) → Option (List ℕ) → Type 0
-EndsAs means status out out' err err' =
-    (result : RunResult) × means result × (status ≡ status_of result.ending) × (out' ≡ appended out result.output) × (err' ≡ appended err result.errors)
+-- the run ends as a result that it may have, with all that it prints and with as many fetches
+abbrev pub EndsAs : (RunResult → Type 0) → Status → Outside → Outside → Type 0
+EndsAs means status old new =
+    (result : RunResult) × means result × (status ≡ status_of result.ending)
+    × (new.out ≡ appended old.out (output_of result.steps)) × (new.err ≡ appended old.err (errors_of result.steps)) × (new.fetches ≡ count_after old.fetches (fetches_of result.steps))
 
 -- of any result that the run may have, a front was written
-abbrev pub EndsEarly : (RunResult → Type 0) → Option (List ℕ) → Option (List ℕ) → Option (List ℕ) → Option (List ℕ) → Type 0
-EndsEarly means out out' err err' =
-    (result : RunResult) → means result → AppendsFront out out' result.output × AppendsFront err err' result.errors
+abbrev pub EndsEarly : (RunResult → Type 0) → Outside → Outside → Type 0
+EndsEarly means old new =
+    (result : RunResult) → means result → AppendsFront old.out new.out (output_of result.steps) × AppendsFront old.err new.err (errors_of result.steps)
 
--- of any result that the run may have, a front was written, and a front of one line more on the errors
-abbrev pub EndsUnread : (RunResult → Type 0) → Option (List ℕ) → Option (List ℕ) → Option (List ℕ) → Option (List ℕ) → Type 0
-EndsUnread means out out' err err' =
-    (result : RunResult) → means result → AppendsFront out out' result.output
-    × ((text rest : List ℕ) × (result.errors ≡ text ++ rest) × AppendsFront (appended err text) err' (codes "input failed\n"))
+-- A write failed. Where it was one on the errors that left a byte of them missing, the output is that of the steps before the one in whose errors this byte stands.
+abbrev pub EndsUnwritten : (RunResult → Type 0) → Outside → Outside → Type 0
+EndsUnwritten means old new =
+    (result : RunResult) → means result → AppendsFront old.out new.out (output_of result.steps)
+    × ((text rest : List ℕ) × (errors_of result.steps ≡ text ++ rest) × (new.err ≡ appended old.err text)
+    × (¬ (HasRisen old.out_faults new.out_faults) → rest ≢ [] → new.out ≡ appended old.out (output_of (before_byte (length text) result.steps))))
+
+-- A read failed. A front was written, and a front of one line more on the errors. Where no write failed, all steps before the one of the last fetch were written, and the line.
+abbrev pub EndsUnread : (RunResult → Type 0) → Outside → Outside → Type 0
+EndsUnread means old new =
+    (result : RunResult) → means result → AppendsFront old.out new.out (output_of result.steps)
+    × ((text rest : List ℕ) × (errors_of result.steps ≡ text ++ rest) × AppendsFront (appended old.err text) new.err (codes "input failed\n"))
+    × ((m : ℕ) × (0 < m) × (m ≤ fetches_of result.steps) × (new.fetches ≡ count_after old.fetches m)
+    × (¬ (HasRisen old.out_faults new.out_faults) → ¬ (HasRisen old.err_faults new.err_faults) →
+    (new.out ≡ appended old.out (output_of (before_fetch m result.steps))) × (new.err ≡ appended old.err (errors_of (before_fetch m result.steps) ++ codes "input failed\n"))))
 
 -- The status, and what was written. A read that failed, a write that failed and want of memory leave a front; else the run ends by its meaning.
-abbrev pub Ends : (RunResult → Type 0) → Status → Option (List ℕ) → Option (List ℕ) → Option (List ℕ) → Option (List ℕ) → Type 0
-Ends means Input out out' err err' = EndsUnread means out out' err err'
-Ends means Output out out' err err' = EndsEarly means out out' err err'
-Ends means Memory out out' err err' = EndsEarly means out out' err err'
-Ends means status out out' err err' = EndsAs means status out out' err err'
+abbrev pub Ends : (RunResult → Type 0) → Status → Outside → Outside → Type 0
+Ends means Input old new = EndsUnread means old new
+Ends means Output old new = EndsUnwritten means old new
+Ends means Memory old new = EndsEarly means old new
+Ends means status old new = EndsAs means status old new
 
 -- the one result
 abbrev pub Is : RunResult → RunResult → Type 0
 Is one result = result ≡ one
 
--- the statement was done: what it prints was written, its warning too, and the run goes on from the new state
-abbrev pub GoesOn : Answer → ℕ → State → Option (List ℕ) → Option (List ℕ) → Option (List ℕ) → Option (List ℕ) → Type 0
-GoesOn answer line state out out' err err' =
-    (printed : List ℕ) × (warned : List ℕ) × (out' ≡ appended out printed) × (err' ≡ appended err warned)
-    × ((go : State → RunResult) → after_answer answer line go ≡ after_texts printed warned (go state))
-
--- the run ends at the statement, whatever would have followed it
-abbrev pub Stops : Answer → ℕ → Status → Option (List ℕ) → Option (List ℕ) → Option (List ℕ) → Option (List ℕ) → Type 0
-Stops answer line status out out' err err' = (go : State → RunResult) → Ends (Is (after_answer answer line go)) status out out' err err'
+-- the run ends as a result that it may have, all of which was written, or for want of memory
+abbrev pub EndsByMeaning : (RunResult → Type 0) → Status → Outside → Outside → Type 0
+EndsByMeaning means status old new = EndsAs means status old new ⊎ (status ≡ Memory)
 
 -- The line was written and the run ends with this status, or the write failed after a front of it, or there was no memory for it.
 abbrev pub EndsWithLine : Text → Status → Status → Option (List ℕ) → Option (List ℕ) → Type 0
 EndsWithLine line status result err err' = ((result ≡ status) × (err' ≡ appended err line)) ⊎ ((result ≡ Output) × AppendsFront err err' line) ⊎ ((result ≡ Memory) × (err' ≡ err))
-
--- the run ends as a result that it may have, all of which was written, or for want of memory
-abbrev pub EndsByMeaning : (RunResult → Type 0) → Status → Option (List ℕ) → Option (List ℕ) → Option (List ℕ) → Option (List ℕ) → Type 0
-EndsByMeaning means status out out' err err' = EndsAs means status out out' err err' ⊎ (status ≡ Memory)
-
--- a line that is no last one could not be written: a front of it was, or nothing for want of memory
-abbrev pub Warned : Status → Text → Option (List ℕ) → Option (List ℕ) → Type 0
-Warned status line err err' = ((status ≡ Output) × AppendsFront err err' line) ⊎ ((status ≡ Memory) × (err' ≡ err))

@@ -1,2 +1,4 @@
 pub mod Ends
 pub mod Exit
+pub mod Names
+pub mod Steps

@@ -1,16 +1,18 @@
 // One statement of a run.
-ghost use Rattle.std.specs.Prelude.{◌≡◌, ◌≢◌, ◌⊎◌, ◌≤◌, ◌++◌, IfErr, OnOk};
+ghost use Rattle.std.specs.Prelude.{◌≡◌, ◌≢◌, ◌⊎◌, ◌≤◌, IfErr, IfSome, OnErr, OnOk};
 ghost use Rattle.outside_io.specs.Count.{HasRisen};
-ghost use Rattle.outside_io.specs.Sink.{appended, AppendsFront};
+ghost use Rattle.outside_io.specs.Sink.{appended, AppendsPart};
 ghost use Rattle.meaning.specs.FaultOf.{fault_of};
 ghost use Rattle.meaning.specs.FaultText.{fault_text};
 ghost use Rattle.script_meaning.specs.Run.{line_about, warning_line};
 ghost use Rattle.script_meaning.specs.Statement.{statement_result};
 ghost use Rattle.script_syntax.specs.View.{form_of};
+ghost use Rattle.script_session.specs.Reads.{files_in};
 ghost use Rattle.script_session.specs.Session.{state_of};
-ghost use Rattle.script_run.specs.Ends.{EndsWithLine, GoesOn, Stops, Warned};
+ghost use Rattle.script_run.specs.Ends.{outside, EndsWithLine};
+ghost use Rattle.script_run.specs.Steps.{GoesOn, Stops};
 
-use crate::ending::end_with;
+use crate::ending::{end_with, say_unread};
 use crate::status::Status;
 use crate::text::{line_of_fault, line_of_warning};
 use cell_core::{Fault, TextDict};
@@ -30,21 +32,24 @@ pub fn advance<F: Files, O: Sink, E: Sink>(
     out: &mut O,
     err: &mut E,
 ) -> Result<(), Status>
-    ensures on { OnOk result (GoesOn (statement_result (state_of session.old) (form_of statement.now.form)) statement.now.line (state_of session.new) (O.written out.old) (O.written out.new) (E.written err.old) (E.written err.new)) }
-    ensures stops { IfErr result (λ status. Stops (statement_result (state_of session.old) (form_of statement.now.form)) statement.now.line status (O.written out.old) (O.written out.new) (E.written err.old) (E.written err.new)) }
-    ensures causes { IfErr result (λ status. (status ≢ Status.Usage) × (status ≢ Status.Input)) }
+    ensures on { OnOk result (IfSome (F.contents files.old) (λ held. GoesOn (statement_result (files_in names.now held) (state_of session.old) (form_of statement.now.form)) statement.now.line (state_of session.new) (outside F.fetches O.written O.faults E.written E.faults files.old out.old err.old) (outside F.fetches O.written O.faults E.written E.faults files.new out.new err.new))) }
+    ensures stops { IfErr result (λ status. IfSome (F.contents files.old) (λ held. Stops (statement_result (files_in names.now held) (state_of session.old) (form_of statement.now.form)) statement.now.line status (outside F.fetches O.written O.faults E.written E.faults files.old out.old err.old) (outside F.fetches O.written O.faults E.written E.faults files.new out.new err.new))) }
+
+    ensures usage { IfErr result (λ status. status ≢ Status.Usage) }
+    ensures input { IfErr result (λ status. status ≡ Status.Input → HasRisen (F.faults files.old) (F.faults files.new)) }
     ensures output { IfErr result (λ status. status ≡ Status.Output → HasRisen (O.faults out.old) (O.faults out.new) ⊎ HasRisen (E.faults err.old) (E.faults err.new)) }
+
+    ensures contents { F.contents files.new ≡ F.contents files.old }
+    ensures faults { F.faults files.old ≤ F.faults files.new }
+    ensures absences { F.absences files.old ≤ F.absences files.new }
     ensures out_faults { O.faults out.old ≤ O.faults out.new }
     ensures err_faults { E.faults err.old ≤ E.faults err.new }
-    ensures files { files.new ≡ files.old }
 {
     match session.step(files, names, statement) {
         Ok(outcome) => {
             warn(alloc, statement.line, outcome.warned, err)?;
             show(outcome.printed.as_str(), out)
         }
-        Err(StepFault::NoMemory) => Err(Status::Memory),
-        Err(StepFault::Input) => unreachable!(),
         Err(StepFault::Refused { code, warned }) => {
             warn(alloc, statement.line, warned, err)?;
             let fault = Fault {
@@ -53,13 +58,18 @@ pub fn advance<F: Files, O: Sink, E: Sink>(
             };
             Err(end_at_fault(alloc, session.texts(), &fault, err))
         }
+        Err(StepFault::Input) => {
+            say_unread(err);
+            Err(Status::Input)
+        }
+        Err(StepFault::NoMemory) => Err(Status::Memory),
     }
 }
 
 // Writes what a statement prints.
 fn show<O: Sink>(printed: &str, out: &mut O) -> Result<(), Status>
     ensures shown { OnOk result (O.written out.new ≡ appended (O.written out.old) printed.now) }
-    ensures front { IfErr result (λ status. (status ≡ Status.Output) × AppendsFront (O.written out.old) (O.written out.new) printed.now × HasRisen (O.faults out.old) (O.faults out.new)) }
+    ensures part { IfErr result (λ status. (status ≡ Status.Output) × AppendsPart (O.written out.old) (O.written out.new) printed.now × HasRisen (O.faults out.old) (O.faults out.new)) }
     ensures faults { O.faults out.old ≤ O.faults out.new }
 {
     match write_piece(out, printed.as_bytes()) {
@@ -71,7 +81,8 @@ fn show<O: Sink>(printed: &str, out: &mut O) -> Result<(), Status>
 // Writes the warning of a statement that sets an object without a name.
 fn warn<E: Sink>(alloc: Global, line: u64, warned: bool, err: &mut E) -> Result<(), Status>
     ensures shown { OnOk result (E.written err.new ≡ appended (E.written err.old) (warning_line line warned)) }
-    ensures front { IfErr result (λ status. Warned status (warning_line line warned) (E.written err.old) (E.written err.new)) }
+    ensures part { OnErr result (AppendsPart (E.written err.old) (E.written err.new) (warning_line line warned)) }
+    ensures status { IfErr result (λ status. (status ≡ Status.Output) ⊎ (status ≡ Status.Memory)) }
     ensures output { IfErr result (λ status. status ≡ Status.Output → HasRisen (E.faults err.old) (E.faults err.new)) }
     ensures faults { E.faults err.old ≤ E.faults err.new }
 {

@@ -1,11 +1,12 @@
 //! Runs: what a run of a script prints.
 //!
 //! [`run`] reads the script that the words of a command line name, does its statements in order with a
-//! [`Session`], and writes what they print on one sink, warnings and the first fault on another.
+//! [`Session`], and writes what they print on one sink, warnings and the first fault on another. The words
+//! may also name files, each as `NAME=PATH`, which the statements read by these names.
 //!
 //! ```text
 //! let mut files = MemFiles::new(alloc);
-//! files.put("report.py", b"print(1)\n")?;
+//! files.hold("report.py", b"print(1)\n")?;
 //! let status = run(alloc, &words, &mut files, &mut out, &mut err);
 //! assert!(rt; status == Status::Done);
 //! ```

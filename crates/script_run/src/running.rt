@@ -1,17 +1,17 @@
 // A run, from the words to the bytes written.
-ghost use Rattle.std.specs.Prelude.{◌≡◌, ◌≢◌, ◌⊎◌, ◌<◌, ◌≤◌, ◌^◌, ℕ, List, length, map, IfSome, IfNone, IsSome, MatchOption, string_bytes};
-ghost use Rattle.outside_io.specs.Count.{HasRisen, raised};
-ghost use Rattle.meaning.specs.Script.{most_bytes};
+ghost use Rattle.std.specs.Prelude.{◌≡◌, ◌≢◌, ◌⊎◌, ◌≤◌, IfNone, IfSome, IsSome, map, string_bytes};
+ghost use Rattle.outside_io.specs.Count.{HasRisen};
 ghost use Rattle.script_meaning.specs.State.{no_names};
-ghost use Rattle.script_meaning.specs.Run.{not_found_line, syntax_line, too_large_line, IsRunResult, IsScriptResult, IsPathResult, path_of, statements_result, usage, usage_line, with_line};
+ghost use Rattle.script_meaning.specs.Run.{not_found_line, run_in, statements_result, syntax_line, too_large_line, usage, usage_line, with_line, IsRunResult, IsScriptResult, IsWordsResult};
 ghost use Rattle.script_syntax.specs.ScriptView.{statements_of};
-ghost use Rattle.script_run.specs.Ends.{Ends, EndsByMeaning, EndsWithLine, Is};
+ghost use Rattle.script_session.specs.Reads.{files_in, paths_of};
+ghost use Rattle.script_run.specs.Ends.{outside, Ends, EndsByMeaning, EndsWithLine, Is};
 
 use crate::advance::advance;
 use crate::ending::{end_with, say_unread};
 use crate::status::Status;
 use crate::text::{line_of_absence, line_of_syntax};
-use crate::words::script_path;
+use crate::words::{WordsFault, names_in, script_in};
 use outside_io::{Files, ReadFault, Sink, read_whole};
 use script_session::{FileNames, Session};
 use script_syntax::{ParseFault, Script, parse};
@@ -22,11 +22,21 @@ const MOST_BYTES: usize = 1 << 20;
 /// Runs the script that the words name, of which the first is the program's name: prints what its
 /// statements print on `out`, and the line of its first fault on `err`.
 ///
-/// The words are a run where there are two and the second is a path: not empty, and `-` or without
-/// a `-` at its front. Else the usage line is written on `err` and the status is `Usage`. It is
-/// `Usage` too where the files hold no such path. Bytes that are no script are `Syntax`, a statement
-/// that is refused is `Fault`. `Input` and `Output` come only where a count of faults rose; with
-/// them and with `Memory` a front of what the run means was written.
+/// The words are a run where the second is the path of the script and each further one is `NAME=PATH`,
+/// by which the script may read the file under PATH as NAME. A pair is cut at its first `=`, neither
+/// part is empty, and no name stands twice. Neither the script's path nor a pair begins with `-`, but
+/// the path, which isn't empty, may be `-` alone.
+///
+/// The script is fetched once, before its first statement. A statement fetches the file of a name each
+/// time that it reads it, and no file is fetched before.
+///
+/// The status is `Done` after the last statement, and `Fault` at the first one that is refused; a name
+/// without a file is such a fault. It is `Usage` where the words are no run, for which the usage line is
+/// written on `err`, or the files don't hold the script, and `Syntax` where its bytes are no script.
+/// `Input` comes only where a count of failed reads rose, `Output` only where a count of failed writes
+/// did; with them and with `Memory` a front of what the run means was written. After a failed read that
+/// is all that the statements before it print, and then the line `input failed`, unless a write failed
+/// too. Where only a write on `err` failed, what the statements before that line print was written.
 pub fn run<F: Files, O: Sink, E: Sink>(
     alloc: Global,
     words: &Vec<String>,
@@ -34,60 +44,75 @@ pub fn run<F: Files, O: Sink, E: Sink>(
     out: &mut O,
     err: &mut E,
 ) -> Status
-    // In told contents the status and the bytes are those of the meaning.
-    ensures told { IfSome (F.contents files.old) (λ held. Ends (IsRunResult (map string_bytes words.now.items) held) result (O.written out.old) (O.written out.new) (E.written err.old) (E.written err.new)) }
+    // In told contents the status, the bytes and the fetches are those of the meaning.
+    ensures told { IfSome (F.contents files.old) (λ held. Ends (IsRunResult (map string_bytes words.now.items) held) result (outside F.fetches O.written O.faults E.written E.faults files.old out.old err.old) (outside F.fetches O.written O.faults E.written E.faults files.new out.new err.new)) }
 
     // Without a read or a write that failed there is no other ending.
     ensures complete { IfSome (F.contents files.old) (λ held.
         ¬ (HasRisen (F.faults files.old) (F.faults files.new)) → ¬ (HasRisen (O.faults out.old) (O.faults out.new)) → ¬ (HasRisen (E.faults err.old) (E.faults err.new)) →
-        EndsByMeaning (IsRunResult (map string_bytes words.now.items) held) result (O.written out.old) (O.written out.new) (E.written err.old) (E.written err.new)) }
+        EndsByMeaning (IsRunResult (map string_bytes words.now.items) held) result (outside F.fetches O.written O.faults E.written E.faults files.old out.old err.old) (outside F.fetches O.written O.faults E.written E.faults files.new out.new err.new)) }
 
-    // Words that are no run have one meaning, whatever the files tell.
-    ensures words { IfNone (path_of (map string_bytes words.now.items)) (Ends (Is (with_line usage_line usage)) result (O.written out.old) (O.written out.new) (E.written err.old) (E.written err.new)) }
+    // Words that are no run have one meaning, whatever the files tell, and fetch nothing.
+    ensures words { IfNone (run_in (map string_bytes words.now.items)) (Ends (Is (with_line usage_line usage)) result (outside F.fetches O.written O.faults E.written E.faults files.old out.old err.old) (outside F.fetches O.written O.faults E.written E.faults files.new out.new err.new)) }
+    ensures fetches { IfNone (run_in (map string_bytes words.now.items)) (F.fetches files.new ≡ F.fetches files.old) }
 
     // The causes of the other answers.
-    ensures usage { result ≡ Status.Usage → IsSome (path_of (map string_bytes words.now.items)) → HasRisen (F.absences files.old) (F.absences files.new) }
+    ensures usage { result ≡ Status.Usage → IsSome (run_in (map string_bytes words.now.items)) → HasRisen (F.absences files.old) (F.absences files.new) }
     ensures input { result ≡ Status.Input → HasRisen (F.faults files.old) (F.faults files.new) }
     ensures output { result ≡ Status.Output → HasRisen (O.faults out.old) (O.faults out.new) ⊎ HasRisen (E.faults err.old) (E.faults err.new) }
 
-    ensures fetches { MatchOption (path_of (map string_bytes words.now.items)) (F.fetches files.new ≡ F.fetches files.old) (λ _. F.fetches files.new ≡ raised (F.fetches files.old) 1) }
     ensures contents { F.contents files.new ≡ F.contents files.old }
     ensures faults { F.faults files.old ≤ F.faults files.new }
+    ensures absences { F.absences files.old ≤ F.absences files.new }
     ensures out_faults { O.faults out.old ≤ O.faults out.new }
     ensures err_faults { E.faults err.old ≤ E.faults err.new }
 {
-    match script_path(words) {
-        Some(path) => run_file(alloc, path, files, out, err),
-        None => end_with(
-            err,
-            Status::Usage,
-            "usage: pdscript [--stats] [--demo N | SCRIPT] [NAME=PATH ..]\n",
-        ),
+    let Some((script, more)) = script_in(words) else {
+        return end_usage(err);
+    };
+    match names_in(alloc, more) {
+        Ok(names) => run_file(alloc, script, &names, files, out, err),
+        Err(WordsFault::Usage) => end_usage(err),
+        Err(WordsFault::NoMemory) => Status::Memory,
     }
+}
+
+// Ends a run whose words are none.
+fn end_usage<E: Sink>(err: &mut E) -> Status
+    ensures ended { EndsWithLine usage_line Status.Usage result (E.written err.old) (E.written err.new) }
+    ensures output { result ≡ Status.Output → HasRisen (E.faults err.old) (E.faults err.new) }
+    ensures faults { E.faults err.old ≤ E.faults err.new }
+{
+    end_with(
+        err,
+        Status::Usage,
+        "usage: pdscript [--stats] [--demo N | SCRIPT] [NAME=PATH ..]\n",
+    )
 }
 
 // Runs the script that the path holds.
 fn run_file<F: Files, O: Sink, E: Sink>(
     alloc: Global,
     path: &str,
+    names: &FileNames,
     files: &mut F,
     out: &mut O,
     err: &mut E,
 ) -> Status
-    ensures told { IfSome (F.contents files.old) (λ held. Ends (IsPathResult (Some path.now) held) result (O.written out.old) (O.written out.new) (E.written err.old) (E.written err.new)) }
+    ensures told { IfSome (F.contents files.old) (λ held. Ends (IsWordsResult (Some record { script = path.now; paths = paths_of names.now }) held) result (outside F.fetches O.written O.faults E.written E.faults files.old out.old err.old) (outside F.fetches O.written O.faults E.written E.faults files.new out.new err.new)) }
 
     ensures usage { result ≡ Status.Usage → HasRisen (F.absences files.old) (F.absences files.new) }
     ensures input { result ≡ Status.Input → HasRisen (F.faults files.old) (F.faults files.new) }
     ensures output { result ≡ Status.Output → HasRisen (O.faults out.old) (O.faults out.new) ⊎ HasRisen (E.faults err.old) (E.faults err.new) }
 
-    ensures fetches { F.fetches files.new ≡ raised (F.fetches files.old) 1 }
     ensures contents { F.contents files.new ≡ F.contents files.old }
     ensures faults { F.faults files.old ≤ F.faults files.new }
+    ensures absences { F.absences files.old ≤ F.absences files.new }
     ensures out_faults { O.faults out.old ≤ O.faults out.new }
     ensures err_faults { E.faults err.old ≤ E.faults err.new }
 {
     match read_whole(alloc, files, path, MOST_BYTES) {
-        Ok(bytes) => run_bytes(alloc, bytes.as_slice(), files, out, err),
+        Ok(bytes) => run_bytes(alloc, bytes.as_slice(), names, files, out, err),
         Err(ReadFault::Absent) => end_absent(alloc, path, err),
         Err(ReadFault::TooLong) => end_too_large(err),
         Err(ReadFault::Failed) => {
@@ -135,19 +160,25 @@ fn end_syntax<E: Sink>(alloc: Global, line: u64, err: &mut E) -> Status
 fn run_bytes<F: Files, O: Sink, E: Sink>(
     alloc: Global,
     bytes: &[u8],
+    names: &FileNames,
     files: &mut F,
     out: &mut O,
     err: &mut E,
 ) -> Status
-    ensures told { Ends (IsScriptResult bytes.now) result (O.written out.old) (O.written out.new) (E.written err.old) (E.written err.new) }
-    ensures causes { (result ≢ Status.Usage) × (result ≢ Status.Input) }
+    ensures told { IfSome (F.contents files.old) (λ held. Ends (IsScriptResult (files_in names.now held) bytes.now) result (outside F.fetches O.written O.faults E.written E.faults files.old out.old err.old) (outside F.fetches O.written O.faults E.written E.faults files.new out.new err.new)) }
+
+    ensures usage { result ≢ Status.Usage }
+    ensures input { result ≡ Status.Input → HasRisen (F.faults files.old) (F.faults files.new) }
     ensures output { result ≡ Status.Output → HasRisen (O.faults out.old) (O.faults out.new) ⊎ HasRisen (E.faults err.old) (E.faults err.new) }
+
+    ensures contents { F.contents files.new ≡ F.contents files.old }
+    ensures faults { F.faults files.old ≤ F.faults files.new }
+    ensures absences { F.absences files.old ≤ F.absences files.new }
     ensures out_faults { O.faults out.old ≤ O.faults out.new }
     ensures err_faults { E.faults err.old ≤ E.faults err.new }
-    ensures files { files.new ≡ files.old }
 {
     match parse(alloc, bytes) {
-        Ok(script) => run_script(alloc, &script, files, out, err),
+        Ok(script) => run_script(alloc, &script, names, files, out, err),
         Err(ParseFault::SyntaxAt(line)) => end_syntax(alloc, line, err),
         Err(ParseFault::TooLarge) => end_too_large(err),
         Err(ParseFault::NoMemory) => Status::Memory,
@@ -158,22 +189,27 @@ fn run_bytes<F: Files, O: Sink, E: Sink>(
 fn run_script<F: Files, O: Sink, E: Sink>(
     alloc: Global,
     script: &Script,
+    names: &FileNames,
     files: &mut F,
     out: &mut O,
     err: &mut E,
 ) -> Status
-    ensures told { Ends (Is (statements_result no_names (statements_of script.now))) result (O.written out.old) (O.written out.new) (E.written err.old) (E.written err.new) }
-    ensures causes { (result ≢ Status.Usage) × (result ≢ Status.Input) }
+    ensures told { IfSome (F.contents files.old) (λ held. Ends (Is (statements_result (files_in names.now held) no_names (statements_of script.now))) result (outside F.fetches O.written O.faults E.written E.faults files.old out.old err.old) (outside F.fetches O.written O.faults E.written E.faults files.new out.new err.new)) }
+
+    ensures usage { result ≢ Status.Usage }
+    ensures input { result ≡ Status.Input → HasRisen (F.faults files.old) (F.faults files.new) }
     ensures output { result ≡ Status.Output → HasRisen (O.faults out.old) (O.faults out.new) ⊎ HasRisen (E.faults err.old) (E.faults err.new) }
+
+    ensures contents { F.contents files.new ≡ F.contents files.old }
+    ensures faults { F.faults files.old ≤ F.faults files.new }
+    ensures absences { F.absences files.old ≤ F.absences files.new }
     ensures out_faults { O.faults out.old ≤ O.faults out.new }
     ensures err_faults { E.faults err.old ≤ E.faults err.new }
-    ensures files { files.new ≡ files.old }
 {
     let mut session = Session::new(alloc);
-    let names = FileNames::new(alloc);
     for i in 0..script.len() {
         let statement = script.statement(i);
-        match advance(alloc, &mut session, files, &names, statement, out, err) {
+        match advance(alloc, &mut session, files, names, statement, out, err) {
             Ok(()) => {}
             Err(status) => return status,
         }

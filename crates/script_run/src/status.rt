@@ -13,7 +13,7 @@ pub enum Status {
     Usage,
     /// The bytes are no script.
     Syntax,
-    /// The script could not be read.
+    /// The script or a file that it names could not be read.
     Input,
     /// A sink failed.
     Output,

@@ -7,7 +7,7 @@ use Rattle.meaning.specs.Fault.{FaultValue}
 use Rattle.meaning.specs.FaultOf.{fault_of}
 use Rattle.table_meaning.specs.Table.{Table, table_value}
 use Rattle.table_meaning.specs.Value as value
-use Rattle.table_meaning.specs.Value.{Entry, Given}
+use Rattle.table_meaning.specs.Value.{Entry}
 use Rattle.frame_store.specs.Shown.{Shown, table_in}
 use Rattle.frame_store.specs.declared.object.ObjId.{ObjId}
 use Rattle.frame_store.specs.declared.arguments.Value.{Value}
@@ -16,43 +16,36 @@ use Rattle.frame_store.specs.declared.fault.OpFault.{OpFault}
 use Rattle.frame_store.specs.declared.fault.OpFault.TheVariants.{Refused as OpRefused, NoMemory as OpNoMemory}
 use Rattle.frame_store.proofs.Settling.{seen_later}
 use Rattle.script_meaning.specs.State.{State}
-use Rattle.script_meaning.specs.Expression.{Target}
-use Rattle.script_meaning.specs.Statement.{Answer, done, refused, then_answer, set_answer, is_chained, assigned}
+use Rattle.script_meaning.specs.Reading.{Files, Reading, at_once}
+use Rattle.script_meaning.specs.Expression.{value_of_name}
+use Rattle.script_meaning.specs.Statement.{Answer, done, refused, then_answer, set_answer, is_chained}
 use Rattle.script_session.specs.declared.fault.Outcome.{Outcome}
 use Rattle.script_session.specs.declared.fault.StepFault.{StepFault}
+use Rattle.script_session.specs.declared.fault.StepFault.TheVariants.{Refused, Input, NoMemory}
+use Rattle.script_session.specs.declared.fault.EvalFault.{EvalFault}
+use Rattle.script_session.specs.declared.fault.EvalFault.TheVariants.{Refused as EvalRefused, Input as EvalInput, NoMemory as EvalNoMemory}
+use Rattle.script_session.specs.FormFault.{HasFormFault}
+use Rattle.script_session.specs.Reads.{Shelf, Goes, Halts, absent_name}
 use Rattle.script_session.specs.Values.{World, objects_of, entry_in, Keeps}
 use Rattle.script_session.specs.Bindings.{Bindings, value_at, is_named, one_object, state_over, IsOf, KeepNamed, AreGiven, AreNamed}
-use Rattle.script_session.specs.Faults.{IsFault, IsStepFault, step_fault, marked_fault, Sets}
+use Rattle.script_session.specs.Faults.{IsNoName, IsStepFault, IsRefusal, Performs, step_fault, marked_fault, Sets}
 use Rattle.script_session.proofs.Numbers.{nat_same, nat_eq_self, true_false, same_congr}
 use Rattle.script_session.proofs.Bindings.{named_object}
 use Rattle.script_session.proofs.States.{same_state, state_swept}
 use Rattle.script_session.proofs.Worlds.{entry_seen, some_shown}
+use Rattle.script_session.proofs.Rides.{goes_same, goes_to, halts_first, then_gives, uncaused, fault_uncaused, unnamed_fault, goes_spends, spends_none}
 
-module _ {A : Type 0} where
-  pub answer_then : (m : Result A FaultValue) (v : A) (go : A → Answer) (a : Answer) → m ≡ Ok v → go v ≡ a → then_answer m go ≡ a
-  answer_then m v go a is e = ap (λ m. then_answer m go) is ∙ e
+-- a fault of an expression is the statement's
+abbrev pub refusal : FaultValue → Answer
+refusal fault = refused fault false
 
-  -- a fault of an expression is the statement's
-  pub answer_fault : (texts : List Text) (f : OpFault) (e : StepFault) (m : Result A FaultValue) (go : A → Answer) → e ≡ step_fault f → IsFault texts f m → IsStepFault texts e (then_answer m go)
-  answer_fault texts f e m go is h = subst (λ e. IsStepFault texts e (then_answer m go)) (sym is) (at f h)
-    where
-      at : (f : OpFault) → IsFault texts f m → IsStepFault texts (step_fault f) (then_answer m go)
-      at (OpRefused c) h = ap (λ m. then_answer m go) h
-      at OpNoMemory h = tt
-
-  pub fault_later : (texts : List Text) (e : StepFault) (m : Result A FaultValue) (v : A) (go : A → Answer) → m ≡ Ok v → IsStepFault texts e (go v) → IsStepFault texts e (then_answer m go)
-  fault_later texts e m v go is h = subst (IsStepFault texts e) (sym (ap (λ m. then_answer m go) is)) h
+pub step_halts : (texts : List Text) (files : Files) (old new : Shelf) (whole : Reading Answer) (f : EvalFault) → Halts refusal texts files old new whole f → IsStepFault texts files old new whole (step_fault f)
+step_halts texts files old new whole (EvalRefused c) h = h
+step_halts texts files old new whole EvalInput h = h
+step_halts texts files old new whole EvalNoMemory h = h
 
 pub done_same : (a : Answer) (s t : State) (p q : Text) (w v : Bool) → a ≡ done s p w → s ≡ t → q ≡ p → v ≡ w → a ≡ done t q v
 done_same a s t p q w v is same printed warned = is ∙ ap (λ s. done s p w) same ∙ ap (λ p. done t p w) (sym printed) ∙ ap (done t q) (sym warned)
-
--- the three evaluations before a setting
-pub put_meaning : (s : State) (o : Option Text) (rg : Result Given FaultValue) (rv : Result Entry FaultValue) (rt : Result Target FaultValue) (g : Given) (v : Entry) (t : Target)
-    → rg ≡ Ok g → rv ≡ Ok v → rt ≡ Ok t → then_answer rg (λ g. then_answer rv (λ v. then_answer rt (λ t. set_answer s o (assigned v t g)))) ≡ set_answer s o (assigned v t g)
-put_meaning s o rg rv rt g v t e f h =
-    ap (λ m. then_answer m (λ g. then_answer rv (λ v. then_answer rt (λ t. set_answer s o (assigned v t g))))) e
-    ∙ ap (λ m. then_answer m (λ v. then_answer rt (λ t. set_answer s o (assigned v t g)))) f
-    ∙ ap (λ m. then_answer m (λ t. set_answer s o (assigned v t g))) h
 
 -- the names that are the same text have the same value
 value_at-same : (bs : Bindings) (n m : Text) → same_text n m ≡ true → value_at bs m ≡ value_at bs n
@@ -113,26 +106,45 @@ set_state bs o (Scalar c) meant old new given of sets = absurd sets.0
 set_state bs (Some n) (Object id) meant old new given of sets = named_set bs meant old new given id sets n of
 set_state bs None (Object id) meant old new given of sets = unnamed_set bs meant old new given id sets of
 
+-- a name that stands for a value
+pub named_answers : (bs : Bindings) (w : World) (n : Text) (v : Value) → value_at bs n ≡ Some v → (go : Entry → Reading Answer) → then_answer (at_once (value_of_name n (option_map (entry_in w) (value_at bs n)))) go ≡ go (entry_in w v)
+named_answers bs w n v is go = ap (λ o. then_answer (at_once (value_of_name n (option_map (entry_in w) o))) go) is ∙ then_gives refusal (entry_in w v) go
+
+-- a name that stands for nothing
+pub unnamed_answers : (texts : List Text) (files : Files) (shelf : Shelf) (bs : Bindings) (w : World) (n : Text) (f : EvalFault) → IsNoName f n (value_at bs n) → (go : Entry → Reading Answer)
+    → Halts refusal texts files shelf shelf (then_answer (at_once (value_of_name n (option_map (entry_in w) (value_at bs n)))) go) f
+unnamed_answers texts files shelf bs w n f none go = halts_first texts files shelf shelf _ refusal go f (unnamed_fault texts files shelf bs w n f none)
+
 -- a setting that was refused, with its mark
-pub set_refused : (texts : List Text) (s : State) (o : Option Text) (on : Value) (meant : Result Table FaultValue) (f : OpFault) (warned : Bool) (old new : World) → texts ≡ new.texts → warned ≡ is_chained o
-    → Sets (Err f) on meant old new → IsStepFault texts (marked_fault warned f) (set_answer s o meant)
-set_refused texts s o on meant (OpRefused c) warned old new same marked sets =
-    ap (set_answer s o) sets.0.0 ∙ (λ j. refused (fault_of (sym same j) c) (sym marked j))
-set_refused texts s o on meant OpNoMemory warned old new same marked sets = tt
+pub set_refused : {texts : List Text} (files : Files) {first last : Shelf} {whole : Reading Answer} (s : State) (o : Option Text) (on : Value) (meant : Result Table FaultValue) (form : HasFormFault meant) (f : OpFault) (warned : Bool) (e : StepFault) (old new : World)
+    → Goes files.held first last whole (at_once (set_answer s o meant)) → texts ≡ new.texts → e ≡ marked_fault warned f → warned ≡ is_chained o → Sets (Err f) on meant old new → IsStepFault texts files first last whole e
+set_refused {texts} files {first} {last} {whole} s o on meant form f warned e old new goes same is marked sets = subst (IsStepFault texts files first last whole) (sym is) (at f sets)
+  where
+    at : (f : OpFault) → Sets (Err f) on meant old new → IsStepFault texts files first last whole (marked_fault warned f)
+    at (OpRefused c) sets = (
+      goes_to goes (ap (λ a. at_once a) (ap (set_answer s o) sets.0.0 ∙ (λ j. refused (fault_of (sym same j) c) (sym marked j)))),
+      fault_uncaused new.texts files.paths first last c meant form sets.0.0,
+    )
+    at OpNoMemory sets = goes_spends goes
 
--- a fault without a mark
-pub unmarked : (f : OpFault) → step_fault f ≡ marked_fault false f
-unmarked (OpRefused c) = refl
-unmarked OpNoMemory = refl
+-- what a statement that reads no file answers
+pub performs_once : (texts : List Text) (files : Files) (shelf : Shelf) (whole : Reading Answer) (s : State) (r : Result Outcome StepFault) → IfOk r (λ o. whole ≡ at_once (done s o.printed o.warned)) → IfErr r (λ f. IsRefusal texts f whole)
+    → Performs s texts files shelf shelf whole r
+performs_once texts files shelf whole s (Ok o) is f = goes_same is
+performs_once texts files shelf whole s (Err (Refused code warned)) is f = (goes_same f.0, uncaused files.paths shelf shelf (absent_name code) f.1)
+performs_once texts files shelf whole s (Err Input) is f = absurd f
+performs_once texts files shelf whole s (Err NoMemory) is f = spends_none
 
-pub done_after : (r : Result Outcome StepFault) (a : Answer) (s t : State) → IfOk r (λ o. a ≡ done s o.printed o.warned) → s ≡ t → IfOk r (λ o. a ≡ done t o.printed o.warned)
-done_after (Ok o) a s t h e = h ∙ ap (λ s. done s o.printed o.warned) e
-done_after (Err f) a s t h e = tt
+pub performs_by : (s : State) (texts : List Text) (files : Files) (old new : Shelf) {whole other : Reading Answer} (r : Result Outcome StepFault) → whole ≡ other → Performs s texts files old new other r → Performs s texts files old new whole r
+performs_by s texts files old new r is h = subst (λ (a : Reading Answer). Performs s texts files old new a r) (sym is) h
+
+-- after a sweep, which keeps the state and the texts
+pub performs_after : {texts texts' : List Text} (files : Files) (old new : Shelf) (whole : Reading Answer) (s t : State) (r : Result Outcome StepFault) → Performs s texts files old new whole r → s ≡ t → texts ≡ texts'
+    → Performs t texts' files old new whole r
+performs_after {texts} {texts'} files old new whole s t (Ok o) h e same = subst (λ s. Performs s texts files old new whole (Ok o)) e h
+performs_after {texts} {texts'} files old new whole s t (Err f) h e same = subst (λ ts. IsStepFault ts files old new whole f) same h
 
 module _ (r : Result Outcome StepFault) where
-  pub refused_after : (a : Answer) (old new : List Text) → IfErr r (λ f. IsStepFault old f a) → old ≡ new → IfErr r (λ f. IsStepFault new f a)
-  refused_after a old new h e = subst (λ t. IfErr r (λ f. IsStepFault t f a)) e h
-
   -- after a refusal all that is left by the sweep is as it was
   pub state_refused : (s0 s1 : State) (bs1 bs2 : Bindings) (w1 w2 : World) → OnErr r (s1 ≡ s0) → s1 ≡ state_over bs1 w1 → bs2 ≡ bs1 → w2.texts ≡ w1.texts → KeepNamed bs2 w1.tables w2.tables → OnErr r (state_over bs2 w2 ≡ s0)
   state_refused s0 s1 bs1 bs2 w1 w2 same is swept texts keeps = go r same

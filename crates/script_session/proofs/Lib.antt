@@ -6,7 +6,9 @@ pub mod Worlds
 pub mod Naming
 pub mod States
 pub mod Binding
-pub mod Faulting
+pub mod FormFaults
+pub mod Rides
+pub mod Fetching
 pub mod Parts
 pub mod Trees
 pub mod Answering

@@ -1,6 +1,6 @@
 -- What forms do to the objects and the texts.
 use Rattle.std.proofs.Common.{◌≡◌, ℕ, Bool, true, false, nat_eq, List, [], ◌∷◌, ◌++◌, Option, Some, None, refl, sym, ◌∙◌, ap, subst, IsSome}
-use Rattle.std.specs.Prelude.{if◌then◌else◌, option_map, ⊤, Result, Ok, Err, IfOk, IfErr}
+use Rattle.std.specs.Prelude.{if◌then◌else◌, option_map, ⊤, Result, Ok, Err, IfOk}
 use Rattle.cell_core.specs.declared.cell.Label.{Label}
 use Rattle.meaning.specs.Cell.{IsLonger, datum}
 use Rattle.meaning.specs.Text.{Text}
@@ -24,7 +24,7 @@ use Rattle.frame_store.specs.declared.fault.OpFault.TheVariants.{Refused, NoMemo
 use Rattle.frame_store.proofs.Settling.{settled_later, seen_later, longer_self, longer_twice}
 use Rattle.script_session.specs.Values.{World, objects_of, entry_in, IsSettledWorld, Keeps, IsKnown, IsKnownValue, AreKnownItems, IsKnownArgument, AreKnownPairs, AreKnownArguments, IsKnownSubscript}
 use Rattle.script_session.specs.Bindings.{Bindings, is_named, contains, noted, AreLive, AreGiven, AreNoted}
-use Rattle.script_session.specs.Faults.{IsFault, Forms, Sets}
+use Rattle.script_session.specs.Faults.{Forms, Sets}
 use Rattle.script_session.proofs.Numbers.{nat_same, some_none}
 use Rattle.script_session.proofs.LiveObjects.{or_right, or_map, contains_last, contains_more}
 use Rattle.script_session.proofs.Views.{entry_same, items_same, argument_same, pairs_same, arguments_same, subscript_same, value_later, items_later, argument_later, pairs_later, arguments_later, subscript_later}
@@ -171,17 +171,6 @@ pub form_known : (r : Result Value OpFault) (meant : Result Entry FaultValue) (o
 form_known (Ok (Object o)) meant old new settled answers = object_known new o settled (some_shown new o.0 answers.0.1.1)
 form_known (Ok (Scalar c)) meant old new settled answers = record { live = tt; given = λ more. ap value.cell (answers.0.1.1 more) }
 form_known (Err f) meant old new settled answers = tt
-
--- what a form answers, as the value and the fault of the whole
-module _ (whole meant : Result Entry FaultValue) (is : whole ≡ meant) (old new : World) where
-  pub form_value : (r : Result Value OpFault) → Forms r meant old new → IfOk r (λ v. whole ≡ Ok (entry_in new v))
-  form_value (Ok v) answers = is ∙ answers.0.0 ∙ ap (λ e. Ok e) (entry_seen new v)
-  form_value (Err f) answers = tt
-
-  pub form_refused : (r : Result Value OpFault) → Forms r meant old new → IfErr r (λ f. IsFault new.texts f whole)
-  form_refused (Ok v) answers = tt
-  form_refused (Err (Refused code)) answers = is ∙ answers.0.0
-  form_refused (Err NoMemory) answers = tt
 
 -- invariants after a form
 pub live_after : (bs : Bindings) (old new : World) → Keeps old new → AreLive bs old.tables → AreLive bs new.tables

@@ -1,6 +1,6 @@
 -- What a refusal says of what a statement means, and what the forms do to the objects.
-use Rattle.std.specs.Prelude.{◌≡◌, Bool, false, List, Option, None, ⊤, Result, Err}
-use Rattle.cell_core.specs.declared.code.Code.TheVariants.{NoName, NoAttribute}
+use Rattle.std.specs.Prelude.{◌≡◌, Bool, false, List, Option, None, ⊤, Result, Ok, Err}
+use Rattle.cell_core.specs.declared.code.Code.TheVariants.{NoName, NoAttribute, NoFile}
 use Rattle.meaning.specs.Text.{Text}
 use Rattle.meaning.specs.Cell.{IsLonger}
 use Rattle.meaning.specs.Fault.{FaultValue}
@@ -11,41 +11,72 @@ use Rattle.frame_store.specs.Shown.{FormAnswers, Changes}
 use Rattle.frame_store.specs.declared.arguments.Value.{Value}
 use Rattle.frame_store.specs.declared.fault.OpFault.{OpFault}
 use Rattle.frame_store.specs.declared.fault.OpFault.TheVariants.{Refused as OpRefused, NoMemory as OpNoMemory}
-use Rattle.script_meaning.specs.Statement.{Answer, refused}
+use Rattle.script_meaning.specs.Reading.{Files, Reading, at_once}
+use Rattle.script_meaning.specs.State.{State}
+use Rattle.script_meaning.specs.Statement.{Answer, done, refused}
+use Rattle.script_session.specs.declared.fault.EvalFault.{EvalFault}
+use Rattle.script_session.specs.declared.fault.EvalFault.TheVariants.{Refused as EvalRefused, Input as EvalInput, NoMemory as EvalNoMemory}
+use Rattle.script_session.specs.declared.fault.Outcome.{Outcome}
 use Rattle.script_session.specs.declared.fault.StepFault.{StepFault}
 use Rattle.script_session.specs.declared.fault.StepFault.TheVariants.{Refused, Input, NoMemory}
+use Rattle.script_session.specs.Reads.{Shelf, Goes, Stuck, Spends, IsCaused, absent_name}
 use Rattle.script_session.specs.Values.{World, objects_of}
 
--- the meaning gives this fault, or memory was refused
-abbrev pub IsFault : {A : Type 0} → List Text → OpFault → Result A FaultValue → Type 0
-IsFault texts (OpRefused c) meant = meant ≡ Err (fault_of texts c)
-IsFault texts OpNoMemory meant = Unit {0}
+-- the fault of a form as one of an evaluation
+abbrev pub eval_fault : OpFault → EvalFault
+eval_fault (OpRefused c) = EvalRefused c
+eval_fault OpNoMemory = EvalNoMemory
+
+-- what a form answers, as an evaluation answers it
+abbrev pub evaluated : Result Value OpFault → Result Value EvalFault
+evaluated (Ok v) = Ok v
+evaluated (Err f) = Err (eval_fault f)
 
 -- the name has no value, or memory was refused
-abbrev pub IsNoName : OpFault → Text → Option Value → Type 0
-IsNoName (OpRefused c) n v = (v ≡ None) × (c ≡ NoName n)
-IsNoName OpNoMemory n v = Unit {0}
+abbrev pub IsNoName : EvalFault → Text → Option Value → Type 0
+IsNoName (EvalRefused c) n v = (v ≡ None) × (c ≡ NoName n)
+IsNoName EvalInput n v = ⊥
+IsNoName EvalNoMemory n v = Unit {0}
 
 -- there is no such method or function, or memory was refused
-abbrev pub IsNoAttribute : OpFault → Text → Bool → Type 0
-IsNoAttribute (OpRefused c) n known = (known ≡ false) × (c ≡ NoAttribute n)
-IsNoAttribute OpNoMemory n known = Unit {0}
+abbrev pub IsNoAttribute : EvalFault → Text → Bool → Type 0
+IsNoAttribute (EvalRefused c) n known = (known ≡ false) × (c ≡ NoAttribute n)
+IsNoAttribute EvalInput n known = ⊥
+IsNoAttribute EvalNoMemory n known = Unit {0}
+
+-- the name has no file, or memory was refused
+abbrev pub IsNoFile : EvalFault → Text → Type 0
+IsNoFile (EvalRefused c) n = c ≡ NoFile n
+IsNoFile EvalInput n = ⊥
+IsNoFile EvalNoMemory n = Unit {0}
 
 -- the fault of a statement, before a mark
-abbrev pub step_fault : OpFault → StepFault
-step_fault (OpRefused c) = Refused c false
-step_fault OpNoMemory = NoMemory
+abbrev pub step_fault : EvalFault → StepFault
+step_fault (EvalRefused c) = Refused c false
+step_fault EvalInput = Input
+step_fault EvalNoMemory = NoMemory
 
 -- the same with a mark
 abbrev pub marked_fault : Bool → OpFault → StepFault
 marked_fault warned (OpRefused c) = Refused c warned
 marked_fault warned OpNoMemory = NoMemory
 
--- the answer is that refusal with its mark, or memory was refused
-abbrev pub IsStepFault : List Text → StepFault → Answer → Type 0
-IsStepFault texts (Refused code warned) answer = answer ≡ refused (fault_of texts code) warned
-IsStepFault texts Input answer = ⊥
-IsStepFault texts NoMemory answer = Unit {0}
+-- The answer is that refusal with its mark, a file could not be read, or memory was refused.
+abbrev pub IsStepFault : List Text → Files → Shelf → Shelf → Reading Answer → StepFault → Type 0
+IsStepFault texts files old new answer (Refused code warned) = Goes files.held old new answer (at_once (refused (fault_of texts code) warned)) × IsCaused files.paths old new (absent_name code)
+IsStepFault texts files old new answer Input = Stuck files.held old new answer
+IsStepFault texts files old new answer NoMemory = Spends files.held old new answer
+
+-- what a statement answers: its outcome, after which the names stand for this state, or why it wasn't done
+abbrev pub Performs : State → List Text → Files → Shelf → Shelf → Reading Answer → Result Outcome StepFault → Type 0
+Performs s texts files old new answer (Ok o) = Goes files.held old new answer (at_once (done s o.printed o.warned))
+Performs s texts files old new answer (Err fault) = IsStepFault texts files old new answer fault
+
+-- the same refusal of a statement that reads no file
+abbrev pub IsRefusal : List Text → StepFault → Reading Answer → Type 0
+IsRefusal texts (Refused code warned) answer = (answer ≡ at_once (refused (fault_of texts code) warned)) × (absent_name code ≡ None)
+IsRefusal texts Input answer = ⊥
+IsRefusal texts NoMemory answer = Unit {0}
 
 -- what a form answers in a world, which may get more texts
 abbrev pub Forms : Result Value OpFault → Result Entry FaultValue → World → World → Type 0

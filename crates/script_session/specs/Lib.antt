@@ -1,5 +1,7 @@
 pub mod Values
 pub mod Bindings
+pub mod FormFault
+pub mod Reads
 pub mod Faults
 pub mod Parts
 pub mod Work

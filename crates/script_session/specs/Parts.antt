@@ -1,10 +1,16 @@
 -- Parts of trees that may be left out, and parts that are evaluated one after the other.
-use Rattle.std.specs.Prelude.{Option, Some, None, Result, Ok}
-use Rattle.meaning.specs.Fault.{FaultValue, then_value}
+use Rattle.std.specs.Prelude.{Option, Some, None, option_map}
 use Rattle.meaning.specs.Tree as tree
+use Rattle.script_meaning.specs.Reading.{Reads, gives, then_read}
 use Rattle.script_syntax.specs.declared.tree.Sub.{Sub}
 use Rattle.script_syntax.specs.declared.tree.Expr.{Expr}
 use Rattle.script_syntax.specs.View.{sub_of, expr_of}
+use Rattle.frame_store.specs.Arguments.{subscript_of}
+use Rattle.frame_store.specs.declared.arguments.Selector.{Selector}
+use Rattle.frame_store.specs.declared.arguments.Subscript.{Subscript}
+use Rattle.selections.specs.Selected.{way_of}
+use Rattle.script_meaning.specs.Expression.{Target}
+use Rattle.script_session.specs.Values.{World}
 
 abbrev pub optional_sub : Option Sub → tree.OptionalSub
 optional_sub None = tree.no_sub
@@ -15,9 +21,13 @@ optional_expr None = tree.no_expr
 optional_expr (Some x) = tree.some_expr (expr_of x)
 
 -- both, or the first fault
-abbrev pub both_of : {A B : Type 0} → Result A FaultValue → Result B FaultValue → Result (A × B) FaultValue
-both_of x y = then_value x (λ v. then_value y (λ w. Ok (v, w)))
+abbrev pub both_of : {A B : Type 0} → Reads A → Reads B → Reads (A × B)
+both_of x y = then_read x (λ v. then_read y (λ w. gives (v, w)))
 
 -- the last of three, or the first fault
-abbrev pub last_of : {A B C : Type 0} → Result A FaultValue → Result B FaultValue → Result C FaultValue → Result C FaultValue
-last_of x y z = then_value x (λ a. then_value y (λ b. z))
+abbrev pub last_of : {A B C : Type 0} → Reads A → Reads B → Reads C → Reads C
+last_of x y z = then_read x (λ a. then_read y (λ b. z))
+
+-- the last step of a target, as it is seen
+abbrev pub target_seen : World → Selector × Subscript × Option Subscript → Target
+target_seen w p = record { way = way_of p.0; first = subscript_of w.tables w.texts p.1; second = option_map (subscript_of w.tables w.texts) p.2 }

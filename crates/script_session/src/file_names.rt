@@ -1,5 +1,7 @@
 // The names of a command line, each with the path that it stands for.
-ghost use Rattle.std.specs.Prelude.{◌≡◌, [], ◌∷◌, ◌++◌, length, OnOk, OnErr};
+ghost use Rattle.std.specs.Prelude.{◌≡◌, [], ◌∷◌, ◌++◌, length, option_map, OnOk, OnErr};
+ghost use Rattle.script_meaning.specs.Reading.{path_of_name};
+ghost use Rattle.script_session.specs.Reads.{paths_of};
 
 use cell_core::{NoMemory, Words};
 use std::alloc::Global;
@@ -46,6 +48,13 @@ impl FileNames {
         self.items.len()
     }
 
+    /// The path that a name stands for, if it stands for one. Takes no memory.
+    pub fn path(&self, name: &str) -> Option<&str>
+        ensures { option_map (λ path. path.now) result ≡ path_of_name (paths_of self.now) name.now }
+    {
+        path_in(&self.items, name)
+    }
+
     /// Puts a name with its path after the others. `NoMemory` leaves the names as they were.
     pub fn push(&mut self, name: Words, path: Words) -> Result<(), NoMemory>
         ensures ok { OnOk result (self.new ≡ self.old ++ record { name = name; path = path } ∷ []) }
@@ -54,4 +63,18 @@ impl FileNames {
         self.items.push(FileName { name, path })?;
         Ok(())
     }
+}
+
+// The path of the first pair with the name.
+fn path_in<'a>(pairs: &'a [FileName], name: &str) -> Option<&'a str>
+    ensures { option_map (λ path. path.now) result ≡ path_of_name (paths_of pairs.now) name.now }
+{
+    let mut rest = pairs;
+    while let [first, after @ ..] = rest {
+        if first.name.as_str() == name {
+            return Some(first.path.as_str());
+        }
+        rest = after;
+    }
+    None
 }

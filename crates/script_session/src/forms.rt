@@ -6,11 +6,11 @@ ghost use Rattle.meaning.specs.Operator.{cell_label};
 ghost use Rattle.table_meaning.specs.Value.{cell};
 ghost use Rattle.table_meaning.specs.Settled.{IsSettled};
 ghost use Rattle.form_meaning.specs.Signature.{function_named};
-ghost use Rattle.form_meaning.specs.Functions.{make_result};
 ghost use Rattle.form_meaning.specs.Infix.{infix_result, sign_result};
 ghost use Rattle.form_meaning.specs.Select.{length_result, select_result};
 ghost use Rattle.form_meaning.specs.Set.{assign_result, removal_result};
 ghost use Rattle.method_meaning.specs.Calls.{chain_result, has_method};
+ghost use Rattle.method_meaning.specs.Readers.{make_with};
 ghost use Rattle.frame_store.specs.Objects.{tables};
 ghost use Rattle.frame_store.specs.Arguments.{argument_of, arguments_of, entry_of, subscript_of, IsLive};
 ghost use Rattle.frame_store.specs.Shown.{FormAnswers};
@@ -24,6 +24,7 @@ ghost use Rattle.script_session.specs.Values.{Keeps, IsKnownValue, IsKnownArgume
 ghost use Rattle.script_session.specs.Bindings.{value_at, noted, IsOf};
 ghost use Rattle.script_session.specs.Faults.{Forms, Sets, IsNoName, IsNoAttribute};
 
+use crate::fault::EvalFault;
 use crate::literal::cell_of;
 use crate::names::find;
 use crate::work::Work;
@@ -40,7 +41,7 @@ impl Work {
     ghost use Rattle.script_session.specs.Work.{names_in, world_of};
 
     // The value of a name.
-    pub fn named(&self, name: &Words) -> Result<Value, OpFault>
+    pub fn named(&self, name: &Words) -> Result<Value, EvalFault>
         ensures found { IfOk result (λ v. value_at (names_in self.now) name.now ≡ Some v) }
         ensures known { IfOk result (λ v. IsKnownValue (world_of self.now) v) }
         ensures fault { IfErr result (λ f. IsNoName f name.now (value_at (names_in self.now) name.now)) }
@@ -49,31 +50,31 @@ impl Work {
             Some(value) => Ok(value),
             None => {
                 let name = Words::from_text(self.alloc, name.as_str())?;
-                Err(OpFault::Refused(Code::NoName(name)))
+                Err(EvalFault::Refused(Code::NoName(name)))
             }
         }
     }
 
     // A value that is written out.
-    pub fn literal(&mut self, literal: &Literal) -> Result<Value, OpFault>
+    pub fn literal(&mut self, literal: &Literal) -> Result<Value, EvalFault>
         ensures names { names_in self.new ≡ names_in self.old }
         ensures kept { Keeps (world_of self.old) (world_of self.new) }
         ensures value { IfOk result (λ v. entry_in (world_of self.new) v ≡ cell (cell_of (literal_of literal.now))) }
         ensures object { IfOk result (λ v. IsOf (names_in self.new) None v) }
         ensures known { IfOk result (λ v. IsKnownValue (world_of self.new) v) }
-        ensures memory { IfErr result (λ f. f ≡ OpFault.NoMemory) }
+        ensures memory { IfErr result (λ f. f ≡ EvalFault.NoMemory) }
     {
         let cell = cell_of(&mut self.dict, literal)?;
         Ok(Value::Scalar(cell))
     }
 
     // A key of a dict that is written out.
-    pub fn key(&mut self, literal: &Literal) -> Result<Label, OpFault>
+    pub fn key(&mut self, literal: &Literal) -> Result<Label, EvalFault>
         ensures names { names_in self.new ≡ names_in self.old }
         ensures kept { Keeps (world_of self.old) (world_of self.new) }
         ensures label { IfOk result (λ l. label_datum (world_of self.new).texts l ≡ cell_label (cell_of (literal_of literal.now))) }
         ensures given { IfOk result (λ l. IsSettled label_datum (world_of self.new).texts l) }
-        ensures memory { IfErr result (λ f. f ≡ OpFault.NoMemory) }
+        ensures memory { IfErr result (λ f. f ≡ EvalFault.NoMemory) }
     {
         let cell = cell_of(&mut self.dict, literal)?;
         Ok(label_of(cell))
@@ -112,15 +113,27 @@ impl Work {
         Ok(made)
     }
 
-    // What a function of `pd` gives.
-    pub fn make(&mut self, function: &Words, args: &NamedList) -> Result<Value, OpFault>
+    // What a function of `pd` gives, with the bytes of the file that it reads.
+    pub fn make(
+        &mut self,
+        function: &Words,
+        args: &NamedList,
+        file: Option<&[u8]>,
+    ) -> Result<Value, OpFault>
         requires { AreKnownArguments (world_of self.old) args.now.items.items }
         ensures names { names_in self.new ≡ names_in self.old }
-        ensures answers { Forms result (make_result function.now (arguments_of (world_of self.old).tables (world_of self.old).texts args.now.items.items)) (world_of self.old) (world_of self.new) }
+        ensures answers { Forms result (make_with (option_map (λ bytes. bytes.now) file.entry) function.now (arguments_of (world_of self.old).tables (world_of self.old).texts args.now.items.items)) (world_of self.old) (world_of self.new) }
     {
         self.temps.reserve(1)?;
         let name = function.as_str();
-        let made = constructors::make(self.alloc, &mut self.store, &mut self.dict, name, args)?;
+        let made = file_readers::make(
+            self.alloc,
+            &mut self.store,
+            &mut self.dict,
+            name,
+            args,
+            file,
+        )?;
         note(&mut self.temps, made);
         Ok(made)
     }
@@ -270,7 +283,7 @@ fn is_minus(op: Unary) -> bool
 }
 
 // Whether the value has a method of this name, or an AttributeError.
-pub fn expect_method(alloc: Global, store: &Store, on: Value, name: &str) -> Result<(), OpFault>
+pub fn expect_method(alloc: Global, store: &Store, on: Value, name: &str) -> Result<(), EvalFault>
     requires { IsLive (tables store.now) on }
     ensures known { (texts : List OneText) → OnOk result (has_method (entry_of (tables store.now) texts on) name.now ≡ true) }
     ensures fault { (texts : List OneText) → IfErr result (λ f. IsNoAttribute f name.now (has_method (entry_of (tables store.now) texts on) name.now)) }
@@ -279,14 +292,14 @@ pub fn expect_method(alloc: Global, store: &Store, on: Value, name: &str) -> Res
 }
 
 // Whether `pd` has a function of this name, or an AttributeError.
-pub fn expect_function(alloc: Global, name: &str) -> Result<(), OpFault>
+pub fn expect_function(alloc: Global, name: &str) -> Result<(), EvalFault>
     ensures known { OnOk result (is_some (function_named name.now) ≡ true) }
     ensures fault { IfErr result (λ f. IsNoAttribute f name.now (is_some (function_named name.now))) }
 {
     expect_known(alloc, function_exists(name), name)
 }
 
-fn expect_known(alloc: Global, known: bool, name: &str) -> Result<(), OpFault>
+fn expect_known(alloc: Global, known: bool, name: &str) -> Result<(), EvalFault>
     ensures known { OnOk result (known ≡ true) }
     ensures fault { IfErr result (λ f. IsNoAttribute f name.now known) }
 {
@@ -294,5 +307,5 @@ fn expect_known(alloc: Global, known: bool, name: &str) -> Result<(), OpFault>
         return Ok(());
     }
     let name = Words::from_text(alloc, name)?;
-    Err(OpFault::Refused(Code::NoAttribute(name)))
+    Err(EvalFault::Refused(Code::NoAttribute(name)))
 }

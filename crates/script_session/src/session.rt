@@ -1,7 +1,8 @@
 // Sessions.
-ghost use Rattle.std.specs.Prelude.{◌≡◌, None, IfOk, IfErr, OnOk, OnErr, is_some};
+ghost use Rattle.std.specs.Prelude.{◌≡◌, None, OnOk, OnErr, is_some};
+ghost use Rattle.meaning.specs.Text.{Contents};
 ghost use Rattle.script_meaning.specs.State.{no_names, without_name};
-ghost use Rattle.script_meaning.specs.Statement.{done, statement_result};
+ghost use Rattle.script_meaning.specs.Statement.{statement_result};
 ghost use Rattle.script_syntax.specs.View.{form_of};
 ghost use Rattle.frame_store.specs.Objects.{tables};
 ghost use Rattle.script_session.specs.Bindings.{bindings_of, AreNamed};
@@ -30,7 +31,8 @@ pub struct Session {
 impl Session {
     ghost use Rattle.std.specs.Prelude.{ℕ};
     ghost use Rattle.script_session.specs.Session.{state_of, live_of, texts_of, LiveAreNamed};
-    ghost use Rattle.script_session.specs.Faults.{IsStepFault};
+    ghost use Rattle.script_session.specs.Reads.{files_in, shelf, Serves};
+    ghost use Rattle.script_session.specs.Faults.{Performs};
 
     /// A session without names. Takes no memory.
     pub fn new(alloc: Global) -> Session
@@ -52,25 +54,30 @@ impl Session {
     /// Does one statement, and answers what it printed and whether it set a place of an object without a name.
     ///
     /// A setting through a name changes the object of that name alone, and a setting of an object without a name
-    /// changes no name's value. The refusals are the first fault of the statement, with the mark of such a setting, and want of memory. After
-    /// each of them the session is as it was. No form that reads a file is built, so `files` and `names` are left
-    /// alone, and a refusal is never [`StepFault::Input`].
-    #[allow(unused_variables)]
+    /// changes no name's value. `pd.read_csv("NAME")` fetches the file of the path that the name stands for, once each
+    /// time that it is reached.
+    ///
+    /// The refusals are the first fault of the statement, with the mark of such a setting; [`StepFault::Input`], only
+    /// where a call of `files` failed; and want of memory. After each of them the session is as it was. A file isn't there
+    /// (`NoFile`) only where its name isn't among `names`, or a fetch of this call found none.
+    ///
+    /// Where `files` tells its contents, the meaning is that of these contents, with as many fetches; a call that ends by
+    /// `Input` or want of memory makes no more. Where it doesn't tell them, all of this holds as long as nothing is fetched,
+    /// whatever the contents are.
     pub fn step<F: Files>(
         &mut self,
         files: &mut F,
         names: &FileNames,
         statement: &Statement,
     ) -> Result<Outcome, StepFault>
-        ensures done { IfOk result (λ o. statement_result (state_of self.old) (form_of statement.now.form) ≡ done (state_of self.new) o.printed o.warned) }
-        ensures refused { IfErr result (λ fault. IsStepFault (texts_of self.new) fault (statement_result (state_of self.old) (form_of statement.now.form))) }
+        ensures answers { (held : Contents) → Performs (state_of self.new) (texts_of self.new) (files_in names.now held) (shelf F.contents F.fetches F.faults F.absences files.old) (shelf F.contents F.fetches F.faults F.absences files.new) (statement_result (files_in names.now held) (state_of self.old) (form_of statement.now.form)) result }
+        ensures serves { Serves (shelf F.contents F.fetches F.faults F.absences files.old) (shelf F.contents F.fetches F.faults F.absences files.new) }
         ensures same { OnErr result (state_of self.new ≡ state_of self.old) }
         ensures objects { OnErr result (live_of self.new ≡ live_of self.old) }
         ensures live { LiveAreNamed self.new }
         ensures apart { OnOk result (ChangesOneObject (form_of statement.now.form) (state_of self.old) (state_of self.new)) }
-        ensures files { files.new ≡ files.old }
     {
-        self.perform(&statement.form)
+        self.perform(files, names, &statement.form)
     }
 
     /// Takes a name out, and its object where no other name stands for it. Answers whether the name was there.
@@ -91,18 +98,21 @@ impl Session {
     }
 
     // Does the statement, and ends what it has made and no name stands for.
-    fn perform(&mut self, form: &Form) -> Result<Outcome, StepFault>
-        ensures done { IfOk result (λ o. statement_result (state_of self.old) (form_of form.now) ≡ done (state_of self.new) o.printed o.warned) }
-        ensures refused { IfErr result (λ fault. IsStepFault (texts_of self.new) fault (statement_result (state_of self.old) (form_of form.now))) }
+    fn perform<F: Files>(
+        &mut self,
+        files: &mut F,
+        names: &FileNames,
+        form: &Form,
+    ) -> Result<Outcome, StepFault>
+        ensures answers { (held : Contents) → Performs (state_of self.new) (texts_of self.new) (files_in names.now held) (shelf F.contents F.fetches F.faults F.absences files.old) (shelf F.contents F.fetches F.faults F.absences files.new) (statement_result (files_in names.now held) (state_of self.old) (form_of form.now)) result }
+        ensures serves { Serves (shelf F.contents F.fetches F.faults F.absences files.old) (shelf F.contents F.fetches F.faults F.absences files.new) }
         ensures same { OnErr result (state_of self.new ≡ state_of self.old) }
         ensures objects { OnErr result (live_of self.new ≡ live_of self.old) }
         ensures live { LiveAreNamed self.new }
+        ensures apart { OnOk result (ChangesOneObject (form_of form.now) (state_of self.old) (state_of self.new)) }
     {
-        let result = self.work.perform(form);
+        let result = self.work.perform(files, names, form);
         self.work.sweep();
         result
     }
 }
-
-#[cfg(test)]
-mod tests;

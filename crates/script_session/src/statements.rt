@@ -1,5 +1,6 @@
 // Statements. What they make is noted.
-ghost use Rattle.std.specs.Prelude.{◌≡◌, [], Ok, IfOk, IfErr, IfSome, OnOk, OnErr, is_some, option_map, ◌<◌, vec_len, vec_capacity};
+ghost use Rattle.std.specs.Prelude.{◌≡◌, [], Some, IfOk, IfErr, IfSome, OnOk, OnErr, is_some, option_map, ◌<◌, vec_len, vec_capacity};
+ghost use Rattle.meaning.specs.Text.{Contents};
 ghost use Rattle.meaning.specs.Tree as tree;
 ghost use Rattle.frame_store.specs.Arguments.{subscript_of};
 ghost use Rattle.selections.specs.Selected.{way_of};
@@ -9,9 +10,14 @@ ghost use Rattle.script_meaning.specs.Statement.{done, is_chained, statement_res
 ghost use Rattle.script_syntax.specs.View.{expr_of, step_of, arg_of, form_of};
 ghost use Rattle.script_session.specs.Values.{Keeps, IsKnownValue, IsKnownSubscript};
 ghost use Rattle.script_session.specs.Bindings.{bound, unbound, value_at, noted_old, AreNamed, KeepNamed};
-ghost use Rattle.script_session.specs.Faults.{IsFault, IsStepFault, marked_fault};
+ghost use Rattle.script_meaning.specs.Reading.{Files as SomeFiles, at_once};
+ghost use Rattle.script_session.specs.Reads.{files_in, shelf, Serves, Reaches};
+ghost use Rattle.script_session.specs.Faults.{Performs, IsRefusal, marked_fault};
+ghost use Rattle.script_session.specs.Parts.{target_seen};
+ghost use Rattle.script_session.specs.Apart.{IsSetApart, ChangesOneObject};
 
-use crate::fault::{Outcome, StepFault};
+use crate::fault::{EvalFault, Outcome, StepFault};
+use crate::file_names::FileNames;
 use crate::names::{bind, unbind};
 use crate::printing::printed_value;
 use crate::sweeping::{release, sweep};
@@ -19,6 +25,7 @@ use crate::words::selector_of;
 use crate::work::Work;
 use cell_core::{Code, NoMemory, Words};
 use frame_store::{ObjId, OpFault, Selector, Subscript, Value};
+use outside_io::Files;
 use script_syntax::{Arg, Expr, Form, Step};
 use std::alloc::Global;
 
@@ -26,19 +33,25 @@ impl Work {
     ghost use Rattle.script_session.specs.Work.{names_in, tables_in, world_of, state_in};
 
     // Does the statement.
-    pub fn perform(&mut self, form: &Form) -> Result<Outcome, StepFault>
-        ensures done { IfOk result (λ o. statement_result (state_in self.old) (form_of form.now) ≡ done (state_in self.new) o.printed o.warned) }
-        ensures refused { IfErr result (λ f. IsStepFault (world_of self.new).texts f (statement_result (state_in self.old) (form_of form.now))) }
+    pub fn perform<F: Files>(
+        &mut self,
+        files: &mut F,
+        names: &FileNames,
+        form: &Form,
+    ) -> Result<Outcome, StepFault>
+        ensures answers { (held : Contents) → Performs (state_in self.new) (world_of self.new).texts (files_in names.now held) (shelf F.contents F.fetches F.faults F.absences files.old) (shelf F.contents F.fetches F.faults F.absences files.new) (statement_result (files_in names.now held) (state_in self.old) (form_of form.now)) result }
+        ensures serves { Serves (shelf F.contents F.fetches F.faults F.absences files.old) (shelf F.contents F.fetches F.faults F.absences files.new) }
         ensures names { OnErr result (names_in self.new ≡ names_in self.old) }
         ensures kept { OnErr result (Keeps (world_of self.old) (world_of self.new)) }
+        ensures apart { OnOk result (ChangesOneObject (form_of form.now) (state_in self.old) (state_in self.new)) }
     {
         match form {
             Form::Import => Ok(quiet(self.alloc, false)),
-            Form::Bind(name, expr) => self.bind(name, expr),
-            Form::Put(target, step, arg) => self.put(target, step, arg),
+            Form::Bind(name, expr) => self.bind(files, names, name, expr),
+            Form::Put(target, step, arg) => self.put(files, names, target, step, arg),
             Form::DropName(name) => self.drop_name(name),
-            Form::DropColumn(name, key) => self.drop_column(name, key),
-            Form::Print(expr, end) => self.print(expr, end),
+            Form::DropColumn(name, key) => self.drop_column(files, names, name, key),
+            Form::Print(expr, end) => self.print(files, names, expr, end),
         }
     }
 
@@ -68,27 +81,41 @@ impl Work {
     ghost use Rattle.script_session.specs.Work.{names_in, world_of, state_in};
 
     // `name = expr`
-    fn bind(&mut self, name: &Words, expr: &Expr) -> Result<Outcome, StepFault>
-        ensures done { IfOk result (λ o. statement_result (state_in self.old) (tree.bind name.now (expr_of expr.now)) ≡ done (state_in self.new) o.printed o.warned) }
-        ensures refused { IfErr result (λ f. IsStepFault (world_of self.new).texts f (statement_result (state_in self.old) (tree.bind name.now (expr_of expr.now)))) }
+    fn bind<F: Files>(
+        &mut self,
+        files: &mut F,
+        names: &FileNames,
+        name: &Words,
+        expr: &Expr,
+    ) -> Result<Outcome, StepFault>
+        ensures answers { (held : Contents) → Performs (state_in self.new) (world_of self.new).texts (files_in names.now held) (shelf F.contents F.fetches F.faults F.absences files.old) (shelf F.contents F.fetches F.faults F.absences files.new) (statement_result (files_in names.now held) (state_in self.old) (tree.bind name.now (expr_of expr.now))) result }
+        ensures serves { Serves (shelf F.contents F.fetches F.faults F.absences files.old) (shelf F.contents F.fetches F.faults F.absences files.new) }
         ensures names { OnErr result (names_in self.new ≡ names_in self.old) }
         ensures kept { OnErr result (Keeps (world_of self.old) (world_of self.new)) }
     {
-        let value = self.evaluate(expr)?;
+        let value = self.evaluate(files, names, expr)?;
         self.set_name(name.as_str(), value)?;
         Ok(quiet(self.alloc, false))
     }
 
     // `target.step = arg`
-    fn put(&mut self, target: &Expr, step: &Step, arg: &Arg) -> Result<Outcome, StepFault>
-        ensures done { IfOk result (λ o. statement_result (state_in self.old) (tree.put (expr_of target.now) (step_of step.now) (arg_of arg.now)) ≡ done (state_in self.new) o.printed o.warned) }
-        ensures refused { IfErr result (λ f. IsStepFault (world_of self.new).texts f (statement_result (state_in self.old) (tree.put (expr_of target.now) (step_of step.now) (arg_of arg.now)))) }
+    fn put<F: Files>(
+        &mut self,
+        files: &mut F,
+        names: &FileNames,
+        target: &Expr,
+        step: &Step,
+        arg: &Arg,
+    ) -> Result<Outcome, StepFault>
+        ensures answers { (held : Contents) → Performs (state_in self.new) (world_of self.new).texts (files_in names.now held) (shelf F.contents F.fetches F.faults F.absences files.old) (shelf F.contents F.fetches F.faults F.absences files.new) (statement_result (files_in names.now held) (state_in self.old) (tree.put (expr_of target.now) (step_of step.now) (arg_of arg.now))) result }
+        ensures serves { Serves (shelf F.contents F.fetches F.faults F.absences files.old) (shelf F.contents F.fetches F.faults F.absences files.new) }
         ensures names { OnErr result (names_in self.new ≡ names_in self.old) }
         ensures kept { OnErr result (Keeps (world_of self.old) (world_of self.new)) }
+        ensures apart { OnOk result (IsSetApart (named_by (expr_of target.now)) (state_in self.old) (state_in self.new)) }
     {
-        let value = self.given(arg)?;
-        let on = self.evaluate(target)?;
-        let (by, first, second) = self.target(step)?;
+        let value = self.given(files, names, arg)?;
+        let on = self.evaluate(files, names, target)?;
+        let (by, first, second) = self.target(files, names, step)?;
         let warned = is_chained(target);
         match self.assign(on, by, &first, &second, &value) {
             Ok(()) => Ok(quiet(self.alloc, warned)),
@@ -97,34 +124,39 @@ impl Work {
     }
 
     // The last step of a target: what stands before its brackets, and in them.
-    fn target(&mut self, step: &Step) -> Result<(Selector, Subscript, Option<Subscript>), OpFault>
+    fn target<F: Files>(
+        &mut self,
+        files: &mut F,
+        names: &FileNames,
+        step: &Step,
+    ) -> Result<(Selector, Subscript, Option<Subscript>), EvalFault>
         ensures names { names_in self.new ≡ names_in self.old }
         ensures kept { Keeps (world_of self.old) (world_of self.new) }
-        ensures value { IfOk result (λ p. target_of (state_in self.old) (step_of step.now) ≡ Ok (record { way = way_of p.0; first = subscript_of (world_of self.new).tables (world_of self.new).texts p.1; second = option_map (subscript_of (world_of self.new).tables (world_of self.new).texts) p.2 })) }
+        ensures reads { (held : Contents) → Reaches (target_seen (world_of self.new)) (world_of self.new).texts (files_in names.now held) (shelf F.contents F.fetches F.faults F.absences files.old) (shelf F.contents F.fetches F.faults F.absences files.new) (target_of (files_in names.now held) (state_in self.old) (step_of step.now)) result }
         ensures first { IfOk result (λ p. IsKnownSubscript (world_of self.new) p.1) }
         ensures second { IfOk result (λ p. IfSome p.2 (IsKnownSubscript (world_of self.new))) }
-        ensures fault { IfErr result (λ f. IsFault (world_of self.new).texts f (target_of (state_in self.old) (step_of step.now))) }
+        ensures serves { Serves (shelf F.contents F.fetches F.faults F.absences files.old) (shelf F.contents F.fetches F.faults F.absences files.new) }
     {
         match step {
             Step::Item(arg) => {
-                let key = self.given(arg)?;
+                let key = self.given(files, names, arg)?;
                 Ok((Selector::Plain, Subscript::Key(key), None))
             }
             Step::Access(by, first, second) => {
-                let (first, second) = self.subscripts(first, second)?;
+                let (first, second) = self.subscripts(files, names, first, second)?;
                 Ok((selector_of(*by), first, second))
             }
             Step::Method(_, _)
             | Step::Group(_, _, _, _)
             | Step::Rolling(_, _, _)
-            | Step::Expanding(_, _, _) => Err(OpFault::Refused(Code::NotBuilt)),
+            | Step::Expanding(_, _, _) => Err(EvalFault::Refused(Code::NotBuilt)),
         }
     }
 
     // `del name`
     fn drop_name(&mut self, name: &Words) -> Result<Outcome, StepFault>
-        ensures done { IfOk result (λ o. statement_result (state_in self.old) (tree.drop_name name.now) ≡ done (state_in self.new) o.printed o.warned) }
-        ensures refused { IfErr result (λ f. IsStepFault (world_of self.new).texts f (statement_result (state_in self.old) (tree.drop_name name.now))) }
+        ensures done { (files : SomeFiles) → IfOk result (λ o. statement_result files (state_in self.old) (tree.drop_name name.now) ≡ at_once (done (state_in self.new) o.printed o.warned)) }
+        ensures refused { (files : SomeFiles) → IfErr result (λ f. IsRefusal (world_of self.new).texts f (statement_result files (state_in self.old) (tree.drop_name name.now))) }
         ensures names { OnErr result (names_in self.new ≡ names_in self.old) }
         ensures kept { OnErr result (Keeps (world_of self.old) (world_of self.new)) }
     {
@@ -134,26 +166,41 @@ impl Work {
     }
 
     // `del name[key]`
-    fn drop_column(&mut self, name: &Words, key: &Expr) -> Result<Outcome, StepFault>
-        ensures done { IfOk result (λ o. statement_result (state_in self.old) (tree.drop_column name.now (expr_of key.now)) ≡ done (state_in self.new) o.printed o.warned) }
-        ensures refused { IfErr result (λ f. IsStepFault (world_of self.new).texts f (statement_result (state_in self.old) (tree.drop_column name.now (expr_of key.now)))) }
+    fn drop_column<F: Files>(
+        &mut self,
+        files: &mut F,
+        names: &FileNames,
+        name: &Words,
+        key: &Expr,
+    ) -> Result<Outcome, StepFault>
+        ensures answers { (held : Contents) → Performs (state_in self.new) (world_of self.new).texts (files_in names.now held) (shelf F.contents F.fetches F.faults F.absences files.old) (shelf F.contents F.fetches F.faults F.absences files.new) (statement_result (files_in names.now held) (state_in self.old) (tree.drop_column name.now (expr_of key.now))) result }
+        ensures serves { Serves (shelf F.contents F.fetches F.faults F.absences files.old) (shelf F.contents F.fetches F.faults F.absences files.new) }
         ensures names { OnErr result (names_in self.new ≡ names_in self.old) }
         ensures kept { OnErr result (Keeps (world_of self.old) (world_of self.new)) }
+        ensures apart { OnOk result (IsSetApart (Some name.now) (state_in self.old) (state_in self.new)) }
     {
         let on = self.named(name)?;
-        let label = self.evaluate(key)?;
-        self.remove(on, label)?;
-        Ok(quiet(self.alloc, false))
+        let label = self.evaluate(files, names, key)?;
+        match self.remove(on, label) {
+            Ok(()) => Ok(quiet(self.alloc, false)),
+            Err(fault) => Err(marked(fault, false)),
+        }
     }
 
     // `print(expr, end=end)`
-    fn print(&mut self, expr: &Expr, end: &Words) -> Result<Outcome, StepFault>
-        ensures done { IfOk result (λ o. statement_result (state_in self.old) (tree.print (expr_of expr.now) end.now) ≡ done (state_in self.new) o.printed o.warned) }
-        ensures refused { IfErr result (λ f. IsStepFault (world_of self.new).texts f (statement_result (state_in self.old) (tree.print (expr_of expr.now) end.now))) }
+    fn print<F: Files>(
+        &mut self,
+        files: &mut F,
+        names: &FileNames,
+        expr: &Expr,
+        end: &Words,
+    ) -> Result<Outcome, StepFault>
+        ensures answers { (held : Contents) → Performs (state_in self.new) (world_of self.new).texts (files_in names.now held) (shelf F.contents F.fetches F.faults F.absences files.old) (shelf F.contents F.fetches F.faults F.absences files.new) (statement_result (files_in names.now held) (state_in self.old) (tree.print (expr_of expr.now) end.now)) result }
+        ensures serves { Serves (shelf F.contents F.fetches F.faults F.absences files.old) (shelf F.contents F.fetches F.faults F.absences files.new) }
         ensures names { OnErr result (names_in self.new ≡ names_in self.old) }
         ensures kept { OnErr result (Keeps (world_of self.old) (world_of self.new)) }
     {
-        let value = self.evaluate(expr)?;
+        let value = self.evaluate(files, names, expr)?;
         let end = end.as_str();
         let printed = printed_value(self.alloc, &self.dict, &self.store, value, end)?;
         Ok(Outcome {

@@ -38,6 +38,3 @@ pub use refusal::Refusal;
 pub use script::Script;
 pub use script_tokens::Binary;
 pub use tree::{Arg, Expr, Form, Statement, Step, Sub};
-
-#[cfg(test)]
-mod tests;

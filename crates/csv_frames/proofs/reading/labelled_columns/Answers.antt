@@ -1,20 +1,20 @@
-use Rattle.std.proofs.Common.{◌≡◌, ◌∙◌, ◌-◌, ℕ, ap, sym, subst, length, All}
-use Rattle.std.proofs.lemmas.List.{length-drop, length-map}
+use Rattle.std.proofs.Common.{◌≡◌, ◌∙◌, ℕ, sym, subst, length, All}
+use Rattle.std.proofs.lemmas.List.{length-map}
 use Rattle.nullable_array.specs.Columns.{CellColumn}
-use Rattle.csv_frames.specs.Views.{rows_under, texts_seen}
+use Rattle.csv_frames.specs.Rows.{file_rows}
+use Rattle.csv_frames.specs.Views.{texts_seen}
 use Rattle.csv_frames.proofs.FilledLaws.{count_columns, filled, count_tuples, tuples_differ}
 use Rattle.csv_frames.proofs.reading.labelled_columns.Goals as goal
 
 pub returns-clause-parts : goal.returns-clause-parts
 returns-clause-parts c =
-    let records = c.args.records.now in
+    let rows = file_rows c.args.bytes.now in
     let kinds = c.args.kinds.now in
     let columns = c.in_ok-columns.columns in
-    let texts = c.columns_of_kinds.new.dict in
-    let rows : length (rows_under records) ≡ c.len.result - 1 = length-drop 1 records ∙ ap (λ n. n - 1) (sym c.len.ensures) in
+    let texts = c.columns_read.new.dict in
     record {
       headed = count_tuples c.tuples_of.new.dict (texts_seen c.args.labels.now) c.in_ok-labels.labels c.in_ok-labels.ensures.labels ∙ length-map c.args.labels.now _ ∙ c.requires.alike
-          ∙ sym (count_columns texts (rows_under records) 0 kinds columns c.in_ok-columns.ensures.columns);
+          ∙ sym (count_columns texts rows 0 kinds columns c.in_ok-columns.ensures.read);
       different = tuples_differ c.tuples_of.new.dict (texts_seen c.args.labels.now) c.in_ok-labels.labels c.in_ok-labels.ensures.labels c.requires.different;
-      filled = subst (λ (n : ℕ). All (λ (c : CellColumn). length c.cells ≡ n) columns) rows (filled texts (rows_under records) 0 kinds columns c.in_ok-columns.ensures.columns);
+      filled = subst (λ (n : ℕ). All (λ (c : CellColumn). length c.cells ≡ n) columns) (sym c.requires.rows) (filled texts rows 0 kinds columns c.in_ok-columns.ensures.read);
     }

@@ -1,9 +1,19 @@
-use Rattle.std.proofs.Common.{arith}
-use Rattle.csv_frames.specs.Views.{entries_seen}
-use Rattle.csv_frames.proofs.ReadLaws.{file_read}
+use Rattle.std.proofs.Common.{sym, subst, arith}
+use Rattle.csv_meaning.specs.CsvRead.{columns_of_records}
+use Rattle.csv_frames.specs.Rows.{file_records}
+use Rattle.csv_frames.specs.Views.{entries_seen, ReadAnswers}
+use Rattle.csv_frames.proofs.ReadLaws.{refused, answered, file_read}
 use Rattle.csv_frames.proofs.reading.read_csv.Goals as goal
 
-pub returns-clause-answer : goal.returns-clause-answer
-returns-clause-answer c =
-    file_read c.args.dict.now c.columns_of_records.new.dict c.columns_of_records.result (entries_seen c.args.dict.now c.args.kinds.now) c.args.bytes.now c.in_ok-records.records
-    (omega arith) c.in_default.ensures.cases.1 c.in_ok-records.ensures c.columns_of_records.ensures.answer
+pub returns-then-is_err-clause-answer : goal.returns-then-is_err-clause-answer
+returns-then-is_err-clause-answer c =
+    let entries = entries_seen c.args.dict.now c.args.kinds.now in
+    let read = refused c.args.dict.now c.columns_of_text-table.new.dict c.truncate.new.self c.len-texts.result c.columns_of_text-table.result (columns_of_records entries (file_records c.args.bytes.now))
+    c.columns_of_text-table.ensures.longer c.len-texts.ensures.count c.truncate.ensures (sym c.if-is_err.ensures.value) c.columns_of_text-table.ensures.answer in
+    subst (ReadAnswers c.args.dict.now c.truncate.new.self c.columns_of_text-table.result) (file_read c.args.bytes.now entries (omega arith) c.in_default.ensures.cases.1) read
+
+pub returns-else-is_err-clause-answer : goal.returns-else-is_err-clause-answer
+returns-else-is_err-clause-answer c =
+    let entries = entries_seen c.args.dict.now c.args.kinds.now in
+    let read = answered c.args.dict.now c.columns_of_text-table.new.dict c.columns_of_text-table.result (columns_of_records entries (file_records c.args.bytes.now)) (sym c.if-is_err.ensures.value) c.columns_of_text-table.ensures.answer in
+    subst (ReadAnswers c.args.dict.now c.columns_of_text-table.new.dict c.columns_of_text-table.result) (file_read c.args.bytes.now entries (omega arith) c.in_default.ensures.cases.1) read

@@ -1,40 +1,75 @@
-use Rattle.std.proofs.Common.{subst, inr, map}
+use Rattle.std.proofs.Common.{◌∙◌, ap, map, refl, subst, sym, inr}
 use Rattle.std.specs.Prelude.{IfNone, IfSome, string_bytes}
-use Rattle.script_meaning.specs.Run.{IsPathResult, IsRunResult, usage, usage_line, with_line}
-use Rattle.script_run.specs.Ends.{Ends, Is}
-use Rattle.script_run.proofs.RunLaws.{ends_with_line}
-use Rattle.script_run.proofs.FileLaws.{some-always, complete_run, not_unread}
+use Rattle.script_meaning.specs.Run.{IsRunResult, IsWordsResult, run_in, usage, usage_line, with_line, with_script}
+use Rattle.script_run.specs.Ends.{Outside, outside, Ends, Is}
+use Rattle.script_run.proofs.RunLaws.{early_none, ends_with_line}
+use Rattle.script_run.proofs.FileLaws.{complete_run, none-always, not_unread, some-always}
 use Rattle.script_run.proofs.running.run.Goals as goal
 
-pub returns-in-None-clause-told : goal.returns-in-None-clause-told
-returns-in-None-clause-told g c =
+pub returns-in_default-clause-told : goal.returns-in_default-clause-told
+returns-in_default-clause-told g c =
+    let old : Outside = outside g.F.Files.fetches g.O.Sink.written g.O.Sink.faults g.E.Sink.written g.E.Sink.faults c.args.files.now c.args.out.now c.args.err.now in
+    let new : Outside = outside g.F.Files.fetches g.O.Sink.written g.O.Sink.faults g.E.Sink.written g.E.Sink.faults c.args.files.now c.args.out.now c.end_usage.new.err in
     some-always (g.F.Files.contents c.args.files.now) _ (λ held.
-    subst (λ path. Ends (IsPathResult path held) c.end_with.result (g.O.Sink.written c.args.out.now) (g.O.Sink.written c.args.out.now) (g.E.Sink.written c.args.err.now) (g.E.Sink.written c.end_with.new.err))
-    c.in-None.ensures
-    (ends_with_line usage usage_line c.end_with.result _ _ _ c.end_with.ensures.ended))
+    subst (λ run. Ends (IsWordsResult run held) c.end_usage.result old new) (sym c.in_default.ensures) (ends_with_line old new usage usage_line c.end_usage.result refl refl c.end_usage.ensures.ended))
 
-pub returns-in-None-clause-words : goal.returns-in-None-clause-words
-returns-in-None-clause-words g c =
-    subst (λ path. IfNone path (Ends (Is (with_line usage_line usage)) c.end_with.result (g.O.Sink.written c.args.out.now) (g.O.Sink.written c.args.out.now) (g.E.Sink.written c.args.err.now) (g.E.Sink.written c.end_with.new.err)))
-    c.in-None.ensures
-    (ends_with_line usage usage_line c.end_with.result _ _ _ c.end_with.ensures.ended)
-
-pub returns-in-Some-clause-complete : goal.returns-in-Some-clause-complete
-returns-in-Some-clause-complete g c =
-    let contents = g.F.Files.contents c.args.files.now in
+pub returns-in_default-clause-complete : goal.returns-in_default-clause-complete
+returns-in_default-clause-complete g c =
     let words = map string_bytes c.args.words.now.items in
-    complete_run contents (IsRunResult words) c.run_file.result _ _ _ _ _ _ _
-    (subst (λ path. IfSome contents (λ held. Ends (IsPathResult path held) c.run_file.result (g.O.Sink.written c.args.out.now) (g.O.Sink.written c.run_file.new.out) (g.E.Sink.written c.args.err.now) (g.E.Sink.written c.run_file.new.err)))
-    c.in-Some.ensures
-    c.run_file.ensures.told)
-    c.run_file.ensures.input
-    c.run_file.ensures.output
+    let old : Outside = outside g.F.Files.fetches g.O.Sink.written g.O.Sink.faults g.E.Sink.written g.E.Sink.faults c.args.files.now c.args.out.now c.args.err.now in
+    let new : Outside = outside g.F.Files.fetches g.O.Sink.written g.O.Sink.faults g.E.Sink.written g.E.Sink.faults c.args.files.now c.args.out.now c.end_usage.new.err in
+    complete_run (g.F.Files.contents c.args.files.now) (IsRunResult words) c.end_usage.result old new _ _ _
+    (returns-in_default-clause-told g c)
+    (λ is. absurd (not_unread _ _ _ _ c.end_usage.ensures.ended is))
+    (λ is. inr (c.end_usage.ensures.output is))
 
-pub returns-in-None-clause-complete : goal.returns-in-None-clause-complete
-returns-in-None-clause-complete g c =
-    let contents = g.F.Files.contents c.args.files.now in
+pub returns-in-Ok-clause-told : goal.returns-in-Ok-clause-told
+returns-in-Ok-clause-told g c =
+    let old : Outside = outside g.F.Files.fetches g.O.Sink.written g.O.Sink.faults g.E.Sink.written g.E.Sink.faults c.args.files.now c.args.out.now c.args.err.now in
+    let new : Outside = outside g.F.Files.fetches g.O.Sink.written g.O.Sink.faults g.E.Sink.written g.E.Sink.faults c.run_file.new.files c.run_file.new.out c.run_file.new.err in
+    let is = c.in-Some.ensures ∙ ap (with_script c.in-Some.script.now) c.in-Ok.ensures.names in
+    subst (λ run. IfSome (g.F.Files.contents c.args.files.now) (λ held. Ends (IsWordsResult run held) c.run_file.result old new)) (sym is) c.run_file.ensures.told
+
+pub returns-in-Ok-clause-complete : goal.returns-in-Ok-clause-complete
+returns-in-Ok-clause-complete g c =
     let words = map string_bytes c.args.words.now.items in
-    complete_run contents (IsRunResult words) c.end_with.result _ _ _ _ _ _ _
-    (returns-in-None-clause-told g c)
-    (λ is. absurd (not_unread _ _ _ _ c.end_with.ensures.ended is))
-    (λ is. inr (c.end_with.ensures.output is))
+    let old : Outside = outside g.F.Files.fetches g.O.Sink.written g.O.Sink.faults g.E.Sink.written g.E.Sink.faults c.args.files.now c.args.out.now c.args.err.now in
+    let new : Outside = outside g.F.Files.fetches g.O.Sink.written g.O.Sink.faults g.E.Sink.written g.E.Sink.faults c.run_file.new.files c.run_file.new.out c.run_file.new.err in
+    complete_run (g.F.Files.contents c.args.files.now) (IsRunResult words) c.run_file.result old new _ _ _ (returns-in-Ok-clause-told g c) c.run_file.ensures.input c.run_file.ensures.output
+
+pub returns-in-Err-Usage-clause-told : goal.returns-in-Err-Usage-clause-told
+returns-in-Err-Usage-clause-told g c =
+    let old : Outside = outside g.F.Files.fetches g.O.Sink.written g.O.Sink.faults g.E.Sink.written g.E.Sink.faults c.args.files.now c.args.out.now c.args.err.now in
+    let new : Outside = outside g.F.Files.fetches g.O.Sink.written g.O.Sink.faults g.E.Sink.written g.E.Sink.faults c.args.files.now c.args.out.now c.end_usage-in-Err-Usage.new.err in
+    let none = c.in-Some.ensures ∙ ap (with_script c.in-Some.script.now) (c.in-Err-Usage.ensures.usage (cc)) in
+    some-always (g.F.Files.contents c.args.files.now) _ (λ held.
+    subst (λ run. Ends (IsWordsResult run held) c.end_usage-in-Err-Usage.result old new) (sym none) (ends_with_line old new usage usage_line c.end_usage-in-Err-Usage.result refl refl c.end_usage-in-Err-Usage.ensures.ended))
+
+pub returns-in-Err-Usage-clause-complete : goal.returns-in-Err-Usage-clause-complete
+returns-in-Err-Usage-clause-complete g c =
+    let words = map string_bytes c.args.words.now.items in
+    let old : Outside = outside g.F.Files.fetches g.O.Sink.written g.O.Sink.faults g.E.Sink.written g.E.Sink.faults c.args.files.now c.args.out.now c.args.err.now in
+    let new : Outside = outside g.F.Files.fetches g.O.Sink.written g.O.Sink.faults g.E.Sink.written g.E.Sink.faults c.args.files.now c.args.out.now c.end_usage-in-Err-Usage.new.err in
+    complete_run (g.F.Files.contents c.args.files.now) (IsRunResult words) c.end_usage-in-Err-Usage.result old new _ _ _
+    (returns-in-Err-Usage-clause-told g c)
+    (λ is. absurd (not_unread _ _ _ _ c.end_usage-in-Err-Usage.ensures.ended is))
+    (λ is. inr (c.end_usage-in-Err-Usage.ensures.output is))
+
+pub returns-in-Err-Usage-clause-words : goal.returns-in-Err-Usage-clause-words
+returns-in-Err-Usage-clause-words g c =
+    let old : Outside = outside g.F.Files.fetches g.O.Sink.written g.O.Sink.faults g.E.Sink.written g.E.Sink.faults c.args.files.now c.args.out.now c.args.err.now in
+    let new : Outside = outside g.F.Files.fetches g.O.Sink.written g.O.Sink.faults g.E.Sink.written g.E.Sink.faults c.args.files.now c.args.out.now c.end_usage-in-Err-Usage.new.err in
+    let none = c.in-Some.ensures ∙ ap (with_script c.in-Some.script.now) (c.in-Err-Usage.ensures.usage (cc)) in
+    subst (λ run. IfNone run (Ends (Is (with_line usage_line usage)) c.end_usage-in-Err-Usage.result old new)) (sym none) (ends_with_line old new usage usage_line c.end_usage-in-Err-Usage.result refl refl c.end_usage-in-Err-Usage.ensures.ended)
+
+pub returns-in-Err-NoMemory-clause-told : goal.returns-in-Err-NoMemory-clause-told
+returns-in-Err-NoMemory-clause-told g c =
+    let words = map string_bytes c.args.words.now.items in
+    let old : Outside = outside g.F.Files.fetches g.O.Sink.written g.O.Sink.faults g.E.Sink.written g.E.Sink.faults c.args.files.now c.args.out.now c.args.err.now in
+    some-always (g.F.Files.contents c.args.files.now) _ (λ held. early_none old old (IsRunResult words held) refl refl)
+
+pub returns-in-Err-NoMemory-clause-words : goal.returns-in-Err-NoMemory-clause-words
+returns-in-Err-NoMemory-clause-words g c =
+    let words = map string_bytes c.args.words.now.items in
+    let old : Outside = outside g.F.Files.fetches g.O.Sink.written g.O.Sink.faults g.E.Sink.written g.E.Sink.faults c.args.files.now c.args.out.now c.args.err.now in
+    none-always (run_in words) _ (early_none old old (Is (with_line usage_line usage)) refl refl)

@@ -1,27 +1,47 @@
+use Rattle.std.proofs.Common.{◌≡◌, List, ℕ, Some, refl, subst, arith}
+use Rattle.std.specs.FinMap.{get}
+use Rattle.script_meaning.specs.Run.{RunWords, IsScriptResult, IsWordsResult, not_found_line, too_large_line, usage, syntax}
+use Rattle.script_session.specs.Reads.{files_in, paths_of}
+use Rattle.script_run.specs.Ends.{Outside, outside, Ends}
+use Rattle.script_run.proofs.FileLaws.{does_fetch, ends_held, ends_absent, ends_too_large, ends_unread, some-always, some-both, some-weaker}
 use Rattle.script_run.proofs.RunLaws.{ends_with_line}
-use Rattle.std.proofs.Common.{subst}
-use Rattle.script_run.specs.Ends.{Ends}
-use Rattle.script_meaning.specs.Run.{IsScriptResult, not_found_line, too_large_line, usage, syntax}
-use Rattle.script_run.proofs.FileLaws.{ends_held, ends_absent, ends_too_large, ends_unread, some-weaker, some-always}
 use Rattle.script_run.proofs.running.run_file.Goals as goal
 
 pub returns-in-Ok-clause-told : goal.returns-in-Ok-clause-told
 returns-in-Ok-clause-told g c =
-    some-weaker (g.F.Files.contents c.args.files.now) _ _ c.in-Ok.ensures.told
-    (λ held is. ends_held c.run_bytes.result _ _ _ _ held c.args.path.now c.in-Ok.bytes is
-    (subst (λ bytes. Ends (IsScriptResult bytes) c.run_bytes.result (g.O.Sink.written c.args.out.now) (g.O.Sink.written c.run_bytes.new.out) (g.E.Sink.written c.args.err.now) (g.E.Sink.written c.run_bytes.new.err)) c.as_slice.ensures c.run_bytes.ensures.told))
+    let words : RunWords = record { script = c.args.path.now; paths = paths_of c.args.names.now } in
+    let old : Outside = outside g.F.Files.fetches g.O.Sink.written g.O.Sink.faults g.E.Sink.written g.E.Sink.faults c.args.files.now c.args.out.now c.args.err.now in
+    let mid : Outside = outside g.F.Files.fetches g.O.Sink.written g.O.Sink.faults g.E.Sink.written g.E.Sink.faults c.read_whole.new.files c.args.out.now c.args.err.now in
+    let new : Outside = outside g.F.Files.fetches g.O.Sink.written g.O.Sink.faults g.E.Sink.written g.E.Sink.faults c.run_bytes.new.files c.run_bytes.new.out c.run_bytes.new.err in
+    let does = does_fetch old mid refl refl c.read_whole.ensures.fetches (omega arith) (omega arith) in
+    some-both (g.F.Files.contents c.args.files.now) (g.F.Files.contents c.read_whole.new.files) (λ held. get held c.args.path.now ≡ Some c.in-Ok.bytes)
+    (λ held. Ends (IsScriptResult (files_in c.args.names.now held) c.as_slice.result.now) c.run_bytes.result mid new) (λ held. Ends (IsWordsResult (Some words) held) c.run_bytes.result old new) c.read_whole.ensures.contents c.in-Ok.ensures.told c.run_bytes.ensures.told (λ held is t.
+    ends_held words held c.in-Ok.bytes c.run_bytes.result old mid new does is
+    (subst (λ (bytes : List ℕ). Ends (IsScriptResult (files_in c.args.names.now held) bytes) c.run_bytes.result mid new) c.as_slice.ensures t))
 
 pub returns-in-Err-Absent-clause-told : goal.returns-in-Err-Absent-clause-told
 returns-in-Err-Absent-clause-told g c =
-    some-weaker (g.F.Files.contents c.args.files.now) _ _ (c.in-Err-Absent.ensures.told_absent (cc))
-    (λ held is. ends_absent c.end_absent.result _ _ _ _ held c.args.path.now is (ends_with_line usage (not_found_line c.args.path.now) _ _ _ _ c.end_absent.ensures.ended))
+    let words : RunWords = record { script = c.args.path.now; paths = paths_of c.args.names.now } in
+    let old : Outside = outside g.F.Files.fetches g.O.Sink.written g.O.Sink.faults g.E.Sink.written g.E.Sink.faults c.args.files.now c.args.out.now c.args.err.now in
+    let mid : Outside = outside g.F.Files.fetches g.O.Sink.written g.O.Sink.faults g.E.Sink.written g.E.Sink.faults c.read_whole.new.files c.args.out.now c.args.err.now in
+    let new : Outside = outside g.F.Files.fetches g.O.Sink.written g.O.Sink.faults g.E.Sink.written g.E.Sink.faults c.read_whole.new.files c.args.out.now c.end_absent.new.err in
+    let does = does_fetch old mid refl refl c.read_whole.ensures.fetches (omega arith) (omega arith) in
+    some-weaker (g.F.Files.contents c.args.files.now) _ _ (c.in-Err-Absent.ensures.told_absent (cc)) (λ held is.
+    ends_absent words held c.end_absent.result old mid new does is (ends_with_line mid new usage (not_found_line c.args.path.now) c.end_absent.result refl refl c.end_absent.ensures.ended))
 
 pub returns-in-Err-TooLong-clause-told : goal.returns-in-Err-TooLong-clause-told
 returns-in-Err-TooLong-clause-told g c =
-    some-weaker (g.F.Files.contents c.args.files.now) _ _ (c.in-Err-TooLong.ensures.told_longer (cc))
-    (λ held (bytes, is, longer). ends_held c.end_too_large.result _ _ _ _ held c.args.path.now bytes is
-    (ends_too_large c.end_too_large.result _ _ _ _ bytes longer (ends_with_line syntax too_large_line _ _ _ _ c.end_too_large.ensures.ended)))
+    let words : RunWords = record { script = c.args.path.now; paths = paths_of c.args.names.now } in
+    let old : Outside = outside g.F.Files.fetches g.O.Sink.written g.O.Sink.faults g.E.Sink.written g.E.Sink.faults c.args.files.now c.args.out.now c.args.err.now in
+    let mid : Outside = outside g.F.Files.fetches g.O.Sink.written g.O.Sink.faults g.E.Sink.written g.E.Sink.faults c.read_whole.new.files c.args.out.now c.args.err.now in
+    let new : Outside = outside g.F.Files.fetches g.O.Sink.written g.O.Sink.faults g.E.Sink.written g.E.Sink.faults c.read_whole.new.files c.args.out.now c.end_too_large.new.err in
+    let does = does_fetch old mid refl refl c.read_whole.ensures.fetches (omega arith) (omega arith) in
+    some-weaker (g.F.Files.contents c.args.files.now) _ _ (c.in-Err-TooLong.ensures.told_longer (cc)) (λ held (bytes, is, longer).
+    ends_held words held bytes c.end_too_large.result old mid new does is
+    (ends_too_large (files_in c.args.names.now held) c.end_too_large.result mid new bytes longer (ends_with_line mid new syntax too_large_line c.end_too_large.result refl refl c.end_too_large.ensures.ended)))
 
 pub returns-in-Err-Failed-clause-told : goal.returns-in-Err-Failed-clause-told
 returns-in-Err-Failed-clause-told g c =
-    some-always (g.F.Files.contents c.args.files.now) _ (λ held. ends_unread _ _ _ _ c.say_unread.ensures.written)
+    let words : RunWords = record { script = c.args.path.now; paths = paths_of c.args.names.now } in
+    some-always (g.F.Files.contents c.args.files.now) _ (λ held.
+    ends_unread words held (outside g.F.Files.fetches g.O.Sink.written g.O.Sink.faults g.E.Sink.written g.E.Sink.faults c.args.files.now c.args.out.now c.args.err.now) (outside g.F.Files.fetches g.O.Sink.written g.O.Sink.faults g.E.Sink.written g.E.Sink.faults c.read_whole.new.files c.args.out.now c.say_unread.new.err) c.read_whole.ensures.fetches refl c.say_unread.ensures.front c.say_unread.ensures.whole)

@@ -1,18 +1,23 @@
-use Rattle.std.proofs.Common.{◌≡◌, ◌≤◌, ℕ, List, drop}
-use Rattle.outside_io.specs.Sink.{appended}
+use Rattle.std.proofs.Common.{◌≡◌, ◌≤◌, drop}
+use Rattle.std.specs.Prelude.{IfSome}
 use Rattle.script_meaning.specs.State.{no_names}
-use Rattle.script_meaning.specs.Run.{after_texts, statements_result}
+use Rattle.script_meaning.specs.Run.{statements_result}
 use Rattle.script_syntax.specs.ScriptView.{statements_of}
+use Rattle.script_session.specs.Reads.{files_in}
 use Rattle.script_session.specs.Session.{state_of}
+use Rattle.script_run.specs.Ends.{outside}
+use Rattle.script_run.specs.Steps.{ComesTo}
 use Rattle.script_run.proofs.running.run_script.Given as goal
 
--- what was written, and then what the statements that are left print, is what all of them print
+-- the steps that were done, and then those of the statements that are left, are the steps of all statements
 abbrev pub invariant-loop-i : goal.invariant-loop-i
 invariant-loop-i g l =
     record {
-      texts : (printed warned : List ℕ) × (g.O.Sink.written l.out ≡ appended (g.O.Sink.written l.fn.out) printed) × (g.E.Sink.written l.err ≡ appended (g.E.Sink.written l.fn.err) warned)
-          × (statements_result no_names (statements_of l.script) ≡ after_texts printed warned (statements_result (state_of l.session) (drop l.i (statements_of l.script))));
+      told : IfSome (g.F.Files.contents l.fn.files) (λ held. ComesTo (statements_result (files_in l.names held) no_names (statements_of l.script)) (statements_result (files_in l.names held) (state_of l.session) (drop l.i (statements_of l.script)))
+          (outside g.F.Files.fetches g.O.Sink.written g.O.Sink.faults g.E.Sink.written g.E.Sink.faults l.fn.files l.fn.out l.fn.err) (outside g.F.Files.fetches g.O.Sink.written g.O.Sink.faults g.E.Sink.written g.E.Sink.faults l.files l.out l.err));
+      contents : g.F.Files.contents l.files ≡ g.F.Files.contents l.fn.files;
+      faults : g.F.Files.faults l.fn.files ≤ g.F.Files.faults l.files;
+      absences : g.F.Files.absences l.fn.files ≤ g.F.Files.absences l.files;
       out_faults : g.O.Sink.faults l.fn.out ≤ g.O.Sink.faults l.out;
       err_faults : g.E.Sink.faults l.fn.err ≤ g.E.Sink.faults l.err;
-      files : l.files ≡ l.fn.files;
     }

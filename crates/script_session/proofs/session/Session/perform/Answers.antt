@@ -1,23 +1,32 @@
 use Rattle.std.proofs.Common.{refl, sym, ◌∙◌, ap}
 use Rattle.script_session.specs.Bindings.{Bindings, state_over}
 use Rattle.script_session.specs.Work.{names_in, tables_in, world_of, state_in}
+use Rattle.script_syntax.specs.View.{form_of}
 use Rattle.script_session.proofs.States.{state_swept, refused_kept}
 use Rattle.script_session.proofs.Naming.{live_are_named, named_live}
-use Rattle.script_session.proofs.Answering.{done_after, refused_after, state_refused, live_refused}
+use Rattle.script_session.proofs.Answering.{performs_after, state_refused, live_refused}
+use Rattle.script_session.proofs.Settings.{apart_after}
 use Rattle.script_session.proofs.session.Session.perform.Goals as goal
 
-pub returns-clause-done : goal.returns-clause-done
-returns-clause-done c =
+pub returns-clause-answers : goal.returns-clause-answers
+returns-clause-answers g c =
     let p = c.perform-result.new.self in
     let w = c.sweep.new.self in
     let e = c.sweep.ensures in
-    done_after c.perform-result.result _ (state_in p) (state_in w) c.perform-result.ensures.done (sym (state_swept (names_in w) (names_in w) (world_of p) (world_of w) refl e.texts e.kept ∙ ap (λ (b : Bindings). state_over b (world_of p)) e.names))
+    λ held. performs_after _ _ _ _ (state_in p) (state_in w) c.perform-result.result (c.perform-result.ensures.answers held)
+    (sym (state_swept (names_in w) (names_in w) (world_of p) (world_of w) refl e.texts e.kept ∙ ap (λ (b : Bindings). state_over b (world_of p)) e.names)) (sym e.texts)
 
-pub returns-clause-refused : goal.returns-clause-refused
-returns-clause-refused c = refused_after c.perform-result.result _ _ _ c.perform-result.ensures.refused (sym c.sweep.ensures.texts)
+pub returns-clause-apart : goal.returns-clause-apart
+returns-clause-apart g c =
+    let s = c.args.self.now.work in
+    let p = c.perform-result.new.self in
+    let w = c.sweep.new.self in
+    let e = c.sweep.ensures in
+    apart_after c.perform-result.result (form_of c.args.form.now) (state_in s) (state_in p) (state_in w) c.perform-result.ensures.apart
+    (sym (state_swept (names_in w) (names_in w) (world_of p) (world_of w) refl e.texts e.kept ∙ ap (λ (b : Bindings). state_over b (world_of p)) e.names))
 
 pub returns-clause-same : goal.returns-clause-same
-returns-clause-same c =
+returns-clause-same g c =
     let s = c.args.self.now.work in
     let p = c.perform-result.new.self in
     let w = c.sweep.new.self in
@@ -26,7 +35,7 @@ returns-clause-same c =
     state_refused c.perform-result.result (state_in s) (state_in p) (names_in p) (names_in w) (world_of p) (world_of w) same refl e.names e.texts e.kept
 
 pub returns-clause-objects : goal.returns-clause-objects
-returns-clause-objects c =
+returns-clause-objects g c =
     let s = c.args.self.now.work in
     let p = c.perform-result.new.self in
     let w = c.sweep.new.self in
@@ -34,6 +43,6 @@ returns-clause-objects c =
     live_refused c.perform-result.result (names_in s) (names_in p) (names_in w) (world_of s) (world_of p) (world_of w) c.perform-result.ensures.names c.perform-result.ensures.kept e.names e.texts e.kept e.named c.args.self.now.swept (named_live s.names.entries s.unique (tables_in s) s.live)
 
 pub returns-clause-live : goal.returns-clause-live
-returns-clause-live c =
+returns-clause-live g c =
     let w = c.sweep.new.self in
     live_are_named w.names.entries w.unique (world_of w) w.live c.sweep.ensures.named

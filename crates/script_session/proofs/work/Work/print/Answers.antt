@@ -1,16 +1,33 @@
 use Rattle.std.proofs.Common.{refl, ◌++◌, ap, sym, ◌∙◌, false}
-use Rattle.script_meaning.specs.Statement.{entry_text}
+use Rattle.std.proofs.lemmas.Result.{err_from_is_err_and}
+use Rattle.script_meaning.specs.Reading.{at_once}
+use Rattle.script_meaning.specs.Statement.{done, entry_text}
 use Rattle.script_session.specs.Values.{entry_in}
 use Rattle.script_session.specs.Work.{world_of, state_in}
 use Rattle.script_session.proofs.States.{state_kept}
-use Rattle.script_session.proofs.Answering.{answer_then, done_same}
+use Rattle.script_session.proofs.Rides.{goes_value, goes_spends, halts_first, spends_then}
+use Rattle.script_session.proofs.Answering.{refusal, step_halts, done_same}
 use Rattle.script_session.proofs.work.Work.print.Goals as goal
 
-pub returns-clause-done : goal.returns-clause-done
-returns-clause-done c =
+pub returns-in_err-value-clause-answers : goal.returns-in_err-value-clause-answers
+returns-in_err-value-clause-answers g c =
+    let s = c.args.self.now in
+    let f = c.in_err-value.field-0.0 in
+    let p = err_from_is_err_and c.from_residual.result c.from_residual.ensures.1 in
+    rw (p.1, p.2) (λ held. step_halts (world_of c.evaluate.new.self).texts _ _ _ _ f (halts_first (world_of c.evaluate.new.self).texts _ _ _ _ refusal (λ v. at_once (done (state_in s) (entry_text v ++ c.args.end.now) false)) f (c.in_err-value.ensures.reads held)))
+
+pub returns-clause-answers : goal.returns-clause-answers
+returns-clause-answers g c =
     let s = c.args.self.now in
     let w = c.evaluate.new.self in
     let x = c.in_ok-value.ensures in
     let text = entry_text (entry_in (world_of w) c.in_ok-value.value) in
-    done_same _ (state_in s) (state_in w) (text ++ c.args.end.now) _ false _ (answer_then _ _ _ _ x.value refl)
-    (sym (state_kept s w x.names x.kept)) (c.in_ok-printed.ensures ∙ ap (λ t. text ++ t) c.as_str-end.ensures) refl
+    λ held. goes_value refusal (λ v. at_once (done (state_in s) (entry_text v ++ c.args.end.now) false)) _ _ (x.reads held)
+    (ap (λ a. at_once a) (done_same _ (state_in s) (state_in w) (text ++ c.args.end.now) _ false _ refl
+    (sym (state_kept s w x.names x.kept)) (c.in_ok-printed.ensures ∙ ap (λ t. text ++ t) c.as_str-end.ensures) refl))
+
+pub returns-in_err-printed-clause-answers : goal.returns-in_err-printed-clause-answers
+returns-in_err-printed-clause-answers g c =
+    let s = c.args.self.now in
+    let p = err_from_is_err_and c.from_residual-in_err-printed.result c.from_residual-in_err-printed.ensures.1 in
+    rw (p.1, p.2) (λ held. spends_then refusal (λ v. at_once (done (state_in s) (entry_text v ++ c.args.end.now) false)) (goes_spends (c.in_ok-value.ensures.reads held)))

@@ -1,0 +1,17 @@
+-- Laws of the fields of a record.
+use Rattle.std.proofs.Common.{◌≡◌, ◌≤◌, ℕ, zero, suc, refl, List, [], ◌∷◌, length, unwrap_or, arith}
+use Rattle.csv.specs.Records.{field_at}
+use Rattle.meaning.specs.Text.{Text}
+use Rattle.csv_meaning.specs.CsvRead.{field_in}
+
+-- the field at a place of all fields
+pub field_unwrapped : (fields : List Text) (place : ℕ) → unwrap_or (field_at fields place) [] ≡ field_in place fields
+unfolding field_at
+field_unwrapped [] place = refl
+field_unwrapped (f ∷ fs) zero = refl
+field_unwrapped (f ∷ fs) (suc place) = field_unwrapped fs place
+
+pub past_end : (fields : List Text) (place : ℕ) → length fields ≤ place → [] ≡ field_in place fields
+past_end [] place le = refl
+past_end (f ∷ fs) zero le = absurd (omega arith)
+past_end (f ∷ fs) (suc place) le = past_end fs place (omega arith)

@@ -1,0 +1,8 @@
+use Rattle.std.proofs.Common.{◌≡◌, drop}
+use Rattle.std.specs.List.{list_any}
+use Rattle.csv_frames.specs.Growing.{is_mixed}
+use Rattle.csv_frames.proofs.columns.has_mixed.Given as goal
+
+-- none so far
+abbrev pub invariant-loop-place : goal.invariant-loop-place
+invariant-loop-place l = list_any is_mixed (drop l.place l.columns) ≡ list_any is_mixed l.columns

@@ -1,0 +1,54 @@
+use Rattle.std.proofs.Common.{[], ◌∷◌, ◌++◌, ◌≤◌, length, sym, subst, ap, arith}
+use Rattle.csv.specs.Records.{fields_of}
+use Rattle.csv_meaning.specs.CsvRead.{first_long}
+use Rattle.csv_frames.specs.Growing.{GrownTo}
+use Rattle.csv_frames.specs.Rows.{file_rows, rows_left}
+use Rattle.csv_frames.proofs.RecordLaws.{one_left, no_header, under_header, few_before}
+use Rattle.csv_frames.proofs.SettledLaws.{longer_self, longer_twice}
+use Rattle.csv_frames.proofs.GrowthLaws.{more_read, still_short}
+use Rattle.csv_frames.proofs.growth.growth_of.Goals as goal
+
+pub returns-then-not-branch-clause-grown : goal.returns-then-not-branch-clause-grown
+returns-then-not-branch-clause-grown c =
+    let none = no_header c.reader_of-reader.result c.next_record.new.reader c.in_ok-next_record.field-0 _ c.in_ok-next_record.ensures c.args.bytes.now c.reader_of-reader.ensures.records c.if-not-branch.true in
+    subst (λ rows. GrownTo c.args.dict.now c.args.kinds.now rows c.in_ok-growth.growth) (sym none) (c.in_ok-growth.ensures c.args.dict.now)
+
+pub reading-init : goal.reading-init
+reading-init c =
+    let next = c.in_ok-next_record.ensures in
+    let under = under_header c.reader_of-reader.result c.next_record.new.reader c.in_ok-next_record.field-0 _ next c.args.bytes.now c.reader_of-reader.ensures.records c.if-not-branch.false in
+    record {
+      longer = longer_self c.args.dict.now;
+      reads = (one_left c.reader_of-reader.result c.next_record.new.reader c.in_ok-next_record.field-0 _ next c.if-not-branch.false).1;
+      before = ([], sym under, ap (first_long c.args.width 2) (sym under), c.in_ok-growth.ensures c.args.dict.now);
+    }
+
+pub overflow_add-result : goal.overflow_add-result
+overflow_add-result c =
+    let inv = c.reading.invariant in
+    omega (arith, few_before c.args.bytes.now inv.before.0 _ inv.before.1, inv.before.3.count, c.requires)
+
+pub push-requires-clause-few : goal.push-requires-clause-few
+push-requires-clause-few c =
+    let inv = c.reading.invariant in
+    omega (arith, few_before c.args.bytes.now inv.before.0 _ inv.before.1, inv.before.3.count, c.requires)
+
+pub reading-preserved : goal.reading-preserved
+reading-preserved c =
+    let inv = c.reading.invariant in
+    let before = inv.before.0 in
+    let row = fields_of c.next_record-in-reading.new.row in
+    let reader = c.reading.reader in
+    let next = c.next_record-in-reading.new.reader in
+    let one = one_left reader next c.in_ok-next_record-2.field-0 row c.in_ok-next_record-2.ensures c.if-not-branch-2.false in
+    let short : length row ≤ c.args.width = omega (arith, c.len.ensures, c.if-width-len.false) in
+    record {
+      longer = longer_twice c.args.dict.now c.reading.dict c.push.new.dict inv.longer c.push.ensures.longer;
+      reads = one.1;
+      before = (
+        before ++ row ∷ [],
+        more_read c.args.width (file_rows c.args.bytes.now) before (rows_left reader) (rows_left next) row one.0 inv.before.1,
+        still_short c.args.width (file_rows c.args.bytes.now) before (rows_left reader) (rows_left next) row one.0 short inv.before.2,
+        c.in_ok-push.ensures.grown before inv.before.3,
+      );
+    }

@@ -1,0 +1,14 @@
+use Rattle.std.proofs.Common.{◌≡◌, List, ℕ, length}
+use Rattle.csv.specs.Records.{fields_of}
+use Rattle.meaning.specs.Cell.{IsLonger}
+use Rattle.csv_frames.specs.Growing.{AreGrown}
+use Rattle.csv_frames.proofs.GrowthLaws.{ArePushed}
+use Rattle.csv_frames.proofs.growth.push_fields.Given as goal
+
+-- the columns so far have the record
+abbrev pub invariant-loop-place : goal.invariant-loop-place
+invariant-loop-place l = record {
+  longer : IsLonger l.fn.dict l.dict;
+  count : length l.columns ≡ length l.kinds;
+  pushed : (before : List (List (List ℕ))) → length before ≡ l.rows → AreGrown l.fn.dict l.kinds before l.fn.columns → ArePushed l.dict l.kinds before (fields_of l.row) l.place l.columns;
+}

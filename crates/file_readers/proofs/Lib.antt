@@ -1,0 +1,4 @@
+pub mod NameLaws
+pub mod FrameLaws
+pub mod ReadLaws
+pub mod TestLaws

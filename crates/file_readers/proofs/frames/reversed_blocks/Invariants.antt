@@ -1,0 +1,10 @@
+use Rattle.std.proofs.Common.{◌≡◌, ◌++◌, length}
+use Rattle.std.specs.Prelude.{reverse}
+use Rattle.file_readers.proofs.frames.reversed_blocks.Given as goal
+
+-- the blocks so far, before those that are left
+abbrev pub invariant-loop-block : goal.invariant-loop-block
+invariant-loop-block l = l.made ++ reverse l.blocks ≡ reverse l.fn.blocks
+
+abbrev pub decreases-loop-block : goal.decreases-loop-block
+decreases-loop-block l = length l.blocks

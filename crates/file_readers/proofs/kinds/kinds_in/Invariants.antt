@@ -1,0 +1,13 @@
+use Rattle.std.proofs.Common.{◌≡◌, ◌++◌, length}
+use Rattle.method_meaning.specs.Readers as readers
+use Rattle.csv_frames.specs.Views.{entries_seen}
+use Rattle.frame_store.specs.Objects.{Tables}
+use Rattle.frame_store.specs.Arguments.{entries_of}
+use Rattle.file_readers.proofs.kinds.kinds_in.Given as goal
+
+-- the kinds so far, before those of the other pairs
+abbrev pub invariant-loop-rest : goal.invariant-loop-rest
+invariant-loop-rest l = (live : Tables) → entries_seen l.dict l.kinds ++ readers.kinds_in (entries_of live l.dict l.rest) ≡ readers.kinds_in (entries_of live l.dict l.pairs)
+
+abbrev pub decreases-loop-rest : goal.decreases-loop-rest
+decreases-loop-rest l = length l.rest

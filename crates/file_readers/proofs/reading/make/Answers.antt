@@ -1,0 +1,13 @@
+use Rattle.method_meaning.specs.Readers as readers
+use Rattle.frame_store.specs.Objects.{tables}
+use Rattle.frame_store.specs.Arguments.{arguments_of}
+use Rattle.file_readers.proofs.reading.make.Goals as goal
+
+pub returns-in-Some-clause-settled : goal.returns-in-Some-clause-settled
+returns-in-Some-clause-settled c = c.placed.ensures.settled c.args.dict.now c.read_frame-made.ensures.longer c.requires.settled
+
+pub returns-in-Some-clause-answers : goal.returns-in-Some-clause-answers
+returns-in-Some-clause-answers c =
+    rw (c.in-Some.is, ← c.as_slice.ensures)
+    (c.placed.ensures.answers c.args.dict.now (readers.read_result c.in-Some.bytes.now (arguments_of (tables c.args.store.now) c.args.dict.now c.as_slice.result.now))
+    c.read_frame-made.ensures.longer c.requires.settled c.read_frame-made.ensures.answer)

@@ -1,0 +1,67 @@
+// The name of the file that a call reads.
+ghost use Rattle.std.specs.Prelude.{◌≡◌};
+ghost use Rattle.table_meaning.specs.Settled.{IsSettled};
+ghost use Rattle.form_meaning.specs.Signature as signature;
+ghost use Rattle.method_meaning.specs.Readers.{file_name_of};
+ghost use Rattle.frame_store.specs.Objects.{tables};
+ghost use Rattle.frame_store.specs.Arguments.{arguments_of, AreLive};
+ghost use Rattle.signatures.specs.Bound as bound;
+ghost use Rattle.file_readers.specs.Names.{name_for, Names};
+
+use cell_core::{Cell, Code, Reason, TextDict, TextId};
+use form_meaning::Function;
+use frame_store::{Named, NamedList, Store};
+use signatures::{Unbound, bind, function_named, function_parameters, scalar_at};
+
+// Why arguments aren't bound, as the refusal of a call.
+fn code_of(unbound: Unbound) -> Code
+    ensures { result ≡ bound.code_of unbound }
+{
+    match unbound {
+        Unbound::NotTaken => Code::WrongKind,
+        Unbound::NotListed => Code::BadValue(Reason::Argument),
+    }
+}
+
+// The name that the first argument of a call is.
+fn name_of(
+    store: &Store,
+    dict: &TextDict,
+    function: Function,
+    args: &[Named],
+) -> Result<TextId, Code>
+    requires live { AreLive (tables store.now) args.now }
+    requires given { IsSettled (arguments_of (tables store.now)) dict.now args.now }
+    ensures { Names dict.now result (file_name_of function (arguments_of (tables store.now) dict.now args.now)) }
+{
+    let parameters = function_parameters(function);
+    if let Err(unbound) = bind(store, dict, parameters, args) {
+        return Err(code_of(unbound));
+    }
+    match scalar_at(parameters, args, 0) {
+        Some(Cell::Text(name)) => Ok(name),
+        _ => Err(Code::WrongKind),
+    }
+}
+
+/// The text that names the file which a call of a function of `pd` reads: its first argument. The
+/// arguments are bound to the function's signature as in a call of Python; all that they hold was
+/// given a number by `dict`, and so was the name.
+///
+/// `WrongKind` where `pd` has no function of the name; `WrongKind` or `BadValue(Argument)` where the
+/// arguments aren't bound; `WrongKind` where the first isn't a text. Takes no memory.
+pub fn file_name(
+    store: &Store,
+    dict: &TextDict,
+    function: &str,
+    args: &NamedList,
+) -> Result<TextId, Code>
+    requires live { AreLive (tables store.now) args.now.items.items }
+    requires given { IsSettled (arguments_of (tables store.now)) dict.now args.now.items.items }
+    ensures { Names dict.now result (name_for (signature.function_named function.now) (arguments_of (tables store.now) dict.now args.now.items.items)) }
+{
+    match function_named(function) {
+        Some(function) => name_of(store, dict, function, args.as_slice()),
+        None => Err(Code::WrongKind),
+    }
+}

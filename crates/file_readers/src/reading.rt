@@ -1,0 +1,114 @@
+// What the functions of `pd` make, with the file of those that read one.
+ghost use Rattle.std.specs.Prelude.{◌≡◌, IfOk};
+ghost use Rattle.std.specs.Option.{option_map};
+ghost use Rattle.meaning.specs.Cell.{IsLonger};
+ghost use Rattle.table_meaning.specs.Settled.{IsSettled};
+ghost use Rattle.table_meaning.specs.Table.{table_value};
+ghost use Rattle.csv_meaning.specs.CsvRead.{columns_of_file};
+ghost use Rattle.csv_frames.specs.Views.{entries_seen};
+ghost use Rattle.method_meaning.specs.Readers as readers;
+ghost use Rattle.frame_store.specs.Objects.{tables};
+ghost use Rattle.frame_store.specs.Arguments.{arguments_of, AreLive};
+ghost use Rattle.frame_store.specs.Shown.{shown, FormAnswers, Makes};
+ghost use Rattle.file_readers.specs.Frames as meant;
+
+use crate::frames::frame_of;
+use crate::kinds::kinds_given;
+use cell_core::{Code, Reason, TextDict};
+use csv_frames::{CsvFault, Entries, read_csv};
+use form_meaning::Function;
+use form_parts::placed;
+use frame_store::{Named, NamedList, OpFault, Store, Table, Value};
+use signatures::{bind, dict_at, function_parameters};
+use std::alloc::Global;
+
+// Why a file isn't read, as the refusal of a call.
+fn refusal_of(fault: CsvFault) -> OpFault
+    ensures { result ≡ meant.refusal_of fault }
+{
+    match fault {
+        CsvFault::NotUtf8(place) => OpFault::Refused(Code::NotUtf8(place)),
+        CsvFault::NoColumn => OpFault::Refused(Code::NoRecords),
+        CsvFault::LongRow(number, expected, seen) => {
+            OpFault::Refused(Code::LongRow(number, expected, seen))
+        }
+        CsvFault::NotCast => OpFault::Refused(Code::BadValue(Reason::Cast)),
+        CsvFault::TooLarge => OpFault::Refused(Code::Limit),
+        CsvFault::NoMemory => OpFault::NoMemory,
+    }
+}
+
+// The frame of a file with these bytes.
+pub(crate) fn frame_of_file(
+    alloc: Global,
+    dict: &mut TextDict,
+    bytes: &[u8],
+    kinds: &Entries,
+) -> Result<Table, OpFault>
+    ensures longer { IsLonger dict.old dict.new }
+    ensures settled { IfOk result (IsSettled table_value dict.new) }
+    ensures answer { Makes dict.new result (readers.frame_or_fault (columns_of_file bytes.now (entries_seen dict.old kinds.now))) }
+{
+    match read_csv(alloc, dict, bytes, kinds) {
+        Ok(read) => Ok(frame_of(alloc, read)?),
+        Err(fault) => Err(refusal_of(fault)),
+    }
+}
+
+// What `pd.read_csv` makes of a file with these bytes.
+fn read_frame(
+    alloc: Global,
+    store: &Store,
+    dict: &mut TextDict,
+    args: &[Named],
+    bytes: &[u8],
+) -> Result<Table, OpFault>
+    requires { AreLive (tables store.now) args.now }
+    ensures longer { IsLonger dict.old dict.new }
+    ensures settled { IfOk result (IsSettled table_value dict.new) }
+    ensures answer { Makes dict.new result (readers.read_result bytes.now (arguments_of (tables store.now) dict.old args.now)) }
+{
+    let parameters = function_parameters(Function::ReadCsv);
+    bind(store, dict, parameters, args)?;
+    let kinds = kinds_given(alloc, dict, dict_at(parameters, args, 2))?;
+    frame_of_file(alloc, dict, bytes, &kinds)
+}
+
+/// What a function of `pd` makes of its arguments: a new object. With the bytes of a file it is
+/// `pd.read_csv`, without them it is [`constructors::make`]. All that the arguments hold was given a
+/// number by `dict`; each text of the file gets one.
+///
+/// `pd.read_csv(name, dtype_backend="numpy_nullable", dtype=None)` is the frame of the file's columns,
+/// as [`csv_frames::read_csv`] reads them, and the labels of its rows are 0, 1 and so on. `dtype` is a
+/// dict from labels to names of kinds; a label that no column has is passed over, and of one that
+/// stands twice the last kind counts.
+///
+/// With a file, in this order: `WrongKind` or `BadValue(Argument)` where the arguments aren't bound;
+/// `Limit` for more than 2^28 bytes; `NotUtf8` for bytes that aren't UTF-8 text; `NoRecords` where
+/// there is no record; `LongRow` for the first record that is longer than the header;
+/// `BadValue(Cast)` where a field isn't of the kind that is named for its column; `Limit` for a table
+/// beyond the limits. `NoMemory` may come in place of any answer. After a refusal all objects are as
+/// they were.
+pub fn make(
+    alloc: Global,
+    store: &mut Store,
+    dict: &mut TextDict,
+    function: &str,
+    args: &NamedList,
+    file: Option<&[u8]>,
+) -> Result<Value, OpFault>
+    requires live { AreLive (tables store.old) args.now.items.items }
+    requires settled { IsSettled shown dict.old (tables store.old) }
+    requires given { IsSettled (arguments_of (tables store.old)) dict.old args.now.items.items }
+    ensures longer { IsLonger dict.old dict.new }
+    ensures settled { IsSettled shown dict.new (tables store.new) }
+    ensures answers { FormAnswers dict.new result (readers.make_with (option_map (λ bytes. bytes.now) file.entry) function.now (arguments_of (tables store.old) dict.old args.now.items.items)) (shown dict.old (tables store.old)) (shown dict.new (tables store.new)) }
+{
+    match file {
+        None => constructors::make(alloc, store, dict, function, args),
+        Some(bytes) => {
+            let made = read_frame(alloc, store, dict, args.as_slice(), bytes);
+            placed(store, dict, made)
+        }
+    }
+}
