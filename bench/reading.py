@@ -1,17 +1,19 @@
 #!/usr/bin/env python3
-"""Times the reading of a file of comma-separated values beside pandas and gawk, start included.
+"""Times the reading of a file of comma-separated values beside pandas, data.table and gawk, start included.
 
     python3 bench/reading.py PROGRAM [--runs N]
 
 PROGRAM is the built `pdscript`. The file has five columns: the number of the row, a short text and three of whole
 numbers; one in eleven cells is missing in each column but the first. The script reads it and prints how many rows
 there are and the sum of the last column. The same is done by the Python that runs this, which needs pandas, with
-nullable kinds that are named for all columns and with the kinds that pandas finds, and by gawk, which splits lines at
-commas and keeps the sum alone. All must print the same. A file of ten rows shows the time from start to end without
-much to read. A line for each gives the median of the runs in milliseconds, the most memory that a process held, and the
-time of the program as a part of this one. Less memory than this script holds itself, about 11 MiB, can't be told.
+nullable kinds that are named for all columns and with the kinds that pandas finds, by data.table of R where it is
+installed, and by gawk, which splits lines at commas and keeps the sum alone. All must print the same. A file of ten
+rows shows the time from start to end without much to read. A line for each gives the median of the runs in
+milliseconds, the most memory that a process held, and the time of the program as a part of this one. Less memory than
+this script holds itself, about 11 MiB, can't be told.
 """
 import os
+import shutil
 import subprocess
 import sys
 import tempfile
@@ -24,6 +26,8 @@ SCRIPT = 't = pd.read_csv("t")\nprint(len(t))\nprint(t["weight"].sum())\n'
 PANDAS = "import sys\nimport pandas as pd\nt = pd.read_csv(sys.argv[1]%s)\nprint(len(t))\nprint(int(t['weight'].sum()))\n"
 
 NULLABLE = ", dtype={'id': 'Int64', 'customer': 'string', 'count': 'Int64', 'price': 'Int64', 'weight': 'Int64'}"
+
+DATA_TABLE = "t <- data.table::fread(commandArgs(TRUE)); cat(sprintf('%d\\n%.0f\\n', nrow(t), sum(as.numeric(t$weight), na.rm = TRUE)))"
 
 GAWK = 'NR > 1 { sum += $5 } END { print NR - 1; printf "%d\\n", sum }'
 
@@ -40,6 +44,14 @@ def write_table(path, rows):
         out.write("id,customer,count,price,weight\n")
         out.writelines(row(k) + "\n" for k in range(1, rows + 1))
     return os.path.getsize(path)
+
+
+def has_data_table():
+    """Whether R and data.table are installed."""
+    if not shutil.which("Rscript"):
+        return False
+    asked = ["Rscript", "-e", "quit(status = !requireNamespace('data.table', quietly = TRUE))"]
+    return subprocess.run(asked, capture_output=True).returncode == 0
 
 
 def once(command):
@@ -72,8 +84,11 @@ def main():
             "pdscript": [program, script, "t=" + table],
             "pandas, nullable": [sys.executable, "-c", PANDAS % NULLABLE, table],
             "pandas, numpy": [sys.executable, "-c", PANDAS % "", table],
+            "data.table": ["Rscript", "-e", DATA_TABLE, table],
             "gawk": ["gawk", "-F,", GAWK, table],
         }
+        if not has_data_table():
+            del commands["data.table"]
         for rows in ROWS:
             size, ours, wanted = write_table(table, rows), None, None
             for name, command in commands.items():

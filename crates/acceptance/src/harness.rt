@@ -1,13 +1,15 @@
-// One run over files and sinks in memory.
+// Runs over files and sinks in memory.
 use cell_core::NoMemory;
 use outside_io::{MemFiles, MemSink};
 use script_run::{Status, run};
 use std::alloc::{AllocError, Global};
 use std::process::Abort;
-use std::test::Fail;
 
 // Room enough for all that these runs print.
 pub const AMPLE: usize = 4096;
+
+// The number of a call of the files that is never made.
+pub const NEVER: u64 = 99;
 
 // What a run leaves.
 #[derive(Drop)]
@@ -18,7 +20,7 @@ pub struct Report {
 }
 
 // The words as `run` takes them.
-pub fn words_of(alloc: Global, words: &[&str]) -> Result<Vec<String>, AllocError> {
+fn words_of(alloc: Global, words: &[&str]) -> Result<Vec<String>, AllocError> {
     let mut all = Vec::new(alloc);
     for word in words {
         all.push(String::from_str(alloc, *word)?)?;
@@ -45,26 +47,34 @@ pub fn run_words(
     })
 }
 
-// Files that hold the script under `s`.
-pub fn files_with(alloc: Global, script: &[u8]) -> Result<MemFiles, NoMemory> {
-    let mut files = MemFiles::new(alloc);
-    files.hold("s", script)?;
-    Ok(files)
-}
-
-// A run of the script ends with this status, and the sinks take these bytes.
-pub fn expect_run(
-    rt: &impl Abort,
+// Runs the script, which has a file of two rows by the name `t` and one of three by `u`. The call of the files with
+// this number fails.
+pub fn run_failing(
     alloc: Global,
     script: &[u8],
+    call: u64,
+    output_room: usize,
+    error_room: usize,
+) -> Result<Report, NoMemory> {
+    let mut files = MemFiles::new(alloc);
+    files.hold("s", script)?;
+    files.hold("t", b"a\n1\n2\n")?;
+    files.hold("u", b"b\n1\n2\n3\n")?;
+    files.fail_at(call)?;
+    let words = ["pdscript", "s", "t=t", "u=u"];
+    run_words(alloc, &words, &mut files, output_room, error_room)
+}
+
+// The run left this status and these bytes.
+pub fn assert_left(
+    rt: &impl Abort,
+    ran: &Report,
     status: Status,
-    output: &str,
-    errors: &str,
-) -> Result<(), Fail> {
-    let mut files = files_with(alloc, script)?;
-    let ran = run_words(alloc, &["pdscript", "s"], &mut files, AMPLE, AMPLE)?;
-    assert_eq!(rt; ran.status, status);
-    assert_eq!(rt; ran.output.written(), output.as_bytes());
-    assert_eq!(rt; ran.errors.written(), errors.as_bytes());
-    Ok(())
+    output: &[u8],
+    errors: &[u8],
+    place: u64,
+) {
+    assert_eq!(rt; ran.status, status, "at {place}");
+    assert_eq!(rt; ran.output.written(), output, "at {place}");
+    assert_eq!(rt; ran.errors.written(), errors, "at {place}");
 }

@@ -6,7 +6,7 @@ use Rattle.std.proofs.lemmas.List.FromFn.{length-map-range_with_len, get_or-map-
 use Rattle.cell_core.specs.declared.cell.Cell.TheVariants.{Na}
 use Rattle.meaning.specs.Cell.{IsGiven}
 use Rattle.meaning.specs.Column.{tabulate}
-use Rattle.nullable_array.specs.Moves.{IsPlaceOf}
+use Rattle.column_core.specs.Moves.{IsPlaceOf}
 use Rattle.column_bench.specs.declared.data.Data.{Data}
 use Rattle.column_bench.specs.declared.data.Data.TheVariants.{Numbers, Divisors, Truths, OtherTruths, Bits}
 use Rattle.column_bench.specs.declared.operation.Operation.{Operation}

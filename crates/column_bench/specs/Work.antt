@@ -13,8 +13,8 @@ use Rattle.meaning.specs.Cumulate as cumulation
 use Rattle.meaning.specs.Cast.{cast_column}
 use Rattle.nullable_array.specs.declared.ops.ArrayFault.{ArrayFault}
 use Rattle.nullable_array.specs.Answers.{IsRefusal}
-use Rattle.nullable_array.specs.Columns.{CellColumn, column_value}
-use Rattle.nullable_array.specs.Moves.{IsPlaceOf}
+use Rattle.column_core.specs.Columns.{CellColumn, column_value}
+use Rattle.column_core.specs.Moves.{IsPlaceOf}
 use Rattle.nullable_array.specs.Tasks.{operator_of}
 use Rattle.column_bench.specs.declared.work.Answer.{Answer}
 use Rattle.column_bench.specs.declared.work.Answer.TheVariants.{Whole, One}

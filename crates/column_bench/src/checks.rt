@@ -5,7 +5,7 @@ ghost use Rattle.column_bench.specs.Checks.{cell_number, check_more, check_below
 
 use crate::work::Answer;
 use cell_core::Cell;
-use nullable_array::Column;
+use column_core::Column;
 
 impl Answer {
     /// The number of the answer's cells.

@@ -7,7 +7,7 @@ ghost use Rattle.meaning.specs.Column.{tabulate};
 ghost use Rattle.column_bench.specs.Data.{jump_of, other_jump_of, unless_missing, number_cell, divisor_cell, truth_cell, bit_cell, data_kind, data_cell, data_column, place_at};
 
 use cell_core::{Cell, Gaps, Kind, NoMemory};
-use nullable_array::Column;
+use column_core::Column;
 use std::alloc::Global;
 
 /// What a column is made of. One cell in eight is missing.

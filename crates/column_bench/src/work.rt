@@ -3,13 +3,12 @@ ghost use Rattle.std.specs.Prelude.{◌≡◌, ℕ, List, All, length, Result};
 ghost use Rattle.meaning.specs.Cell.{CellValue};
 ghost use Rattle.meaning.specs.Column.{ColumnValue, ColumnFault};
 ghost use Rattle.nullable_array.specs.Answers.{Answers, AnswersCell};
-ghost use Rattle.nullable_array.specs.Moves.{IsPlaceOf};
+ghost use Rattle.column_core.specs.Moves.{IsPlaceOf};
 ghost use Rattle.column_bench.specs.Work.{NeedNoTexts, ArePaired, IsReady, whole_of, one_of, work_value, IsAnswer};
 
 use cell_core::{Cell, Gaps, Kind, TextDict};
-use nullable_array::{
-    ArrayFault, Binary, Column, Cumulation, Reduction, binary, cast, cumulate, reduce, shift, take,
-};
+use column_core::{Column, shift, take};
+use nullable_array::{ArrayFault, Binary, Cumulation, Reduction, binary, cast, cumulate, reduce};
 use std::alloc::Global;
 
 /// An operation with the columns that it is made on.

@@ -6,8 +6,8 @@ use Rattle.cell_core.specs.declared.cell.Label.{Label}
 use Rattle.meaning.specs.Text.{Text}
 use Rattle.meaning.specs.Cell.{CellValue}
 use Rattle.meaning.specs.Fault.{FaultValue, then_value}
-use Rattle.nullable_array.specs.Blocks.{CellBlock}
-use Rattle.nullable_array.specs.Columns.{CellColumn}
+use Rattle.column_core.specs.Blocks.{CellBlock}
+use Rattle.column_core.specs.Columns.{CellColumn}
 use Rattle.table_meaning.specs.Table.{ColumnOf, column_value}
 use Rattle.form_meaning.specs.Finish.{try_all}
 use Rattle.form_parts.specs.Makes.{MakesBy, blocks_value}

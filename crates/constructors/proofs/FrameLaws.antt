@@ -13,7 +13,7 @@ use Rattle.meaning.specs.Text.{Text}
 use Rattle.meaning.specs.Cell.{CellValue, LabelValue, label_datum, datum}
 use Rattle.meaning.specs.Fault.{FaultValue, wrong_kind, bad_value, length_of, then_value}
 use Rattle.multi_index.specs.Axes.{AxisValue}
-use Rattle.nullable_array.specs.Blocks.{CellBlock}
+use Rattle.column_core.specs.Blocks.{CellBlock}
 use Rattle.table_meaning.specs.Settled.{IsSettled}
 use Rattle.table_meaning.specs.Table.{ColumnOf, NumberedTable, Table, table_value, column_value}
 use Rattle.table_meaning.specs.Valid.{AreHeadings, IsWhole}

@@ -15,7 +15,7 @@ use Rattle.meaning.specs.Operator.{cell_label}
 use Rattle.meaning.specs.Fault.{FaultValue, wrong_kind, limit, bad_value, length_of, then_value}
 use Rattle.index_core.specs.Ranges.{number_label}
 use Rattle.multi_index.specs.Axes.{AxisValue, range_axis, single_tuples}
-use Rattle.nullable_array.specs.Columns.{CellColumn}
+use Rattle.column_core.specs.Columns.{CellColumn}
 use Rattle.table_meaning.specs.Settled.{IsSettled}
 use Rattle.table_meaning.specs.Table.{ColumnOf, NumberedTable, Table, table_value, heading_value, tuple_value}
 use Rattle.table_meaning.specs.Value.{Entry, table}

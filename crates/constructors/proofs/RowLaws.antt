@@ -7,7 +7,7 @@ use Rattle.std.proofs.lemmas.Bool.Decides.{nat_tests}
 use Rattle.meaning.specs.Text.{Text}
 use Rattle.meaning.specs.Cell.{CellValue, LabelValue, datum}
 use Rattle.meaning.specs.Fault.{FaultValue, bad_value, length_of, then_value}
-use Rattle.nullable_array.specs.Blocks.{CellBlock}
+use Rattle.column_core.specs.Blocks.{CellBlock}
 use Rattle.multi_index.specs.Axes.{AxisValue}
 use Rattle.table_meaning.specs.Table.{ColumnOf, column_value, tuple_value, no_column}
 use Rattle.form_parts.specs.Makes.{MakesBy, block_value, blocks_value}

@@ -7,7 +7,7 @@ use Rattle.cell_core.specs.declared.cell.Label.{Label}
 use Rattle.meaning.specs.Text.{Text}
 use Rattle.meaning.specs.Cell.{CellValue, holds, datum}
 use Rattle.meaning.specs.Fault.{FaultValue, wrong_kind}
-use Rattle.nullable_array.specs.Columns.{CellColumn}
+use Rattle.column_core.specs.Columns.{CellColumn}
 use Rattle.table_meaning.specs.Table.{ColumnOf}
 use Rattle.form_meaning.specs.Select.{cells_of}
 use Rattle.form_parts.specs.Labels.{label_of}

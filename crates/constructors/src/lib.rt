@@ -29,6 +29,3 @@ mod scalars;
 mod series;
 
 pub use functions::{function_exists, make};
-
-#[cfg(test)]
-mod tests;

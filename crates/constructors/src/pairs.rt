@@ -19,9 +19,9 @@ ghost use Rattle.constructors.specs.Pairs.{entries_seen, list_seen, lists_seen, 
 
 use crate::scalars::list_column;
 use cell_core::{Code, Label, NoMemory, TextDict};
+use column_core::Column;
 use frame_store::{Argument, Blocks, Item, OpFault, Value};
 use indexmap::IndexMap;
-use nullable_array::Column;
 use std::alloc::Global;
 
 // The keys, each with the place of its last value. Texts are told apart by their numbers.

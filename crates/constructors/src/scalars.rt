@@ -11,9 +11,9 @@ ghost use Rattle.form_parts.specs.Makes.{MakesBy};
 ghost use Rattle.constructors.specs.Scalars.{scalars, with_cell, column_seen, held_after, held_column, tuples_of};
 
 use cell_core::{Cell, Code, Kind, NoMemory, Tuple, Tuples};
+use column_core::Column;
 use form_parts::label_of;
 use frame_store::{Item, OpFault};
-use nullable_array::Column;
 use std::alloc::Global;
 
 // The kind of a cell that is present.

@@ -15,10 +15,11 @@ ghost use Rattle.constructors.specs.Made as meant;
 use crate::axes::index_axis;
 use crate::scalars::list_column;
 use cell_core::{Kind, Label, NoMemory, Shape, TextDict};
+use column_core::Column;
 use form_parts::refusal_of;
 use frame_store::{Blocks, Headings, Item, OpFault, Table};
 use multi_index::Axis;
-use nullable_array::{Column, cast};
+use nullable_array::cast;
 use std::alloc::Global;
 
 // The column as one of the kind.

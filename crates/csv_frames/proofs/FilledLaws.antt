@@ -9,7 +9,7 @@ use Rattle.cell_core.specs.declared.cell.Kind.{Kind}
 use Rattle.cell_core.specs.declared.cell.Label.{Label}
 use Rattle.meaning.specs.Text.{Text, same_text}
 use Rattle.meaning.specs.Cell.{CellValue, LabelValue, text}
-use Rattle.nullable_array.specs.Columns.{CellColumn}
+use Rattle.column_core.specs.Columns.{CellColumn}
 use Rattle.table_meaning.specs.Table.{ColumnOf, column_at, tuple_value}
 use Rattle.csv_meaning.specs.CsvRead.{column_of_fields, columns_from}
 use Rattle.csv_frames.specs.Views.{column_fields, column_seen, columns_seen, tuples_seen, label_tuples}

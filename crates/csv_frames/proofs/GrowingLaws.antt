@@ -1,19 +1,24 @@
 -- Laws of columns that grow field by field.
-use Rattle.std.proofs.Common.{◌≡◌, ◌∙◌, ℕ, zero, suc, refl, ap, sym, subst, Bool, true, false, List, [], ◌∷◌, ◌++◌, length, map, replicate, Option, Some, None, unwrap_or}
-use Rattle.std.specs.Prelude.{IfSome, option_map}
+use Rattle.std.proofs.Common.{◌≡◌, ◌∙◌, ℕ, ℤ, zero, suc, refl, ap, sym, subst, Bool, true, false, List, [], ◌∷◌, ◌++◌, length, map, replicate, Option, Some, None, unwrap_or}
+use Rattle.std.specs.Prelude.{option_map, OnOk, Result, Ok, Err, if◌then◌else◌}
 use Rattle.std.specs.List.{list_all}
 use Rattle.std.proofs.lemmas.List.{map-append}
 use Rattle.cell_core.specs.Texts.{IsLonger}
 use Rattle.cell_core.specs.declared.cell.Cell.{Cell}
 use Rattle.cell_core.specs.declared.cell.Cell.TheVariants as cell
+use Rattle.cell_core.specs.declared.cell.TextId.{TextId}
 use Rattle.meaning.specs.Text.{Text}
-use Rattle.meaning.specs.Cell.{CellValue, datum, na_cell, Kind, string}
-use Rattle.nullable_array.specs.Columns.{CellColumn}
+use Rattle.meaning.specs.Cell.{CellValue, datum, na_cell, int_cell, truth_cell as truth_value_cell, Kind, Int64, Boolean, string}
+use Rattle.meaning.specs.Cast.{whole_number, truth_value}
+use Rattle.column_core.specs.Columns.{CellColumn, number_cell, truth_cell, text_cell, column_with}
+use Rattle.column_core.specs.Lanes.{option_at}
+use Rattle.column_core.specs.declared.lanes.Owned.{Owned}
+use Rattle.column_core.proofs.CellRows.{pushed_column}
 use Rattle.table_meaning.specs.Settled.{IsSettled}
 use Rattle.table_meaning.specs.Table.{ColumnOf}
-use Rattle.csv_meaning.specs.CsvRead.{is_missing, field_cell, is_of_kind, kind_of_fields, cell_of_field}
+use Rattle.csv_meaning.specs.CsvRead.{is_missing, is_of_kind, kind_of_fields, cell_of_field}
 use Rattle.csv_frames.specs.Views.{column_seen, cells_seen}
-use Rattle.csv_frames.specs.Growing.{IsGrownBy, IsFirst, Grown}
+use Rattle.csv_frames.specs.Growing.{IsGrownBy, IsFirst, IsPut, IsTextPut, Grown, number_in, truth_in}
 use Rattle.csv_frames.specs.declared.growing.Growing.{Growing}
 use Rattle.csv_frames.specs.declared.growing.Growing.TheVariants as growing
 use Rattle.csv_frames.proofs.SettledLaws.{settled_more, seen_later}
@@ -21,16 +26,6 @@ use Rattle.csv_frames.proofs.KindsLaws.{all_na, missing_pushed, value_pushed, va
 
 pub mixed_up : {P : Type 0} → true ≡ false → P
 mixed_up e = Prim.cc
-
--- a field that can be a cell of the kind
-pub some_seen : (texts : List Text) (kind : Kind) (field : Text) (o : Option Cell) (c : Cell) → o ≡ Some c → option_map (datum texts) o ≡ field_cell kind field → datum texts c ≡ cell_of_field kind field
-some_seen texts kind field o c is value = ap (λ p. unwrap_or (option_map (datum texts) p) na_cell) (sym is) ∙ ap (λ p. unwrap_or p na_cell) value
-
-pub none_seen : (texts : List Text) (kind : Kind) (field : Text) (o : Option Cell) → o ≡ None → option_map (datum texts) o ≡ field_cell kind field → na_cell ≡ cell_of_field kind field
-none_seen texts kind field o is value = ap (λ p. unwrap_or (option_map (datum texts) p) na_cell) (sym is) ∙ ap (λ p. unwrap_or p na_cell) value
-
-pub some_settled : (texts : List Text) (o : Option Cell) (c : Cell) → o ≡ Some c → IfSome o (IsSettled datum texts) → IsSettled datum texts c
-some_settled texts o c is settled = subst (λ p. IfSome p (IsSettled datum texts)) is settled
 
 -- one cell more
 pub grown_by : (old new : List Text) (before after : CellColumn) (field : Text) (c : Cell) → IsLonger old new → after ≡ record { kind = before.kind; cells = before.cells ++ c ∷ [] } → IsSettled datum new c → datum new c ≡ cell_of_field before.kind field
@@ -44,6 +39,51 @@ grown_by old new before after field c longer is settled made before_settled =
           ∙ (λ i. record { kind = before.kind; cells = map-append (datum new) before.cells (c ∷ []) i })
           ∙ (λ i. record { kind = before.kind; cells = seen_later cells_seen old new before.cells longer cells_settled i ++ made i ∷ [] }),
     )
+
+-- numbers and truth values are seen without texts
+pub number_settled : (texts : List Text) (o : Option ℤ) → IsSettled datum texts (number_cell o)
+number_settled texts None = λ more. refl
+number_settled texts (Some z) = λ more. refl
+
+pub truth_settled : (texts : List Text) (o : Option Bool) → IsSettled datum texts (truth_cell o)
+truth_settled texts None = λ more. refl
+truth_settled texts (Some b) = λ more. refl
+
+-- the number of a field is its cell
+pub number_seen : (texts : List Text) (field : Text) → datum texts (number_cell (number_in field)) ≡ cell_of_field Int64 field
+number_seen texts field = by (is_missing field) (whole_number field)
+  where
+    by : (missing : Bool) (o : Option ℤ) → datum texts (number_cell (if missing then None else o)) ≡ unwrap_or (if missing then Some na_cell else option_map int_cell o) na_cell
+    by true o = refl
+    by false None = refl
+    by false (Some z) = refl
+
+pub truth_seen : (texts : List Text) (field : Text) → datum texts (truth_cell (truth_in field)) ≡ cell_of_field Boolean field
+truth_seen texts field = by (is_missing field) (truth_value field)
+  where
+    by : (missing : Bool) (o : Option Bool) → datum texts (truth_cell (if missing then None else o)) ≡ unwrap_or (if missing then Some na_cell else option_map truth_value_cell o) na_cell
+    by true o = refl
+    by false None = refl
+    by false (Some b) = refl
+
+-- a column of what is kept
+abbrev pub column_kept : {T : Type 0} → Kind → (Option T → Cell) → Owned T → CellColumn
+column_kept kind cell rows = column_with kind cell (length rows.values.items) (option_at rows.values.items rows.present.items)
+
+-- one value more
+pub put_grown : {U E T : Type 0} (r : Result U E) (old new : List Text) (field : Text) (kind : Kind) (cell : Option T → Cell) (o : Option T) (rows rows' : Owned T) (before : CellColumn) → IsLonger old new → column_kept kind cell rows ≡ before
+    → IsSettled datum new (cell o) → datum new (cell o) ≡ cell_of_field kind field → OnOk r (IsPut o rows rows') → OnOk r (IsGrownBy old new field before (column_kept kind cell rows'))
+put_grown (Ok u) old new field kind cell o rows rows' before longer was settled seen put =
+    grown_by old new before (column_kept kind cell rows') field (cell o) longer
+    (pushed_column kind cell rows.values.items rows.present.items o rows'.values.items rows'.present.items (cell o) put refl ∙ ap (λ (w : CellColumn). record { kind = w.kind; cells = w.cells ++ cell o ∷ [] }) was)
+    settled
+    (seen ∙ ap (λ (w : CellColumn). cell_of_field w.kind field) was)
+put_grown (Err e) old new field kind cell o rows rows' before longer was settled seen put = put
+
+pub text_grown : {U E : Type 0} (r : Result U E) (old new : List Text) (field : Text) (rows rows' : Owned TextId) (before : CellColumn) → IsLonger old new → column_kept string text_cell rows ≡ before → OnOk r (IsTextPut new field rows rows')
+    → OnOk r (IsGrownBy old new field before (column_kept string text_cell rows'))
+text_grown (Ok u) old new field rows rows' before longer was put = put_grown {E = Unit {0}} (Ok u) old new field string text_cell put.0 rows rows' before longer was put.1 put.2 put.3
+text_grown (Err e) old new field rows rows' before longer was put = put
 
 module _ (old new : List Text) (fields : List Text) (field : Text) where
   -- a column whose kind stays

@@ -11,5 +11,5 @@ pub mod ColumnLaws
 pub mod KindLaws
 pub mod ReadLaws
 pub mod LargeLaws
-pub mod DifferentLaws
 pub mod FilledLaws
+pub mod NumberedLaws

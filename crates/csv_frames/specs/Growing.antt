@@ -1,12 +1,16 @@
 -- Columns that grow field by field.
-use Rattle.std.specs.Prelude.{◌≡◌, ℕ, ◌<◌, true, false, Bool, not, List, [], ◌∷◌, ◌++◌, map, replicate, length, get_or, Option, Some, None}
+use Rattle.std.specs.Prelude.{◌≡◌, ℕ, ℤ, ◌<◌, true, false, Bool, not, List, [], ◌∷◌, ◌++◌, map, replicate, length, get_or, Option, Some, None, if◌then◌else◌}
 use Rattle.std.specs.List.{list_all, list_any}
 use Rattle.cell_core.specs.declared.cell.Cell.TheVariants as cell
+use Rattle.cell_core.specs.declared.cell.TextId.{TextId}
 use Rattle.meaning.specs.Text.{Text}
 use Rattle.meaning.specs.Cell.{Kind, Int64, string, datum, na_cell}
+use Rattle.meaning.specs.Cast.{whole_number, truth_value}
 use Rattle.table_meaning.specs.Settled.{IsSettled}
 use Rattle.table_meaning.specs.Valid.{within_limits}
-use Rattle.nullable_array.specs.Columns.{CellColumn}
+use Rattle.column_core.specs.Columns.{CellColumn, text_cell}
+use Rattle.column_core.specs.Lanes.{IsPushed}
+use Rattle.column_core.specs.declared.lanes.Owned.{Owned}
 use Rattle.csv_meaning.specs.CsvRead.{is_missing, kind_of_fields, cell_of_field, column_of_fields, has_misfit}
 use Rattle.csv_frames.specs.Views.{column_fields, column_seen}
 use Rattle.csv_frames.specs.declared.growing.Growing.{Growing}
@@ -35,6 +39,22 @@ abbrev pub column_so_far : ℕ → Growing → CellColumn
 column_so_far rows growing.Missing = record { kind = Int64; cells = replicate rows cell.Na }
 column_so_far rows (growing.Cells column) = column
 column_so_far rows growing.Mixed = record { kind = string; cells = [] }
+
+-- the number and the truth value that a field is, if it isn't missing
+abbrev pub number_in : Text → Option ℤ
+number_in field = if is_missing field then None else whole_number field
+
+abbrev pub truth_in : Text → Option Bool
+truth_in field = if is_missing field then None else truth_value field
+
+-- one value more, or one that is missing
+abbrev pub IsPut : {T : Type 0} → Option T → Owned T → Owned T → Type 0
+IsPut value before after = IsPushed before.values.items before.present.items value after.values.items after.present.items
+
+-- the same of the text of this field
+abbrev pub IsTextPut : List Text → Text → Owned TextId → Owned TextId → Type 0
+IsTextPut texts field before after =
+    (text : Option TextId) × IsSettled datum texts (text_cell text) × (datum texts (text_cell text) ≡ cell_of_field string field) × IsPut text before after
 
 -- the column has the cell of this field more
 abbrev pub IsGrownBy : List Text → List Text → Text → CellColumn → CellColumn → Type 0

@@ -1,36 +1,32 @@
-// Fields, and the cells that they are.
-ghost use Rattle.std.specs.Prelude.{◌≡◌, ◌∷◌, [], List, ℕ, true, option_map, IfOk, IfSome};
-ghost use Rattle.meaning.specs.Cell.{datum, holds, IsLonger};
-ghost use Rattle.table_meaning.specs.Settled.{IsSettled};
+// Fields, and the kinds that they are of.
+ghost use Rattle.std.specs.Prelude.{◌≡◌, ◌∷◌, [], List, ℕ};
 ghost use Rattle.csv_meaning.specs.CsvRead as meant;
 
-use crate::numbers::{number_of_text, truth_of_text};
-use cell_core::{Cell, Kind, NoMemory, TextDict};
+use cell_core::Kind;
+use nullable_array::{number_of_text, truth_of_text};
 
 /// Whether a field is a missing cell.
 pub(crate) fn is_missing(field: &str) -> bool
     ensures { result ≡ meant.is_missing field.now }
 {
-    match field {
-        ""
-        | "#N/A"
-        | "#N/A N/A"
-        | "#NA"
-        | "-1.#IND"
-        | "-1.#QNAN"
-        | "-NaN"
-        | "-nan"
-        | "1.#IND"
-        | "1.#QNAN"
-        | "<NA>"
-        | "N/A"
-        | "NA"
-        | "NULL"
-        | "NaN"
-        | "None"
-        | "n/a"
-        | "nan"
-        | "null" => true,
+    match field.as_bytes() {
+        [] => true,
+        [first, ..] => is_missing_word(*first, field),
+    }
+}
+
+// The same, by the first byte: few words begin with it, so few are compared, and for most fields none.
+fn is_missing_word(first: u8, field: &str) -> bool
+    requires { (rest : List ℕ) × (field.now ≡ first ∷ rest) }
+    ensures { result ≡ meant.is_missing field.now }
+{
+    match first {
+        b'#' => matches!(field, "#N/A" | "#N/A N/A" | "#NA"),
+        b'-' => matches!(field, "-1.#IND" | "-1.#QNAN" | "-NaN" | "-nan"),
+        b'1' => matches!(field, "1.#IND" | "1.#QNAN"),
+        b'<' => field == "<NA>",
+        b'N' => matches!(field, "N/A" | "NA" | "NULL" | "NaN" | "None"),
+        b'n' => matches!(field, "n/a" | "nan" | "null"),
         _ => false,
     }
 }
@@ -59,32 +55,5 @@ pub(crate) fn kind_of_field(field: &str) -> Kind
         Kind::Boolean
     } else {
         Kind::Text
-    }
-}
-
-/// The field as a cell of the kind, if it can be one. A text gets a number.
-pub(crate) fn field_cell(
-    dict: &mut TextDict,
-    kind: Kind,
-    field: &str,
-) -> Result<Option<Cell>, NoMemory>
-    ensures longer { IsLonger dict.old dict.new }
-    ensures settled { IfOk result (λ cell. IfSome cell (IsSettled datum dict.new)) }
-    ensures value { IfOk result (λ cell. option_map (datum dict.new) cell ≡ meant.field_cell kind field.now) }
-    ensures held { IfOk result (λ cell. IfSome cell (λ c. (texts : List (List ℕ)) → holds kind (datum texts c) ≡ true)) }
-{
-    if is_missing(field) {
-        return Ok(Some(Cell::Na));
-    }
-    match kind {
-        Kind::Int64 => Ok(match number_of_text(field) {
-            Some(number) => Some(Cell::Int(number)),
-            None => None,
-        }),
-        Kind::Boolean => Ok(match truth_of_text(field) {
-            Some(truth) => Some(Cell::Bool(truth)),
-            None => None,
-        }),
-        Kind::Text => Ok(Some(Cell::Text(dict.intern(field)?))),
     }
 }

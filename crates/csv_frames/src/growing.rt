@@ -1,13 +1,17 @@
 // Columns that grow field by field.
 ghost use Rattle.std.specs.Prelude.{◌≡◌, ◌++◌, ◌∷◌, [], List, ℕ, false, length, replicate, IfOk, OnOk};
 ghost use Rattle.cell_core.specs.declared.cell.Cell.TheVariants as cell;
-ghost use Rattle.meaning.specs.Cell.{IsLonger};
+ghost use Rattle.meaning.specs.Cell.{Int64, Boolean, string, datum, IsLonger};
+ghost use Rattle.table_meaning.specs.Settled.{IsSettled};
+ghost use Rattle.column_core.specs.Columns.{text_cell};
+ghost use Rattle.column_core.specs.Views.{kept_column};
 ghost use Rattle.csv_meaning.specs.CsvRead as meant;
-ghost use Rattle.csv_frames.specs.Growing.{Grown, IsGrownBy, IsFirst, without_fields, is_mixed, kind_so_far, column_so_far};
+ghost use Rattle.csv_frames.specs.Growing.{Grown, IsGrownBy, IsFirst, IsPut, IsTextPut, number_in, truth_in, without_fields, is_mixed, kind_so_far, column_so_far};
 
-use crate::fields::{field_cell, is_missing, kind_of_field};
-use cell_core::{Cell, Kind, NoMemory, TextDict};
-use nullable_array::Column;
+use crate::fields::{is_missing, kind_of_field};
+use cell_core::{Cell, Kind, NoMemory, TextDict, TextId};
+use column_core::{Column, Kept, Owned};
+use nullable_array::{number_of_text, truth_of_text};
 use std::alloc::Global;
 
 /// The column of the fields so far.
@@ -32,23 +36,77 @@ fn missing_cells(alloc: Global, kind: Kind, rows: usize) -> Result<Column, NoMem
     Ok(column)
 }
 
-// Appends a field, missing where it can't be a cell of the column's kind, and says whether it can.
+// Appends the number that a field is, missing where it is none, and says whether the field can be a cell of its kind.
+fn push_number(rows: &mut Owned<i64>, field: &str) -> Result<bool, NoMemory>
+    ensures fits { IfOk result (λ fits. fits ≡ meant.is_of_kind Int64 field.now) }
+    ensures pushed { OnOk result (IsPut (number_in field.now) rows.old rows.new) }
+{
+    if is_missing(field) {
+        rows.push(0, None)?;
+        return Ok(true);
+    }
+    let number = number_of_text(field);
+    rows.push(0, number)?;
+    Ok(number.is_some())
+}
+
+// The same of the truth value.
+fn push_truth(rows: &mut Owned<bool>, field: &str) -> Result<bool, NoMemory>
+    ensures fits { IfOk result (λ fits. fits ≡ meant.is_of_kind Boolean field.now) }
+    ensures pushed { OnOk result (IsPut (truth_in field.now) rows.old rows.new) }
+{
+    if is_missing(field) {
+        rows.push(false, None)?;
+        return Ok(true);
+    }
+    let truth = truth_of_text(field);
+    rows.push(false, truth)?;
+    Ok(truth.is_some())
+}
+
+// The number of the text that a field is, if it isn't missing.
+fn text_of_field(dict: &mut TextDict, field: &str) -> Result<Option<TextId>, NoMemory>
+    ensures longer { IsLonger dict.old dict.new }
+    ensures settled { IfOk result (λ text. IsSettled datum dict.new (text_cell text)) }
+    ensures value { IfOk result (λ text. datum dict.new (text_cell text) ≡ meant.cell_of_field string field.now) }
+{
+    if is_missing(field) {
+        return Ok(None);
+    }
+    Ok(Some(dict.intern(field)?))
+}
+
+// Appends the text that a field is. Each field can be one.
+fn push_text(dict: &mut TextDict, rows: &mut Owned<TextId>, field: &str) -> Result<bool, NoMemory>
+    ensures longer { IsLonger dict.old dict.new }
+    ensures fits { IfOk result (λ fits. fits ≡ meant.is_of_kind string field.now) }
+    ensures pushed { OnOk result (IsTextPut dict.new field.now rows.old rows.new) }
+{
+    let text = text_of_field(dict, field)?;
+    rows.push(TextId(0), text)?;
+    Ok(true)
+}
+
+// Appends a field to what is kept, missing where it can't be a cell of its kind, and says whether it can.
+fn push_kept(dict: &mut TextDict, lanes: &mut Kept, field: &str) -> Result<bool, NoMemory>
+    ensures longer { IsLonger dict.old dict.new }
+    ensures fits { IfOk result (λ fits. fits ≡ meant.is_of_kind (kept_column lanes.old).kind field.now) }
+    ensures grown { OnOk result (IsGrownBy dict.old dict.new field.now (kept_column lanes.old) (kept_column lanes.new)) }
+{
+    match lanes {
+        Kept::Ints(rows) => push_number(rows, field),
+        Kept::Truths(rows) => push_truth(rows, field),
+        Kept::Texts(rows) => push_text(dict, rows, field),
+    }
+}
+
+// The same to a column.
 fn push_field(dict: &mut TextDict, column: &mut Column, field: &str) -> Result<bool, NoMemory>
     ensures longer { IsLonger dict.old dict.new }
     ensures fits { IfOk result (λ fits. fits ≡ meant.is_of_kind column.old.kind field.now) }
     ensures grown { OnOk result (IsGrownBy dict.old dict.new field.now column.old column.new) }
 {
-    let cell = field_cell(dict, column.as_ref().kind(), field)?;
-    match cell {
-        Some(cell) => {
-            column.push(cell)?;
-            Ok(true)
-        }
-        None => {
-            column.push(Cell::Na)?;
-            Ok(false)
-        }
-    }
+    push_kept(dict, &mut column.lanes, field)
 }
 
 // The column of so many missing cells and then this field, which isn't missing.

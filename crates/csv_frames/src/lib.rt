@@ -17,12 +17,11 @@ mod growing;
 mod growth;
 mod kinds;
 mod labels;
-mod numbers;
+mod laws;
 mod reading;
 mod records;
 mod table;
-#[cfg(test)]
-mod tests;
 
+pub use laws::labels_are_numbered;
 pub use reading::read_csv;
 pub use table::{Columns, CsvFault, CsvTable, Entries, NamedKind};

@@ -3,7 +3,7 @@ ghost use Rattle.std.specs.Prelude.{◌≡◌};
 ghost use Rattle.csv_frames.specs.declared.table.CsvFault.TheVariants.{NoMemory as WantOfMemory};
 
 use cell_core::{Kind, ListOf, NoMemory, TextId, Tuples};
-use nullable_array::Column;
+use column_core::Column;
 
 /// Columns.
 pub type Columns = ListOf<Column>;

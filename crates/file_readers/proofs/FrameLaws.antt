@@ -12,8 +12,8 @@ use Rattle.meaning.specs.Text.{Text}
 use Rattle.meaning.specs.Cell.{int}
 use Rattle.index_core.specs.Ranges.{number_label, range_labels}
 use Rattle.multi_index.specs.Axes.{AxisValue, HaveLevels, single_tuples, range_axis}
-use Rattle.nullable_array.specs.Blocks.{CellBlock}
-use Rattle.nullable_array.specs.Columns.{CellColumn}
+use Rattle.column_core.specs.Blocks.{CellBlock}
+use Rattle.column_core.specs.Columns.{CellColumn}
 use Rattle.table_meaning.specs.Settled.{IsSettled}
 use Rattle.table_meaning.specs.Table.{ColumnOf, NumberedTable, Table, table_value, tuple_value, heading_value}
 use Rattle.table_meaning.specs.Valid.{AreHeadings, IsWhole}

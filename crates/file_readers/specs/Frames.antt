@@ -5,8 +5,8 @@ use Rattle.cell_core.specs.declared.cell.Label.{Label}
 use Rattle.cell_core.specs.declared.code.Code.TheVariants as code
 use Rattle.cell_core.specs.declared.code.Reason.TheVariants as reason
 use Rattle.cell_core.specs.declared.grid.Shape.TheVariants.{Frame}
-use Rattle.nullable_array.specs.Blocks.{CellBlock}
-use Rattle.nullable_array.specs.Columns.{CellColumn}
+use Rattle.column_core.specs.Blocks.{CellBlock}
+use Rattle.column_core.specs.Columns.{CellColumn}
 use Rattle.multi_index.specs.Axes.{range_axis}
 use Rattle.table_meaning.specs.Table.{ColumnOf, NumberedTable}
 use Rattle.frame_store.specs.Parts.{HeadingList, single_block, table_with}

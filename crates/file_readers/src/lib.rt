@@ -1,8 +1,9 @@
 //! What the functions of `pd` make of files: so far `pd.read_csv`.
 //!
-//! [`file_name`] asks a call for the name of its file, before the file is read; it refuses what all
-//! calls refuse. [`make`] makes the table of the file's bytes and gives it an object; without bytes it
-//! is `constructors::make`. The contracts say that the answer is the one that is meant, or its first
+//! [`reads_file`] says whether a function reads a file. [`file_name`] asks a call for the name of its
+//! file, before the file is read; it refuses what all calls refuse. [`make`] makes the table of the
+//! file's bytes and gives it an object; without bytes, or where the function reads no file, it is
+//! `constructors::make`. The contracts say that the answer is the one that is meant, or its first
 //! fault, and that no other object changes; the definitions are `specs/Readers.antt` of the crate
 //! `method_meaning` and `specs/CsvRead.antt` of the crate `csv_meaning`.
 //!
@@ -21,8 +22,6 @@ mod frames;
 mod kinds;
 mod names;
 mod reading;
-#[cfg(test)]
-mod tests;
 
-pub use names::file_name;
+pub use names::{file_name, reads_file};
 pub use reading::make;

@@ -2,6 +2,7 @@
 ghost use Rattle.std.specs.Prelude.{◌≡◌};
 ghost use Rattle.table_meaning.specs.Settled.{IsSettled};
 ghost use Rattle.form_meaning.specs.Signature as signature;
+ghost use Rattle.method_meaning.specs.Readers as readers;
 ghost use Rattle.method_meaning.specs.Readers.{file_name_of};
 ghost use Rattle.frame_store.specs.Objects.{tables};
 ghost use Rattle.frame_store.specs.Arguments.{arguments_of, AreLive};
@@ -41,6 +42,16 @@ fn name_of(
     match scalar_at(parameters, args, 0) {
         Some(Cell::Text(name)) => Ok(name),
         _ => Err(Code::WrongKind),
+    }
+}
+
+/// Whether the function of `pd` of the name reads a file. Takes no memory.
+pub fn reads_file(function: &str) -> bool
+    ensures { result ≡ readers.reads_file (signature.function_named function.now) }
+{
+    match function_named(function) {
+        Some(Function::ReadCsv) => true,
+        _ => false,
     }
 }
 

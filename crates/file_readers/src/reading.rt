@@ -14,6 +14,7 @@ ghost use Rattle.file_readers.specs.Frames as meant;
 
 use crate::frames::frame_of;
 use crate::kinds::kinds_given;
+use crate::names::reads_file;
 use cell_core::{Code, Reason, TextDict};
 use csv_frames::{CsvFault, Entries, read_csv};
 use form_meaning::Function;
@@ -74,18 +75,19 @@ fn read_frame(
     frame_of_file(alloc, dict, bytes, &kinds)
 }
 
-/// What a function of `pd` makes of its arguments: a new object. With the bytes of a file it is
-/// `pd.read_csv`, without them it is [`constructors::make`]. All that the arguments hold was given a
-/// number by `dict`; each text of the file gets one.
+/// What a function of `pd` makes of its arguments: a new object. A function that reads a file, as
+/// `pd.read_csv` does, makes it of the file's bytes; without bytes, and for any other function, it is
+/// [`constructors::make`]. All that the arguments hold was given a number by `dict`; each text of the
+/// file gets one.
 ///
 /// `pd.read_csv(name, dtype_backend="numpy_nullable", dtype=None)` is the frame of the file's columns,
 /// as [`csv_frames::read_csv`] reads them, and the labels of its rows are 0, 1 and so on. `dtype` is a
 /// dict from labels to names of kinds; a label that no column has is passed over, and of one that
 /// stands twice the last kind counts.
 ///
-/// With a file, in this order: `WrongKind` or `BadValue(Argument)` where the arguments aren't bound;
-/// `Limit` for more than 2^28 bytes; `NotUtf8` for bytes that aren't UTF-8 text; `NoRecords` where
-/// there is no record; `LongRow` for the first record that is longer than the header;
+/// Where a file is read, in this order: `WrongKind` or `BadValue(Argument)` where the arguments aren't
+/// bound; `Limit` for more than 2^28 bytes; `NotUtf8` for bytes that aren't UTF-8 text; `NoRecords`
+/// where there is no record; `LongRow` for the first record that is longer than the header;
 /// `BadValue(Cast)` where a field isn't of the kind that is named for its column; `Limit` for a table
 /// beyond the limits. `NoMemory` may come in place of any answer. After a refusal all objects are as
 /// they were.
@@ -105,10 +107,10 @@ pub fn make(
     ensures answers { FormAnswers dict.new result (readers.make_with (option_map (λ bytes. bytes.now) file.entry) function.now (arguments_of (tables store.old) dict.old args.now.items.items)) (shown dict.old (tables store.old)) (shown dict.new (tables store.new)) }
 {
     match file {
-        None => constructors::make(alloc, store, dict, function, args),
-        Some(bytes) => {
+        Some(bytes) if reads_file(function) => {
             let made = read_frame(alloc, store, dict, args.as_slice(), bytes);
             placed(store, dict, made)
         }
+        _ => constructors::make(alloc, store, dict, function, args),
     }
 }

@@ -8,7 +8,7 @@ use Rattle.cell_core.specs.declared.grid.Shape.TheVariants.{Series, Frame}
 use Rattle.meaning.specs.Cell.{CellValue, int_cell, LabelValue}
 use Rattle.meaning.specs.Column.{ColumnValue}
 use Rattle.meaning.specs.Operator.{operator_kind, binary_column, scalar_column, invert_column}
-use Rattle.meaning.specs.Tree.{Binary, sub}
+use Rattle.meaning.specs.Symbol.{Binary, sub}
 use Rattle.meaning.specs.Fault.{FaultValue, wrong_kind, bad_value, levels, limit, not_built, then_value}
 use Rattle.table_meaning.specs.Table.{ColumnOf, Table, column_at}
 use Rattle.table_meaning.specs.Value.{Entry, cell, table}

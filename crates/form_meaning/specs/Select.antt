@@ -7,7 +7,7 @@ use Rattle.cell_core.specs.declared.grid.Shape.TheVariants.{Series, Frame}
 use Rattle.meaning.specs.Cell.{CellValue, na_cell, int_cell, LabelValue}
 use Rattle.meaning.specs.Operator.{cell_label}
 use Rattle.meaning.specs.Place.{place_of}
-use Rattle.meaning.specs.Tree.{Accessor, iloc}
+use Rattle.meaning.specs.Symbol.{Accessor, iloc}
 use Rattle.meaning.specs.Fault.{FaultValue, wrong_kind, no_key, out_of_range, not_built, then_value}
 use Rattle.table_meaning.specs.Table.{Table, column_at}
 use Rattle.table_meaning.specs.Value.{Entry, cell, table, Given, GivenList, GivenSub, no_given, more_given, nothing, one, row, many, entries, key_given, span_given}
@@ -85,11 +85,6 @@ frame_item t (entries pairs) = Err not_built
 abbrev pub table_item : Shape → Table → Given → Result Entry FaultValue
 table_item Series t g = Err not_built
 table_item Frame t g = frame_item t g
-
--- what stands in brackets after a value; a scalar that is subscripted is a TypeError
-abbrev pub item_result : Entry → Given → Result Entry FaultValue
-item_result (cell c) g = Err wrong_kind
-item_result (table t) g = table_item t.shape t g
 
 -- the row that a position names, or an IndexError
 abbrev pub row_found : Table → ℤ → Option ℕ → Result ℕ FaultValue

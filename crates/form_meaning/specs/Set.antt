@@ -7,7 +7,7 @@ use Rattle.cell_core.specs.declared.cell.Kind.{Kind}
 use Rattle.cell_core.specs.declared.cell.Kind.TheVariants.{Int64}
 use Rattle.meaning.specs.Cell.{CellValue, na_cell, LabelValue, holds}
 use Rattle.meaning.specs.Operator.{cell_label, scalar_kind}
-use Rattle.meaning.specs.Tree.{Accessor}
+use Rattle.meaning.specs.Symbol.{Accessor}
 use Rattle.meaning.specs.Fault.{FaultValue, wrong_kind, bad_value, length_of, not_built, then_value}
 use Rattle.table_meaning.specs.Table.{ColumnOf, Table, column_at}
 use Rattle.table_meaning.specs.Change.{with_column, without_column, with_cell}

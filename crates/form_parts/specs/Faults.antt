@@ -2,8 +2,8 @@
 use Rattle.std.specs.Prelude.{Result, Ok, Err}
 use Rattle.cell_core.specs.declared.code.Code.TheVariants as code
 use Rattle.cell_core.specs.declared.code.Reason.TheVariants as reason
-use Rattle.nullable_array.specs.Blocks.{CellBlock}
-use Rattle.nullable_array.specs.Columns.{CellColumn}
+use Rattle.column_core.specs.Blocks.{CellBlock}
+use Rattle.column_core.specs.Columns.{CellColumn}
 use Rattle.nullable_array.specs.declared.ops.ArrayFault.{ArrayFault}
 use Rattle.nullable_array.specs.declared.ops.ArrayFault.TheVariants as array
 use Rattle.frame_store.specs.declared.fault.OpFault.{OpFault}

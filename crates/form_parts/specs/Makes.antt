@@ -4,7 +4,7 @@ use Rattle.meaning.specs.Text.{Text}
 use Rattle.meaning.specs.Cell.{CellValue, AreGiven}
 use Rattle.meaning.specs.Fault.{FaultValue}
 use Rattle.meaning.specs.FaultOf.{fault_of}
-use Rattle.nullable_array.specs.Blocks.{CellBlock}
+use Rattle.column_core.specs.Blocks.{CellBlock}
 use Rattle.table_meaning.specs.Table.{ColumnOf, column_value}
 use Rattle.frame_store.specs.Shown.{columns_value}
 use Rattle.frame_store.specs.Parts.{block_column, IsSingle, HaveRows}

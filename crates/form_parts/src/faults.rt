@@ -3,8 +3,9 @@ ghost use Rattle.std.specs.Prelude.{◌≡◌};
 ghost use Rattle.form_parts.specs.Faults.{refusal_of, block_result};
 
 use cell_core::{Code, Reason};
+use column_core::{Block, Column};
 use frame_store::OpFault;
-use nullable_array::{ArrayFault, Block, Column};
+use nullable_array::ArrayFault;
 
 /// A kernel's refusal as that of a form: `WrongKind`, `ZeroDivide`, `BadValue(Cast)` or `NoMemory`.
 pub fn refusal_of(fault: ArrayFault) -> OpFault

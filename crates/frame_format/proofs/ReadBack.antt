@@ -1,26 +1,50 @@
 -- What was written as CSV reads back as its records.
-use Rattle.std.proofs.Common.{◌≡◌, List, [], ◌∷◌, ◌++◌, length, map, Bool, refl, ap, ◌∙◌}
+use Rattle.std.proofs.Common.{◌≡◌, ◌≤◌, ◌+◌, ◌-◌, ◌∙◌, ℕ, zero, suc, List, [], ◌∷◌, ◌++◌, length, map, Bool, refl, ap, arith, length-append, if◌then◌else◌}
 use Rattle.std.specs.List.{flat_map}
+use Rattle.csv.specs.Machine.{next_record}
 use Rattle.csv.specs.Reading.{records_from, default_config}
-use Rattle.csv.specs.Writing.{read_back}
+use Rattle.csv.specs.Writing.{row_body, is_blank, default_writer, read_back}
 use Rattle.csv.specs.declared.parser.State.TheVariants as st
-use Rattle.csv.proofs.RoundTrip.{rows_text, read-write-all}
+use Rattle.csv.proofs.RoundTrip.{rows_text, read-write}
 use Rattle.meaning.specs.Text.{Text}
 use Rattle.meaning.specs.Cell.{na_cell}
 use Rattle.table_meaning.specs.Table.{Table, rows_of}
 use Rattle.format_meaning.specs.CsvWrite.{record_text, header_fields, row_fields, csv_text_of}
+use Rattle.frame_format.specs.ReadBack.{table_fields, ReadsBack}
 
 each_record : {X : Type 0} (f : X → List Text) (xs : List X) → flat_map (λ x. record_text (f x)) xs ≡ rows_text (map f xs)
 unfolding rows_text
 each_record f [] = refl
 each_record f (x ∷ xs) = ap (λ l. record_text (f x) ++ l) (each_record f xs)
 
--- the fields of the header, and then those of each row
-pub all_fields : Bool → Table → List (List Text)
-all_fields index t = header_fields index t ∷ map (row_fields index) (rows_of na_cell t)
+-- after the last record there is none
+none_after : (n : ℕ) → records_from default_config n st.StartRecord [] ≡ []
+unfolding records_from next_record
+none_after zero = refl
+none_after (suc n) = refl
 
-pub csv_reads_back : (index : Bool) (t : Table) → records_from default_config (length (all_fields index t)) st.StartRecord (csv_text_of index t) ≡ map read_back (all_fields index t)
-unfolding rows_text all_fields
+all_records : (rows : List (List Text)) (more n : ℕ) → n ≡ length rows + more → records_from default_config n st.StartRecord (rows_text rows) ≡ map read_back rows
+unfolding records_from rows_text
+all_records [] more n e = none_after n
+all_records (row ∷ rows) more zero e = absurd (omega (arith, e))
+all_records (row ∷ rows) more (suc n) e =
+    rw (read-write row (rows_text rows)) (ap (λ (t : List (List Text)). read_back row ∷ t) (all_records rows more n (omega (arith, e))))
+
+-- each record has a byte
+some_byte : (row : List Text) → 1 ≤ length (record_text row)
+some_byte row =
+    let blank : Text = if is_blank default_writer row then 34 ∷ 34 ∷ [] else [] in
+    omega (arith, length-append (row_body default_writer row) (blank ++ 10 ∷ []), length-append blank (10 ∷ []))
+
+enough_bytes : (rows : List (List Text)) → length rows ≤ length (rows_text rows)
+unfolding rows_text
+enough_bytes [] = omega arith
+enough_bytes (row ∷ rows) = omega (arith, length-append (record_text row) (rows_text rows), some_byte row, enough_bytes rows)
+
+pub csv_reads_back : (index : Bool) (t : Table) → ReadsBack index t
+unfolding rows_text
 csv_reads_back index t =
-    let whole = ap (λ l. record_text (header_fields index t) ++ l) (each_record (row_fields index) (rows_of na_cell t)) in
-    ap (records_from default_config (length (all_fields index t)) st.StartRecord) whole ∙ read-write-all (all_fields index t)
+    let fields = table_fields index t in
+    let whole : csv_text_of index t ≡ rows_text fields = ap (λ l. record_text (header_fields index t) ++ l) (each_record (row_fields index) (rows_of na_cell t)) in
+    ap (λ text. records_from default_config (length text + 1) st.StartRecord text) whole
+    ∙ all_records fields (length (rows_text fields) + 1 - length fields) (length (rows_text fields) + 1) (omega (arith, enough_bytes fields))

@@ -1,3 +1,3 @@
 pub mod Layouts
 pub mod Written
-pub mod Sheets
+pub mod ReadBack

@@ -19,14 +19,13 @@ mod empty;
 mod fields;
 mod frame;
 mod measuring;
+mod reading_back;
 mod records;
 mod series;
 mod source;
 mod texts;
 
 pub use frame::frame_text;
+pub use reading_back::reads_back;
 pub use records::csv_text;
 pub use series::series_text;
-
-#[cfg(test)]
-mod tests;

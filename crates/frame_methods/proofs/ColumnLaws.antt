@@ -7,8 +7,8 @@ use Rattle.cell_core.specs.declared.cell.Cell.{Cell}
 use Rattle.meaning.specs.Text.{Text}
 use Rattle.meaning.specs.Cell.{CellValue, IsLonger, AreGiven}
 use Rattle.meaning.specs.Fault.{FaultValue, then_value}
-use Rattle.nullable_array.specs.Columns.{CellColumn}
-use Rattle.nullable_array.specs.Blocks.{CellBlock}
+use Rattle.column_core.specs.Columns.{CellColumn}
+use Rattle.column_core.specs.Blocks.{CellBlock}
 use Rattle.table_meaning.specs.Settled.{IsSettled}
 use Rattle.table_meaning.specs.Table.{ColumnOf, NumberedTable, column_value, column_at, no_column, table_value}
 use Rattle.form_meaning.specs.Finish.{try_all}

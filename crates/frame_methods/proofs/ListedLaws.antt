@@ -20,7 +20,7 @@ use Rattle.meaning.specs.Cell.{CellValue, na_cell, truth_cell, datum, label_datu
 use Rattle.meaning.specs.Operator.{cell_label}
 use Rattle.meaning.specs.Reduce.{same_cell}
 use Rattle.meaning.specs.Fault.{FaultValue}
-use Rattle.nullable_array.specs.Columns.{CellColumn}
+use Rattle.column_core.specs.Columns.{CellColumn}
 use Rattle.table_meaning.specs.Settled.{IsSettled}
 use Rattle.table_meaning.specs.Table.{Table, column_value}
 use Rattle.table_meaning.specs.Value.{Entry, Given, GivenList, cell as one_cell, table, nothing, one, row, many, entries, more_given, scalar_in, list_in}
@@ -37,7 +37,8 @@ use Rattle.frame_store.specs.declared.arguments.Value.TheVariants.{Object, Scala
 use Rattle.frame_store.specs.declared.arguments.Item.{Item, One as OneItem, Row' as RowItem'}
 use Rattle.frame_store.proofs.Settling.{cell_settled, cell_given}
 use Rattle.frame_methods.specs.Columns.{table_column}
-use Rattle.frame_methods.specs.Listed.{same_number, noted, listed_mark, listed_column, scalars, with_cell}
+use Rattle.frame_methods.specs.Listed.{noted, listed_column, scalars, with_cell}
+use Rattle.nullable_array.specs.Marks.{same_number, listed_mark}
 
 same_decides : (a b : Cell) → Decides (same_number a b) (a ≡ b)
 same_decides a b = search rules

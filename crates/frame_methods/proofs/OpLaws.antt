@@ -17,8 +17,8 @@ use Rattle.meaning.specs.Column.{ColumnValue, ColumnFault, kind_mismatch, not_ca
 use Rattle.meaning.specs.Cast.{cast_cell, cast_column}
 use Rattle.meaning.specs.Cumulate.{Cumulation, running, cumulation_cell, cumulation_takes, cumulate_column}
 use Rattle.meaning.specs.Fault.{wrong_kind}
-use Rattle.nullable_array.specs.Columns.{CellColumn}
-use Rattle.nullable_array.specs.Columns as kernel
+use Rattle.column_core.specs.Columns.{CellColumn}
+use Rattle.column_core.specs.Columns as kernel
 use Rattle.nullable_array.specs.Answers.{IsRefusal}
 use Rattle.nullable_array.specs.declared.ops.ArrayFault.{ArrayFault}
 use Rattle.nullable_array.specs.declared.ops.ArrayFault.TheVariants.{KindMismatch, ZeroDivision, NotCast, NoMemory as OutOfMemory}
@@ -28,7 +28,7 @@ use Rattle.method_meaning.specs.Methods.{filled, filled_column, mapped, shifted_
 use Rattle.frame_store.specs.declared.fault.OpFault.{OpFault}
 use Rattle.frame_store.specs.Shown.{cells_value}
 use Rattle.frame_store.proofs.Settling.{settled_by, cells_settled, cells_given}
-use Rattle.frame_methods.specs.Cells.{missing_mark, filled_cell}
+use Rattle.nullable_array.specs.Marks.{missing_mark, filled_cell}
 use Rattle.frame_methods.specs.Columns.{table_column, MakesColumn}
 use Rattle.frame_methods.specs.Marks.{mark_of, marked_column}
 

@@ -9,7 +9,7 @@ use Rattle.cell_core.specs.declared.grid.Shape.TheVariants.{Series, Frame}
 use Rattle.meaning.specs.Text.{Text}
 use Rattle.meaning.specs.Cell.{CellValue, LabelValue, int, datum, AreGiven}
 use Rattle.meaning.specs.Fault.{FaultValue, then_value}
-use Rattle.nullable_array.specs.Columns.{CellColumn}
+use Rattle.column_core.specs.Columns.{CellColumn}
 use Rattle.multi_index.specs.Axes.{AxisValue, HaveLevels}
 use Rattle.table_meaning.specs.Table.{ColumnOf, NumberedTable, table_value, heading_value, tuple_value}
 use Rattle.table_meaning.specs.Value.{Entry, table}

@@ -10,8 +10,8 @@ use Rattle.meaning.specs.Cell.{CellValue, int_cell, datum, IsGiven}
 use Rattle.meaning.specs.Fault.{FaultValue}
 use Rattle.meaning.specs.FaultOf.{fault_of}
 use Rattle.meaning.specs.Reduce.{distinct_count}
-use Rattle.nullable_array.specs.Columns.{CellColumn}
-use Rattle.nullable_array.specs.Columns as kernel
+use Rattle.column_core.specs.Columns.{CellColumn}
+use Rattle.column_core.specs.Columns as kernel
 use Rattle.table_meaning.specs.Table.{ColumnOf, column_value, column_at}
 use Rattle.form_meaning.specs.Finish.{try_all}
 use Rattle.method_meaning.specs.Methods as meant

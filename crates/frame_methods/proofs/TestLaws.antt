@@ -12,7 +12,7 @@ use Rattle.cell_core.specs.declared.grid.Shape.TheVariants.{Series, Frame}
 use Rattle.meaning.specs.Text.{Text}
 use Rattle.meaning.specs.Cell.{AreGiven, IsGiven}
 use Rattle.multi_index.specs.Axes.{AxisValue, range_axis}
-use Rattle.nullable_array.specs.Blocks.{CellBlock}
+use Rattle.column_core.specs.Blocks.{CellBlock}
 use Rattle.table_meaning.specs.Settled.{IsSettled}
 use Rattle.table_meaning.specs.Table.{ColumnOf, NumberedTable, table_value}
 use Rattle.table_meaning.specs.Value as value

@@ -5,14 +5,14 @@ use Rattle.meaning.specs.Text.{Text}
 use Rattle.meaning.specs.Cell.{CellValue, IsLonger, AreGiven}
 use Rattle.meaning.specs.Fault.{FaultValue, then_value}
 use Rattle.meaning.specs.FaultOf.{fault_of}
-use Rattle.nullable_array.specs.Columns.{CellColumn}
+use Rattle.column_core.specs.Columns.{CellColumn}
 use Rattle.table_meaning.specs.Table.{ColumnOf, column_value}
 use Rattle.frame_store.specs.declared.fault.OpFault.{OpFault}
 use Rattle.frame_store.specs.declared.fault.OpFault.TheVariants.{Refused, NoMemory}
 use Rattle.frame_store.specs.Shown.{columns_value}
 use Rattle.frame_store.specs.Parts.{block_column, IsSingle, HaveRows}
 use Rattle.form_meaning.specs.Finish.{try_all}
-use Rattle.nullable_array.specs.Blocks.{CellBlock}
+use Rattle.column_core.specs.Blocks.{CellBlock}
 
 -- a column of a kernel as a column of a table
 abbrev pub table_column : CellColumn → ColumnOf Cell

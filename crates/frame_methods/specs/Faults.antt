@@ -1,8 +1,6 @@
 -- Faults that name what isn't there.
-use Rattle.std.specs.Prelude.{◌≡◌, List, [], ◌∷◌, Option, Some, Err}
-use Rattle.cell_core.specs.declared.cell.Label.{Label}
-use Rattle.cell_core.specs.declared.code.Code.TheVariants.{NoAttribute, BadValue}
-use Rattle.cell_core.specs.declared.code.Reason.TheVariants.{Repeated}
+use Rattle.std.specs.Prelude.{◌≡◌, List, Err}
+use Rattle.cell_core.specs.declared.code.Code.TheVariants.{NoAttribute}
 use Rattle.meaning.specs.Text.{Text}
 use Rattle.meaning.specs.FaultOf.{fault_of}
 use Rattle.table_meaning.specs.Value.{Entry}
@@ -19,8 +17,3 @@ NamesNone NoMemory name = Unit {0}
 abbrev pub IsChained : List Text → OpFault → Entry → Text → Type 0
 IsChained texts (Refused code) v name = not_built_if (has_method v name) name ≡ Err (fault_of texts code)
 IsChained texts NoMemory v name = Unit {0}
-
--- it names the label that is repeated, or there was no memory to do so
-abbrev pub NamesRepeated : OpFault → Option Label → Type 0
-NamesRepeated (Refused code) found = (l : Label) × (found ≡ Some l) × (code ≡ BadValue (Repeated (l ∷ [])))
-NamesRepeated NoMemory found = Unit {0}

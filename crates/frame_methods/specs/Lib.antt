@@ -1,4 +1,3 @@
-pub mod Cells
 pub mod Columns
 pub mod Marks
 pub mod Summaries

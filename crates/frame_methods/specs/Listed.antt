@@ -1,39 +1,25 @@
 -- Cells that are in a list.
-use Rattle.std.specs.Prelude.{◌≡◌, Bool, true, List, ◌∷◌, Option, Some, None, Result}
-use Rattle.std.specs.List.{list_any}
+use Rattle.std.specs.Prelude.{◌≡◌, List, ◌∷◌, Option, Some, None, Result}
 use Rattle.indexmap.specs.IndexSet.{insert_key}
 use Rattle.cell_core.specs.declared.cell.Cell.{Cell}
-use Rattle.cell_core.specs.declared.cell.Cell.TheVariants as cell
-use Rattle.cell_core.specs.declared.cell.Kind.{Kind}
 use Rattle.cell_core.specs.declared.cell.Kind.TheVariants.{Boolean}
-use Rattle.cell_core.specs.contracts.cell.CellPartialEq.TheImpl.{eq-value}
 use Rattle.meaning.specs.Text.{Text}
-use Rattle.meaning.specs.Cell.{CellValue, datum, holds, AreGiven, IsLonger}
+use Rattle.meaning.specs.Cell.{CellValue, AreGiven, IsLonger}
 use Rattle.meaning.specs.Fault.{FaultValue}
 use Rattle.table_meaning.specs.Table.{ColumnOf}
+use Rattle.nullable_array.specs.Marks.{same_number}
 use Rattle.form_meaning.specs.Select.{cells_of}
 use Rattle.method_meaning.specs.Methods.{mapped, is_in}
 use Rattle.frame_store.specs.Arguments.{items_of}
 use Rattle.frame_store.specs.Shown.{cells_value}
 use Rattle.frame_store.specs.declared.arguments.Item.{Item}
 use Rattle.frame_store.proofs.Settling.{settled_later, seen_later, cells_settled, cells_given}
-use mathlib.Core.Path.{ap, subst, sym, refl}
-
--- equal cells, where equal texts have one number
-abbrev pub same_number : Cell → Cell → Bool
-same_number a b = eq-value.it a b
+use mathlib.Core.Path.{ap}
 
 -- the different cells with one more, if there is one
 abbrev pub noted : List Cell → Option Cell → List Cell
 noted values None = values
 noted values (Some c) = insert_key same_number values c
-
--- whether a cell is among these
-abbrev pub listed_mark : List Cell → Cell → Cell
-listed_mark values c = cell.Bool (list_any (same_number c) values)
-
-pub listed_held : (values : List Cell) (to : Kind) (c : Cell) (texts : List Text) → to ≡ Boolean → holds to (datum texts (listed_mark values c)) ≡ true
-listed_held values to c texts is = subst (λ kind. holds kind (datum texts (listed_mark values c)) ≡ true) (sym is) refl
 
 -- the column of whether each cell is in the list
 abbrev pub listed_column : List CellValue → ColumnOf CellValue → Result (ColumnOf CellValue) FaultValue

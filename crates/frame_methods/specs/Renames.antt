@@ -1,10 +1,9 @@
 -- Columns under the labels that a dict gives them.
 use Rattle.std.specs.Prelude.{Bool, List, [], ◌∷◌, map, is_some, unwrap_or, Option, Some, None, Result, Ok, Err, if◌then◌else◌}
-use Rattle.std.specs.Option.{option_map, option_eq}
-use Rattle.std.specs.List.{list_any, list_all}
+use Rattle.std.specs.Option.{option_map}
+use Rattle.std.specs.List.{list_all}
 use Rattle.std.specs.Map.{lookup}
 use Rattle.cell_core.specs.declared.cell.Label.{Label}
-use Rattle.cell_core.specs.contracts.cell.LabelPartialEq.TheImpl.{eq-value}
 use Rattle.meaning.specs.Text.{Text}
 use Rattle.meaning.specs.Cell.{LabelValue, label_datum}
 use Rattle.meaning.specs.Operator.{cell_label}
@@ -17,13 +16,7 @@ use Rattle.frame_store.specs.Parts.{HeadingList}
 use Rattle.frame_store.specs.Shown.{headings_value}
 use Rattle.frame_store.specs.Arguments.{argument_of}
 use Rattle.frame_store.specs.declared.arguments.Argument.{Argument}
-
--- equal labels, where equal texts have one number
-abbrev pub same_number : Label → Label → Bool
-same_number a b = eq-value.it a b
-
-abbrev pub same_heading : Option Label → Option Label → Bool
-same_heading a b = option_eq same_number a b
+use Rattle.selections.specs.Headings.{same_number}
 
 -- a key of a dict, and the label that its value is; none where that is no scalar
 abbrev pub label_pair : LabelValue × Given → LabelValue × Option LabelValue
@@ -67,11 +60,6 @@ label_from (e ∷ es) l = if same_label e.0 l then e.1 else label_from es l
 abbrev pub heading_from : List (LabelValue × Option LabelValue) → Option LabelValue → Option LabelValue
 heading_from es None = None
 heading_from es (Some l) = Some (unwrap_or (label_from es l) l)
-
--- the first heading that stands again at a later place
-abbrev pub repeated_heading : List (Option Label) → Option Label
-repeated_heading [] = None
-repeated_heading (h ∷ hs) = if list_any (same_heading h) hs then h else repeated_heading hs
 
 -- headings under the labels of these pairs, which must all be labels; no heading may stand twice
 abbrev pub relabelled : List (LabelValue × Option LabelValue) → List (Option LabelValue) → Result (List (Option LabelValue)) FaultValue

@@ -11,7 +11,7 @@ use Rattle.table_meaning.specs.Table.{ColumnOf}
 use Rattle.form_meaning.specs.Finish.{try_all}
 use Rattle.frame_store.specs.Shown.{columns_value}
 use Rattle.frame_methods.specs.Columns.{with_front}
-use Rattle.nullable_array.specs.Columns.{CellColumn}
+use Rattle.column_core.specs.Columns.{CellColumn}
 use Rattle.nullable_array.specs.Folds.{reduction_of}
 use Rattle.method_meaning.specs.Methods as meant
 use Rattle.frame_methods.specs.declared.summaries.Summary.{Summary}

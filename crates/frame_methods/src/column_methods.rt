@@ -11,9 +11,8 @@ ghost use Rattle.frame_store.specs.Arguments.{arguments_of};
 ghost use Rattle.frame_store.specs.Shown.{Makes};
 ghost use Rattle.frame_methods.specs.Given.{given_for};
 
-use crate::cells::Listed;
 use crate::column_ops::{Cast, Filled, Shifted};
-use crate::listed::listed_cells;
+use crate::listed::{Listed, listed_cells};
 use crate::tables::columns_table;
 use cell_core::{Code, Kind, TextDict};
 use form_meaning::Method;

@@ -1,21 +1,24 @@
 // What is made of a column.
-ghost use Rattle.std.specs.Prelude.{◌≡◌, List, length, IfOk, true, false, if◌then◌else◌};
+ghost use Rattle.std.specs.Prelude.{◌≡◌, List, length, map, IfOk, true, false, if◌then◌else◌};
 ghost use Rattle.meaning.specs.Text.{Text as OneText};
 ghost use Rattle.meaning.specs.Cell.{AreGiven, IsGiven, IsLonger, holds, datum};
 ghost use Rattle.table_meaning.specs.Table.{column_value};
 ghost use Rattle.method_meaning.specs.Methods.{filled_column, shifted_column, cast_as, cumulated};
+ghost use Rattle.cell_core.specs.declared.cell.Kind.TheVariants.{Boolean};
 ghost use Rattle.nullable_array.specs.Folds.{cumulation_of};
+ghost use Rattle.nullable_array.specs.Marks.{missing_mark};
 ghost use Rattle.frame_methods.specs.Columns.{table_column, MakesColumn};
 ghost use Rattle.frame_methods.specs.Marks.{marked_column};
 ghost use Rattle.frame_methods.specs.Listed.{listed_column};
 ghost use Rattle.frame_store.specs.Shown.{cells_value};
 
-use crate::cells::{Fill, Listed, Mark, map_cells};
 use crate::columns::ColumnOp;
-use cell_core::{Cell, Code, Kind, TextDict};
+use crate::listed::Listed;
+use cell_core::{Cell, Code, Kind, NoMemory, TextDict};
+use column_core::{ColRef, Column, shift};
 use form_parts::refusal_of;
 use frame_store::OpFault;
-use nullable_array::{ColRef, Column, Cumulation, cast, cumulate, shift};
+use nullable_array::{Cumulation, cast, cumulate, fillna, isin, isna, notna};
 use std::alloc::Global;
 
 // Whether each cell is missing, or whether it is there.
@@ -37,15 +40,22 @@ impl ColumnOp for Marked {
         ensures rows { IfOk result (λ c. length c.cells ≡ length a.entry.cells) }
         ensures answer { MakesColumn dict.new result (marked_column self.now.missing (column_value dict.old (table_column a.entry))) }
     {
-        let mark = Mark {
-            missing: self.missing,
-        };
-        Ok(map_cells(alloc, &mark, Kind::Boolean, a)?)
+        Ok(marks(alloc, a, self.missing)?)
     }
 
     ghost lasts = { λ _ _ _ _ _. tt };
 
     ghost stays = { λ s _ _ _ _ i. marked_column s.missing };
+}
+
+fn marks(alloc: Global, a: ColRef<'_>, missing: bool) -> Result<Column, NoMemory>
+    ensures { IfOk result (λ c. c ≡ record { kind = Boolean; cells = map (missing_mark missing) a.entry.cells }) }
+{
+    if missing {
+        isna(alloc, a)
+    } else {
+        notna(alloc, a)
+    }
 }
 
 // A cell in place of each missing one.
@@ -73,7 +83,7 @@ impl ColumnOp for Filled {
         if !kind.holds(self.value) {
             return Err(OpFault::Refused(Code::WrongKind));
         }
-        Ok(map_cells(alloc, &Fill { value: self.value }, kind, a)?)
+        Ok(fillna(alloc, a, self.value)?)
     }
 
     ghost lasts = { λ s earlier later. filled_lasts s.value earlier later };
@@ -99,7 +109,7 @@ impl ColumnOp for Listed {
     {
         // Equal texts have equal numbers: `TextDict::len` says so.
         let _ = dict.len();
-        Ok(map_cells(alloc, self, Kind::Boolean, a)?)
+        Ok(isin(alloc, a, &self.values)?)
     }
 
     ghost lasts = { λ s earlier later. listed_lasts s.values.keys earlier later };

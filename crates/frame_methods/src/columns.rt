@@ -13,8 +13,8 @@ ghost use Rattle.frame_store.specs.Shown.{columns_value};
 ghost use Rattle.frame_methods.specs.Columns.{table_column, MakesColumn, MakesColumns};
 
 use cell_core::{Grid, TextDict};
+use column_core::{ColRef, Column};
 use frame_store::{Blocks, ObjRef, OpFault};
-use nullable_array::{ColRef, Column};
 use std::alloc::Global;
 
 // A column that is made of a column with as many cells.

@@ -22,7 +22,6 @@
 mod answers;
 mod binding;
 mod calling;
-mod cells;
 mod column_methods;
 mod column_ops;
 mod columns;
@@ -37,6 +36,3 @@ mod tables;
 
 pub use binding::exists;
 pub use calling::method;
-
-#[cfg(test)]
-mod tests;

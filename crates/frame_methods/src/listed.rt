@@ -12,6 +12,12 @@ use frame_store::Item;
 use indexmap::IndexSet;
 use std::alloc::Global;
 
+// Whether a cell is among these. Texts are told apart by their numbers.
+#[derive(Drop)]
+pub(crate) struct Listed {
+    pub(crate) values: IndexSet<Cell>,
+}
+
 // Adds a cell, if there is one.
 fn note(values: &mut IndexSet<Cell>, cell: Option<Cell>) -> Result<(), NoMemory>
     ensures { OnOk result (values.new.keys ≡ noted values.old.keys cell) }

@@ -1,5 +1,5 @@
 // The labels that a dict gives to columns.
-ghost use Rattle.std.specs.Prelude.{◌≡◌, [], map, length, None, IfOk, IfErr};
+ghost use Rattle.std.specs.Prelude.{◌≡◌, [], map, length, IfOk};
 ghost use Rattle.indexmap.specs.IndexMap.{insert_all};
 ghost use Rattle.cell_core.specs.declared.grid.Shape.TheVariants.{Frame};
 ghost use Rattle.table_meaning.specs.Settled.{IsSettled};
@@ -8,13 +8,13 @@ ghost use Rattle.table_meaning.specs.Valid.{IsWhole, AreHeadings};
 ghost use Rattle.form_meaning.specs.Binding.{same_label};
 ghost use Rattle.form_parts.specs.Makes.{MakesBy};
 ghost use Rattle.frame_store.specs.Shown.{headings_value};
-ghost use Rattle.frame_methods.specs.Faults.{NamesRepeated};
-ghost use Rattle.frame_methods.specs.Renames.{given_labels, pairs_seen, have_labels, heading_by, repeated_heading, relabelled, labels_seen};
+ghost use Rattle.frame_methods.specs.Renames.{given_labels, pairs_seen, have_labels, heading_by, relabelled, labels_seen};
 
-use cell_core::{Code, Grid, Label, NoMemory, Reason, TextDict, Tuple};
+use cell_core::{Code, Grid, Label, NoMemory, TextDict};
 use form_parts::name_of;
 use frame_store::{Argument, Headings, ObjRef, OpFault};
-use indexmap::{IndexMap, IndexSet};
+use indexmap::IndexMap;
+use selections::different_headings;
 use std::alloc::Global;
 
 // Each key with the label that its last value is; none where that is no scalar. Texts are told
@@ -71,52 +71,6 @@ fn new_headings(
         made.push(new_heading(labels, on.heading(place)))?;
     }
     Ok(made)
-}
-
-// The first heading that stands again at a later place.
-fn first_repeated(alloc: Global, headings: &[Option<Label>]) -> Result<Option<Label>, NoMemory>
-    ensures { IfOk result (λ found. found ≡ repeated_heading headings.now) }
-{
-    let mut later = IndexSet::new(alloc);
-    let mut repeated = None;
-    for place in (0..headings.len()).rev() {
-        if !later.insert(headings[place])? {
-            repeated = headings[place];
-        }
-    }
-    Ok(repeated)
-}
-
-// A list of headings, and the name that the columns have together.
-fn heading_list(
-    alloc: Global,
-    columns_name: Option<Label>,
-    headings: &[Option<Label>],
-) -> Result<Headings, NoMemory>
-    ensures { IfOk result (λ made. made ≡ record { columns_name = columns_name; labels = headings.now }) }
-{
-    let mut made = Headings::new(alloc, columns_name);
-    for heading in headings {
-        made.push(*heading)?;
-    }
-    Ok(made)
-}
-
-// The same where no heading stands twice.
-fn different_headings(
-    alloc: Global,
-    columns_name: Option<Label>,
-    headings: &[Option<Label>],
-) -> Result<Headings, OpFault>
-    ensures different { IfOk result (λ made. repeated_heading headings.now ≡ None) }
-    ensures made { IfOk result (λ made. made ≡ record { columns_name = columns_name; labels = headings.now }) }
-    ensures refused { IfErr result (λ fault. NamesRepeated fault (repeated_heading headings.now)) }
-{
-    if let Some(label) = first_repeated(alloc, headings)? {
-        let key = Tuple::of(alloc, &[label]);
-        return Err(OpFault::Refused(Code::BadValue(Reason::Repeated(key))));
-    }
-    Ok(heading_list(alloc, columns_name, headings)?)
 }
 
 // The headings of a frame's columns under the labels of a dict; those that it doesn't name stay.

@@ -6,9 +6,9 @@ ghost use Rattle.frame_methods.specs.Columns.{table_column};
 ghost use Rattle.frame_methods.specs.Labels.{column_tuple};
 
 use cell_core::{Grid, Label, NoMemory, Shape, TextDict, Tuple, Tuples};
+use column_core::Column;
 use frame_store::{Blocks, Headings, ObjRef, Table};
 use multi_index::Axis;
-use nullable_array::Column;
 use std::alloc::Global;
 
 // The Series of a column, under an axis and a name if it has one.

@@ -17,9 +17,10 @@ ghost use Rattle.frame_methods.specs.Summaries.{summary_value, counted_cell, col
 use crate::made::Made;
 use crate::series::{columns_axis, series_table};
 use cell_core::{Cell, Code, Grid, Kind, Shape, TextDict};
+use column_core::{ColRef, Column};
 use form_parts::{refusal_of, within_limits};
 use frame_store::{ObjRef, OpFault, Table};
-use nullable_array::{ColRef, Column, Reduction, distinct, reduce};
+use nullable_array::{Reduction, distinct, reduce};
 use std::alloc::Global;
 
 // A reduction, or the number of different cells.

@@ -11,9 +11,9 @@ use Rattle.meaning.specs.Text.{Text}
 use Rattle.meaning.specs.Cell.{CellValue, datum, holds}
 use Rattle.meaning.specs.Column.{ColumnValue, try_pairs, then_rows, column_if, zero_division}
 use Rattle.meaning.specs.Operator.{operator_kind, operator_cell, binary_column, scalar_binary, scalar_column, scalar_kind}
-use Rattle.meaning.specs.Tree.{Binary}
+use Rattle.meaning.specs.Symbol.{Binary}
 use Rattle.nullable_array.specs.Answers.{Answers}
-use Rattle.nullable_array.specs.Columns.{CellColumn, column_value as cells_value}
+use Rattle.column_core.specs.Columns.{CellColumn, column_value as cells_value}
 use Rattle.nullable_array.specs.declared.ops.ArrayFault.{ArrayFault}
 use Rattle.table_meaning.specs.Table.{ColumnOf, NumberedTable, column_at, column_value}
 use Rattle.form_meaning.specs.Finish.{value_of_column}

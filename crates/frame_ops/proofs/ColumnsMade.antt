@@ -12,7 +12,7 @@ use Rattle.meaning.specs.Text.{Text}
 use Rattle.meaning.specs.Cell.{CellValue, datum}
 use Rattle.meaning.specs.Fault.{FaultValue, then_value}
 use Rattle.meaning.specs.FaultOf.{fault_of}
-use Rattle.nullable_array.specs.Blocks.{CellBlock}
+use Rattle.column_core.specs.Blocks.{CellBlock}
 use Rattle.table_meaning.specs.Settled.{IsSettled}
 use Rattle.table_meaning.specs.Table.{ColumnOf, NumberedTable, column_at, column_value, no_column}
 use Rattle.form_meaning.specs.Finish.{value_of_column, try_all}

@@ -8,7 +8,7 @@ use Rattle.cell_core.specs.declared.grid.Shape.TheVariants.{Series}
 use Rattle.meaning.specs.Text.{Text}
 use Rattle.meaning.specs.Cell.{LabelValue, datum, AreGiven}
 use Rattle.meaning.specs.Fault.{FaultValue, not_built, then_value}
-use Rattle.meaning.specs.Tree.{Binary}
+use Rattle.meaning.specs.Symbol.{Binary}
 use Rattle.table_meaning.specs.Table.{NumberedTable, Table, table_value, heading_value, tuple_value, column_at, column_value, no_column}
 use Rattle.table_meaning.specs.Settled.{IsSettled}
 use Rattle.table_meaning.specs.Valid.{IsWhole}

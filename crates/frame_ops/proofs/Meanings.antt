@@ -6,7 +6,7 @@ use Rattle.std.proofs.lemmas.List.Folds.{list_all-map}
 use Rattle.cell_core.specs.declared.cell.Cell.{Cell}
 use Rattle.meaning.specs.Text.{Text}
 use Rattle.meaning.specs.Fault.{wrong_kind, bad_value, levels, limit, then_value}
-use Rattle.meaning.specs.Tree.{Binary}
+use Rattle.meaning.specs.Symbol.{Binary}
 use Rattle.table_meaning.specs.Table.{ColumnOf, Table}
 use Rattle.table_meaning.specs.Value as value
 use Rattle.table_meaning.specs.Value.{Entry}

@@ -10,7 +10,7 @@ use Rattle.meaning.specs.Cell.{CellValue, na_cell, int_cell, truth_cell, text_ce
 use Rattle.meaning.specs.Column.{try_pairs, before_rows, column_of, zero_division}
 use Rattle.meaning.specs.Fault.{wrong_kind, limit, then_value}
 use Rattle.meaning.specs.Operator.{operator_cell, xor_cells, invert_cell}
-use Rattle.meaning.specs.Tree.{xor}
+use Rattle.meaning.specs.Symbol.{xor}
 use Rattle.table_meaning.specs.Settled.{IsSettled}
 use Rattle.table_meaning.specs.Table.{ColumnOf, NumberedTable, Table, table_value}
 use Rattle.table_meaning.specs.Value as value

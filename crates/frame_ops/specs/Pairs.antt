@@ -9,7 +9,7 @@ use Rattle.meaning.specs.Cell.{CellValue, datum, AreGiven, IsGiven}
 use Rattle.meaning.specs.Fault.{FaultValue, wrong_kind, bad_value, levels, limit}
 use Rattle.meaning.specs.Column.{ColumnValue, ColumnFault}
 use Rattle.meaning.specs.Operator.{operator_kind, scalar_kind, binary_column}
-use Rattle.meaning.specs.Tree.{Binary}
+use Rattle.meaning.specs.Symbol.{Binary}
 use Rattle.table_meaning.specs.Table.{ColumnOf, NumberedTable, column_at, column_value}
 use Rattle.form_meaning.specs.Finish.{value_of_column, within_limits, try_all}
 use Rattle.form_meaning.specs.Infix.{Meeting, met, meets}

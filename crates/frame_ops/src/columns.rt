@@ -14,9 +14,10 @@ ghost use Rattle.frame_ops.specs.Pairs.{pair_at, pairs_from, kinds_meet, meeting
 use crate::kinds::{all_meet, levels_fit};
 use crate::other::Other;
 use cell_core::{Code, Grid, Reason, TextDict};
+use column_core::{Block, Column};
 use form_parts::{block_of, within_limits};
 use frame_store::{Blocks, ObjRef, OpFault};
-use nullable_array::{ArrayFault, Binary, Block, Column, binary, with_scalar};
+use nullable_array::{ArrayFault, Binary, binary, with_scalar};
 use std::alloc::Global;
 
 // What the operator makes of the column at a place and what it meets there.

@@ -10,8 +10,8 @@ use Rattle.cell_core.specs.declared.cell.Cell.{Cell}
 use Rattle.cell_core.specs.declared.cell.Cell.TheVariants.{Na}
 use Rattle.cell_core.specs.declared.cell.Label.{Label}
 use Rattle.multi_index.specs.Axes.{AxisValue}
-use Rattle.nullable_array.specs.Blocks.{CellBlock}
-use Rattle.nullable_array.proofs.ColumnLaws.{length-tabulate}
+use Rattle.column_core.specs.Blocks.{CellBlock}
+use Rattle.column_core.proofs.ColumnLaws.{length-tabulate}
 use Rattle.table_meaning.specs.Table.{ColumnOf, NumberedTable, column_at}
 use Rattle.table_meaning.specs.Change.{put_at, strided_column, cut_columns, with_column, without_column}
 use Rattle.table_meaning.specs.Valid.{AreHeadings, IsWhole}

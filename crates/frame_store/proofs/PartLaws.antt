@@ -12,8 +12,8 @@ use Rattle.cell_core.specs.declared.cell.Cell.{Cell}
 use Rattle.cell_core.specs.declared.cell.Cell.TheVariants.{Na}
 use Rattle.meaning.specs.Column.{shifted, shifted_row}
 use Rattle.meaning.specs.Block.{strided}
-use Rattle.nullable_array.specs.Blocks.{CellBlock}
-use Rattle.nullable_array.specs.Columns.{CellColumn}
+use Rattle.column_core.specs.Blocks.{CellBlock}
+use Rattle.column_core.specs.Columns.{CellColumn}
 use Rattle.table_meaning.specs.Table.{ColumnOf, column_at, no_column}
 use Rattle.table_meaning.specs.Change.{strided_column, cut_columns}
 use Rattle.frame_store.specs.Parts.{block_column, single_block, IsSingle, HaveRows}
@@ -42,13 +42,6 @@ range_is f (x ∷ xs) a d h =
 not_below_zero : (k : ℕ) → nat_lt k 0 ≡ false
 not_below_zero k = grind (arith, nat_tests)
 
--- a shift by no rows is a copy
-pub shifted_by_none : {C : Type 0} (na : C) (cells : List C) → shifted na cells (pos 0) ≡ cells
-shifted_by_none na cells =
-    range_is (shifted_row na cells (pos 0)) cells 0 na (λ k lt.
-    let same : 0 + k - 0 ≡ k = omega arith in
-    ap (λ b. if b then na else slice_index_or cells (0 + k - 0) na) (not_below_zero (0 + k)) ∙ ap (λ i. slice_index_or cells i na) same)
-
 -- the column of the block at a place
 pub column_of_block : (blocks : List CellBlock) (place : ℕ) (d : CellBlock) → place < length blocks → column_at (map block_column blocks) place ≡ block_column (slice_index_or blocks place d)
 column_of_block blocks place d lt = get_or-map block_column blocks place d no_column lt
@@ -70,12 +63,10 @@ one_more_cut blocks rows places k place block copied made made' before inside at
 -- a block that copies rows of another
 pub copied_is : (block copy : CellBlock) (rows : Rows) (copied view : CellColumn)
     → copy ≡ record { kind = copied.kind; rows = length copied.cells; columns = copied.cells ∷ [] }
-    → copied.kind ≡ view.kind → copied.cells ≡ shifted Na view.cells (pos 0) → view.kind ≡ block.kind → view.cells ≡ strided Na (slice_index_or block.columns 0 []) rows
+    → copied ≡ view → view.kind ≡ block.kind → view.cells ≡ strided Na (slice_index_or block.columns 0 []) rows
     → copy ≡ single_block (strided_column Na rows (block_column block))
-copied_is block copy rows copied view made kind cells kind' cells' =
-    let same_kind : copied.kind ≡ block.kind = kind ∙ kind' in
-    let same_cells : copied.cells ≡ strided Na (slice_index_or block.columns 0 []) rows = cells ∙ shifted_by_none Na view.cells ∙ cells' in
-    made ∙ (λ i. single_block record { kind = same_kind i; cells = same_cells i })
+copied_is block copy rows copied view made is kind cells =
+    made ∙ ap (λ (c : CellColumn). single_block record { kind = c.kind; cells = c.cells }) is ∙ (λ i. single_block record { kind = kind i; cells = cells i })
 
 -- each block has as many rows as the columns
 pub block_rows : (blocks : List CellBlock) (place count : ℕ) (block : CellBlock) → HaveRows count (map block_column blocks) → place < length blocks → block ≡ slice_index_or blocks place block

@@ -8,7 +8,7 @@ use Rattle.std.proofs.lemmas.Option.{get_or_from_slice_get}
 use Rattle.std.proofs.lemmas.List.Elements.{All-set}
 use Rattle.cell_core.specs.declared.cell.Cell.{Cell}
 use Rattle.cell_core.specs.declared.cell.Cell.TheVariants.{Na}
-use Rattle.nullable_array.specs.Blocks.{CellBlock}
+use Rattle.column_core.specs.Blocks.{CellBlock}
 use Rattle.table_meaning.specs.Table.{ColumnOf, column_at, no_column}
 use Rattle.table_meaning.specs.Change.{with_cell_at, with_cell, with_values_from}
 use Rattle.frame_store.specs.Parts.{block_column, single_block, IsSingle, IsHeld, HaveRows, AreHeld}

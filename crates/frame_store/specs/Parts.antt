@@ -5,7 +5,7 @@ use Rattle.cell_core.specs.declared.cell.Cell.{Cell}
 use Rattle.cell_core.specs.declared.cell.Cell.TheVariants.{Na}
 use Rattle.cell_core.specs.declared.cell.Label.{Label}
 use Rattle.cell_core.specs.declared.grid.Shape.{Shape}
-use Rattle.nullable_array.specs.Blocks.{CellBlock}
+use Rattle.column_core.specs.Blocks.{CellBlock}
 use Rattle.multi_index.specs.Axes.{AxisValue}
 use Rattle.meaning.specs.Cell.{holds, datum}
 use Rattle.table_meaning.specs.Table.{ColumnOf, NumberedTable, column_at}

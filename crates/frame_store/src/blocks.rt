@@ -2,7 +2,7 @@
 ghost use Rattle.std.specs.Prelude.{◌≡◌, ◌<◌, [], ◌∷◌, ◌++◌, length, slice_get, Some, OnOk, OnErr, MatchOption};
 
 use cell_core::NoMemory;
-use nullable_array::Block;
+use column_core::Block;
 use std::alloc::Global;
 use std::marker::Model;
 
@@ -14,7 +14,7 @@ pub struct Blocks {
 
 impl Model for Blocks {
     ghost use Rattle.std.specs.Prelude.{List};
-    ghost use Rattle.nullable_array.specs.Blocks.{CellBlock};
+    ghost use Rattle.column_core.specs.Blocks.{CellBlock};
 
     ghost Value = { List CellBlock };
 

@@ -6,7 +6,7 @@ ghost use Rattle.table_meaning.specs.Change.{put_at, strided_column, cut_columns
 ghost use Rattle.frame_store.specs.Parts.{block_column, single_block, IsSingle, HaveRows};
 
 use cell_core::{NoMemory, Places, Rows};
-use nullable_array::{Block, shift};
+use column_core::Block;
 use std::alloc::Global;
 
 // The cells of a block's one column at these rows, as a block of its own.
@@ -15,8 +15,7 @@ fn strided_copy(alloc: Global, block: &Block, rows: Rows) -> Result<Block, NoMem
     requires rows { AreRowsBelow rows (length (block_column block.now).cells) }
     ensures { IfOk result (λ copied. copied ≡ single_block (strided_column Na rows (block_column block.now))) }
 {
-    // A shift by no rows is a copy.
-    let copied = shift(alloc, block.strided(0, rows), 0)?;
+    let copied = block.strided(0, rows).to_column(alloc)?;
     Ok(copied.into_block())
 }
 

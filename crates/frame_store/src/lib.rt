@@ -41,6 +41,3 @@ pub use headings::Headings;
 pub use object::{ObjId, ObjRef};
 pub use store::Store;
 pub use table::Table;
-
-#[cfg(test)]
-mod tests;

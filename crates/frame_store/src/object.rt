@@ -6,8 +6,8 @@ ghost use Rattle.frame_store.specs.Parts.{axis_of};
 
 use crate::table::Table;
 use cell_core::{Cell, Grid, Kind, Label, Shape};
+use column_core::ColRef;
 use multi_index::Axis;
-use nullable_array::ColRef;
 use std::marker::Model;
 
 /// The number of an object of a store.

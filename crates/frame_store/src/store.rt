@@ -13,8 +13,8 @@ use crate::headings::Headings;
 use crate::object::{ObjId, ObjRef};
 use crate::table::Table;
 use cell_core::{Cells, Label, NoMemory, Places, Rows, Shape};
+use column_core::{Block, ColRef};
 use multi_index::Axis;
-use nullable_array::{Block, ColRef};
 use slab::Slab;
 use std::alloc::Global;
 

@@ -14,8 +14,8 @@ use crate::columns::{cut, put_at};
 use crate::headings::Headings;
 use crate::values::put_values;
 use cell_core::{Cells, Label, NoMemory, Places, Rows, Shape};
+use column_core::{Block, ColRef};
 use multi_index::Axis;
-use nullable_array::{Block, ColRef};
 use std::alloc::Global;
 use std::marker::Model;
 

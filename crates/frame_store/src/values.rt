@@ -5,7 +5,7 @@ ghost use Rattle.table_meaning.specs.Table.{column_at};
 ghost use Rattle.frame_store.specs.Parts.{block_column, single_block, IsSingle, IsHeld, HaveRows, AreHeld};
 
 use cell_core::{Cell, Cells, Places};
-use nullable_array::Block;
+use column_core::Block;
 
 // Puts a cell at a row of a block's one column.
 fn put_cell(block: &mut Block, row: usize, cell: Cell)

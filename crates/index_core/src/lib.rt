@@ -13,6 +13,3 @@
 mod index;
 
 pub use index::Index;
-
-#[cfg(test)]
-mod tests;

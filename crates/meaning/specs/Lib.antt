@@ -3,16 +3,11 @@ pub mod Cell
 pub mod Column
 pub mod Place
 pub mod Block
-pub mod Tree
+pub mod Symbol
 pub mod Operator
 pub mod Cast
 pub mod Reduce
 pub mod Cumulate
-pub mod Depth
-pub mod Token
-pub mod Grammar
-pub mod Pieces
-pub mod Script
 pub mod Fault
 pub mod FaultText
 pub mod FaultOf

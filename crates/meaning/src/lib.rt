@@ -1,2 +1,2 @@
-//! What scripts mean: definitions alone, in `specs/`, which the contracts of all crates cite.
+//! What cells, columns, operators and faults mean: definitions alone, in `specs/`, which the contracts of all crates cite.
 #![tactic(auto)]

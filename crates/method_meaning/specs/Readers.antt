@@ -1,5 +1,5 @@
 -- Calls of the functions of `pd` that make a table of a file.
-use Rattle.std.specs.Prelude.{ℕ, Bool, true, false, List, [], ◌∷◌, map, slice_get, Option, Some, None, Result, Ok, Err}
+use Rattle.std.specs.Prelude.{ℕ, Bool, true, false, List, [], ◌∷◌, map, slice_get, Option, Some, None, Result, Ok, Err, if◌then◌else◌}
 use Rattle.cell_core.specs.declared.cell.Kind.{Kind}
 use Rattle.cell_core.specs.declared.grid.Shape.TheVariants.{Frame}
 use Rattle.meaning.specs.Text.{Text}
@@ -78,7 +78,7 @@ csv_result bytes gs = Err wrong_kind
 abbrev pub read_result : List ℕ → List NamedGiven → Result Entry FaultValue
 read_result bytes gs = on_bound (bound_of (function_parameters function.ReadCsv) gs) (csv_result bytes)
 
--- a function of `pd`, and what it makes of a file where it reads one
+-- a function of `pd`: one that reads a file makes it of the bytes, where they are given; no other looks at them
 abbrev pub make_with : Option (List ℕ) → Text → List NamedGiven → Result Entry FaultValue
 make_with None name gs = make_result name gs
-make_with (Some bytes) name gs = read_result bytes gs
+make_with (Some bytes) name gs = if reads_file (function_named name) then read_result bytes gs else make_result name gs

@@ -14,6 +14,3 @@
 mod axis;
 
 pub use axis::Axis;
-
-#[cfg(test)]
-mod tests;

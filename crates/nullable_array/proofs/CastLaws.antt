@@ -10,7 +10,7 @@ use Rattle.cell_core.specs.declared.cell.TextId.{TextId}
 use Rattle.cell_core.specs.declared.cell.Kind.TheVariants.{Int64, Boolean, Text as string}
 use Rattle.meaning.specs.Cell.{has_64_bits, datum, text_of, int_cell, truth_cell as truth_value_cell}
 use Rattle.meaning.specs.Cast.{is_numeral, numeral_value, whole_number, truth_value, truth_text, truth_of_number, number_of_truth, cast_cell}
-use Rattle.nullable_array.specs.Columns.{number_cell, truth_cell, text_cell, text_value}
+use Rattle.column_core.specs.Columns.{number_cell, truth_cell, text_cell, text_value}
 use Rattle.nullable_array.specs.Casts.{total_cast, partial_cast}
 
 digits : IsNumeralModel (λ ds. all_ascii_digits ds ≡ true) (digits_value 10)

@@ -18,9 +18,9 @@ use Rattle.std.proofs.lemmas.Slice.Eq.{bytes_eq-Decides}
 use Rattle.meaning.specs.Column.{tabulate}
 use Rattle.meaning.specs.Reduce.{is_present, present, same_cell, distinct, distinct_count}
 use Rattle.nullable_array.specs.Folds.{step_row, folded}
-use Rattle.nullable_array.specs.Columns.{text_cell}
+use Rattle.column_core.specs.Columns.{text_cell}
 use Rattle.nullable_array.specs.Distincts.{present_values}
-use Rattle.nullable_array.proofs.CellRows.{map-map}
+use Rattle.column_core.proofs.CellRows.{map-map}
 
 filter-filter : {X : Type 0} (p q : X → Bool) (xs : List X) → filter p (filter q xs) ≡ filter (λ x. q x && p x) xs
 filter-filter p q [] = refl

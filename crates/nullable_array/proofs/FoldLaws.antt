@@ -9,7 +9,7 @@ use Rattle.meaning.specs.Column.{tabulate}
 use Rattle.meaning.specs.Reduce.{is_present, present, lesser, greater}
 use Rattle.meaning.specs.Operator.{cell_cmp}
 use Rattle.nullable_array.specs.Folds.{step_row, folded, least_step, greatest_step}
-use Rattle.nullable_array.proofs.CellRows.{map-map}
+use Rattle.column_core.proofs.CellRows.{map-map}
 
 fold-range : {S : Type 0} (f : S → ℕ → S) (s : S) (a n : ℕ) → fold f s (range_with_len a (suc n)) ≡ f (fold f s (range_with_len a n)) (a + n)
 fold-range f s a zero = ap (f s) (omega arith)

@@ -9,7 +9,7 @@ use Rattle.meaning.specs.Cell.{datum, int_cell}
 use Rattle.meaning.specs.Operator.{division_cells, invert_cell, floor_quotient, floor_rest}
 use Rattle.nullable_array.specs.declared.ops.Relation.{Relation}
 use Rattle.nullable_array.specs.declared.ops.Task.TheVariants.{Sum, Difference, Product, Quotient, Rest, Compare, Both, Either, OneOf}
-use Rattle.nullable_array.specs.Columns.{number_cell, truth_cell, text_cell, text_value}
+use Rattle.column_core.specs.Columns.{number_cell, truth_cell, text_cell, text_value}
 use Rattle.nullable_array.specs.Tasks.{task_cell}
 use Rattle.nullable_array.specs.Operations.{number_row, division_row, compare_row, and_row, or_row, xor_row, not_row, both}
 

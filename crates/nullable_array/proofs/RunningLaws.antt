@@ -12,9 +12,9 @@ use Rattle.meaning.specs.Reduce.{reduction_cell, is_present, present, number_in}
 use Rattle.meaning.specs.Reduce as reduction
 use Rattle.meaning.specs.Cumulate.{running, unless_missing, cumulate_column, cumulation_cell, cumulation_takes}
 use Rattle.meaning.specs.Cumulate as cumulation
-use Rattle.nullable_array.specs.Columns.{column_value, column_with, number_cell, truth_cell}
+use Rattle.column_core.specs.Columns.{column_value, column_with, number_cell, truth_cell}
 use Rattle.nullable_array.specs.Folds.{step_row, folded, sum_step, running_step, running_row, one_of_truth, least_step, greatest_step}
-use Rattle.nullable_array.proofs.CellRows.{map-map}
+use Rattle.column_core.proofs.CellRows.{map-map}
 use Rattle.nullable_array.proofs.FoldLaws.{folded_more, folded_seen, least_seen, greatest_seen}
 
 module _ {T : Type 0} (texts : List (List ℕ)) (cell : Option T → Cell) (f : List CellValue → CellValue) (step : Option ℤ → T → Option ℤ) (row : ℕ → Option T) (missing : datum texts (cell None) ≡ na_cell)

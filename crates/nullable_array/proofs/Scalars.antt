@@ -12,9 +12,9 @@ use Rattle.meaning.specs.Operator.{scalar_kind, scalar_column}
 use Rattle.nullable_array.specs.declared.ops.ArrayFault.{ArrayFault}
 use Rattle.nullable_array.specs.declared.ops.Task.{Task}
 use Rattle.nullable_array.specs.Answers.{Answers}
-use Rattle.nullable_array.specs.Columns.{CellColumn, column_value, column_with, number_cell, truth_cell, text_cell}
+use Rattle.column_core.specs.Columns.{CellColumn, column_value, column_with, number_cell, truth_cell, text_cell}
 use Rattle.nullable_array.specs.Tasks.{task_column, scalar_task}
-use Rattle.nullable_array.proofs.ColumnLaws.{length-tabulate}
+use Rattle.column_core.proofs.ColumnLaws.{length-tabulate}
 
 -- a present scalar and a missing one have the column's kind here
 pub number_kept : (texts : List (List ℕ)) (x : Option ℤ) → scalar_kind Int64 (datum texts (number_cell x)) ≡ Int64

@@ -4,16 +4,16 @@ use Rattle.std.proofs.lemmas.Bool.{cases_eq}
 use Rattle.std.proofs.lemmas.List.{length-append, take_at}
 use Rattle.cell_core.specs.declared.cell.TextId.{TextId}
 use Rattle.meaning.specs.Cell.{CellValue, text_of, datum, AreGiven, IsLonger}
-use Rattle.nullable_array.specs.Lanes.{option_at}
+use Rattle.column_core.specs.Lanes.{option_at}
 use Rattle.std.specs.List.{range_with_len}
 use Rattle.cell_core.specs.declared.cell.Kind.TheVariants.{Text as string}
 use Rattle.meaning.specs.Column.{tabulate}
-use Rattle.nullable_array.specs.Columns.{CellColumn, text_cell, text_value, column_value, column_with}
-use Rattle.nullable_array.proofs.ColumnLaws.{given-tabulate}
-use Rattle.nullable_array.proofs.CellRows.{map-map, range-same}
+use Rattle.column_core.specs.Columns.{CellColumn, text_cell, text_value, column_value, column_with}
+use Rattle.column_core.proofs.ColumnLaws.{given-tabulate}
+use Rattle.column_core.proofs.CellRows.{map-map, range-same}
 use Rattle.nullable_array.specs.Joins.{text_stays}
-use Rattle.nullable_array.specs.Rows.{IsTextRow, AreTexts}
-use Rattle.nullable_array.proofs.RowsMade.{option-set_same, option-set_other}
+use Rattle.column_core.specs.Rows.{IsTextRow, AreTexts}
+use Rattle.column_core.proofs.RowsMade.{option-set_same, option-set_other}
 
 -- no dictionary is longer than itself by nothing
 pub longer_self : (texts : List (List ℕ)) → IsLonger texts texts

@@ -5,7 +5,7 @@ use Rattle.meaning.specs.Cell.{CellValue, datum}
 use Rattle.meaning.specs.Column.{ColumnValue, ColumnFault, kind_mismatch, zero_division, not_cast}
 use Rattle.nullable_array.specs.declared.ops.ArrayFault.{ArrayFault}
 use Rattle.nullable_array.specs.declared.ops.ArrayFault.TheVariants.{KindMismatch, ZeroDivision, NotCast, NoMemory}
-use Rattle.nullable_array.specs.Columns.{CellColumn, column_value}
+use Rattle.column_core.specs.Columns.{CellColumn, column_value}
 
 -- the refusal is this fault; want of memory may come in place of any answer
 abbrev pub IsRefusal : {T : Type 0} → ArrayFault → Result T ColumnFault → Type 0

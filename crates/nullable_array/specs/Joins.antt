@@ -4,7 +4,7 @@ use Rattle.std.proofs.Common.{refl, ap, ◌∙◌}
 use Rattle.std.proofs.Math.ListN.{get_or-append}
 use Rattle.cell_core.specs.declared.cell.TextId.{TextId}
 use Rattle.meaning.specs.Cell.{text_of, IsLonger, IsGiven}
-use Rattle.nullable_array.specs.Columns.{text_cell}
+use Rattle.column_core.specs.Columns.{text_cell}
 use Rattle.nullable_array.specs.Operations.{both}
 
 pub text_stays : (earlier later : List (List ℕ)) (id : TextId) → IsLonger earlier later → id.0 < length earlier → text_of later id ≡ text_of earlier id

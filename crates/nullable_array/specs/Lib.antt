@@ -1,14 +1,9 @@
-pub mod Lanes
-pub mod Columns
-pub mod Views
-pub mod Rows
 pub mod Answers
 pub mod Tasks
 pub mod Operations
 pub mod Joins
-pub mod Moves
 pub mod Casts
 pub mod Folds
 pub mod Distincts
-pub mod Blocks
 pub mod Pairs
+pub mod Marks

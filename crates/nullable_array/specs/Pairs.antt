@@ -6,7 +6,7 @@ use Rattle.std.proofs.Common.{refl}
 use Rattle.nullable_array.specs.declared.ops.Relation.{Relation}
 use Rattle.nullable_array.specs.Tasks.{passes}
 use Rattle.nullable_array.specs.Operations.{number_row, compare_row, and_row, or_row, xor_row}
-use Rattle.nullable_array.specs.Rows.{flagged}
+use Rattle.column_core.specs.Rows.{flagged}
 
 -- where `and` and `or` are known: where both values are, and where one decides
 abbrev pub and_flag : Bool → Bool → Bool → Bool → Bool

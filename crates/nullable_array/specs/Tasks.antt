@@ -6,7 +6,7 @@ use Rattle.cell_core.specs.declared.cell.Kind.{Kind}
 use Rattle.meaning.specs.Cell.{CellValue}
 use Rattle.meaning.specs.Column.{ColumnValue, ColumnFault, zero_division, column_if, try_pairs}
 use Rattle.meaning.specs.Operator.{floor_quotient, floor_rest, add_cells, number_cells, division_cells, compare_cells, and_cells, or_cells, xor_cells, number_kind, sum_kind, comparison_kind, truth_kind, scalar_column}
-use Rattle.meaning.specs.Tree as tree
+use Rattle.meaning.specs.Symbol as symbol
 use Rattle.nullable_array.specs.declared.ops.Binary.{Binary}
 use Rattle.nullable_array.specs.declared.ops.Binary.TheVariants.{Add, Sub, Mul, FloorDiv, Mod, Eq, Ne, Lt, Le, Gt, Ge, And, Or, Xor}
 use Rattle.nullable_array.specs.declared.ops.Relation.{Relation}
@@ -14,21 +14,21 @@ use Rattle.nullable_array.specs.declared.ops.Task.{Task}
 use Rattle.nullable_array.specs.declared.ops.Task.TheVariants.{Sum, Difference, Product, Quotient, Rest, Compare, Both, Either, OneOf}
 
 -- the operator of the language
-abbrev pub operator_of : Binary → tree.Binary
-operator_of Add = tree.add
-operator_of Sub = tree.sub
-operator_of Mul = tree.mul
-operator_of FloorDiv = tree.floor_div
-operator_of Mod = tree.mod_
-operator_of Eq = tree.eq
-operator_of Ne = tree.ne
-operator_of Lt = tree.lt
-operator_of Le = tree.le
-operator_of Gt = tree.gt
-operator_of Ge = tree.ge
-operator_of And = tree.and
-operator_of Or = tree.or
-operator_of Xor = tree.xor
+abbrev pub operator_of : Binary → symbol.Binary
+operator_of Add = symbol.add
+operator_of Sub = symbol.sub
+operator_of Mul = symbol.mul
+operator_of FloorDiv = symbol.floor_div
+operator_of Mod = symbol.mod_
+operator_of Eq = symbol.eq
+operator_of Ne = symbol.ne
+operator_of Lt = symbol.lt
+operator_of Le = symbol.le
+operator_of Gt = symbol.gt
+operator_of Ge = symbol.ge
+operator_of And = symbol.and
+operator_of Or = symbol.or
+operator_of Xor = symbol.xor
 
 -- whether two values in this order are in the relation
 abbrev pub passes : Relation → Ordering → Bool

@@ -4,20 +4,18 @@ ghost use Rattle.cell_core.specs.declared.cell.Kind.TheVariants.{Int64, Boolean,
 ghost use Rattle.meaning.specs.Cell.{datum, text_of, AreGiven, IsGiven, IsLonger};
 ghost use Rattle.meaning.specs.Column.{column_of, not_cast};
 ghost use Rattle.meaning.specs.Cast.{after_spaces, without_spaces, numeral_value, whole_number, truth_value, truth_of_number, number_of_truth, cast_column};
-ghost use Rattle.nullable_array.specs.Columns.{column_value, column_with, number_cell, truth_cell, text_cell};
-ghost use Rattle.nullable_array.specs.Views.{borrowed_column};
-ghost use Rattle.nullable_array.specs.Rows.{try_rows, map_rows};
+ghost use Rattle.column_core.specs.Columns.{column_value, column_with, number_cell, truth_cell, text_cell};
+ghost use Rattle.column_core.specs.Views.{borrowed_column};
+ghost use Rattle.column_core.specs.Rows.{try_rows, map_rows};
 ghost use Rattle.nullable_array.specs.Answers.{Answers};
 ghost use Rattle.nullable_array.specs.Casts.{total_cast, partial_cast};
 
-use crate::columns::{Borrowed, ColRef, Column, Plain};
-use crate::lanes::Lane;
-use crate::moves::copied;
 use crate::ops::ArrayFault;
-use crate::rows::{RowFault, RowOp, Source, by_rows};
-use crate::sources::Nothing;
 use crate::texts::{Decimal, TruthWord, text_column};
 use cell_core::{Kind, TextDict, TextId};
+use column_core::{
+    Borrowed, ColRef, Column, Lane, Nothing, Plain, RowFault, RowOp, Source, by_rows, copied_lane,
+};
 use std::alloc::Global;
 
 /// 1 for True, 0 for False.
@@ -103,21 +101,33 @@ impl RowOp<TextId, (), bool> for TruthOfText<'_> {
     }
 }
 
-/// The whole number of 64 bits that a text is: a sign, which may be missing, and digits, with spaces at both ends left out.
-fn number_of_text(text: &str) -> Option<i64>
+/// The whole number of 64 bits that a text is: a sign, which may be missing, and digits, with spaces at both ends left
+/// out. Takes no memory.
+pub fn number_of_text(text: &str) -> Option<i64>
     ensures { result ≡ whole_number text.now }
 {
-    number_of_bytes(trimmed(text.as_bytes()))
+    let bytes = trimmed(text.as_bytes());
+    if bytes.len() == text.len() {
+        // No space was left out, and that the whole text is UTF-8 is known.
+        return number_of_numeral(text);
+    }
+    number_of_bytes(bytes)
+}
+
+fn number_of_numeral(text: &str) -> Option<i64>
+    ensures { result ≡ numeral_value text.now }
+{
+    match text.parse::<i64>() {
+        Ok(number) => Some(number),
+        Err(_) => None,
+    }
 }
 
 fn number_of_bytes(bytes: &[u8]) -> Option<i64>
     ensures { result ≡ numeral_value bytes.now }
 {
     match str::from_utf8(bytes) {
-        Ok(text) => match text.parse::<i64>() {
-            Ok(number) => Some(number),
-            Err(_) => None,
-        },
+        Ok(text) => number_of_numeral(text),
         Err(_) => None,
     }
 }
@@ -154,8 +164,8 @@ fn trimmed_end(bytes: &[u8]) -> &[u8]
     rest
 }
 
-/// The truth value that one of six texts is.
-fn truth_of_text(text: &str) -> Option<bool>
+/// The truth value that a text is: `True`, `TRUE` or `true`, or `False`, `FALSE` or `false`. Takes no memory.
+pub fn truth_of_text(text: &str) -> Option<bool>
     ensures { result ≡ truth_value text.now }
 {
     if text == "True" || text == "TRUE" || text == "true" {
@@ -219,7 +229,7 @@ fn cast_numbers(
     ensures answer { Answers dict.new result (cast_column kind (column_value dict.old (borrowed_column (Borrowed.Ints a.now)))) }
 {
     match kind {
-        Kind::Int64 => Ok(copied(alloc, a)?),
+        Kind::Int64 => Ok(copied_lane(alloc, a)?),
         Kind::Boolean => convert(alloc, &TruthOfNumber, a),
         Kind::Text => Ok(text_column(alloc, dict, &Decimal, a, &Nothing { count: a.count })?),
     }
@@ -237,7 +247,7 @@ fn cast_truths(
 {
     match kind {
         Kind::Int64 => convert(alloc, &NumberOfTruth, a),
-        Kind::Boolean => Ok(copied(alloc, a)?),
+        Kind::Boolean => Ok(copied_lane(alloc, a)?),
         Kind::Text => Ok(text_column(alloc, dict, &TruthWord, a, &Nothing { count: a.count })?),
     }
 }
@@ -255,6 +265,6 @@ fn cast_texts(
     match kind {
         Kind::Int64 => convert(alloc, &NumberOfText { dict }, a),
         Kind::Boolean => convert(alloc, &TruthOfText { dict }, a),
-        Kind::Text => Ok(copied(alloc, a)?),
+        Kind::Text => Ok(copied_lane(alloc, a)?),
     }
 }

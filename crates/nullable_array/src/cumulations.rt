@@ -2,19 +2,17 @@
 ghost use Rattle.std.specs.Prelude.{◌≡◌, ◌<◌, ℕ, List, length, Option, Some, None, IfOk, if◌then◌else◌};
 ghost use Rattle.meaning.specs.Cell.{AreGiven};
 ghost use Rattle.meaning.specs.Cumulate.{cumulate_column};
-ghost use Rattle.nullable_array.specs.Columns.{column_value, column_with};
-ghost use Rattle.nullable_array.specs.Views.{borrowed_column};
-ghost use Rattle.nullable_array.specs.Rows.{AreWritten};
+ghost use Rattle.column_core.specs.Columns.{column_value, column_with};
+ghost use Rattle.column_core.specs.Views.{borrowed_column};
+ghost use Rattle.column_core.specs.Rows.{AreWritten};
 ghost use Rattle.nullable_array.specs.Folds.{running_row, running_step, one_of_truth, cumulation_of};
 ghost use Rattle.nullable_array.specs.Answers.{Answers};
 
-use crate::columns::{Borrowed, ColRef, Column, Value};
 use crate::folds::{Fold, Greatest, Least, next, one_if, sum};
-use crate::lanes::{Lane, Owned};
 use crate::operators::ByNumber;
 use crate::ops::{ArrayFault, Cumulation};
-use crate::rows::Source;
 use cell_core::NoMemory;
+use column_core::{Borrowed, ColRef, Column, Lane, Owned, Source, Value};
 use std::alloc::Global;
 
 /// At each row the sum, the least or the greatest of the present cells up to it; NA stays and is passed over. A sum

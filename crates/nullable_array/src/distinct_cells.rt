@@ -1,17 +1,18 @@
 // How many different cells a column has.
-ghost use Rattle.std.specs.Prelude.{◌≡◌, ℕ, List, length, IfOk, OnOk};
+ghost use Rattle.std.specs.Prelude.{◌≡◌, ℕ, ℤ, pos, ◌+ℤ◌, List, [], length, IfSome, IfOk, OnOk};
+ghost use Rattle.std.specs.Ordering.{int_eq};
 ghost use Rattle.indexmap.specs.IndexSet.{insert_key};
 ghost use Rattle.meaning.specs.Cell.{AreDistinct, AreGiven};
 ghost use Rattle.meaning.specs.Column.{tabulate};
 ghost use Rattle.meaning.specs.Reduce.{distinct_count, distinct as each_once};
-ghost use Rattle.nullable_array.specs.Columns.{column_value};
-ghost use Rattle.nullable_array.specs.Distincts.{present_values, truths_of};
+ghost use Rattle.column_core.specs.Columns.{column_value};
+ghost use Rattle.nullable_array.specs.Distincts.{present_values, truths_of, AreMarked, IsMarkedMore};
 ghost use Rattle.nullable_array.specs.Folds.{step_row};
 
-use crate::columns::{Borrowed, ColRef};
-use crate::folds::{AllTrue, AnyTrue, fold_rows};
-use crate::rows::Source;
+use crate::folds::{AllTrue, AnyTrue, Greatest, Least, fold_rows};
+use crate::operators::ByNumber;
 use cell_core::NoMemory;
+use column_core::{Borrowed, ColRef, Source};
 use indexmap::IndexSet;
 use std::alloc::Global;
 use std::hash::Hash;
@@ -23,9 +24,68 @@ pub fn distinct(alloc: Global, a: ColRef<'_>) -> Result<u64, NoMemory>
     ensures { (texts : List (List ℕ)) → AreDistinct texts → AreGiven texts a.entry.cells → IfOk result (λ n. n ≡ distinct_count (column_value texts a.entry).cells) }
 {
     match &a.lanes {
-        Borrowed::Ints(lane) => distinct_values(alloc, lane),
+        Borrowed::Ints(lane) => distinct_numbers(alloc, lane),
         Borrowed::Truths(lane) => Ok(distinct_truths(lane)),
         Borrowed::Texts(lane) => distinct_values(alloc, lane),
+    }
+}
+
+// How many places there may be for each row, where the numbers are told by marks at places.
+const MOST_PLACES: u64 = 8;
+
+fn distinct_numbers<A: Source<i64>>(alloc: Global, a: &A) -> Result<u64, NoMemory>
+    ensures { IfOk result (λ n. n ≡ length (each_once int_eq (present_values (tabulate (A.count_of a.now) (A.row_of a.now))))) }
+{
+    let least = fold_rows(&Least { order: ByNumber }, None, a).unwrap_or(0);
+    let greatest = fold_rows(&Greatest { order: ByNumber }, None, a).unwrap_or(0);
+    let width = greatest.abs_diff(least);
+    if width < MOST_PLACES.saturating_mul(a.count() as u64) {
+        let mut marks = vec![in alloc; false; width as usize + 1]?;
+        if let Some(count) = count_marked(a, least, &mut marks) {
+            return Ok(count);
+        }
+    }
+    distinct_values(alloc, a)
+}
+
+// How many different numbers there are, where each has a place among the marks.
+fn count_marked<A: Source<i64>>(a: &A, least: i64, marks: &mut [bool]) -> Option<u64>
+    requires { AreMarked least marks.old [] }
+    ensures { IfSome result (λ n. n ≡ length (each_once int_eq (present_values (tabulate (A.count_of a.now) (A.row_of a.now))))) }
+{
+    let mut count = 0;
+    for row in 0..a.count() {
+        let added = mark(marks, least, a.get(row))?;
+        count += u64::from(added);
+    }
+    Some(count)
+}
+
+// Marks the place of a value that is present, and says whether it had no mark. `None` where there is no such place.
+fn mark(marks: &mut [bool], least: i64, value: Option<i64>) -> Option<bool>
+    ensures { IfSome result (λ added. (seen : List ℤ) → AreMarked least marks.old seen → IsMarkedMore least marks.new seen (step_row (insert_key int_eq) seen value) added) }
+{
+    match value {
+        Some(number) => {
+            let place = place_of(least, number)?;
+            if marks.len() <= place {
+                return None;
+            }
+            let added = !marks[place];
+            marks[place] = true;
+            Some(added)
+        }
+        None => Some(false),
+    }
+}
+
+fn place_of(least: i64, number: i64) -> Option<usize>
+    ensures { IfSome result (λ place. number ≡ least +ℤ pos place) }
+{
+    if number < least {
+        None
+    } else {
+        Some(number.abs_diff(least) as usize)
     }
 }
 

@@ -3,7 +3,7 @@ ghost use Rattle.std.specs.Prelude.{◌≡◌, ℕ, Bool, true, false, not, ◌|
 ghost use Rattle.nullable_array.specs.Folds.{step_row, folded, sum_step, one_of_truth, is_not_zero, least_step, greatest_step};
 
 use crate::operators::Order;
-use crate::rows::Source;
+use column_core::Source;
 use std::cmp::Ordering;
 
 /// A step of what is gathered.

@@ -4,25 +4,24 @@ ghost use Rattle.cell_core.specs.declared.cell.Kind.TheVariants.{Int64, Boolean,
 ghost use Rattle.meaning.specs.Cell.{datum, AreGiven, IsGiven, IsLonger};
 ghost use Rattle.meaning.specs.Column.{column_of, zero_division};
 ghost use Rattle.meaning.specs.Operator.{binary_column, scalar_binary, invert_column};
-ghost use Rattle.nullable_array.specs.Lanes.{option_at};
-ghost use Rattle.nullable_array.specs.Columns.{column_value, column_with, number_cell, truth_cell, text_cell};
-ghost use Rattle.nullable_array.specs.Views.{borrowed_column};
-ghost use Rattle.nullable_array.specs.Rows.{try_rows, map_rows};
+ghost use Rattle.column_core.specs.Lanes.{option_at};
+ghost use Rattle.column_core.specs.Columns.{column_value, column_with, number_cell, truth_cell, text_cell};
+ghost use Rattle.column_core.specs.Views.{borrowed_column};
+ghost use Rattle.column_core.specs.Rows.{try_rows, map_rows};
 ghost use Rattle.nullable_array.specs.Answers.{Answers};
 ghost use Rattle.nullable_array.specs.Tasks.{operator_of, task_column, scalar_task};
 
-use crate::columns::{Borrowed, ColRef, Column, Plain};
-use crate::lanes::Lane;
 use crate::operators::{
     Both, ByNumber, ByText, ByTruth, Compare, Difference, Either, Not, OneOf, Product, Quotient,
     Rest, Sum,
 };
 use crate::ops::{ArrayFault, Binary, Relation, Task, task_of};
 use crate::pairs::{PairOp, by_pairs};
-use crate::rows::{RowFault, RowOp, Source, by_rows};
-use crate::sources::{Dense, Nothing, Same};
 use crate::texts::{Join, text_column};
 use cell_core::{Cell, TextDict, TextId};
+use column_core::{
+    Borrowed, ColRef, Column, Dense, Lane, Nothing, Plain, RowFault, RowOp, Same, Source, by_rows,
+};
 use std::alloc::Global;
 
 /// The operator on each two cells that stand side by side. The columns have one length.

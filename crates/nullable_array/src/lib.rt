@@ -1,8 +1,7 @@
-//! Columns of nullable cells, and the operators, reductions and cumulations on them.
+//! The operators, reductions and cumulations on columns of nullable cells.
 //!
-//! A [`Column`] holds cells of one kind, a [`Block`] several columns of one kind and length, and a
-//! [`ColRef`] borrows cells of either with a step and copies none. Contracts see a column as its
-//! kind and its cells, and a text cell through the texts of the dictionary.
+//! A [`Column`] and a [`ColRef`] are those of `column_core`; each call here makes a new column, a cell or a
+//! number of the cells that it is given, and its answer is a definition on these cells.
 //!
 //! ```text
 //! let mut price = Column::new(alloc, Kind::Int64);
@@ -12,33 +11,27 @@
 //! ```
 #![tactic(auto)]
 
-mod blocks;
 mod casts;
-mod columns;
 mod cumulations;
 mod distinct_cells;
 mod floor;
 mod folds;
 mod kernels;
-mod lanes;
-mod moves;
+mod maps;
+mod membership;
+mod missing;
 mod operators;
 mod ops;
 mod pairs;
 mod reductions;
-mod rows;
-mod sources;
-mod strides;
-#[cfg(test)]
-mod tests;
 mod texts;
 
-pub use blocks::Block;
-pub use casts::cast;
-pub use columns::{ColRef, Column};
+pub use casts::{cast, number_of_text, truth_of_text};
+pub use column_core::{Block, ColRef, Column, shift, take};
 pub use cumulations::cumulate;
 pub use distinct_cells::distinct;
 pub use kernels::{binary, invert, with_scalar};
-pub use moves::{shift, take};
+pub use membership::isin;
+pub use missing::{fillna, isna, notna};
 pub use ops::{ArrayFault, Binary, Cumulation, Reduction};
 pub use reductions::reduce;

@@ -10,8 +10,8 @@ ghost use Rattle.nullable_array.specs.Operations.{number_row, division_row, comp
 
 use crate::floor::{quotient, rest};
 use crate::ops::Relation;
-use crate::rows::RowOp;
 use cell_core::{TextDict, TextId};
+use column_core::RowOp;
 use std::cmp::Ordering;
 
 #[derive(Drop)]

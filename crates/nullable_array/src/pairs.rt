@@ -1,16 +1,14 @@
 // The one loop over values that lie side by side, for the operations that refuse no row.
 ghost use Rattle.std.specs.Prelude.{◌≡◌, ◌<◌, ◌&&◌, ◌||◌, ◌+ℤ◌, ◌-ℤ◌, ◌*ℤ◌, ℕ, Bool, length, Some, IfOk};
 ghost use Rattle.std.specs.Int.{int_wrap, w64};
-ghost use Rattle.nullable_array.specs.Lanes.{option_at};
-ghost use Rattle.nullable_array.specs.Rows.{flagged, AreWritten};
+ghost use Rattle.column_core.specs.Lanes.{option_at};
+ghost use Rattle.column_core.specs.Rows.{flagged, AreWritten};
 ghost use Rattle.nullable_array.specs.Tasks.{passes};
 ghost use Rattle.nullable_array.specs.Pairs.{and_flag, or_flag, xor_value, number_pair, compare_pair, and_pair, or_pair, xor_pair};
 
-use crate::lanes::Owned;
 use crate::operators::{Both, Compare, Difference, Either, OneOf, Order, Product, Sum, is_in};
-use crate::rows::RowOp;
-use crate::sources::Dense;
 use cell_core::NoMemory;
+use column_core::{Dense, Owned, RowOp};
 use std::alloc::Global;
 
 /// An operation that refuses no row, told by flags: where a flag is false, its value may be any.

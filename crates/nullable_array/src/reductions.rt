@@ -3,18 +3,16 @@ ghost use Rattle.std.specs.Prelude.{◌≡◌, true, ◌<◌, ℕ, List, Option,
 ghost use Rattle.cell_core.specs.declared.cell.Kind.TheVariants.{Int64, Boolean, Text as string};
 ghost use Rattle.meaning.specs.Cell.{datum, holds, AreGiven, IsGiven};
 ghost use Rattle.meaning.specs.Reduce.{reduction_cell, reduce_column};
-ghost use Rattle.nullable_array.specs.Columns.{column_value, column_with, number_cell, truth_cell, text_cell};
-ghost use Rattle.nullable_array.specs.Views.{borrowed_column};
+ghost use Rattle.column_core.specs.Columns.{column_value, column_with, number_cell, truth_cell, text_cell};
+ghost use Rattle.column_core.specs.Views.{borrowed_column};
 ghost use Rattle.nullable_array.specs.Folds.{reduction_of, reduced_kind};
 ghost use Rattle.nullable_array.specs.Answers.{AnswersCell};
 
-use crate::columns::{Borrowed, ColRef, cell_of_number, cell_of_text, cell_of_truth};
 use crate::folds::{AllTrue, AnyTrue, Greatest, HowMany, Least, Total, fold_rows};
-use crate::lanes::Lane;
 use crate::operators::{ByNumber, ByText, ByTruth};
 use crate::ops::{ArrayFault, Reduction};
-use crate::rows::Source;
 use cell_core::{Cell, TextDict, TextId};
+use column_core::{Borrowed, ColRef, Lane, Source, cell_of_number, cell_of_text, cell_of_truth};
 
 /// What a reduction makes of the present cells: a sum or a count wraps and is 0 where there is none, `any` is then
 /// False and `all` True, and a least or greatest cell is NA.

@@ -5,14 +5,12 @@ ghost use Rattle.cell_core.specs.declared.cell.Kind.TheVariants.{Text as string}
 ghost use Rattle.meaning.specs.Cell.{text_of, IsGiven, AreGiven, IsLonger};
 ghost use Rattle.meaning.specs.Column.{tabulate};
 ghost use Rattle.meaning.specs.Cast.{truth_text};
-ghost use Rattle.nullable_array.specs.Columns.{text_cell, text_value, column_value};
+ghost use Rattle.column_core.specs.Columns.{text_cell, text_value, column_value};
 ghost use Rattle.nullable_array.specs.Operations.{both};
-ghost use Rattle.nullable_array.specs.Rows.{text_if, IsTextRow, AreTexts};
+ghost use Rattle.column_core.specs.Rows.{text_if, IsTextRow, AreTexts};
 
-use crate::columns::{Column, Value};
-use crate::lanes::Owned;
-use crate::rows::Source;
 use cell_core::{NoMemory, TextDict, TextId};
+use column_core::{Column, Owned, Source, Value};
 use itoa::Buffer;
 use std::alloc::{AllocError, Global};
 

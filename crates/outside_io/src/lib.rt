@@ -20,8 +20,6 @@ mod mem_sink;
 mod real;
 mod shelf;
 mod sink;
-#[cfg(test)]
-mod tests;
 mod whole;
 
 pub use files::{Fetch, Files, Got};

@@ -4,8 +4,8 @@ use Rattle.meaning.specs.Text.{Text}
 use Rattle.meaning.specs.Cell.{CellValue, na_cell, int_cell, truth_cell, text_cell, LabelValue}
 use Rattle.meaning.specs.Operator.{cell_label}
 use Rattle.meaning.specs.Fault.{FaultValue, no_name, no_attribute, not_built}
-use Rattle.meaning.specs.Tree as tree
-use Rattle.meaning.specs.Tree.{Expr, Step, Sub, OptionalSub, OptionalArg, OptionalExpr, Arg, ArgList, Args, ArgPairs}
+use Rattle.language_meaning.specs.Tree as tree
+use Rattle.language_meaning.specs.Tree.{Expr, Step, Sub, OptionalSub, OptionalArg, OptionalExpr, Arg, ArgList, Args, ArgPairs}
 use Rattle.table_meaning.specs.Value.{Entry, cell, Given, GivenList, GivenPairs, GivenSub, NamedGiven, nothing, one, row, many, entries, no_given, more_given, no_entries, more_entries, key_given, span_given}
 use Rattle.form_meaning.specs.declared.Function.TheVariants.{ReadCsv}
 use Rattle.form_meaning.specs.Signature.{function_named}

@@ -3,11 +3,11 @@ use Rattle.std.specs.Prelude.{◌≡◌, ◌⊎◌, ℕ, ◌+◌, ◌-◌, ◌<�
 use Rattle.std.specs.List.{flat_map, position_or_len}
 use Rattle.std.specs.FinMap.{get}
 use Rattle.meaning.specs.Text.{Text, Contents}
-use Rattle.meaning.specs.Tree.{Statement}
+use Rattle.language_meaning.specs.Tree.{Statement}
 use Rattle.script_meaning.specs.Reading.{Files, Reading, path_of_name}
 use Rattle.script_meaning.specs.State.{State, no_names}
 use Rattle.script_meaning.specs.Statement.{Answer, done, refused, statement_result}
-use Rattle.meaning.specs.Script.{IsScript, IsSyntaxLine, most_bytes}
+use Rattle.language_meaning.specs.Script.{IsScript, IsSyntaxLine, most_bytes}
 use Rattle.meaning.specs.FaultText.{fault_text}
 
 -- how a run ends: after its last statement, at a fault, at words that are no run or a script that isn't there, at a text that is no script

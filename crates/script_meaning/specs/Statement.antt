@@ -4,7 +4,7 @@ use Rattle.std.specs.Fmt.{signed_decimal}
 use Rattle.meaning.specs.Text.{Text}
 use Rattle.meaning.specs.Cell.{CellValue, na_cell, int_cell, truth_cell, text_cell}
 use Rattle.meaning.specs.Fault.{FaultValue}
-use Rattle.meaning.specs.Tree as tree
+use Rattle.language_meaning.specs.Tree as tree
 use Rattle.table_meaning.specs.Table.{Table}
 use Rattle.table_meaning.specs.Value.{Entry, Given, cell, table}
 use Rattle.form_meaning.specs.Set.{assign_result, removal_result}

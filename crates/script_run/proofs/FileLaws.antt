@@ -6,8 +6,8 @@ use Rattle.outside_io.specs.Count.{HasRisen}
 use Rattle.outside_io.specs.Sink.{appended, AppendsFront}
 use Rattle.outside_io.proofs.Appended.{appended-nil}
 use Rattle.meaning.specs.Text.{Text, Contents}
-use Rattle.meaning.specs.Tree.{Statement}
-use Rattle.meaning.specs.Script.{most_bytes}
+use Rattle.language_meaning.specs.Tree.{Statement}
+use Rattle.language_meaning.specs.Script.{most_bytes}
 use Rattle.script_meaning.specs.Reading.{Files}
 use Rattle.script_meaning.specs.State.{no_names}
 use Rattle.script_meaning.specs.Run.{RunResult, RunWords, IsScriptResult, IsFileResult, IsWordsResult, fetched, statements_result, with_line, too_large_line, syntax_line, not_found_line, syntax, usage}

@@ -3,3 +3,4 @@ pub mod RunLaws
 pub mod FileLaws
 pub mod Quoting
 pub mod KeyLaws
+pub mod CauseLaws

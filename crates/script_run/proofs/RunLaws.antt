@@ -7,7 +7,7 @@ use Rattle.outside_io.specs.Count.{HasRisen}
 use Rattle.outside_io.specs.Sink.{appended, AppendsFront, AppendsPart}
 use Rattle.outside_io.proofs.Appended.{appended-appended, appended-nil}
 use Rattle.meaning.specs.Text.{Text, Contents}
-use Rattle.meaning.specs.Tree.{Statement}
+use Rattle.language_meaning.specs.Tree.{Statement}
 use Rattle.meaning.specs.Fault.{FaultValue}
 use Rattle.meaning.specs.FaultText.{fault_text}
 use Rattle.script_meaning.specs.Reading.{Files, Reading, at_once}

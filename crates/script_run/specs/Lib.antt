@@ -1,4 +1,5 @@
 pub mod Ends
+pub mod Causes
 pub mod Exit
 pub mod Names
 pub mod Steps

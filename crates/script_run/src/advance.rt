@@ -7,8 +7,9 @@ ghost use Rattle.meaning.specs.FaultText.{fault_text};
 ghost use Rattle.script_meaning.specs.Run.{line_about, warning_line};
 ghost use Rattle.script_meaning.specs.Statement.{statement_result};
 ghost use Rattle.script_syntax.specs.View.{form_of};
-ghost use Rattle.script_session.specs.Reads.{files_in};
+ghost use Rattle.script_session.specs.Reads.{files_in, paths_of};
 ghost use Rattle.script_session.specs.Session.{state_of};
+ghost use Rattle.script_run.specs.Causes.{Warns, FailsUnlessAbsent};
 ghost use Rattle.script_run.specs.Ends.{outside, EndsWithLine};
 ghost use Rattle.script_run.specs.Steps.{GoesOn, Stops};
 
@@ -38,6 +39,11 @@ pub fn advance<F: Files, O: Sink, E: Sink>(
     ensures usage { IfErr result (λ status. status ≢ Status.Usage) }
     ensures input { IfErr result (λ status. status ≡ Status.Input → HasRisen (F.faults files.old) (F.faults files.new)) }
     ensures output { IfErr result (λ status. status ≡ Status.Output → HasRisen (O.faults out.old) (O.faults out.new) ⊎ HasRisen (E.faults err.old) (E.faults err.new)) }
+
+    // What it writes on the errors: warnings alone where the run goes on, and the line of a fault where it ends at one.
+    ensures warned { OnOk result (Warns (E.written err.old) (E.written err.new)) }
+    ensures cause { IfErr result (λ status. status ≡ Status.Fault →
+        FailsUnlessAbsent (paths_of names.now) (F.absences files.old) (F.absences files.new) (E.written err.old) (E.written err.new)) }
 
     ensures contents { F.contents files.new ≡ F.contents files.old }
     ensures faults { F.faults files.old ≤ F.faults files.new }

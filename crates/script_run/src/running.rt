@@ -5,6 +5,7 @@ ghost use Rattle.script_meaning.specs.State.{no_names};
 ghost use Rattle.script_meaning.specs.Run.{not_found_line, run_in, statements_result, syntax_line, too_large_line, usage, usage_line, with_line, IsRunResult, IsScriptResult, IsWordsResult};
 ghost use Rattle.script_syntax.specs.ScriptView.{statements_of};
 ghost use Rattle.script_session.specs.Reads.{files_in, paths_of};
+ghost use Rattle.script_run.specs.Causes.{FailsUnlessAbsent};
 ghost use Rattle.script_run.specs.Ends.{outside, Ends, EndsByMeaning, EndsWithLine, Is};
 
 use crate::advance::advance;
@@ -30,9 +31,10 @@ const MOST_BYTES: usize = 1 << 20;
 /// The script is fetched once, before its first statement. A statement fetches the file of a name each
 /// time that it reads it, and no file is fetched before.
 ///
-/// The status is `Done` after the last statement, and `Fault` at the first one that is refused; a name
-/// without a file is such a fault. It is `Usage` where the words are no run, for which the usage line is
-/// written on `err`, or the files don't hold the script, and `Syntax` where its bytes are no script.
+/// The status is `Done` after the last statement, and `Fault` at the first one that is refused. A name
+/// without a file is such a fault; it comes only where the name isn't given, or a count of absences rose.
+/// The status is `Usage` where the words are no run, for which the usage line is written on `err`, or the
+/// files don't hold the script, and `Syntax` where its bytes are no script.
 /// `Input` comes only where a count of failed reads rose, `Output` only where a count of failed writes
 /// did; with them and with `Memory` a front of what the run means was written. After a failed read that
 /// is all that the statements before it print, and then the line `input failed`, unless a write failed
@@ -55,6 +57,10 @@ pub fn run<F: Files, O: Sink, E: Sink>(
     // Words that are no run have one meaning, whatever the files tell, and fetch nothing.
     ensures words { IfNone (run_in (map string_bytes words.now.items)) (Ends (Is (with_line usage_line usage)) result (outside F.fetches O.written O.faults E.written E.faults files.old out.old err.old) (outside F.fetches O.written O.faults E.written E.faults files.new out.new err.new)) }
     ensures fetches { IfNone (run_in (map string_bytes words.now.items)) (F.fetches files.new ≡ F.fetches files.old) }
+
+    // A fault is that the file of a given name isn't there only where a fetch found nothing, whatever the files tell.
+    ensures cause { IfSome (run_in (map string_bytes words.now.items)) (λ run. result ≡ Status.Fault →
+        FailsUnlessAbsent run.paths (F.absences files.old) (F.absences files.new) (E.written err.old) (E.written err.new)) }
 
     // The causes of the other answers.
     ensures usage { result ≡ Status.Usage → IsSome (run_in (map string_bytes words.now.items)) → HasRisen (F.absences files.old) (F.absences files.new) }
@@ -101,6 +107,8 @@ fn run_file<F: Files, O: Sink, E: Sink>(
 ) -> Status
     ensures told { IfSome (F.contents files.old) (λ held. Ends (IsWordsResult (Some record { script = path.now; paths = paths_of names.now }) held) result (outside F.fetches O.written O.faults E.written E.faults files.old out.old err.old) (outside F.fetches O.written O.faults E.written E.faults files.new out.new err.new)) }
 
+    ensures cause { result ≡ Status.Fault →
+        FailsUnlessAbsent (paths_of names.now) (F.absences files.old) (F.absences files.new) (E.written err.old) (E.written err.new) }
     ensures usage { result ≡ Status.Usage → HasRisen (F.absences files.old) (F.absences files.new) }
     ensures input { result ≡ Status.Input → HasRisen (F.faults files.old) (F.faults files.new) }
     ensures output { result ≡ Status.Output → HasRisen (O.faults out.old) (O.faults out.new) ⊎ HasRisen (E.faults err.old) (E.faults err.new) }
@@ -167,6 +175,8 @@ fn run_bytes<F: Files, O: Sink, E: Sink>(
 ) -> Status
     ensures told { IfSome (F.contents files.old) (λ held. Ends (IsScriptResult (files_in names.now held) bytes.now) result (outside F.fetches O.written O.faults E.written E.faults files.old out.old err.old) (outside F.fetches O.written O.faults E.written E.faults files.new out.new err.new)) }
 
+    ensures cause { result ≡ Status.Fault →
+        FailsUnlessAbsent (paths_of names.now) (F.absences files.old) (F.absences files.new) (E.written err.old) (E.written err.new) }
     ensures usage { result ≢ Status.Usage }
     ensures input { result ≡ Status.Input → HasRisen (F.faults files.old) (F.faults files.new) }
     ensures output { result ≡ Status.Output → HasRisen (O.faults out.old) (O.faults out.new) ⊎ HasRisen (E.faults err.old) (E.faults err.new) }
@@ -196,6 +206,8 @@ fn run_script<F: Files, O: Sink, E: Sink>(
 ) -> Status
     ensures told { IfSome (F.contents files.old) (λ held. Ends (Is (statements_result (files_in names.now held) no_names (statements_of script.now))) result (outside F.fetches O.written O.faults E.written E.faults files.old out.old err.old) (outside F.fetches O.written O.faults E.written E.faults files.new out.new err.new)) }
 
+    ensures cause { result ≡ Status.Fault →
+        FailsUnlessAbsent (paths_of names.now) (F.absences files.old) (F.absences files.new) (E.written err.old) (E.written err.new) }
     ensures usage { result ≢ Status.Usage }
     ensures input { result ≡ Status.Input → HasRisen (F.faults files.old) (F.faults files.new) }
     ensures output { result ≡ Status.Output → HasRisen (O.faults out.old) (O.faults out.new) ⊎ HasRisen (E.faults err.old) (E.faults err.new) }

@@ -159,6 +159,3 @@ fn push_long_row(line: &mut String, number: u64, expected: u64, seen: u64) -> Re
     push_counted(line, ", expected ", expected)?;
     push_counted(line, ", saw ", seen)
 }
-
-#[cfg(test)]
-mod tests;

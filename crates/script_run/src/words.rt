@@ -90,6 +90,3 @@ fn names_path(word: &str) -> bool
         [first, ..] => *first != b'-',
     }
 }
-
-#[cfg(test)]
-mod tests;

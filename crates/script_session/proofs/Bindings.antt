@@ -1,10 +1,9 @@
 -- Names that get values and lose them.
-use Rattle.std.proofs.Common.{◌≡◌, ℕ, Bool, true, false, ◌||◌, List, [], ◌∷◌, map, Option, Some, None, refl, sym, ◌∙◌, ap, string_bytes}
+use Rattle.std.proofs.Common.{◌≡◌, ℕ, Bool, true, false, List, [], ◌∷◌, map, Option, Some, None, refl, sym, ◌∙◌, ap, string_bytes}
 use Rattle.std.specs.Prelude.{if◌then◌else◌}
 use Rattle.std.specs.declared.string.String.{String}
 use Rattle.std.specs.String.{string_eq}
-use Rattle.std.specs.List.{list_any}
-use Rattle.std.specs.Map.{lookup, values_of}
+use Rattle.std.specs.Map.{lookup}
 use Rattle.indexmap.specs.IndexMap.{insert_entry, shift_remove_entry}
 use Rattle.meaning.specs.Text.{Text, same_text}
 use Rattle.script_meaning.specs.State.{with_name}
@@ -92,11 +91,3 @@ named_object (b ∷ bs) n id e = go (named_object bs n id) (same_text n b.0) e
     go : (value_at bs n ≡ Some (Object id) → is_named bs id.0 ≡ true) → (c : Bool) → (if c then Some b.1 else value_at bs n) ≡ Some (Object id) → (if is_object b.1 id.0 then true else is_named bs id.0) ≡ true
     go later true h = ap (λ (o : Option Value). if in_some o then true else is_named bs id.0) h ∙ ap (λ c. if c then true else is_named bs id.0) (nat_eq_self id.0)
     go later false h = right (is_object b.1 id.0) _ (later h)
-
-pub any-is_named : {Y : Type 0} (es : List (String Y × Value)) (id : ℕ) → list_any (λ v. is_object v id) (values_of es) ≡ is_named (bindings_of es) id
-any-is_named [] id = refl
-any-is_named (e ∷ es) id = go (is_object e.1 id) (any-is_named es id)
-  where
-    go : (b : Bool) → list_any (λ v. is_object v id) (values_of es) ≡ is_named (bindings_of es) id → b || list_any (λ v. is_object v id) (values_of es) ≡ (if b then true else is_named (bindings_of es) id)
-    go true rest = refl
-    go false rest = rest

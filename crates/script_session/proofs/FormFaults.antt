@@ -1,12 +1,13 @@
 -- No form on values has the fault that a file isn't there.
-use Rattle.std.specs.Prelude.{ℕ, ℤ, pos, Bool, true, false, List, [], ◌∷◌, Option, Some, None, Result, Ok, Err, if◌then◌else◌}
+use Rattle.std.proofs.Common.{ap}
+use Rattle.std.specs.Prelude.{◌≡◌, ℕ, ℤ, pos, Bool, true, false, List, [], ◌∷◌, Option, Some, None, Result, Ok, Err, if◌then◌else◌}
 use Rattle.cell_core.specs.declared.cell.Kind.{Kind}
 use Rattle.cell_core.specs.declared.grid.Shape.{Shape}
 use Rattle.cell_core.specs.declared.grid.Shape.TheVariants.{Series, Frame}
 use Rattle.meaning.specs.Text.{Text}
 use Rattle.meaning.specs.Cell.{CellValue, int_cell, LabelValue}
 use Rattle.meaning.specs.Column.{ColumnValue, ColumnFault, kind_mismatch, zero_division, not_cast}
-use Rattle.meaning.specs.Tree.{Accessor, Binary, sub}
+use Rattle.language_meaning.specs.Tree.{Accessor, Binary, sub}
 use Rattle.meaning.specs.Fault.{FaultValue, then_value}
 use Rattle.table_meaning.specs.Table.{ColumnOf, Table}
 use Rattle.table_meaning.specs.Value.{Entry, cell, table, Given, GivenList, GivenSub, NamedGiven, nothing, one, row, many, entries, key_given, span_given}
@@ -21,11 +22,12 @@ use Rattle.form_meaning.specs.Infix.{Meeting, infix_table, scalar_infix, on_leve
 use Rattle.form_meaning.specs.Set.{Target, item_target, access_target, list_column, of_length, column_set, list_set, series_set, object_set, label_set, frame_set, item_set, position_set, access_set, set_result, brackets_set, assign_result, table_removal, removal_result}
 use Rattle.form_meaning.specs.Make.{cast_to, with_index, on, series_of, series_result, all_of_length, frame_with, frame_of, frame_result}
 use Rattle.form_meaning.specs.Functions.{constructed, made_by, made_named, make_result}
+use Rattle.form_meaning.specs.Signature.{function_named}
 use Rattle.csv_meaning.specs.CsvRead.{CsvValue, CsvRefusal, not_utf8, no_record, long_record, not_of_kind, beyond_limits}
 use Rattle.method_meaning.specs.Methods.{each_column, filled_column, Summary, reduced, distinct, made_cell, summary_cell, summary_as, summary_of, renamed_frame, csv_answer, answer_for}
 use Rattle.method_meaning.specs.Calls as call
 use Rattle.method_meaning.specs.Calls.{ChainValue, called, method_result, not_built_if, chain_result}
-use Rattle.method_meaning.specs.Readers.{name_in, name_of_bound, file_name_of, fault_of_refusal, frame_or_fault, csv_result, read_result, make_with}
+use Rattle.method_meaning.specs.Readers.{name_in, name_of_bound, file_name_of, fault_of_refusal, frame_or_fault, csv_result, reads_file, read_result, make_with}
 use Rattle.script_session.specs.FormFault.{IsOfForm, HasFormFault}
 
 -- what forms share
@@ -410,4 +412,8 @@ read_result_fault bytes gs = on_bound_fault _ _ (csv_result_fault bytes)
 
 pub make_with_fault : (file : Option (List ℕ)) (name : Text) (gs : List NamedGiven) → HasFormFault (make_with file name gs)
 make_with_fault None name gs = make_result_fault name gs
-make_with_fault (Some bytes) name gs = read_result_fault bytes gs
+make_with_fault (Some bytes) name gs = if_fault (reads_file (function_named name)) (read_result bytes gs) (make_result name gs) (read_result_fault bytes gs) (make_result_fault name gs)
+
+-- what a function that reads a file makes of the bytes is what is read
+pub reads_made : (bytes : List ℕ) (name : Text) (gs : List NamedGiven) → reads_file (function_named name) ≡ true → make_with (Some bytes) name gs ≡ read_result bytes gs
+reads_made bytes name gs reads = ap (λ b. if b then read_result bytes gs else make_result name gs) reads

@@ -15,3 +15,8 @@ pub mod Answering
 pub mod Settings
 pub mod Lengths
 pub mod Printed
+pub mod Validity
+pub mod Evaluations
+pub mod Gathering
+pub mod Seconds
+pub mod UseLaws

@@ -261,11 +261,6 @@ pub halts_later : {A X : Type 0} (texts : List Text) (files : Files) (third : Sh
     → Serves first second → Goes files.held first second whole (gives a) → Halts stop texts files second third (go a) f → Halts stop texts files first third (then_or stop whole go) f
 halts_later texts files third stop go a f serves g h = halts_both stop texts files third f serves (goes_value stop go a (go a) g refl) h
 
-module _ {A B : Type 0} {held : Contents} {x : Reads A} {y : Reads B} where
-  pub both_values : {first second third : Shelf} (a : A) (b : B) → Serves first second → Goes held first second x (gives a) → Goes held second third y (gives b) → Goes held first third (both_of x y) (let p : A × B = (a, b) in gives p)
-  both_values a b serves p q =
-      goes_both serves (goes_value Err (λ v. then_read y (λ w. let p : A × B = (v, w) in gives p)) a _ p refl) (goes_value Err (λ w. let p : A × B = (a, w) in gives p) b _ q refl)
-
 -- what an evaluation reaches
 module _ {V A : Type 0} (view : V → A) (texts : List Text) (files : Files) where
   pub reaches_both : (third : Shelf) {first second : Shelf} {whole rest : Reads A} (r : Result V EvalFault) → Serves first second → Goes files.held first second whole rest
@@ -299,10 +294,6 @@ evaluated_if P r r' is h = subst (λ r. IfOk r P) (sym is) (at r h)
     at (Ok v) h = h
     at (Err (OpRefused code)) h = tt
     at (Err OpNoMemory) h = tt
-
--- what follows a name that is there
-pub where_known : (known : Bool) (n : Text) (rest : Reads Entry) → known ≡ true → where_named known n rest ≡ rest
-where_known known n rest is = ap (λ k. where_named k n rest) is
 
 -- a name that isn't there is the fault, or memory was refused
 pub unknown_fault : (texts : List Text) (files : Files) (s : Shelf) (f : EvalFault) (known : Bool) (n : Text) (rest : Reads Entry) → IsNoAttribute f n known → Halts Err texts files s s (where_named known n rest) f

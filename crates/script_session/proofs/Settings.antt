@@ -3,7 +3,7 @@ use Rattle.std.proofs.Common.{◌≡◌, Bool, Option, Some, None, refl, ◌∙�
 use Rattle.std.specs.Prelude.{if◌then◌else◌, ◌||◌, Result, Ok, Err, OnOk}
 use Rattle.meaning.specs.Text.{Text}
 use Rattle.meaning.specs.Fault.{FaultValue}
-use Rattle.meaning.specs.Tree as tree
+use Rattle.language_meaning.specs.Tree as tree
 use Rattle.table_meaning.specs.Table.{Table}
 use Rattle.table_meaning.specs.Value.{table}
 use Rattle.script_meaning.specs.State.{State}

@@ -1,9 +1,9 @@
 -- Trees, as their parts.
 use Rattle.std.proofs.Common.{◌≡◌, ℕ, zero, suc, ◌+◌, ◌≤◌, length, List, [], ◌∷◌, drop, slice_get, Option, Some, None, refl, ◌∙◌, ap, arith}
 use Rattle.meaning.specs.Text.{Text}
-use Rattle.meaning.specs.Tree as tree
-use Rattle.meaning.specs.Tree.{arg_list, named_args, arg_pairs}
-use Rattle.meaning.specs.Depth.{arg_depth, list_depth, args_depth, pairs_depth}
+use Rattle.language_meaning.specs.Tree as tree
+use Rattle.language_meaning.specs.Tree.{arg_list, named_args, arg_pairs}
+use Rattle.language_meaning.specs.Depth.{arg_depth, list_depth, args_depth, pairs_depth}
 use Rattle.script_syntax.specs.declared.literal.Accessor.{Accessor}
 use Rattle.script_syntax.specs.declared.tree.Sub.{Sub}
 use Rattle.script_syntax.specs.declared.tree.Sub.TheVariants as sub

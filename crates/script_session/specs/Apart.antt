@@ -3,7 +3,7 @@ use Rattle.std.specs.Prelude.{◌≡◌, false, Option, Some, None}
 use Rattle.meaning.specs.Text.{Text, same_text}
 use Rattle.script_meaning.specs.State.{State}
 use Rattle.script_meaning.specs.Expression.{named_by}
-use Rattle.meaning.specs.Tree as tree
+use Rattle.language_meaning.specs.Tree as tree
 
 -- A setting through a name changes the values of that name and of the names of its object alone, and a setting on an object without a name changes nothing. A removal of a column is one through its name.
 abbrev pub IsSetApart : Option Text → State → State → Type 0

@@ -1,5 +1,5 @@
 -- Names, and the state that they and their values make.
-use Rattle.std.specs.Prelude.{◌≡◌, ℕ, Bool, true, false, List, [], ◌∷◌, ◌++◌, map, Option, Some, None, IsSome, if◌then◌else◌, nat_eq, option_map, string_bytes}
+use Rattle.std.specs.Prelude.{◌≡◌, ℕ, suc, Bool, true, false, List, [], ◌∷◌, ◌++◌, map, Option, Some, None, IsSome, if◌then◌else◌, nat_eq, option_map, string_bytes}
 use Rattle.std.specs.declared.string.String.{String}
 use Rattle.cell_core.specs.declared.cell.Cell.{Cell}
 use Rattle.meaning.specs.Text.{Text, same_text}
@@ -42,6 +42,11 @@ is_object (Scalar c) id = false
 abbrev pub is_named : Bindings → ℕ → Bool
 is_named [] id = false
 is_named (b ∷ bs) id = if is_object b.1 id then true else is_named bs id
+
+-- how many names stand for the object
+abbrev pub uses_of : Bindings → ℕ → ℕ
+uses_of [] id = 0
+uses_of (b ∷ bs) id = if is_object b.1 id then suc (uses_of bs id) else uses_of bs id
 
 -- both stand for an object, and it is one
 abbrev pub one_object : Option Value → Option Value → Bool

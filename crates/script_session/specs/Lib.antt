@@ -1,9 +1,11 @@
 pub mod Values
 pub mod Bindings
+pub mod Uses
 pub mod FormFault
 pub mod Reads
 pub mod Faults
 pub mod Parts
 pub mod Work
+pub mod Evaluates
 pub mod Apart
 pub mod Session

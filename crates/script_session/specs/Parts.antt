@@ -1,6 +1,6 @@
 -- Parts of trees that may be left out, and parts that are evaluated one after the other.
 use Rattle.std.specs.Prelude.{Option, Some, None, option_map}
-use Rattle.meaning.specs.Tree as tree
+use Rattle.language_meaning.specs.Tree as tree
 use Rattle.script_meaning.specs.Reading.{Reads, gives, then_read}
 use Rattle.script_syntax.specs.declared.tree.Sub.{Sub}
 use Rattle.script_syntax.specs.declared.tree.Expr.{Expr}

@@ -6,7 +6,7 @@ use Rattle.script_session.specs.Bindings.{Bindings, bindings_of, state_over}
 use Rattle.script_session.specs.declared.work.Work.{Work}
 
 abbrev pub names_in : Work → Bindings
-names_in w = bindings_of w.names.entries
+names_in w = bindings_of w.names.values.entries
 
 abbrev pub tables_in : Work → Tables
 tables_in w = tables w.store

@@ -1,14 +1,11 @@
 // The values of expressions and arguments. What they make is noted.
-ghost use Rattle.std.specs.Prelude.{◌≡◌, None, IfOk, IfSome, option_map};
-ghost use Rattle.meaning.specs.Text.{Contents};
-ghost use Rattle.meaning.specs.Tree.{arg_list, named_args, arg_pairs};
-ghost use Rattle.frame_store.specs.Arguments.{argument_of, arguments_of, entries_of, item_of, items_of, subscript_of};
-ghost use Rattle.script_meaning.specs.Expression.{named_by, value_of, stepped, given_of, part_of, parts_of as parts_given, pairs_of, named_of, sub_of, second_of, bound_of, stride_of};
+ghost use Rattle.std.specs.Prelude.{None};
+ghost use Rattle.language_meaning.specs.Tree.{arg_list, named_args, arg_pairs};
+ghost use Rattle.script_meaning.specs.Expression.{named_by, value_of, stepped, given_of, part_of, parts_of as parts_given, pairs_of, named_of, sub_of, second_of, bound_of};
 ghost use Rattle.script_syntax.specs.View.{expr_of, step_of, sub_of as view_sub, arg_of, optional_arg, parts_of, named_parts_of, pair_parts_of};
-ghost use Rattle.script_session.specs.Values.{Keeps, IsKnownValue, IsKnownItem, AreKnownItems, IsKnownArgument, AreKnownPairs, AreKnownArguments, IsKnownSubscript, entry_in};
-ghost use Rattle.script_session.specs.Bindings.{IsOf};
-ghost use Rattle.script_session.specs.Reads.{files_in, shelf, Serves, Reaches};
-ghost use Rattle.script_session.specs.Parts.{optional_sub, optional_expr, both_of, last_of};
+ghost use Rattle.script_session.specs.Values.{IsKnownValue, IsKnownItem, AreKnownItems, IsKnownArgument, AreKnownPairs, AreKnownArguments, IsKnownSubscript, entry_in};
+ghost use Rattle.script_session.specs.Evaluates.{moment, IsValue, Evaluates, AreSubscripts, item_in, items_in, argument_in, pairs_in, arguments_in, subscript_in, subscripts_in};
+ghost use Rattle.script_session.specs.Parts.{optional_sub, both_of, last_of};
 
 use crate::fault::{EvalFault, evaluated};
 use crate::file_names::FileNames;
@@ -23,7 +20,7 @@ use outside_io::Files;
 use script_syntax::{Arg, ArgList, ArgPairs, Args, Expr, Step, Sub};
 
 impl Work {
-    ghost use Rattle.script_session.specs.Work.{names_in, world_of, state_in};
+    ghost use Rattle.script_session.specs.Work.{world_of};
 
     // The value of an expression.
     #[cycle(evaluating)]
@@ -33,12 +30,10 @@ impl Work {
         names: &FileNames,
         expr: &Expr,
     ) -> Result<Value, EvalFault>
-        ensures names { names_in self.new ≡ names_in self.old }
-        ensures kept { Keeps (world_of self.old) (world_of self.new) }
-        ensures reads { (held : Contents) → Reaches (entry_in (world_of self.new)) (world_of self.new).texts (files_in names.now held) (shelf F.contents F.fetches F.faults F.absences files.old) (shelf F.contents F.fetches F.faults F.absences files.new) (value_of (files_in names.now held) (state_in self.old) (expr_of expr.now)) result }
-        ensures known { IfOk result (λ v. IsKnownValue (world_of self.new) v) }
-        ensures object { IfOk result (λ v. IsOf (names_in self.new) (named_by (expr_of expr.now)) v) }
-        ensures serves { Serves (shelf F.contents F.fetches F.faults F.absences files.old) (shelf F.contents F.fetches F.faults F.absences files.new) }
+        ensures { let at = moment F.contents F.fetches F.faults F.absences in
+            Evaluates names.now (IsValue (named_by (expr_of expr.now))) entry_in
+            (λ fs s. value_of fs s (expr_of expr.now))
+            (at self.old files.old) (at self.new files.new) result }
     {
         match expr {
             Expr::Name(name) => self.named(name),
@@ -48,7 +43,8 @@ impl Work {
                 evaluated(self.sign(*op, value))
             }
             Expr::Infix(op, left, right) => {
-                let (a, b) = self.two(files, names, left, right)?;
+                let a = self.evaluate(files, names, left)?;
+                let b = self.evaluate(files, names, right)?;
                 evaluated(self.infix(*op, a, b))
             }
             Expr::After(object, step) => {
@@ -68,27 +64,6 @@ impl Work {
         }
     }
 
-    // The values of two expressions, from left to right.
-    #[cycle(evaluating)]
-    fn two<F: Files>(
-        &mut self,
-        files: &mut F,
-        names: &FileNames,
-        a: &Expr,
-        b: &Expr,
-    ) -> Result<(Value, Value), EvalFault>
-        ensures names { names_in self.new ≡ names_in self.old }
-        ensures kept { Keeps (world_of self.old) (world_of self.new) }
-        ensures reads { (held : Contents) → Reaches (λ p. (entry_in (world_of self.new) p.0, entry_in (world_of self.new) p.1)) (world_of self.new).texts (files_in names.now held) (shelf F.contents F.fetches F.faults F.absences files.old) (shelf F.contents F.fetches F.faults F.absences files.new) (both_of (value_of (files_in names.now held) (state_in self.old) (expr_of a.now)) (value_of (files_in names.now held) (state_in self.old) (expr_of b.now))) result }
-        ensures left { IfOk result (λ p. IsKnownValue (world_of self.new) p.0) }
-        ensures right { IfOk result (λ p. IsKnownValue (world_of self.new) p.1) }
-        ensures serves { Serves (shelf F.contents F.fetches F.faults F.absences files.old) (shelf F.contents F.fetches F.faults F.absences files.new) }
-    {
-        let x = self.evaluate(files, names, a)?;
-        let y = self.evaluate(files, names, b)?;
-        Ok((x, y))
-    }
-
     // The value of a step after an object.
     #[cycle(evaluating)]
     fn after<F: Files>(
@@ -99,12 +74,10 @@ impl Work {
         step: &Step,
     ) -> Result<Value, EvalFault>
         requires { IsKnownValue (world_of self.old) on }
-        ensures names { names_in self.new ≡ names_in self.old }
-        ensures kept { Keeps (world_of self.old) (world_of self.new) }
-        ensures reads { (held : Contents) → Reaches (entry_in (world_of self.new)) (world_of self.new).texts (files_in names.now held) (shelf F.contents F.fetches F.faults F.absences files.old) (shelf F.contents F.fetches F.faults F.absences files.new) (stepped (files_in names.now held) (state_in self.old) (entry_in (world_of self.old) on) (step_of step.now)) result }
-        ensures known { IfOk result (λ v. IsKnownValue (world_of self.new) v) }
-        ensures object { IfOk result (λ v. IsOf (names_in self.new) None v) }
-        ensures serves { Serves (shelf F.contents F.fetches F.faults F.absences files.old) (shelf F.contents F.fetches F.faults F.absences files.new) }
+        ensures { let at = moment F.contents F.fetches F.faults F.absences in
+            Evaluates names.now (IsValue None) entry_in
+            (λ fs s. stepped fs s (entry_in (world_of self.old) on) (step_of step.now))
+            (at self.old files.old) (at self.new files.new) result }
     {
         match step {
             Step::Item(arg) => {
@@ -152,11 +125,10 @@ impl Work {
         by: &Option<Arg>,
         more: &Args,
     ) -> Result<(NamedList, Argument, NamedList), EvalFault>
-        ensures names { names_in self.new ≡ names_in self.old }
-        ensures kept { Keeps (world_of self.old) (world_of self.new) }
-        ensures reads { (held : Contents) → Reaches (λ p. (arguments_of (world_of self.new).tables (world_of self.new).texts p.2.items.items)) (world_of self.new).texts (files_in names.now held) (shelf F.contents F.fetches F.faults F.absences files.old) (shelf F.contents F.fetches F.faults F.absences files.new) (last_of (named_of (files_in names.now held) (state_in self.old) (named_args (named_parts_of args.now))) (bound_of (files_in names.now held) (state_in self.old) (optional_arg by.now)) (named_of (files_in names.now held) (state_in self.old) (named_args (named_parts_of more.now)))) result }
-        ensures known { IfOk result (λ p. AreKnownArguments (world_of self.new) p.2.items.items) }
-        ensures serves { Serves (shelf F.contents F.fetches F.faults F.absences files.old) (shelf F.contents F.fetches F.faults F.absences files.new) }
+        ensures { let at = moment F.contents F.fetches F.faults F.absences in
+            Evaluates names.now (λ w p. AreKnownArguments (world_of w) p.2.items.items) (λ w p. arguments_in w p.2)
+            (λ fs s. last_of (named_of fs s (named_args (named_parts_of args.now))) (bound_of fs s (optional_arg by.now)) (named_of fs s (named_args (named_parts_of more.now))))
+            (at self.old files.old) (at self.new files.new) result }
     {
         let args = self.arguments(files, names, args)?;
         let by = self.bound(files, names, by)?;
@@ -173,38 +145,18 @@ impl Work {
         first: &Sub,
         second: &Option<Sub>,
     ) -> Result<(Subscript, Option<Subscript>), EvalFault>
-        ensures names { names_in self.new ≡ names_in self.old }
-        ensures kept { Keeps (world_of self.old) (world_of self.new) }
-        ensures reads { (held : Contents) → Reaches (λ p. (subscript_of (world_of self.new).tables (world_of self.new).texts p.0, option_map (subscript_of (world_of self.new).tables (world_of self.new).texts) p.1)) (world_of self.new).texts (files_in names.now held) (shelf F.contents F.fetches F.faults F.absences files.old) (shelf F.contents F.fetches F.faults F.absences files.new) (both_of (sub_of (files_in names.now held) (state_in self.old) (view_sub first.now)) (second_of (files_in names.now held) (state_in self.old) (optional_sub second.now))) result }
-        ensures first { IfOk result (λ p. IsKnownSubscript (world_of self.new) p.0) }
-        ensures second { IfOk result (λ p. IfSome p.1 (IsKnownSubscript (world_of self.new))) }
-        ensures serves { Serves (shelf F.contents F.fetches F.faults F.absences files.old) (shelf F.contents F.fetches F.faults F.absences files.new) }
+        ensures { let at = moment F.contents F.fetches F.faults F.absences in
+            Evaluates names.now AreSubscripts subscripts_in
+            (λ fs s. both_of (sub_of fs s (view_sub first.now)) (second_of fs s (optional_sub second.now)))
+            (at self.old files.old) (at self.new files.new) result }
     {
         let first = self.sub(files, names, first)?;
-        let second = self.second(files, names, second)?;
-        Ok((first, second))
-    }
-
-    // A second subscript, if there is one.
-    #[cycle(evaluating)]
-    fn second<F: Files>(
-        &mut self,
-        files: &mut F,
-        names: &FileNames,
-        sub: &Option<Sub>,
-    ) -> Result<Option<Subscript>, EvalFault>
-        ensures names { names_in self.new ≡ names_in self.old }
-        ensures kept { Keeps (world_of self.old) (world_of self.new) }
-        ensures reads { (held : Contents) → Reaches (λ s. (option_map (subscript_of (world_of self.new).tables (world_of self.new).texts) s)) (world_of self.new).texts (files_in names.now held) (shelf F.contents F.fetches F.faults F.absences files.old) (shelf F.contents F.fetches F.faults F.absences files.new) (second_of (files_in names.now held) (state_in self.old) (optional_sub sub.now)) result }
-        ensures known { IfOk result (λ s. IfSome s (IsKnownSubscript (world_of self.new))) }
-        ensures serves { Serves (shelf F.contents F.fetches F.faults F.absences files.old) (shelf F.contents F.fetches F.faults F.absences files.new) }
-    {
-        match sub {
-            Some(sub) => {
-                let second = self.sub(files, names, sub)?;
-                Ok(Some(second))
+        match second {
+            Some(second) => {
+                let second = self.sub(files, names, second)?;
+                Ok((first, Some(second)))
             }
-            None => Ok(None),
+            None => Ok((first, None)),
         }
     }
 
@@ -216,11 +168,10 @@ impl Work {
         names: &FileNames,
         sub: &Sub,
     ) -> Result<Subscript, EvalFault>
-        ensures names { names_in self.new ≡ names_in self.old }
-        ensures kept { Keeps (world_of self.old) (world_of self.new) }
-        ensures reads { (held : Contents) → Reaches (subscript_of (world_of self.new).tables (world_of self.new).texts) (world_of self.new).texts (files_in names.now held) (shelf F.contents F.fetches F.faults F.absences files.old) (shelf F.contents F.fetches F.faults F.absences files.new) (sub_of (files_in names.now held) (state_in self.old) (view_sub sub.now)) result }
-        ensures known { IfOk result (λ s. IsKnownSubscript (world_of self.new) s) }
-        ensures serves { Serves (shelf F.contents F.fetches F.faults F.absences files.old) (shelf F.contents F.fetches F.faults F.absences files.new) }
+        ensures { let at = moment F.contents F.fetches F.faults F.absences in
+            Evaluates names.now (λ w x. IsKnownSubscript (world_of w) x) subscript_in
+            (λ fs s. sub_of fs s (view_sub sub.now))
+            (at self.old files.old) (at self.new files.new) result }
     {
         match sub {
             Sub::Key(arg) => {
@@ -230,8 +181,13 @@ impl Work {
             Sub::Span(from, to, by) => {
                 let from = self.bound(files, names, from)?;
                 let to = self.bound(files, names, to)?;
-                let by = self.stride(files, names, by)?;
-                Ok(Subscript::Span(from, to, by))
+                match by {
+                    Some(by) => {
+                        let by = self.evaluate(files, names, by)?;
+                        Ok(Subscript::Span(from, to, Argument::One(by)))
+                    }
+                    None => Ok(Subscript::Span(from, to, Argument::Nothing)),
+                }
             }
         }
     }
@@ -244,37 +200,13 @@ impl Work {
         names: &FileNames,
         arg: &Option<Arg>,
     ) -> Result<Argument, EvalFault>
-        ensures names { names_in self.new ≡ names_in self.old }
-        ensures kept { Keeps (world_of self.old) (world_of self.new) }
-        ensures reads { (held : Contents) → Reaches (argument_of (world_of self.new).tables (world_of self.new).texts) (world_of self.new).texts (files_in names.now held) (shelf F.contents F.fetches F.faults F.absences files.old) (shelf F.contents F.fetches F.faults F.absences files.new) (bound_of (files_in names.now held) (state_in self.old) (optional_arg arg.now)) result }
-        ensures known { IfOk result (λ a. IsKnownArgument (world_of self.new) a) }
-        ensures serves { Serves (shelf F.contents F.fetches F.faults F.absences files.old) (shelf F.contents F.fetches F.faults F.absences files.new) }
+        ensures { let at = moment F.contents F.fetches F.faults F.absences in
+            Evaluates names.now (λ w a. IsKnownArgument (world_of w) a) argument_in
+            (λ fs s. bound_of fs s (optional_arg arg.now))
+            (at self.old files.old) (at self.new files.new) result }
     {
         match arg {
             Some(arg) => self.given(files, names, arg),
-            None => Ok(Argument::Nothing),
-        }
-    }
-
-    // The step of a slice; None where it is left out.
-    #[cycle(evaluating)]
-    fn stride<F: Files>(
-        &mut self,
-        files: &mut F,
-        names: &FileNames,
-        expr: &Option<Expr>,
-    ) -> Result<Argument, EvalFault>
-        ensures names { names_in self.new ≡ names_in self.old }
-        ensures kept { Keeps (world_of self.old) (world_of self.new) }
-        ensures reads { (held : Contents) → Reaches (argument_of (world_of self.new).tables (world_of self.new).texts) (world_of self.new).texts (files_in names.now held) (shelf F.contents F.fetches F.faults F.absences files.old) (shelf F.contents F.fetches F.faults F.absences files.new) (stride_of (files_in names.now held) (state_in self.old) (optional_expr expr.now)) result }
-        ensures known { IfOk result (λ a. IsKnownArgument (world_of self.new) a) }
-        ensures serves { Serves (shelf F.contents F.fetches F.faults F.absences files.old) (shelf F.contents F.fetches F.faults F.absences files.new) }
-    {
-        match expr {
-            Some(expr) => {
-                let value = self.evaluate(files, names, expr)?;
-                Ok(Argument::One(value))
-            }
             None => Ok(Argument::Nothing),
         }
     }
@@ -287,11 +219,10 @@ impl Work {
         names: &FileNames,
         arg: &Arg,
     ) -> Result<Argument, EvalFault>
-        ensures names { names_in self.new ≡ names_in self.old }
-        ensures kept { Keeps (world_of self.old) (world_of self.new) }
-        ensures reads { (held : Contents) → Reaches (argument_of (world_of self.new).tables (world_of self.new).texts) (world_of self.new).texts (files_in names.now held) (shelf F.contents F.fetches F.faults F.absences files.old) (shelf F.contents F.fetches F.faults F.absences files.new) (given_of (files_in names.now held) (state_in self.old) (arg_of arg.now)) result }
-        ensures known { IfOk result (λ a. IsKnownArgument (world_of self.new) a) }
-        ensures serves { Serves (shelf F.contents F.fetches F.faults F.absences files.old) (shelf F.contents F.fetches F.faults F.absences files.new) }
+        ensures { let at = moment F.contents F.fetches F.faults F.absences in
+            Evaluates names.now (λ w a. IsKnownArgument (world_of w) a) argument_in
+            (λ fs s. given_of fs s (arg_of arg.now))
+            (at self.old files.old) (at self.new files.new) result }
     {
         match arg {
             Arg::Expr(expr) => {
@@ -322,11 +253,10 @@ impl Work {
         names: &FileNames,
         arg: &Arg,
     ) -> Result<Item, EvalFault>
-        ensures names { names_in self.new ≡ names_in self.old }
-        ensures kept { Keeps (world_of self.old) (world_of self.new) }
-        ensures reads { (held : Contents) → Reaches (item_of (world_of self.new).tables (world_of self.new).texts) (world_of self.new).texts (files_in names.now held) (shelf F.contents F.fetches F.faults F.absences files.old) (shelf F.contents F.fetches F.faults F.absences files.new) (part_of (files_in names.now held) (state_in self.old) (arg_of arg.now)) result }
-        ensures known { IfOk result (λ i. IsKnownItem (world_of self.new) i) }
-        ensures serves { Serves (shelf F.contents F.fetches F.faults F.absences files.old) (shelf F.contents F.fetches F.faults F.absences files.new) }
+        ensures { let at = moment F.contents F.fetches F.faults F.absences in
+            Evaluates names.now (λ w i. IsKnownItem (world_of w) i) item_in
+            (λ fs s. part_of fs s (arg_of arg.now))
+            (at self.old files.old) (at self.new files.new) result }
     {
         match arg {
             Arg::Expr(expr) => {
@@ -349,11 +279,10 @@ impl Work {
         names: &FileNames,
         parts: &ArgList,
     ) -> Result<Items, EvalFault>
-        ensures names { names_in self.new ≡ names_in self.old }
-        ensures kept { Keeps (world_of self.old) (world_of self.new) }
-        ensures reads { (held : Contents) → Reaches (λ items. (items_of (world_of self.new).tables (world_of self.new).texts items.items.items)) (world_of self.new).texts (files_in names.now held) (shelf F.contents F.fetches F.faults F.absences files.old) (shelf F.contents F.fetches F.faults F.absences files.new) (parts_given (files_in names.now held) (state_in self.old) (arg_list (parts_of parts.now))) result }
-        ensures known { IfOk result (λ items. AreKnownItems (world_of self.new) items.items.items) }
-        ensures serves { Serves (shelf F.contents F.fetches F.faults F.absences files.old) (shelf F.contents F.fetches F.faults F.absences files.new) }
+        ensures { let at = moment F.contents F.fetches F.faults F.absences in
+            Evaluates names.now (λ w l. AreKnownItems (world_of w) l.items.items) items_in
+            (λ fs s. parts_given fs s (arg_list (parts_of parts.now)))
+            (at self.old files.old) (at self.new files.new) result }
     {
         let mut items = Items::new(self.alloc);
         for i in 0..parts.len() {
@@ -371,11 +300,10 @@ impl Work {
         names: &FileNames,
         pairs: &ArgPairs,
     ) -> Result<Entries, EvalFault>
-        ensures names { names_in self.new ≡ names_in self.old }
-        ensures kept { Keeps (world_of self.old) (world_of self.new) }
-        ensures reads { (held : Contents) → Reaches (λ entries. (entries_of (world_of self.new).tables (world_of self.new).texts entries.pairs.items)) (world_of self.new).texts (files_in names.now held) (shelf F.contents F.fetches F.faults F.absences files.old) (shelf F.contents F.fetches F.faults F.absences files.new) (pairs_of (files_in names.now held) (state_in self.old) (arg_pairs (pair_parts_of pairs.now))) result }
-        ensures known { IfOk result (λ entries. AreKnownPairs (world_of self.new) entries.pairs.items) }
-        ensures serves { Serves (shelf F.contents F.fetches F.faults F.absences files.old) (shelf F.contents F.fetches F.faults F.absences files.new) }
+        ensures { let at = moment F.contents F.fetches F.faults F.absences in
+            Evaluates names.now (λ w l. AreKnownPairs (world_of w) l.pairs.items) pairs_in
+            (λ fs s. pairs_of fs s (arg_pairs (pair_parts_of pairs.now)))
+            (at self.old files.old) (at self.new files.new) result }
     {
         let mut entries = Entries::new(self.alloc);
         for i in 0..pairs.len() {
@@ -395,11 +323,10 @@ impl Work {
         names: &FileNames,
         args: &Args,
     ) -> Result<NamedList, EvalFault>
-        ensures names { names_in self.new ≡ names_in self.old }
-        ensures kept { Keeps (world_of self.old) (world_of self.new) }
-        ensures reads { (held : Contents) → Reaches (λ gs. (arguments_of (world_of self.new).tables (world_of self.new).texts gs.items.items)) (world_of self.new).texts (files_in names.now held) (shelf F.contents F.fetches F.faults F.absences files.old) (shelf F.contents F.fetches F.faults F.absences files.new) (named_of (files_in names.now held) (state_in self.old) (named_args (named_parts_of args.now))) result }
-        ensures known { IfOk result (λ gs. AreKnownArguments (world_of self.new) gs.items.items) }
-        ensures serves { Serves (shelf F.contents F.fetches F.faults F.absences files.old) (shelf F.contents F.fetches F.faults F.absences files.new) }
+        ensures { let at = moment F.contents F.fetches F.faults F.absences in
+            Evaluates names.now (λ w l. AreKnownArguments (world_of w) l.items.items) arguments_in
+            (λ fs s. named_of fs s (named_args (named_parts_of args.now)))
+            (at self.old files.old) (at self.new files.new) result }
     {
         let mut arguments = NamedList::new(self.alloc);
         for i in 0..args.len() {

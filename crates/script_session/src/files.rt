@@ -3,9 +3,8 @@ ghost use Rattle.std.specs.Prelude.{◌≡◌, ℕ, List, Result, IfOk};
 ghost use Rattle.meaning.specs.Text.{Text, Contents};
 ghost use Rattle.meaning.specs.Fault.{FaultValue};
 ghost use Rattle.table_meaning.specs.Value.{Entry};
-ghost use Rattle.form_meaning.specs.Signature.{function_named};
 ghost use Rattle.form_meaning.specs.declared.Function.TheVariants.{ReadCsv};
-ghost use Rattle.method_meaning.specs.Readers.{reads_file, file_name_of, read_result};
+ghost use Rattle.method_meaning.specs.Readers.{file_name_of, read_result};
 ghost use Rattle.frame_store.specs.Arguments.{arguments_of};
 ghost use Rattle.script_meaning.specs.Reading.{at_once, then_read, of_file};
 ghost use Rattle.script_meaning.specs.Expression.{made};
@@ -18,11 +17,9 @@ use crate::fault::{EvalFault, evaluated};
 use crate::file_names::FileNames;
 use crate::work::Work;
 use cell_core::{Code, Words};
-use file_readers::file_name;
-use form_meaning::Function;
+use file_readers::{file_name, reads_file};
 use frame_store::{NamedList, Value};
 use outside_io::{Bytes, Files, ReadFault, read_whole};
-use signatures::function_named;
 use std::alloc::Global;
 
 // A longer file is beyond the limits of tables.
@@ -102,15 +99,5 @@ fn no_file(alloc: Global, name: &str) -> EvalFault
     match Words::from_text(alloc, name) {
         Ok(name) => EvalFault::Refused(Code::NoFile(name)),
         Err(_) => EvalFault::NoMemory,
-    }
-}
-
-// Whether the function of a name reads a file.
-fn reads_file(name: &str) -> bool
-    ensures { result ≡ reads_file (function_named name.now) }
-{
-    match function_named(name) {
-        Some(Function::ReadCsv) => true,
-        _ => false,
     }
 }

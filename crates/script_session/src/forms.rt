@@ -1,7 +1,7 @@
 // Forms on values. What they make is noted.
 ghost use Rattle.std.specs.Prelude.{◌≡◌, ◌<◌, List, Some, IfOk, IfErr, OnOk, IfSome, true, is_some, option_map, vec_len, vec_capacity};
 ghost use Rattle.meaning.specs.Text.{Text as OneText};
-ghost use Rattle.meaning.specs.Cell.{label_datum};
+ghost use Rattle.meaning.specs.Cell.{datum, label_datum};
 ghost use Rattle.meaning.specs.Operator.{cell_label};
 ghost use Rattle.table_meaning.specs.Value.{cell};
 ghost use Rattle.table_meaning.specs.Settled.{IsSettled};
@@ -11,6 +11,7 @@ ghost use Rattle.form_meaning.specs.Select.{length_result, select_result};
 ghost use Rattle.form_meaning.specs.Set.{assign_result, removal_result};
 ghost use Rattle.method_meaning.specs.Calls.{chain_result, has_method};
 ghost use Rattle.method_meaning.specs.Readers.{make_with};
+ghost use Rattle.table_laws.specs.Validity.{IsHeldCell};
 ghost use Rattle.frame_store.specs.Objects.{tables};
 ghost use Rattle.frame_store.specs.Arguments.{argument_of, arguments_of, entry_of, subscript_of, IsLive};
 ghost use Rattle.frame_store.specs.Shown.{FormAnswers};
@@ -46,7 +47,7 @@ impl Work {
         ensures known { IfOk result (λ v. IsKnownValue (world_of self.now) v) }
         ensures fault { IfErr result (λ f. IsNoName f name.now (value_at (names_in self.now) name.now)) }
     {
-        match find(&self.names, name.as_str()) {
+        match find(&self.names.values, name.as_str()) {
             Some(value) => Ok(value),
             None => {
                 let name = Words::from_text(self.alloc, name.as_str())?;
@@ -203,6 +204,8 @@ impl Work {
         ensures names { names_in self.new ≡ names_in self.old }
         ensures sets { Sets result on (assign_result (entry_in (world_of self.old) on) (way_of by) (subscript_of (world_of self.old).tables (world_of self.old).texts first.now) (option_map (subscript_of (world_of self.old).tables (world_of self.old).texts) second.now) (argument_of (world_of self.old).tables (world_of self.old).texts value.now)) (world_of self.old) (world_of self.new) }
     {
+        let scalar = value.scalar();
+        prove!(is_held(scalar));
         let second = second.as_ref();
         selections::assign(
             self.alloc,
@@ -248,6 +251,20 @@ fn note(temps: &mut Vec<ObjId>, made: Value)
 {
     if let Value::Object(id) = made {
         temps.push_reserved(id);
+    }
+}
+
+// Whether a column can hold the scalar, if there is one. It can: whole numbers of the code have 64 bits.
+fn is_held(scalar: Option<Cell>) -> bool
+    ensures so { result ≡ true }
+    ensures held { (texts : List OneText) → IfSome (option_map (datum texts) scalar) IsHeldCell }
+{
+    match scalar {
+        Some(Cell::Int(_)) => true,
+        Some(Cell::Bool(_)) => true,
+        Some(Cell::Text(_)) => true,
+        Some(Cell::Na) => true,
+        None => true,
     }
 }
 

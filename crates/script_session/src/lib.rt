@@ -27,6 +27,7 @@ mod printing;
 mod session;
 mod statements;
 mod sweeping;
+mod uses;
 mod words;
 mod work;
 

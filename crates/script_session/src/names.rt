@@ -2,12 +2,73 @@
 ghost use Rattle.std.specs.Prelude.{◌≡◌, IfOk, OnOk, OnErr};
 ghost use Rattle.std.specs.String.{string_eq};
 ghost use Rattle.indexmap.specs.IndexMap.{IsUnique};
-ghost use Rattle.script_session.specs.Bindings.{bindings_of, bound, unbound, value_at, is_named, is_object};
+ghost use Rattle.std.proofs.lemmas.Map.Keys.{IsDistinct-prop};
+ghost use Rattle.indexmap.specs.IndexMap.{keys};
+ghost use Rattle.script_session.specs.Bindings.{bindings_of, bound, unbound, value_at, is_named};
+ghost use Rattle.script_session.specs.Uses.{AreCounted};
 
+use crate::uses::Uses;
 use cell_core::NoMemory;
 use frame_store::{ObjId, Value};
 use indexmap::IndexMap;
 use std::alloc::Global;
+
+// Names with their values, and beside them how many names stand for each object.
+#[derive(Drop)]
+pub struct Names {
+    pub values: IndexMap<String, Value>,
+    pub uses: Uses,
+    ghost unique: { IsUnique string_eq values } by { IsDistinct-prop string_eq (keys values) },
+    ghost counted: { AreCounted (bindings_of values.entries) uses },
+}
+
+impl Names {
+    ghost use Rattle.std.specs.Prelude.{[]};
+
+    pub fn new(alloc: Global) -> Names
+        ensures { bindings_of result.values.entries ≡ [] }
+    {
+        Names {
+            values: IndexMap::new(alloc),
+            uses: Uses::new(alloc),
+        }
+    }
+
+    // Whether a name stands for the object.
+    pub fn has(&self, id: ObjId) -> bool
+        ensures { result ≡ is_named (bindings_of self.now.values.entries) id.0 }
+    {
+        self.uses.count(id) > 0
+    }
+
+    // The name gets the value, in its own place or last. Answers the value that it had.
+    pub fn bind(
+        &mut self,
+        alloc: Global,
+        name: &str,
+        value: Value,
+    ) -> Result<Option<Value>, NoMemory>
+        ensures bound { OnOk result (bindings_of self.new.values.entries ≡ bound (bindings_of self.old.values.entries) name.now value) }
+        ensures left { IfOk result (λ left. left ≡ value_at (bindings_of self.old.values.entries) name.now) }
+        ensures same { OnErr result (self.new.values.entries ≡ self.old.values.entries) }
+    {
+        self.uses.make_room(value)?;
+        let left = bind(alloc, &mut self.values, name, value)?;
+        self.uses.add(value);
+        self.uses.take(left);
+        Ok(left)
+    }
+
+    // The name is taken out. Answers the value that it had. Takes no memory.
+    pub fn unbind(&mut self, name: &str) -> Option<Value>
+        ensures unbound { bindings_of self.new.values.entries ≡ unbound (bindings_of self.old.values.entries) name.now }
+        ensures left { result ≡ value_at (bindings_of self.old.values.entries) name.now }
+    {
+        let left = unbind(&mut self.values, name);
+        self.uses.take(left);
+        left
+    }
+}
 
 // The value of a name.
 pub fn find(names: &IndexMap<String, Value>, name: &str) -> Option<Value>
@@ -16,29 +77,8 @@ pub fn find(names: &IndexMap<String, Value>, name: &str) -> Option<Value>
     names.get(name).copied()
 }
 
-// Whether a name stands for the object.
-pub fn is_named(names: &IndexMap<String, Value>, id: ObjId) -> bool
-    ensures { result ≡ is_named (bindings_of names.now.entries) id.0 }
-{
-    for value in names.values() {
-        if is_object(*value, id) {
-            return true;
-        }
-    }
-    false
-}
-
-fn is_object(value: Value, id: ObjId) -> bool
-    ensures { result ≡ is_object value id.0 }
-{
-    match value {
-        Value::Object(other) => other == id,
-        Value::Scalar(_) => false,
-    }
-}
-
 // The name gets the value, in its own place or last. Answers the value that it had.
-pub fn bind(
+fn bind(
     alloc: Global,
     names: &mut IndexMap<String, Value>,
     name: &str,
@@ -55,7 +95,7 @@ pub fn bind(
 }
 
 // The name is taken out. Answers the value that it had. Takes no memory.
-pub fn unbind(names: &mut IndexMap<String, Value>, name: &str) -> Option<Value>
+fn unbind(names: &mut IndexMap<String, Value>, name: &str) -> Option<Value>
     ensures unbound { bindings_of names.new.entries ≡ unbound (bindings_of names.old.entries) name.now }
     ensures left { result ≡ value_at (bindings_of names.old.entries) name.now }
     ensures unique { IsUnique string_eq names.new }

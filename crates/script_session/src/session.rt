@@ -4,16 +4,17 @@ ghost use Rattle.meaning.specs.Text.{Contents};
 ghost use Rattle.script_meaning.specs.State.{no_names, without_name};
 ghost use Rattle.script_meaning.specs.Statement.{statement_result};
 ghost use Rattle.script_syntax.specs.View.{form_of};
+ghost use Rattle.table_laws.specs.Validity.{AreValid};
 ghost use Rattle.frame_store.specs.Objects.{tables};
 ghost use Rattle.script_session.specs.Bindings.{bindings_of, AreNamed};
 ghost use Rattle.script_session.specs.Apart.{ChangesOneObject};
 
 use crate::fault::{Outcome, StepFault};
 use crate::file_names::FileNames;
+use crate::names::Names;
 use crate::work::Work;
 use cell_core::TextDict;
 use frame_store::Store;
-use indexmap::IndexMap;
 use outside_io::Files;
 use script_syntax::{Form, Statement};
 use std::alloc::Global;
@@ -25,7 +26,7 @@ use std::alloc::Global;
 #[derive(Drop)]
 pub struct Session {
     work: Work,
-    ghost swept: { AreNamed (bindings_of work.names.entries) (tables work.store) },
+    ghost swept: { AreNamed (bindings_of work.names.values.entries) (tables work.store) },
 }
 
 impl Session {
@@ -39,12 +40,13 @@ impl Session {
         ensures state { state_of result ≡ no_names }
         ensures objects { (id : ℕ) → live_of result id ≡ None }
         ensures live { LiveAreNamed result }
+        ensures valid { AreValid (live_of result) }
     {
         Session {
             work: Work {
                 alloc,
                 dict: TextDict::new(alloc),
-                names: IndexMap::new(alloc),
+                names: Names::new(alloc),
                 store: Store::new(alloc),
                 temps: Vec::new(alloc),
             },
@@ -75,6 +77,7 @@ impl Session {
         ensures same { OnErr result (state_of self.new ≡ state_of self.old) }
         ensures objects { OnErr result (live_of self.new ≡ live_of self.old) }
         ensures live { LiveAreNamed self.new }
+        ensures valid { AreValid (live_of self.new) }
         ensures apart { OnOk result (ChangesOneObject (form_of statement.now.form) (state_of self.old) (state_of self.new)) }
     {
         self.perform(files, names, &statement.form)
@@ -86,6 +89,7 @@ impl Session {
         ensures there { result ≡ is_some ((state_of self.old).value name.now) }
         ensures state { state_of self.new ≡ without_name (state_of self.old) name.now }
         ensures live { LiveAreNamed self.new }
+        ensures valid { AreValid (live_of self.new) }
     {
         self.work.forget(name)
     }
@@ -109,6 +113,7 @@ impl Session {
         ensures same { OnErr result (state_of self.new ≡ state_of self.old) }
         ensures objects { OnErr result (live_of self.new ≡ live_of self.old) }
         ensures live { LiveAreNamed self.new }
+        ensures valid { AreValid (live_of self.new) }
         ensures apart { OnOk result (ChangesOneObject (form_of form.now) (state_of self.old) (state_of self.new)) }
     {
         let result = self.work.perform(files, names, form);

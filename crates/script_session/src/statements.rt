@@ -1,24 +1,24 @@
 // Statements. What they make is noted.
 ghost use Rattle.std.specs.Prelude.{◌≡◌, [], Some, IfOk, IfErr, IfSome, OnOk, OnErr, is_some, option_map, ◌<◌, vec_len, vec_capacity};
 ghost use Rattle.meaning.specs.Text.{Contents};
-ghost use Rattle.meaning.specs.Tree as tree;
+ghost use Rattle.language_meaning.specs.Tree as tree;
 ghost use Rattle.frame_store.specs.Arguments.{subscript_of};
 ghost use Rattle.selections.specs.Selected.{way_of};
 ghost use Rattle.script_meaning.specs.State.{without_name};
 ghost use Rattle.script_meaning.specs.Expression.{named_by, target_of};
 ghost use Rattle.script_meaning.specs.Statement.{done, is_chained, statement_result};
 ghost use Rattle.script_syntax.specs.View.{expr_of, step_of, arg_of, form_of};
-ghost use Rattle.script_session.specs.Values.{Keeps, IsKnownValue, IsKnownSubscript};
+ghost use Rattle.script_session.specs.Values.{Keeps, IsKnownValue};
 ghost use Rattle.script_session.specs.Bindings.{bound, unbound, value_at, noted_old, AreNamed, KeepNamed};
 ghost use Rattle.script_meaning.specs.Reading.{Files as SomeFiles, at_once};
-ghost use Rattle.script_session.specs.Reads.{files_in, shelf, Serves, Reaches};
+ghost use Rattle.script_session.specs.Reads.{files_in, shelf, Serves};
+ghost use Rattle.script_session.specs.Evaluates.{moment, Evaluates, IsTarget};
 ghost use Rattle.script_session.specs.Faults.{Performs, IsRefusal, marked_fault};
 ghost use Rattle.script_session.specs.Parts.{target_seen};
 ghost use Rattle.script_session.specs.Apart.{IsSetApart, ChangesOneObject};
 
 use crate::fault::{EvalFault, Outcome, StepFault};
 use crate::file_names::FileNames;
-use crate::names::{bind, unbind};
 use crate::printing::printed_value;
 use crate::sweeping::{release, sweep};
 use crate::words::selector_of;
@@ -71,7 +71,7 @@ impl Work {
         ensures state { state_in self.new ≡ without_name (state_in self.old) name.now }
         ensures named { AreNamed (names_in self.old) (tables_in self.old) → AreNamed (names_in self.new) (tables_in self.new) }
     {
-        let left = unbind(&mut self.names, name);
+        let left = self.names.unbind(name);
         release(&self.names, &mut self.store, left);
         left.is_some()
     }
@@ -130,12 +130,9 @@ impl Work {
         names: &FileNames,
         step: &Step,
     ) -> Result<(Selector, Subscript, Option<Subscript>), EvalFault>
-        ensures names { names_in self.new ≡ names_in self.old }
-        ensures kept { Keeps (world_of self.old) (world_of self.new) }
-        ensures reads { (held : Contents) → Reaches (target_seen (world_of self.new)) (world_of self.new).texts (files_in names.now held) (shelf F.contents F.fetches F.faults F.absences files.old) (shelf F.contents F.fetches F.faults F.absences files.new) (target_of (files_in names.now held) (state_in self.old) (step_of step.now)) result }
-        ensures first { IfOk result (λ p. IsKnownSubscript (world_of self.new) p.1) }
-        ensures second { IfOk result (λ p. IfSome p.2 (IsKnownSubscript (world_of self.new))) }
-        ensures serves { Serves (shelf F.contents F.fetches F.faults F.absences files.old) (shelf F.contents F.fetches F.faults F.absences files.new) }
+        ensures { let at = moment F.contents F.fetches F.faults F.absences in
+            Evaluates names.now IsTarget target_seen (λ fs s. target_of fs s (step_of step.now))
+            (at self.old files.old) (at self.new files.new) result }
     {
         match step {
             Step::Item(arg) => {
@@ -217,7 +214,7 @@ impl Work {
         ensures world { world_of self.new ≡ world_of self.old }
     {
         self.temps.reserve(1)?;
-        let left = bind(self.alloc, &mut self.names, name, value)?;
+        let left = self.names.bind(self.alloc, name, value)?;
         note_left(&mut self.temps, left);
         Ok(())
     }

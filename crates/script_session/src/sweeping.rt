@@ -1,31 +1,30 @@
 // The end of objects without names.
 ghost use Rattle.std.specs.Prelude.{◌≡◌};
 ghost use Rattle.frame_store.specs.Objects.{tables, with_object};
-ghost use Rattle.script_session.specs.Bindings.{bindings_of, is_named, released, AreNoted, AreNamed, KeepNamed};
+ghost use Rattle.script_session.specs.Bindings.{bindings_of, released, AreNoted, AreNamed, KeepNamed};
 
-use crate::names::is_named;
+use crate::names::Names;
 use frame_store::{ObjId, Store, Value};
-use indexmap::IndexMap;
 
 // Ends each noted object that no name stands for.
-pub fn sweep(names: &IndexMap<String, Value>, temps: &mut Vec<ObjId>, store: &mut Store)
-    requires { AreNoted (bindings_of names.now.entries) temps.old.items (tables store.old) }
-    ensures named { AreNamed (bindings_of names.now.entries) (tables store.new) }
-    ensures kept { KeepNamed (bindings_of names.now.entries) (tables store.old) (tables store.new) }
+pub fn sweep(names: &Names, temps: &mut Vec<ObjId>, store: &mut Store)
+    requires { AreNoted (bindings_of names.now.values.entries) temps.old.items (tables store.old) }
+    ensures named { AreNamed (bindings_of names.now.values.entries) (tables store.new) }
+    ensures kept { KeepNamed (bindings_of names.now.values.entries) (tables store.old) (tables store.new) }
 {
     while let Some(id) = temps.pop() {
-        if !is_named(names, id) {
+        if !names.has(id) {
             end(store, id);
         }
     }
 }
 
 // The object that a name has left ends if no other name stands for it.
-pub fn release(names: &IndexMap<String, Value>, store: &mut Store, left: Option<Value>)
-    ensures { tables store.new ≡ released (bindings_of names.now.entries) (tables store.old) left }
+pub fn release(names: &Names, store: &mut Store, left: Option<Value>)
+    ensures { tables store.new ≡ released (bindings_of names.now.values.entries) (tables store.old) left }
 {
     if let Some(Value::Object(id)) = left {
-        if !is_named(names, id) {
+        if !names.has(id) {
             end(store, id);
         }
     }

@@ -7,7 +7,11 @@ pub mod Gives
 pub mod Starts
 pub mod Complete
 pub mod Law
+pub mod Turns
 pub mod Loops
 pub mod Rooms
 pub mod PieceLaws
 pub mod ScriptLaws
+pub mod Cutting
+pub mod Decided
+pub mod OneReading

@@ -1,11 +1,11 @@
 -- A piece is blank, or it is one statement, or neither.
-use Rattle.std.proofs.Common.{◌≡◌, ◌↔◌, ℕ, ◌<◌, Bool, true, false, List, [], ◌∷◌, length, Option, Some, None, refl, sym, ◌∙◌, subst, arith}
+use Rattle.std.proofs.Common.{◌≡◌, ◌↔◌, ℕ, Bool, false, List, [], ◌∷◌, Option, Some, None, subst, arith}
 use Rattle.std.specs.Prelude.{IsTrue, MatchOption}
 use Rattle.std.specs.Str.{IsUtf8}
-use Rattle.meaning.specs.Token.{Token, mark, equals, Lexes}
-use Rattle.meaning.specs.Tree.{Form, after, import_pandas, bind, put, drop_name, drop_column, print}
-use Rattle.meaning.specs.Grammar.{SpellsForm, IsShallow}
-use Rattle.meaning.specs.Script.{IsBlank, IsStatement}
+use Rattle.language_meaning.specs.Token.{Token, mark, equals, Lexes}
+use Rattle.language_meaning.specs.Tree.{Form, after, import_pandas, bind, put, drop_name, drop_column, print}
+use Rattle.language_meaning.specs.Grammar.{SpellsForm}
+use Rattle.language_meaning.specs.Script.{IsBlank, IsStatement}
 use Rattle.script_tokens.proofs.BlankLaws.{Lexes-blank}
 use Rattle.script_tokens.proofs.LexLaws.{Lexes-unique}
 use Rattle.script_syntax.specs.Reading.{form_read}

@@ -1,8 +1,8 @@
 -- A row of parts, as the list of them.
 use Rattle.std.proofs.Common.{◌≡◌, Option, Some, None, refl, ap, map, rules}
 use Rattle.cell_core.specs.declared.words.Words.{Words}
-use Rattle.meaning.specs.Tree as tree
-use Rattle.meaning.specs.Tree.{arg_list, named_args, arg_pairs}
+use Rattle.language_meaning.specs.Tree as tree
+use Rattle.language_meaning.specs.Tree.{arg_list, named_args, arg_pairs}
 use Rattle.script_syntax.specs.declared.tree.Arg.{Arg, Row_of-Arg, end_of-Arg, more_of-Arg, items-the_row-Arg, Row_of-ArgPairs-items-2, end_of-ArgPairs-items-2, more_of-ArgPairs-items-2, items-the_row-ArgPairs-items-2}
 use Rattle.script_syntax.specs.declared.tree.Arg.TheVariants as arg
 use Rattle.script_syntax.specs.declared.tree.Expr.TheVariants as expr

@@ -1,11 +1,11 @@
 -- A script read piece by piece.
-use Rattle.std.proofs.Common.{◌≡◌, ◌≢◌, ℕ, zero, suc, ◌+◌, ◌-◌, ◌<◌, List, [], ◌∷◌, ◌++◌, refl, sym, ◌∙◌, ap, subst, append_assoc, arith, inl, inr, ◌⊎◌, ◌≤◌, length, take, drop, Ok, Err, true, false, nat_eq as eqb}
+use Rattle.std.proofs.Common.{◌≡◌, ℕ, suc, ◌+◌, ◌-◌, ◌<◌, List, [], ◌∷◌, ◌++◌, refl, sym, ◌∙◌, ap, subst, append_assoc, arith, inl, inr, ◌≤◌, length, take, drop, Ok, Err, true, false, nat_eq as eqb}
 use Rattle.std.proofs.lemmas.List.{append-nil}
 use Rattle.std.proofs.lemmas.Bool.Decides.{nat_tests}
 use Rattle.std.specs.Str.{IsUtf8}
-use Rattle.meaning.specs.Tree as tree
-use Rattle.meaning.specs.Pieces.{pieces, cut, plain}
-use Rattle.meaning.specs.Script.{IsBlank, IsStatement, IsRight, ArePieces, IsFirstWrong, most_bytes, most_statements, line_ends}
+use Rattle.language_meaning.specs.Tree as tree
+use Rattle.language_meaning.specs.Pieces.{pieces, cut}
+use Rattle.language_meaning.specs.Script.{IsBlank, IsStatement, IsRight, ArePieces, IsFirstWrong, most_bytes, most_statements, line_ends}
 use Rattle.script_syntax.specs.View.{form_of}
 use Rattle.script_syntax.specs.PieceRead.{Reads, IsOneStatement, IsPieceRead, IsSettled}
 use Rattle.script_syntax.specs.declared.pieces.PieceRead.{PieceRead}

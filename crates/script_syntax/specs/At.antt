@@ -1,8 +1,8 @@
 -- Readers of what stands in forms of at most a depth.
-use Rattle.std.specs.Prelude.{ℕ, Bool, Option, List, length}
+use Rattle.std.specs.Prelude.{ℕ, Bool, Option}
 use Rattle.meaning.specs.Text.{Text}
-use Rattle.meaning.specs.Token.{Mark}
-use Rattle.meaning.specs.Tree.{Accessor, Expr, Step, Sub, OptionalSub, OptionalArg, OptionalExpr, Arg, ArgList, Args, ArgPairs}
+use Rattle.language_meaning.specs.Token.{Mark}
+use Rattle.language_meaning.specs.Tree.{Accessor, Expr, Step, Sub, OptionalSub, OptionalArg, OptionalExpr, Arg, ArgList, Args, ArgPairs}
 use Rattle.script_syntax.specs.Reading as reading
 use Rattle.script_syntax.specs.Reading.{Reader, expr_at, argument_at}
 
@@ -81,3 +81,9 @@ module _ (room : ℕ) where
 
   abbrev pub named_at : Bool → Reader (Option Text × Arg)
   named_at = reading.named_at room (expr_at room) (argument_at room)
+
+  abbrev pub expr_with : ℕ → Reader Expr
+  expr_with = reading.expr_with room (expr_at room) (argument_at room)
+
+  abbrev pub argument_with : Reader Arg
+  argument_with = reading.argument_with room (expr_at room) (argument_at room)

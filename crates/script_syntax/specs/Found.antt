@@ -2,19 +2,18 @@
 use Rattle.std.specs.Prelude.{◌≡◌, ℕ, ◌<◌, ◌≤◌, List, [], ◌∷◌, Option, Some, None, Result, Ok, Err}
 use Rattle.std.specs.Borrow.{Bor}
 use Rattle.meaning.specs.Text.{Text}
-use Rattle.meaning.specs.Tree as tree
-use Rattle.meaning.specs.Token as spec
-use Rattle.meaning.specs.Depth.{depth, arg_depth, args_depth}
+use Rattle.language_meaning.specs.Tree as tree
+use Rattle.language_meaning.specs.Token as spec
+use Rattle.language_meaning.specs.Depth.{depth, arg_depth, args_depth}
 use Rattle.script_syntax.specs.declared.literal.Unary.{Unary}
 use Rattle.script_syntax.specs.declared.literal.Literal.{Literal}
-use Rattle.script_syntax.specs.declared.literal.Accessor.{Accessor}
 use Rattle.script_syntax.specs.declared.front.Call.{Call}
 use Rattle.script_syntax.specs.declared.front.Call.TheVariants as call
 use Rattle.script_tokens.specs.declared.token.Binary.{Binary}
 use Rattle.script_tokens.specs.declared.token.Token.{Token}
 use Rattle.script_syntax.specs.declared.refusal.Refusal.{Refusal}
 use Rattle.script_syntax.specs.declared.refusal.Refusal.TheVariants as refusal
-use Rattle.script_syntax.specs.View.{unary_of, literal_of, accessor_of, expr_of, sub_of, parts_of, named_parts_of, pair_parts_of}
+use Rattle.script_syntax.specs.View.{unary_of, literal_of, expr_of, sub_of, parts_of, named_parts_of, pair_parts_of}
 use Rattle.script_syntax.specs.declared.tree.Expr.{Expr}
 use Rattle.script_syntax.specs.declared.tree.Sub.{Sub}
 use Rattle.script_syntax.specs.declared.parts.ArgList.{ArgList}

@@ -1,7 +1,10 @@
 pub mod View
+pub mod Cut
 pub mod ScriptView
 pub mod Reading
 pub mod At
 pub mod Found
+pub mod Nests
 pub mod PieceRead
 pub mod Parsed
+pub mod OneReading

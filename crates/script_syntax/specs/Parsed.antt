@@ -1,7 +1,7 @@
 -- What the bytes of a text are parsed to.
 use Rattle.std.specs.Prelude.{◌≡◌, ◌<◌, ◌≤◌, ℕ, List, length, Result, Ok, Err}
-use Rattle.meaning.specs.Tree.{Statement}
-use Rattle.meaning.specs.Script.{IsScript, IsSyntaxLine, most_bytes}
+use Rattle.language_meaning.specs.Tree.{Statement}
+use Rattle.language_meaning.specs.Script.{IsScript, IsSyntaxLine, most_bytes}
 use Rattle.script_syntax.specs.ScriptView.{statements_of}
 use Rattle.script_syntax.specs.declared.script.Script.{Script}
 use Rattle.script_syntax.specs.declared.pieces.ParseFault.{ParseFault}

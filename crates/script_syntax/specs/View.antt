@@ -1,7 +1,7 @@
 -- The plain trees that the code's trees stand for.
 use Rattle.std.specs.Prelude.{List, map, Option, Some, None}
 use Rattle.meaning.specs.Text.{Text}
-use Rattle.meaning.specs.Tree as tree
+use Rattle.language_meaning.specs.Tree as tree
 use Rattle.script_tokens.specs.View.{binary_of}
 use Rattle.script_syntax.specs.declared.literal.Literal.{Literal}
 use Rattle.script_syntax.specs.declared.literal.Literal.TheVariants as literal

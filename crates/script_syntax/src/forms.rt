@@ -1,14 +1,14 @@
 // Statements.
 ghost use Rattle.std.specs.Prelude.{◌≡◌};
-ghost use Rattle.meaning.specs.Tree as tree;
+ghost use Rattle.language_meaning.specs.Tree as tree;
 ghost use Rattle.script_syntax.specs.View.{form_of, expr_of, step_of};
 ghost use Rattle.script_tokens.specs.View.{tokens_of};
 ghost use Rattle.script_syntax.specs.Found.{Gives};
 ghost use Rattle.script_syntax.specs.Reading as spec;
 
 use crate::front::{after_mark, after_word, begins_minus, expect, name_at, target_at};
-use crate::node::is_target;
-use crate::parsing::{argument_at, expr_at};
+use crate::grammar::{argument_at, expr_at};
+use crate::node::{is_target, or_drop};
 use crate::refusal::Refusal;
 use crate::tree::{Expr, Form, Step};
 use cell_core::Words;
@@ -58,7 +58,7 @@ fn deleted(alloc: Global, tokens: &[Token<'_>]) -> Result<Form, Refusal>
         return ended(Form::DropName(name), rest);
     };
     let (key, _, rest) = expr_at(alloc, rest, MOST_DEPTH, 0)?;
-    let rest = expect(rest, Mark::CloseBracket)?;
+    let rest = or_drop!(expect(rest, Mark::CloseBracket), key);
     ended(Form::DropColumn(name, key), rest)
 }
 
@@ -69,7 +69,7 @@ fn printed(alloc: Global, tokens: &[Token<'_>]) -> Result<Form, Refusal>
 {
     let rest = expect(tokens, Mark::OpenParen)?;
     let (expr, _, rest) = expr_at(alloc, rest, MOST_DEPTH, 0)?;
-    let end = end_at(alloc, rest)?;
+    let end = or_drop!(end_at(alloc, rest), expr);
     Ok(Form::Print(expr, end))
 }
 
@@ -115,8 +115,8 @@ fn assigned(alloc: Global, tokens: &[Token<'_>]) -> Result<Form, Refusal>
 fn bound_to(alloc: Global, name: &str, tokens: &[Token<'_>]) -> Result<Form, Refusal>
     ensures { Gives form_of result (spec.bound_to name.now (tokens_of tokens.now)) }
 {
-    let (expr, _, rest) = expr_at(alloc, tokens, MOST_DEPTH, 0)?;
     let name = Words::from_text(alloc, name)?;
+    let (expr, _, rest) = expr_at(alloc, tokens, MOST_DEPTH, 0)?;
     ended(Form::Bind(name, expr), rest)
 }
 
@@ -130,8 +130,8 @@ fn set(alloc: Global, tokens: &[Token<'_>]) -> Result<Form, Refusal>
     }
     let (target, _, rest) = expr_at(alloc, tokens, MOST_DEPTH, 6)?;
     let (object, step) = split(target)?;
-    let rest = expect(rest, Mark::Equals)?;
-    let (value, _, rest) = argument_at(alloc, rest, MOST_DEPTH)?;
+    let rest = or_drop!(expect(rest, Mark::Equals), object, step);
+    let (value, _, rest) = or_drop!(argument_at(alloc, rest, MOST_DEPTH), object, step);
     ended(Form::Put(object, step, value), rest)
 }
 
@@ -141,11 +141,14 @@ fn split(target: Expr) -> Result<(Expr, Step), Refusal>
     ensures { Gives (λ t. (expr_of t.0, step_of t.1)) result (spec.split (expr_of target)) }
 {
     let Expr::After(object, step) = target else {
+        drop(target);
         return Err(Refusal::Syntax);
     };
     let object = Box::into_inner(object);
     let step = Box::into_inner(step);
     if !is_target(&step) {
+        drop(object);
+        drop(step);
         return Err(Refusal::Syntax);
     }
     Ok((object, step))
@@ -182,6 +185,9 @@ fn ended(form: Form, tokens: &[Token<'_>]) -> Result<Form, Refusal>
 {
     match tokens {
         [] => Ok(form),
-        _ => Err(Refusal::Syntax),
+        _ => {
+            drop(form);
+            Err(Refusal::Syntax)
+        }
     }
 }

@@ -2,7 +2,7 @@
 ghost use Rattle.std.specs.Prelude.{◌≡◌, ◌≤◌, suc, option_map};
 ghost use Rattle.std.specs.List.{list_any};
 ghost use Rattle.meaning.specs.Text.{same_text};
-ghost use Rattle.meaning.specs.Grammar as grammar;
+ghost use Rattle.language_meaning.specs.Grammar as grammar;
 ghost use Rattle.script_syntax.specs.View.{accessor_of};
 ghost use Rattle.script_tokens.specs.View.{binary_of, mark_of, tokens_of};
 ghost use Rattle.script_syntax.specs.Found.{rest_of, word_of, operator_of, sign_of, call_of, Gives};

@@ -14,16 +14,20 @@
 //! ```
 #![tactic(auto)]
 
+mod arguments;
 mod build;
+mod expressions;
 mod forms;
 mod front;
+mod grammar;
+mod laws;
 mod literal;
 mod node;
-mod parsing;
 mod parts;
 mod pieces;
 mod refusal;
 mod script;
+mod steps;
 mod tree;
 mod value;
 
@@ -31,6 +35,7 @@ pub use build::{
     access_of, expanding_of, group_of, list_of, make_of, method_of, rolling_of, span_of, table_of,
     tuple_of,
 };
+pub use laws::{cut_law, one_reading};
 pub use literal::{Accessor, Literal, Unary};
 pub use parts::{ArgList, ArgPairs, Args};
 pub use pieces::{ParseFault, parse};

@@ -1,7 +1,7 @@
 // Expressions that grow upwards, within the depth that is allowed.
 ghost use Rattle.std.specs.Prelude.{◌≡◌, ◌≤◌};
-ghost use Rattle.meaning.specs.Tree as tree;
-ghost use Rattle.meaning.specs.Depth.{depth, step_depth, arg_depth};
+ghost use Rattle.language_meaning.specs.Tree as tree;
+ghost use Rattle.language_meaning.specs.Depth.{depth, step_depth, arg_depth};
 ghost use Rattle.script_syntax.specs.View.{expr_of, step_of, arg_of};
 ghost use Rattle.script_tokens.specs.View.{binary_of, tokens_of};
 ghost use Rattle.script_syntax.specs.Found.{Finds, IsBuilt};
@@ -14,6 +14,22 @@ use std::alloc::Global;
 
 // A value, its depth, and what follows it.
 pub(crate) type Found<'t, 'a, T> = Result<(T, usize, &'t [Token<'a>]), Refusal>;
+
+// What was read; or the refusal, after the values were let go. At a `?` they would be let go too, but there the
+// check takes a tree apart, variant by variant, which costs it minutes in place of seconds.
+macro_rules! or_drop {
+    ($read:expr, $($value:ident),+) => {
+        match $read {
+            Ok(found) => found,
+            Err(refusal) => {
+                $(drop($value);)+
+                return Err(refusal);
+            }
+        }
+    };
+}
+
+pub(crate) use or_drop;
 
 // An expression with a step after it, each with its depth.
 pub(crate) fn after(
@@ -33,9 +49,14 @@ pub(crate) fn after(
     let (step, step_depth) = step;
     let depth = x_depth.max(step_depth) + 1;
     if depth > room {
+        drop(x);
+        drop(step);
         return Err(Refusal::Syntax);
     }
-    let x = Box::new(alloc, x)?;
+    let Ok(x) = Box::new(alloc, x) else {
+        drop(step);
+        return Err(Refusal::NoMemory);
+    };
     let step = Box::new(alloc, step)?;
     Ok((Expr::After(x, step), depth))
 }
@@ -59,9 +80,14 @@ pub(crate) fn infix(
     let (y, y_depth) = y;
     let depth = x_depth.max(y_depth) + 1;
     if depth > room {
+        drop(x);
+        drop(y);
         return Err(Refusal::Syntax);
     }
-    let x = Box::new(alloc, x)?;
+    let Ok(x) = Box::new(alloc, x) else {
+        drop(y);
+        return Err(Refusal::NoMemory);
+    };
     let y = Box::new(alloc, y)?;
     Ok((Expr::Infix(operator, x, y), depth))
 }
@@ -84,6 +110,7 @@ pub(crate) fn as_item<'t, 'a>(arg: Arg, depth: usize, rest: &'t [Token<'a>]) -> 
     ensures { Finds arg_of arg_depth depth result (spec.as_item (arg_of arg) (tokens_of rest.now)) }
 {
     if !is_item(&arg) {
+        drop(arg);
         return Err(Refusal::Syntax);
     }
     Ok((arg, depth, rest))

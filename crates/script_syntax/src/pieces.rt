@@ -1,6 +1,6 @@
 // Bytes to scripts.
 ghost use Rattle.std.specs.Prelude.{◌≡◌, ◌<◌, ◌≤◌, ◌^◌, ◌+◌, [], ◌∷◌, ◌++◌, length, Result, IfOk, IfErr};
-ghost use Rattle.meaning.specs.Script.{most_bytes};
+ghost use Rattle.language_meaning.specs.Script.{most_bytes};
 ghost use Rattle.script_syntax.specs.ScriptView.{statements_of};
 ghost use Rattle.script_syntax.specs.Parsed.{IsParsed};
 ghost use Rattle.script_syntax.specs.PieceRead.{IsPieceRead, IsSettled};
@@ -88,6 +88,7 @@ fn settle(script: &mut Script, left: usize, line: u64, read: PieceRead) -> Resul
         PieceRead::Wrong => Err(ParseFault::SyntaxAt(line)),
         PieceRead::Statement(form) => {
             if left == 0 {
+                drop(form);
                 return Err(ParseFault::SyntaxAt(line));
             }
             script.push(Statement { line, form })?;

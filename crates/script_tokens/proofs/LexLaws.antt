@@ -5,7 +5,7 @@ use Rattle.std.specs.Str.{IsUtf8}
 use Rattle.std.proofs.lemmas.Bool.Decides.{nat_tests}
 use Rattle.std.proofs.lemmas.Str.{IsUtf8-nil}
 use Rattle.std.proofs.lemmas.List.{append-nil, map-append}
-use Rattle.meaning.specs.Token.{Token, text, op, mark, begins_word, is_digit, ends_line, IsQuote, IsQuoted, IsToken, Lexes, skip, skip_comment}
+use Rattle.language_meaning.specs.Token.{Token, text, op, mark, begins_word, is_digit, ends_line, IsQuote, IsQuoted, IsToken, Lexes, skip, skip_comment}
 use Rattle.script_tokens.specs.declared.token.Token as code
 use Rattle.script_tokens.specs.View.{token_of, tokens_of}
 use Rattle.script_tokens.specs.Absent.{BeginsNoToken, BeginsNoSign}

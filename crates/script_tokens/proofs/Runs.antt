@@ -3,7 +3,7 @@ use Rattle.std.proofs.Common.{◌≡◌, ◌∙◌, sym, ap, refl, ℕ, zero, su
 use Rattle.std.specs.List.{list_all, prefix_len}
 use Rattle.std.specs.Str.{IsAscii, IsUtf8}
 use Rattle.std.proofs.lemmas.Str.{IsUtf8-from_ascii}
-use Rattle.meaning.specs.Token.{IsRun, begins_with}
+use Rattle.language_meaning.specs.Token.{IsRun, begins_with}
 
 pub true_or_false : (b : Bool) → (b ≡ true) ⊎ (b ≡ false)
 true_or_false true = inl refl

@@ -2,8 +2,8 @@
 use Rattle.std.proofs.Common.{◌≡◌, ◌⊎◌, ◌∙◌, sym, ap, refl, ℕ, ◌-◌, ◌<◌, Bool, false, ◌&&◌, if◌then◌else◌, Option, Some, None, eqb, List, [], ◌∷◌, ◌++◌, length, take, drop, get_or, arith, inl, inr}
 use Rattle.std.proofs.lemmas.Bool.Decides.{eqb_tells}
 use Rattle.std.proofs.lemmas.Grind.{common_steps}
-use Rattle.meaning.specs.Tree.{Binary, add, sub, mul, floor_div, mod_, eq, ne, lt, le, gt, ge, and, or, xor}
-use Rattle.meaning.specs.Token.{Token, op, mark, Mark, equals, dot, comma, colon, tilde, open_paren, close_paren, open_bracket, close_bracket, open_brace, close_brace, byte_of, spelling_of, may_grow, begins_with, IsToken}
+use Rattle.language_meaning.specs.Tree.{Binary, add, sub, mul, floor_div, mod_, eq, ne, lt, le, gt, ge, and, or, xor}
+use Rattle.language_meaning.specs.Token.{Token, op, mark, Mark, equals, dot, comma, colon, tilde, open_paren, close_paren, open_bracket, close_bracket, open_brace, close_brace, byte_of, spelling_of, may_grow, begins_with, IsToken}
 use Rattle.script_tokens.specs.Absent.{BeginsNoLongOperator, BeginsNoSign}
 
 -- the first byte, and what follows it

@@ -7,7 +7,7 @@ use Rattle.std.proofs.lemmas.List.{append-nil}
 use Rattle.std.proofs.Math.Seq.{get_or-append_seam, drop-append_seam, drop-append-add, take-append_seam}
 use Rattle.std.proofs.lemmas.Str.{IsUtf8-nil, IsUtf8-take, IsUtf8-drop, IsCharBoundary-before_ascii, IsCharBoundary-after_ascii}
 use Rattle.meaning.specs.Text.{Text}
-use Rattle.meaning.specs.Token.{escaped, begins_with, IsRun, IsQuoted, IsQuote}
+use Rattle.language_meaning.specs.Token.{escaped, begins_with, IsRun, IsQuoted, IsQuote}
 use Rattle.script_tokens.specs.Quoted.{is_plain, IsEscape, BeginsNoEscape, EndsNoText}
 use Rattle.script_tokens.proofs.Runs.{both_true}
 

@@ -7,8 +7,8 @@ use Rattle.std.proofs.lemmas.Bool.Decides.{nat_tests}
 use Rattle.std.proofs.lemmas.Fmt.{decimal_nonempty, decimal_injective, decimal_digit, first_decimal, decimal-digits_value, parse-decimal}
 use Rattle.std.proofs.lemmas.Str.Parse.{IsNumeralModel, numerals_by_value, parse_digits}
 use Rattle.meaning.specs.Text.{Text}
-use Rattle.meaning.specs.Tree.{Binary, add}
-use Rattle.meaning.specs.Token.{Token, word, int, text, op, mark, Mark, equals, byte_of, spelling_of, is_digit, begins_word, continues_word, begins_with, IsRun, escaped, IsTextByte, IsQuote, IsQuoted, IsToken}
+use Rattle.language_meaning.specs.Tree.{Binary, add}
+use Rattle.language_meaning.specs.Token.{Token, word, int, text, op, mark, Mark, equals, byte_of, spelling_of, is_digit, begins_word, continues_word, begins_with, IsRun, escaped, IsTextByte, IsQuote, IsQuoted, IsToken}
 use Rattle.script_tokens.proofs.Runs.{both_true, not_both, IsRun-unique}
 use Rattle.script_tokens.proofs.Signs.{operator_reads, mark_reads, same_sign}
 use Rattle.script_tokens.proofs.Texts.{no_backslash, quoted_ends, IsUtf8-after_ascii}

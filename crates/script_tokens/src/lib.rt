@@ -25,6 +25,3 @@ pub use blank::is_blank;
 pub use lexing::tokens;
 pub use piece::{line_ends, piece_len};
 pub use token::{Binary, Mark, Token};
-
-#[cfg(test)]
-mod tests;

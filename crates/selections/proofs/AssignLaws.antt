@@ -14,7 +14,7 @@ use Rattle.meaning.specs.Cell.{CellValue, LabelValue, int, datum, label_datum, h
 use Rattle.meaning.specs.Fault.{FaultValue, wrong_kind, not_built, then_value}
 use Rattle.index_core.specs.Ranges.{number_label}
 use Rattle.multi_index.specs.Axes.{AxisValue, range_axis, single_tuples}
-use Rattle.nullable_array.specs.Columns.{CellColumn}
+use Rattle.column_core.specs.Columns.{CellColumn}
 use Rattle.table_meaning.specs.Settled.{IsSettled}
 use Rattle.table_meaning.specs.Table.{ColumnOf, NumberedTable, Table, table_value, heading_value, tuple_value, column_value, column_at, no_column}
 use Rattle.table_meaning.specs.Change.{with_cell_at, with_cell, with_values}

@@ -1,5 +1,5 @@
 -- The cell of a Series at a position.
-use Rattle.std.proofs.Common.{◌≡◌, ◌∙◌, ℤ, List, ◌++◌, Some, ap, sym, Result, Ok, Err}
+use Rattle.std.proofs.Common.{◌∙◌, ℤ, List, ◌++◌, Some, ap, sym, Result, Ok, Err}
 use Rattle.std.specs.Prelude.{IfOk}
 use Rattle.cell_core.specs.declared.cell.Cell.{Cell}
 use Rattle.meaning.specs.Text.{Text}

@@ -1,4 +1,4 @@
--- Columns of scalars, and columns that are copied.
+-- Columns of scalars.
 use Rattle.std.proofs.Common.{◌≡◌, ◌∙◌, ℕ, zero, suc, ◌+◌, ◌<◌, pos, Bool, true, false, ◌&&◌, List, [], ◌∷◌, ◌++◌, length, take, drop, map, replicate, refl, ap, sym, arith, if◌then◌else◌, Option, Some, None, Result, Ok, Err}
 use Rattle.std.specs.Prelude.{slice_get, slice_index_or, unwrap_or}
 use Rattle.std.specs.List.{list_all}
@@ -14,13 +14,13 @@ use Rattle.meaning.specs.Cell.{CellValue, datum, holds}
 use Rattle.meaning.specs.Column.{shifted}
 use Rattle.meaning.specs.Block.{filled_with}
 use Rattle.meaning.specs.Fault.{FaultValue, wrong_kind}
-use Rattle.nullable_array.specs.Blocks.{CellBlock}
-use Rattle.nullable_array.specs.Columns.{CellColumn}
+use Rattle.column_core.specs.Blocks.{CellBlock}
+use Rattle.column_core.specs.Columns.{CellColumn}
 use Rattle.table_meaning.specs.Table.{ColumnOf, column_at, no_column}
 use Rattle.form_meaning.specs.Set.{first_kind, list_column}
 use Rattle.frame_store.specs.Parts.{block_column, single_block, IsSingle}
 use Rattle.frame_store.specs.Shown.{cells_value}
-use Rattle.frame_store.proofs.PartLaws.{shifted_by_none, single_made, column_made}
+use Rattle.frame_store.proofs.PartLaws.{single_made, column_made}
 use Rattle.selections.specs.Assigned.{column_seen, missing_cells}
 
 -- the kind of the first cell that is present
@@ -85,19 +85,6 @@ scalar_is texts kind meant rows c made is same = ap (column_seen texts) is ∙ (
 
 pub cells_are : (kind : Kind) (cells : List Cell) (made : CellColumn) → made ≡ record { kind = kind; cells = cells } → made.cells ≡ cells
 cells_are kind cells made is = ap (λ (c : CellColumn). c.cells) is
-
-replicate_more : (n : ℕ) (c : Cell) → replicate n c ++ c ∷ [] ≡ replicate (suc n) c
-replicate_more zero c = refl
-replicate_more (suc n) c = ap (λ l. c ∷ l) (replicate_more n c)
-
-pub one_filled : (kind : Kind) (n : ℕ) (c : Cell) (before after : CellColumn) → before ≡ record { kind = kind; cells = replicate n c } → after ≡ record { kind = before.kind; cells = before.cells ++ c ∷ [] } → after ≡ record { kind = kind; cells = replicate (n + 1) c }
-one_filled kind n c before after was pushed =
-    let next : suc n ≡ n + 1 = omega arith in
-    pushed ∙ ap (λ (v : CellColumn). record { kind = v.kind; cells = v.cells ++ c ∷ [] }) was ∙ ap (λ (l : List Cell). record { kind = kind; cells = l }) (replicate_more n c ∙ ap (λ m. replicate m c) next)
-
--- a shift by no rows
-pub copied_is : (a copied : CellColumn) → copied.kind ≡ a.kind → copied.cells ≡ shifted Na a.cells (pos 0) → copied ≡ a
-copied_is a copied kind cells = λ j. record { kind = kind j; cells = (cells ∙ shifted_by_none Na a.cells) j }
 
 -- columns of missing cells
 pub length-replicate : (n : ℕ) (c : Cell) → length (replicate n c) ≡ n

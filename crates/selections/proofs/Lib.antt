@@ -1,5 +1,6 @@
 pub mod PickedLaws
 pub mod AnswerLaws
+pub mod HeadingLaws
 pub mod PlaceLaws
 pub mod SubscriptLaws
 pub mod SelectLaws

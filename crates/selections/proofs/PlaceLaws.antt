@@ -1,8 +1,9 @@
 -- Columns by their labels.
-use Rattle.std.proofs.Common.{◌≡◌, ◌∙◌, ℕ, suc, ◌+◌, ◌<◌, Bool, true, false, ◌||◌, List, [], ◌∷◌, ◌++◌, length, take, drop, map, refl, ap, sym, subst, arith, if◌then◌else◌, All, append_assoc, append-nil, Option, Some, None, Result, Ok, Err}
+use Rattle.std.proofs.Common.{◌≡◌, ◌∙◌, ℕ, suc, ◌+◌, ◌<◌, Bool, true, false, cond, List, [], ◌∷◌, ◌++◌, length, take, drop, map, refl, ap, sym, subst, arith, if◌then◌else◌, All, append_assoc, append-nil, Option, Some, None, Result, Ok, Err}
 use Rattle.std.specs.Prelude.{◌≢◌, slice_index_or, slice_get}
 use Rattle.std.specs.Option.{option_map}
-use Rattle.std.specs.List.{list_any}
+use Rattle.std.specs.List.{position_from}
+use Rattle.std.specs.Map.{lookup}
 use Rattle.std.proofs.lemmas.List.{length-map, map-append, take_more}
 use Rattle.std.proofs.lemmas.List.Elements.{All-cons, All-nil}
 use Rattle.std.proofs.Math.ListN.{get_or-map}
@@ -16,18 +17,17 @@ use Rattle.meaning.specs.Text.{Text}
 use Rattle.meaning.specs.Cell.{na_cell, LabelValue, na, datum, label_datum}
 use Rattle.meaning.specs.Operator.{cell_label}
 use Rattle.meaning.specs.Fault.{FaultValue, then_value}
-use Rattle.meaning.specs.FaultOf.{fault_of}
 use Rattle.table_meaning.specs.Settled.{IsSettled}
-use Rattle.table_meaning.specs.Table.{NumberedTable, Table, heading_value}
-use Rattle.form_meaning.specs.Finish.{same_heading, first_repeated, try_all}
-use Rattle.form_meaning.specs.Select.{place_of_label, column_place}
-use Rattle.form_parts.specs.Makes.{MakesBy}
+use Rattle.table_meaning.specs.Table.{NumberedTable, Table, table_value, heading_value}
+use Rattle.table_meaning.specs.Valid.{IsWhole}
+use Rattle.form_meaning.specs.Finish.{same_heading, try_all}
+use Rattle.form_meaning.specs.Select.{place_of_label, found, column_place}
 use Rattle.form_parts.proofs.LabelLaws.{value_decides, label_given, label_one, heading_label}
-use Rattle.frame_store.specs.declared.fault.OpFault.{OpFault}
-use Rattle.frame_store.specs.declared.fault.OpFault.TheVariants.{Refused, NoMemory}
-use Rattle.frame_store.specs.Parts.{HeadingList}
 use Rattle.frame_store.specs.Shown.{headings_value, cells_value}
-use Rattle.selections.specs.Selected.{as_it_is, heading_of, headings_at}
+use Rattle.selections.specs.Selected.{heading_of, headings_at}
+use Rattle.selections.specs.Headings as numbered
+use Rattle.selections.specs.Headings.{HaveFirstPlaces}
+use Rattle.selections.proofs.HeadingLaws.{head_settled, rest_settled, same_seen, position_inside}
 
 -- a heading as it is seen
 pub heading_seen : (texts : List Text) (headings : List (Option Label)) (place : ℕ) → slice_index_or (headings_value texts headings) place None ≡ heading_value texts (slice_index_or headings place None)
@@ -158,93 +158,26 @@ places_more texts t cells k cell label place places places' whole lt at seen fou
     ∙ before
 
 -- or none
-pub places_refused : (texts : List Text) (t : Table) (cells : List Cell) (k : ℕ) (cell : Cell) (label : Label) (places : List ℕ) (fault : OpFault) (whole : Result (List ℕ) FaultValue)
-    → k < length cells → slice_get cells k ≡ Some cell → label_datum texts label ≡ cell_label (datum texts cell) → MakesBy as_it_is texts (Err fault) (column_place t (label_datum texts label))
-    → made_after (column_place t) places (drop k (labels_seen texts cells)) ≡ whole → MakesBy as_it_is texts (Err fault) whole
-places_refused texts t cells k cell label places fault whole lt at seen refused before = go fault refused
-  where
-    go : (f : OpFault) → MakesBy as_it_is texts (Err f) (column_place t (label_datum texts label)) → MakesBy as_it_is texts (Err f) whole
-    go (Refused code) m =
-        sym before
-        ∙ ap (made_after (column_place t) places) (from_label texts cells k cell label lt at seen)
-        ∙ one_refused (column_place t) places (label_datum texts label) (drop (suc k) (labels_seen texts cells)) (fault_of texts code) m
-    go NoMemory m = tt
+pub place_refused : (texts : List Text) (t : Table) (cells : List Cell) (k : ℕ) (cell : Cell) (label : Label) (places : List ℕ) (fault : FaultValue) (whole : Result (List ℕ) FaultValue)
+    → k < length cells → slice_get cells k ≡ Some cell → label_datum texts label ≡ cell_label (datum texts cell) → column_place t (label_datum texts label) ≡ Err fault
+    → made_after (column_place t) places (drop k (labels_seen texts cells)) ≡ whole → whole ≡ Err fault
+place_refused texts t cells k cell label places fault whole lt at seen refused before =
+    sym before
+    ∙ ap (made_after (column_place t) places) (from_label texts cells k cell label lt at seen)
+    ∙ one_refused (column_place t) places (label_datum texts label) (drop (suc k) (labels_seen texts cells)) fault refused
 
 pub no_more_places : (texts : List Text) (t : Table) (cells : List Cell) (k : ℕ) (places : List ℕ) (whole : Result (List ℕ) FaultValue) → k ≡ length cells → made_after (column_place t) places (drop k (labels_seen texts cells)) ≡ whole
     → whole ≡ Ok places
 no_more_places texts t cells k places whole end before = all_made (column_place t) places (labels_seen texts cells) k whole (end ∙ sym (labels_count texts cells)) before
 
--- the headings from a place on
-abbrev pub headings_from : List Text → NumberedTable → List ℕ → ℕ → List (Option LabelValue)
-headings_from texts t places k = headings_value texts (headings_at t (drop k places))
-
-from_heading : (texts : List Text) (t : NumberedTable) (places : List ℕ) (k place : ℕ) (heading : Option Label) → k < length places → slice_get places k ≡ Some place → heading ≡ slice_index_or t.headings place None
-    → headings_from texts t places k ≡ heading_value texts heading ∷ headings_from texts t places (suc k)
-from_heading texts t places k place heading lt at is =
-    ap (λ l. headings_value texts (headings_at t l)) (drop-cons places k 0 lt)
-    ∙ ap (λ h. heading_value texts h ∷ headings_from texts t places (suc k)) (ap (heading_of t) (get_or_from_slice_get places k place 0 at) ∙ sym is)
-
-none_from : (texts : List Text) (t : NumberedTable) (places : List ℕ) (k : ℕ) → k ≡ length places → headings_from texts t places k ≡ []
-none_from texts t places k end = ap (λ l. headings_value texts (headings_at t l)) (ap (λ n. drop n places) end ∙ drop-length places)
-
--- a heading is met again, or not
-pub again_met : (texts : List Text) (t : NumberedTable) (places : List ℕ) (k place : ℕ) (heading other : Option Label) (b whole : Bool) → k < length places → slice_get places k ≡ Some place → other ≡ slice_index_or t.headings place None
-    → b ≡ same_heading (heading_value texts heading) (heading_value texts other) → b ≡ true → list_any (same_heading (heading_value texts heading)) (headings_from texts t places k) ≡ whole → true ≡ whole
-again_met texts t places k place heading other b whole lt at is same is_so before =
-    let test = same_heading (heading_value texts heading) in
-    sym (ap (list_any test) (from_heading texts t places k place other lt at is) ∙ ap (λ c. c || list_any test (headings_from texts t places (suc k))) (sym same ∙ is_so)) ∙ before
-
-pub again_passed : (texts : List Text) (t : NumberedTable) (places : List ℕ) (k place : ℕ) (heading other : Option Label) (b whole : Bool) → k < length places → slice_get places k ≡ Some place → other ≡ slice_index_or t.headings place None
-    → b ≡ same_heading (heading_value texts heading) (heading_value texts other) → b ≡ false → list_any (same_heading (heading_value texts heading)) (headings_from texts t places k) ≡ whole
-    → list_any (same_heading (heading_value texts heading)) (headings_from texts t places (k + 1)) ≡ whole
-again_passed texts t places k place heading other b whole lt at is same other_one before =
-    let test = same_heading (heading_value texts heading) in
-    let next : k + 1 ≡ suc k = omega arith in
-    ap (λ n. list_any test (headings_from texts t places n)) next
-    ∙ sym (ap (list_any test) (from_heading texts t places k place other lt at is) ∙ ap (λ c. c || list_any test (headings_from texts t places (suc k))) (sym same ∙ other_one))
-    ∙ before
-
-pub again_none : (texts : List Text) (t : NumberedTable) (places : List ℕ) (k : ℕ) (heading : Option Label) (whole : Bool) → k ≡ length places → list_any (same_heading (heading_value texts heading)) (headings_from texts t places k) ≡ whole → false ≡ whole
-again_none texts t places k heading whole end before = sym (ap (list_any (same_heading (heading_value texts heading))) (none_from texts t places k end)) ∙ before
-
--- the first heading that stands again
-abbrev repeated_if : Option LabelValue → List (Option LabelValue) → Bool → Option LabelValue
-repeated_if h hs b = if b then h else first_repeated hs
-
-from_repeated : (texts : List Text) (t : NumberedTable) (places : List ℕ) (k place : ℕ) (heading : Option Label) (b : Bool) → k < length places → slice_get places k ≡ Some place → heading ≡ slice_index_or t.headings place None
-    → b ≡ list_any (same_heading (heading_value texts heading)) (headings_value texts (headings_at t (drop (k + 1) places)))
-    → first_repeated (headings_from texts t places k) ≡ repeated_if (heading_value texts heading) (headings_from texts t places (suc k)) b
-from_repeated texts t places k place heading b lt at is same =
-    let next : suc k ≡ k + 1 = omega arith in
-    ap first_repeated (from_heading texts t places k place heading lt at is)
-    ∙ ap (repeated_if (heading_value texts heading) (headings_from texts t places (suc k))) (ap (λ n. list_any (same_heading (heading_value texts heading)) (headings_from texts t places n)) next ∙ sym same)
-
-pub repeated_met : (texts : List Text) (t : NumberedTable) (places : List ℕ) (k place : ℕ) (heading : Option Label) (b : Bool) (whole : Option LabelValue) → k < length places → slice_get places k ≡ Some place → heading ≡ slice_index_or t.headings place None
-    → b ≡ list_any (same_heading (heading_value texts heading)) (headings_value texts (headings_at t (drop (k + 1) places))) → b ≡ true → first_repeated (headings_from texts t places k) ≡ whole → heading_value texts heading ≡ whole
-repeated_met texts t places k place heading b whole lt at is same is_so before =
-    sym (from_repeated texts t places k place heading b lt at is same ∙ ap (repeated_if (heading_value texts heading) (headings_from texts t places (suc k))) is_so) ∙ before
-
-pub repeated_passed : (texts : List Text) (t : NumberedTable) (places : List ℕ) (k place : ℕ) (heading : Option Label) (b : Bool) (whole : Option LabelValue) → k < length places → slice_get places k ≡ Some place → heading ≡ slice_index_or t.headings place None
-    → b ≡ list_any (same_heading (heading_value texts heading)) (headings_value texts (headings_at t (drop (k + 1) places))) → b ≡ false → first_repeated (headings_from texts t places k) ≡ whole
-    → first_repeated (headings_from texts t places (k + 1)) ≡ whole
-repeated_passed texts t places k place heading b whole lt at is same other before =
-    let next : k + 1 ≡ suc k = omega arith in
-    ap (λ n. first_repeated (headings_from texts t places n)) next
-    ∙ sym (from_repeated texts t places k place heading b lt at is same ∙ ap (repeated_if (heading_value texts heading) (headings_from texts t places (suc k))) other)
-    ∙ before
-
-pub repeated_none : (texts : List Text) (t : NumberedTable) (places : List ℕ) (k : ℕ) (whole : Option LabelValue) → k ≡ length places → first_repeated (headings_from texts t places k) ≡ whole → None ≡ whole
-repeated_none texts t places k whole end before = sym (ap first_repeated (none_from texts t places k end)) ∙ before
-
 -- one more heading
-pub headings_more : (t : NumberedTable) (places : List ℕ) (k place : ℕ) (heading : Option Label) (before after : HeadingList) → k < length places → slice_get places k ≡ Some place → heading ≡ slice_index_or t.headings place None
-    → before ≡ record { columns_name = t.columns_name; labels = headings_at t (take k places) } → after ≡ record before { labels = before.labels ++ heading ∷ [] }
-    → after ≡ record { columns_name = t.columns_name; labels = headings_at t (take (k + 1) places) }
+pub headings_more : (t : NumberedTable) (places : List ℕ) (k place : ℕ) (heading : Option Label) (before after : List (Option Label)) → k < length places → slice_get places k ≡ Some place → heading ≡ slice_index_or t.headings place None
+    → before ≡ headings_at t (take k places) → after ≡ before ++ heading ∷ [] → after ≡ headings_at t (take (k + 1) places)
 headings_more t places k place heading before after lt at is was pushed =
     let here : heading ≡ heading_of t (slice_index_or places k 0) = is ∙ ap (heading_of t) (sym (get_or_from_slice_get places k place 0 at)) in
-    let all : headings_at t (take k places) ++ heading ∷ [] ≡ headings_at t (take (k + 1) places) =
-    ap (λ h. headings_at t (take k places) ++ h ∷ []) here ∙ sym (ap (headings_at t) (take_more places k 0 lt) ∙ map-append (heading_of t) (take k places) (slice_index_or places k 0 ∷ [])) in
-    pushed ∙ ap (λ (h : HeadingList). record h { labels = h.labels ++ heading ∷ [] }) was ∙ ap (λ (l : List (Option Label)). record { columns_name = t.columns_name; labels = l }) all
+    pushed
+    ∙ (λ j. was j ++ here j ∷ [])
+    ∙ sym (ap (headings_at t) (take_more places k 0 lt) ∙ map-append (heading_of t) (take k places) (slice_index_or places k 0 ∷ []))
 
 -- the column that is met has the label itself
 pub met_is : (texts : List Text) (label : Label) (heading : Option Label) (b : Bool) → AreDistinct texts → IsSettled label_datum texts label → IsSettled heading_value texts heading
@@ -274,3 +207,32 @@ absent_is texts (h ∷ hs) label none =
     let wrong : true ≡ false = sym met ∙ both.0 in
     cc in
     All-cons (λ heading. heading ≢ Some label) h hs apart (absent_is texts hs label both.1)
+
+-- the first place of a label by numbers is the one that is meant
+abbrev place_or : Bool → ℕ → Option ℕ → Option ℕ
+place_or b n o = moved n (if b then Some 0 else option_map suc o)
+
+position_seen : (texts : List Text) (n : ℕ) (hs : List (Option Label)) (label : Label) → AreDistinct texts → IsSettled headings_value texts hs → IsSettled label_datum texts label
+    → position_from (numbered.same_heading (Some label)) n hs ≡ moved n (place_of_label (headings_value texts hs) (label_datum texts label))
+position_seen texts n [] label distinct settled here = refl
+position_seen texts n (h ∷ hs) label distinct settled here =
+    go (position_seen texts (n + 1) hs label distinct (rest_settled heading_value texts h hs settled) here) (numbered.same_heading (Some label) h)
+    ∙ ap (λ b. place_or b n (place_of_label (headings_value texts hs) (label_datum texts label))) (same_seen texts (Some label) h distinct (λ more. ap Some (here more)) (head_settled heading_value texts h hs settled))
+  where
+    go : position_from (numbered.same_heading (Some label)) (n + 1) hs ≡ moved (n + 1) (place_of_label (headings_value texts hs) (label_datum texts label)) → (b : Bool)
+        → cond b (Some n) (position_from (numbered.same_heading (Some label)) (n + 1) hs) ≡ place_or b n (place_of_label (headings_value texts hs) (label_datum texts label))
+    go later true = ap Some (let e : n ≡ n + 0 = omega arith in e)
+    go later false = later ∙ sym (moved_suc n (place_of_label (headings_value texts hs) (label_datum texts label)))
+
+-- what the entries have for a label
+pub looked_up : (texts : List Text) (es : List (Option Label × ℕ)) (t : NumberedTable) (label : Label) (place : Option ℕ) → AreDistinct texts → IsSettled headings_value texts t.headings → IsSettled label_datum texts label
+    → HaveFirstPlaces es 0 t.headings → place ≡ lookup (numbered.same_heading (Some label)) es → column_place (table_value texts t) (label_datum texts label) ≡ found (label_datum texts label) place
+looked_up texts es t label place distinct settled here first is =
+    let there : place ≡ place_of_label (headings_value texts t.headings) (label_datum texts label) =
+    is ∙ first (Some label) ∙ position_seen texts 0 t.headings label distinct settled here ∙ moved_none (place_of_label (headings_value texts t.headings) (label_datum texts label)) in
+    ap (found (label_datum texts label)) (sym there)
+
+pub looked_inside : (es : List (Option Label × ℕ)) (t : NumberedTable) (label : Label) (place : ℕ) → IsWhole t → HaveFirstPlaces es 0 t.headings → Some place ≡ lookup (numbered.same_heading (Some label)) es → place < length t.columns
+looked_inside es t label place whole first is =
+    let lt : place < 0 + length t.headings = position_inside (numbered.same_heading (Some label)) 0 t.headings place (sym (is ∙ first (Some label))) in
+    omega (arith, lt, whole.headed)

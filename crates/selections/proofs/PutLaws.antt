@@ -14,7 +14,7 @@ use Rattle.meaning.specs.Text.{Text}
 use Rattle.meaning.specs.Cell.{CellValue, LabelValue, label_datum, AreGiven}
 use Rattle.meaning.specs.Fault.{FaultValue, limit, then_value}
 use Rattle.multi_index.specs.Axes.{AxisValue}
-use Rattle.nullable_array.specs.Columns.{CellColumn}
+use Rattle.column_core.specs.Columns.{CellColumn}
 use Rattle.table_meaning.specs.Settled.{IsSettled}
 use Rattle.table_meaning.specs.Table.{ColumnOf, NumberedTable, Table, table_value, heading_value, tuple_value, column_value}
 use Rattle.table_meaning.specs.Change.{put_at, with_column}

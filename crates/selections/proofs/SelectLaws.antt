@@ -1,29 +1,28 @@
 -- What is selected.
-use Rattle.std.proofs.Common.{◌≡◌, ◌∙◌, ℕ, suc, ◌<◌, Bool, true, false, ◌||◌, List, [], ◌∷◌, ◌++◌, length, map, refl, ap, sym, subst, arith, if◌then◌else◌, All, Option, Some, None, Result, Err}
-use Rattle.std.specs.Prelude.{◌≢◌, ℤ, slice_index_or, IsSome, AllPairs}
-use Rattle.std.specs.List.{list_any}
+use Rattle.std.proofs.Common.{◌≡◌, ◌∙◌, ℕ, suc, ◌<◌, Bool, true, false, List, [], ◌∷◌, ◌++◌, length, map, refl, ap, sym, subst, arith, if◌then◌else◌, All, Option, Some, None, Result, Err}
+use Rattle.std.specs.Prelude.{ℤ, slice_index_or, IsSome}
 use Rattle.std.proofs.lemmas.List.{length-map}
 use Rattle.std.proofs.lemmas.List.Elements.{All-cons, All-nil}
-use Rattle.std.proofs.lemmas.List.Kept.{AllPairs-cons}
 use Rattle.std.proofs.Math.ListN.{get_or-map}
 use Rattle.cell_core.specs.declared.cell.Cell.{Cell}
 use Rattle.cell_core.specs.declared.cell.Cell.TheVariants.{Na}
 use Rattle.cell_core.specs.declared.cell.Label.{Label}
+use Rattle.cell_core.specs.Texts.{AreDistinct}
 use Rattle.cell_core.specs.declared.grid.Shape.{Shape}
 use Rattle.cell_core.specs.declared.grid.Shape.TheVariants.{Series, Frame}
 use Rattle.meaning.specs.Text.{Text}
 use Rattle.meaning.specs.Cell.{CellValue, na_cell, LabelValue, datum, label_datum}
 use Rattle.meaning.specs.Operator.{cell_label}
-use Rattle.meaning.specs.Fault.{FaultValue, wrong_kind, not_built, bad_value, repeated, then_value}
+use Rattle.meaning.specs.Fault.{FaultValue, wrong_kind, not_built, then_value}
+use Rattle.meaning.specs.FaultOf.{fault_of}
 use Rattle.table_meaning.specs.Settled.{IsSettled}
 use Rattle.table_meaning.specs.Table.{ColumnOf, NumberedTable, Table, table_value, heading_value, column_at}
 use Rattle.table_meaning.specs.Valid.{AreHeadings, IsWhole}
 use Rattle.table_meaning.specs.Value.{Entry, Given, GivenList, GivenSub, cell, table, nothing, one, row, many, entries, key_given, span_given, scalar_in, list_in}
 use Rattle.form_meaning.specs.Binding.{each, is_scalar}
-use Rattle.form_meaning.specs.Finish.{same_heading, first_repeated, unless_repeated, limited, finished}
+use Rattle.form_meaning.specs.Finish.{first_repeated, unless_repeated, limited, finished}
 use Rattle.form_meaning.specs.Select.{column_series, column_result, heading_at, columns_frame, columns_result, cells_of, are_truths, list_result, frame_item, table_item, brackets_result, table_access, select_result}
 use Rattle.form_parts.specs.Makes.{MakesBy}
-use Rattle.form_parts.proofs.LabelLaws.{value_decides}
 use Rattle.frame_store.specs.declared.arguments.Selector.{Selector}
 use Rattle.frame_store.specs.declared.arguments.Selector.TheVariants as selector
 use Rattle.frame_store.specs.declared.arguments.Value.{Value}
@@ -34,7 +33,9 @@ use Rattle.frame_store.specs.Shown.{Shown, headings_value, columns_value, cells_
 use Rattle.selections.specs.Picked.{picked}
 use Rattle.selections.specs.Selected.{way_of, only_key, scalars_in, heading_of, headings_at}
 use Rattle.selections.proofs.AnswerLaws.{column_seen}
+use Rattle.selections.specs.Headings.{NamesRepeated, repeated_heading}
 use Rattle.selections.proofs.PlaceLaws.{heading_seen, heading_settled}
+use Rattle.selections.proofs.HeadingLaws.{repeated_seen, different}
 
 -- another name for what is meant
 pub answers_so : (texts : List Text) (result : Result Value OpFault) (meant meant' : Result Entry FaultValue) (old new : Shown) → meant ≡ meant' → FormAnswers texts result meant old new → FormAnswers texts result meant' old new
@@ -86,85 +87,56 @@ frame_is texts t headings places shape headed =
     ap (λ (h : HeadingList). table_value texts (picked Frame h places t)) headed
     ∙ (λ j. record (table_value texts t) { shape = sym shape j; headings = headings_seen texts t places j; columns = columns_seen texts t places j })
 
+all_settled : (texts : List Text) (t : NumberedTable) (places : List ℕ) → IsSettled headings_value texts t.headings → IsSettled headings_value texts (headings_at t places)
+all_settled texts t [] settled = λ more. refl
+all_settled texts t (p ∷ ps) settled = λ more j. heading_settled texts t.headings p (heading_of t p) refl settled more j ∷ all_settled texts t ps settled more j
+
+-- the headings that were gathered from a table that was read
+pub gathered : (s t : NumberedTable) (places : List ℕ) (hs items : List (Option Label)) → s ≡ t → hs ≡ items → items ≡ headings_at s places → hs ≡ headings_at t places
+gathered s t places hs items at same is = same ∙ is ∙ ap (λ (n : NumberedTable). headings_at n places) at
+
+pub gathered_own : (s t : NumberedTable) (places : List ℕ) (name : Option Label) (hs : List (Option Label)) (headings : HeadingList) → s ≡ t → name ≡ s.columns_name → hs ≡ headings_at t places
+    → headings ≡ record { columns_name = name; labels = hs } → headings ≡ own_headings t places
+gathered_own s t places name hs headings at named is made =
+    made ∙ (λ j. record { columns_name = (named ∙ ap (λ (n : NumberedTable). n.columns_name) at) j; labels = is j })
+
 abbrev unless_again : Table → Option LabelValue → Result Entry FaultValue
 unless_again t o = unless_repeated o (limited t)
 
-finished_is : (texts : List Text) (t : NumberedTable) (places : List ℕ) (found : Option LabelValue) → found ≡ first_repeated (headings_value texts (headings_at t places))
-    → finished (columns_frame (table_value texts t) places) ≡ unless_again (columns_frame (table_value texts t) places) found
-finished_is texts t places found is =
-    ap (unless_again (columns_frame (table_value texts t) places)) (ap first_repeated (sym (headings_seen texts t places)) ∙ sym is)
+-- unless a heading stands again, by numbers
+finished_is : (texts : List Text) (t : NumberedTable) (places : List ℕ) (found : Option Label) → AreDistinct texts → IsSettled headings_value texts t.headings → repeated_heading (headings_at t places) ≡ found
+    → finished (columns_frame (table_value texts t) places) ≡ unless_again (columns_frame (table_value texts t) places) (heading_value texts found)
+finished_is texts t places found distinct settled is =
+    ap (unless_again (columns_frame (table_value texts t) places))
+    (ap first_repeated (sym (headings_seen texts t places)) ∙ sym (repeated_seen texts (headings_at t places) distinct (all_settled texts t places settled)) ∙ ap (heading_value texts) is)
 
-pub frame_meant : (texts : List Text) (t : NumberedTable) (headings : HeadingList) (places : List ℕ) → t.shape ≡ Frame → headings ≡ own_headings t places → None ≡ first_repeated (headings_value texts (headings_at t places))
-    → limited (table_value texts (picked Frame headings places t)) ≡ finished (columns_frame (table_value texts t) places)
-frame_meant texts t headings places shape headed none = ap limited (frame_is texts t headings places shape headed) ∙ sym (finished_is texts t places None none)
+pub frame_meant : (texts : List Text) (t : NumberedTable) (headings : HeadingList) (places : List ℕ) → AreDistinct texts → IsSettled headings_value texts t.headings → t.shape ≡ Frame → headings ≡ own_headings t places
+    → repeated_heading (headings_at t places) ≡ None → limited (table_value texts (picked Frame headings places t)) ≡ finished (columns_frame (table_value texts t) places)
+frame_meant texts t headings places distinct settled shape headed none = ap limited (frame_is texts t headings places shape headed) ∙ sym (finished_is texts t places None distinct settled none)
 
-pub again_meant : (texts : List Text) (t : NumberedTable) (places : List ℕ) (label : Label) → Some (label_datum texts label) ≡ first_repeated (headings_value texts (headings_at t places))
-    → finished (columns_frame (table_value texts t) places) ≡ Err (bad_value (repeated (label_datum texts label ∷ [])))
-again_meant texts t places label is = finished_is texts t places (Some (label_datum texts label)) is
-
--- headings of which none stands again are different
-same_value : (texts : List Text) (a b : Label) → a ≡ b → same_heading (heading_value texts (Some a)) (heading_value texts (Some b)) ≡ true
-same_value texts a b e = (value_decides (label_datum texts a) (label_datum texts b)).1 (ap (label_datum texts) e)
-
-some_label : (a b : Label) → Some a ≡ Some b → a ≡ b
-some_label a b e = cc
-
-same_if : (texts : List Text) (a b : Option Label) → IsSome a → a ≡ b → same_heading (heading_value texts a) (heading_value texts b) ≡ true
-same_if texts None b some e = cc
-same_if texts (Some x) None some e = cc
-same_if texts (Some x) (Some y) some e = same_value texts x y (some_label x y e)
-
-not_any : (b c : Bool) → (b || c) ≡ false → (b ≡ false) × (c ≡ false)
-not_any true c e = cc
-not_any false c e = (refl, e)
-
-differs : (texts : List Text) (h : Option Label) (hs : List (Option Label)) → IsSome h → list_any (same_heading (heading_value texts h)) (headings_value texts hs) ≡ false → All (λ other. h ≢ other) hs
-differs texts h [] some none = All-nil (λ other. h ≢ other)
-differs texts h (other ∷ hs) some none =
-    let both = not_any (same_heading (heading_value texts h) (heading_value texts other)) (list_any (same_heading (heading_value texts h)) (headings_value texts hs)) none in
-    let apart : h ≢ other = λ e. let is_so = same_if texts h other some e in let no' = both.0 in let wrong : true ≡ false = sym is_so ∙ no' in cc in
-    All-cons (λ other. h ≢ other) other hs apart (differs texts h hs some both.1)
-
-abbrev again_if : Option LabelValue → List (Option LabelValue) → Bool → Option LabelValue
-again_if h hs b = if b then h else first_repeated hs
-
-is_some_value : (texts : List Text) (o : Option Label) → IsSome o → None ≡ heading_value texts o → ⊥
-is_some_value texts None s e = cc
-is_some_value texts (Some x) s e = cc
-
-different_from : (texts : List Text) (h : Option Label) (hs : List (Option Label)) (b : Bool) → list_any (same_heading (heading_value texts h)) (headings_value texts hs) ≡ b → IsSome h
-    → None ≡ again_if (heading_value texts h) (headings_value texts hs) b → (None ≡ first_repeated (headings_value texts hs) → AllPairs (λ a b. a ≢ b) hs) → AllPairs (λ a b. a ≢ b) (h ∷ hs)
-different_from texts h hs true is some none rest = absurd (is_some_value texts h some none)
-different_from texts h hs false is some none rest = AllPairs-cons (λ a b. a ≢ b) h hs (differs texts h hs some is) (rest none)
-
-pub different : (texts : List Text) (hs : List (Option Label)) → All IsSome hs → None ≡ first_repeated (headings_value texts hs) → AllPairs (λ a b. a ≢ b) hs
-different texts [] some none = λ i j d lt within. absurd (omega (arith, within))
-different texts (h ∷ hs) some none =
-    different_from texts h hs (list_any (same_heading (heading_value texts h)) (headings_value texts hs)) refl (some 0 h (omega arith)) none
-    (different texts hs (λ k d lt. some (suc k) d (omega (arith, lt))))
+pub frame_refused : (texts : List Text) (t : NumberedTable) (places : List ℕ) (fault : OpFault) (old : Shown) → AreDistinct texts → IsSettled headings_value texts t.headings → NamesRepeated fault (repeated_heading (headings_at t places))
+    → FormAnswers texts (Err fault) (finished (columns_frame (table_value texts t) places)) old old
+frame_refused texts t places (Refused code) old distinct settled named = (finished_is texts t places (Some named.0) distinct settled named.1 ∙ ap (λ c. Err (fault_of texts c)) (sym named.2), refl)
+frame_refused texts t places NoMemory old distinct settled named = refl
 
 all_labelled : (t : NumberedTable) (places : List ℕ) → All IsSome t.headings → All (λ p. p < length t.headings) places → All IsSome (headings_at t places)
 all_labelled t [] some inside = All-nil IsSome
 all_labelled t (p ∷ ps) some inside =
     All-cons IsSome (heading_of t p) (headings_at t ps) (some p None (inside 0 p (omega arith))) (all_labelled t ps some (λ k d lt. inside (suc k) d (omega (arith, lt))))
 
-pub frame_headed : (texts : List Text) (t : NumberedTable) (headings : HeadingList) (places : List ℕ) → IsWhole t → t.shape ≡ Frame → All (λ p. p < length t.columns) places → headings ≡ own_headings t places
-    → None ≡ first_repeated (headings_value texts (headings_at t places)) → AreHeadings Frame headings.columns_name headings.labels
-frame_headed texts t headings places whole shape inside headed none =
+pub frame_headed : (t : NumberedTable) (headings : HeadingList) (places : List ℕ) → IsWhole t → t.shape ≡ Frame → All (λ p. p < length t.columns) places → headings ≡ own_headings t places
+    → repeated_heading (headings_at t places) ≡ None → AreHeadings Frame headings.columns_name headings.labels
+frame_headed t headings places whole shape inside headed none =
     let inside' : All (λ p. p < length t.headings) places = subst (λ (n : ℕ). All (λ p. p < n) places) (sym whole.headed) inside in
     let some : All IsSome (headings_at t places) = all_labelled t places (whole.headings.labelled shape) inside' in
     subst (λ (h : HeadingList). AreHeadings Frame h.columns_name h.labels) (sym headed)
-    (record { single = λ e. cc; nameless = λ e. cc; labelled = λ e. some; different = λ e. different texts (headings_at t places) some none })
+    (record { single = λ e. cc; nameless = λ e. cc; labelled = λ e. some; different = λ e. different (headings_at t places) some none })
 
 pub frame_count : (t : NumberedTable) (headings : HeadingList) (places : List ℕ) → headings ≡ own_headings t places → length headings.labels ≡ length places
 frame_count t headings places headed = ap (λ (h : HeadingList). length h.labels) headed ∙ length-map places (heading_of t)
 
 pub frame_name_settled : (texts : List Text) (t : NumberedTable) (headings : HeadingList) (places : List ℕ) → headings ≡ own_headings t places → IsSettled heading_value texts t.columns_name → IsSettled heading_value texts headings.columns_name
 frame_name_settled texts t headings places headed settled = subst (λ (h : HeadingList). IsSettled heading_value texts h.columns_name) (sym headed) settled
-
-all_settled : (texts : List Text) (t : NumberedTable) (places : List ℕ) → IsSettled headings_value texts t.headings → IsSettled headings_value texts (headings_at t places)
-all_settled texts t [] settled = λ more. refl
-all_settled texts t (p ∷ ps) settled = λ more j. heading_settled texts t.headings p (heading_of t p) refl settled more j ∷ all_settled texts t ps settled more j
 
 pub frame_labels_settled : (texts : List Text) (t : NumberedTable) (headings : HeadingList) (places : List ℕ) → headings ≡ own_headings t places → IsSettled headings_value texts t.headings → IsSettled headings_value texts headings.labels
 frame_labels_settled texts t headings places headed settled = subst (λ (h : HeadingList). IsSettled headings_value texts h.labels) (sym headed) (all_settled texts t places settled)

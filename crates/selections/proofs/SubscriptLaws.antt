@@ -13,7 +13,7 @@ use Rattle.meaning.specs.Text.{Text}
 use Rattle.meaning.specs.Cell.{CellValue, na_cell, int_cell, truth_cell, text_cell, datum}
 use Rattle.meaning.specs.Place.{place_of}
 use Rattle.meaning.specs.Fault.{out_of_range}
-use Rattle.meaning.specs.Tree.{iloc}
+use Rattle.meaning.specs.Symbol.{iloc}
 use Rattle.table_meaning.specs.Table.{NumberedTable, table_value, tuple_value}
 use Rattle.table_meaning.specs.Value.{Given, GivenList, GivenSub, cell, table, nothing, one, row, many, entries, more_given, key_given, span_given, scalar_in}
 use Rattle.form_meaning.specs.Binding.{is_truth, each, is_scalar}

@@ -6,7 +6,7 @@ use Rattle.meaning.specs.Text.{Text}
 use Rattle.meaning.specs.Cell.{CellValue, LabelValue, datum}
 use Rattle.meaning.specs.Fault.{FaultValue, limit}
 use Rattle.multi_index.specs.Axes.{AxisValue}
-use Rattle.nullable_array.specs.Columns.{CellColumn}
+use Rattle.column_core.specs.Columns.{CellColumn}
 use Rattle.table_meaning.specs.Table.{ColumnOf, NumberedTable}
 use Rattle.form_meaning.specs.Finish.{within_limits}
 use Rattle.form_meaning.specs.Select.{place_of_label}

@@ -1,3 +1,4 @@
 pub mod Picked
 pub mod Selected
 pub mod Assigned
+pub mod Headings

@@ -3,7 +3,7 @@ use Rattle.std.specs.Prelude.{ℕ, ℤ, List, map, slice_index_or, Option, Some,
 use Rattle.cell_core.specs.declared.cell.Label.{Label}
 use Rattle.meaning.specs.Text.{Text}
 use Rattle.meaning.specs.Cell.{CellValue, datum}
-use Rattle.meaning.specs.Tree.{loc, iloc, at, iat}
+use Rattle.meaning.specs.Symbol.{loc, iloc, at, iat}
 use Rattle.cell_core.specs.declared.cell.Cell.{Cell}
 use Rattle.table_meaning.specs.Table.{NumberedTable}
 use Rattle.table_meaning.specs.Value as value

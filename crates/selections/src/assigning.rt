@@ -4,7 +4,7 @@ ghost use Rattle.std.specs.Option.{option_map};
 ghost use Rattle.cell_core.specs.declared.grid.Shape.TheVariants.{Series, Frame};
 ghost use Rattle.meaning.specs.Cell.{AreGiven, IsLonger, datum, label_datum};
 ghost use Rattle.meaning.specs.Fault.{then_value};
-ghost use Rattle.meaning.specs.Tree.{iloc};
+ghost use Rattle.meaning.specs.Symbol.{iloc};
 ghost use Rattle.table_meaning.specs.Settled.{IsSettled};
 ghost use Rattle.table_meaning.specs.Table.{table_value, column_at};
 ghost use Rattle.table_meaning.specs.Value.{table, scalar_in};
@@ -18,14 +18,14 @@ ghost use Rattle.frame_store.specs.Shown.{shown, cells_value, Changes};
 ghost use Rattle.selections.specs.Selected.{way_of};
 ghost use Rattle.selections.specs.Assigned.{column_seen};
 
-use crate::columns::{copied_column, list_column, scalar_column};
+use crate::columns::{list_column, scalar_column};
 use crate::putting::{put_labelled, put_place, put_with_rows};
 use crate::subscripts::{only_key, position_in, row_place, scalars_of};
 use cell_core::{Cell, Cells, Code, Grid, Label, Places, Reason, Shape, TextDict};
+use column_core::Column;
 use form_parts::{label_of, same_rows};
 use frame_store::{Argument, Item, ObjId, OpFault, Selector, Store, Subscript, Value};
 use multi_index::Axis;
-use nullable_array::Column;
 use std::alloc::Global;
 
 // A scalar in each row.
@@ -167,7 +167,7 @@ fn labelled_set(
     let source = store.read(series);
     // The limits are tested before memory is taken for the rows of the other columns.
     put_place(dict, &store.read(on), label, source.rows())?;
-    let column = copied_column(alloc, source.column(0))?;
+    let column = source.column(0).to_column(alloc)?;
     let axis = source.axis().copy(alloc)?;
     put_with_rows(alloc, store, dict, on, label, axis, column)
 }
@@ -191,7 +191,7 @@ fn position_set(
     ensures settled { IsSettled shown dict.now (tables store.new) }
     ensures answers { let s = table_value dict.now (table_at (tables store.old) series.0) in Changes dict.now result (Object on) (meant.put_result (table_value dict.now (table_at (tables store.old) on.0)) (label_datum dict.now label) (column_at s.columns 0)) (shown dict.now (tables store.old)) (shown dict.now (tables store.new)) }
 {
-    let column = copied_column(alloc, store.read(series).column(0))?;
+    let column = store.read(series).column(0).to_column(alloc)?;
     put_labelled(store, dict, on, label, column)
 }
 

@@ -1,4 +1,4 @@
-// Columns of scalars, and columns that are copied.
+// Columns of scalars.
 ghost use Rattle.std.specs.Prelude.{◌≡◌, ◌∷◌, List, map, length, replicate, true, unwrap_or, All, IfOk};
 ghost use Rattle.std.specs.List.{list_all};
 ghost use Rattle.cell_core.specs.declared.cell.Kind.TheVariants.{Int64 as numbers};
@@ -12,8 +12,8 @@ ghost use Rattle.frame_store.specs.Shown.{cells_value};
 ghost use Rattle.selections.specs.Assigned.{column_seen, missing_cells};
 
 use cell_core::{Cell, Cells, Code, Grid, Kind, NoMemory};
+use column_core::{Block, Column};
 use frame_store::{Blocks, ObjRef, OpFault};
-use nullable_array::{Block, ColRef, Column, shift};
 use std::alloc::Global;
 
 // The kind of a cell that is present.
@@ -30,25 +30,13 @@ fn present_kind(cell: Cell) -> Option<Kind>
     }
 }
 
-// The cell in so many rows.
-fn filled_column(alloc: Global, kind: Kind, cell: Cell, rows: usize) -> Result<Column, NoMemory>
-    requires { (texts : List OneText) → holds kind (datum texts cell) ≡ true }
-    ensures { IfOk result (λ c. c ≡ record { kind = kind; cells = replicate rows cell }) }
-{
-    let mut column = Column::new(alloc, kind);
-    for _row in 0..rows {
-        column.push(cell)?;
-    }
-    Ok(column)
-}
-
 // A scalar in so many rows.
 pub(crate) fn scalar_column(alloc: Global, cell: Cell, rows: usize) -> Result<Column, NoMemory>
     ensures seen { IfOk result (λ c. (texts : List OneText) → column_seen texts c ≡ record { kind = operator.scalar_kind numbers (datum texts cell); cells = replicate rows (datum texts cell) }) }
     ensures cells { IfOk result (λ c. c.cells ≡ replicate rows cell) }
 {
     let kind = present_kind(cell).unwrap_or(Kind::Int64);
-    filled_column(alloc, kind, cell, rows)
+    Column::repeat(alloc, kind, cell, rows)
 }
 
 // The kind of the first cell that is present; whole numbers where none is.
@@ -98,15 +86,6 @@ pub(crate) fn list_column(alloc: Global, cells: &Cells) -> Result<Column, OpFaul
         return Err(OpFault::Refused(Code::WrongKind));
     }
     Ok(column_of(alloc, kind, cells)?)
-}
-
-// The same cells.
-pub(crate) fn copied_column(alloc: Global, a: ColRef<'_>) -> Result<Column, NoMemory>
-    ensures { IfOk result (λ c. c ≡ a.entry) }
-{
-    // A shift by no rows is a copy.
-    let copied = shift(alloc, a, 0)?;
-    Ok(copied)
 }
 
 // Columns of the same kinds with so many missing cells.

@@ -1,12 +1,10 @@
 // Columns by their labels.
-ghost use Rattle.std.specs.Prelude.{◌≡◌, ◌≢◌, ◌<◌, ◌≤◌, ◌∷◌, [], length, map, drop, slice_index_or, All, Some, None, IfOk, IfSome, IfNone};
-ghost use Rattle.std.specs.List.{list_any};
-ghost use Rattle.cell_core.specs.declared.code.Code.TheVariants.{NoKey, BadValue};
-ghost use Rattle.cell_core.specs.declared.code.Reason.TheVariants.{Repeated};
+ghost use Rattle.std.specs.Prelude.{◌≡◌, ◌≢◌, ◌<◌, ◌∷◌, [], length, map, slice_index_or, All, Some, None, IfOk, IfSome, IfNone};
+ghost use Rattle.cell_core.specs.declared.code.Code.TheVariants.{NoKey};
 ghost use Rattle.meaning.specs.Cell.{label_datum};
 ghost use Rattle.meaning.specs.Operator.{cell_label};
 ghost use Rattle.table_meaning.specs.Settled.{IsSettled};
-ghost use Rattle.table_meaning.specs.Table.{heading_value, table_value};
+ghost use Rattle.table_meaning.specs.Table.{table_value};
 ghost use Rattle.table_meaning.specs.Valid.{IsWhole};
 ghost use Rattle.form_meaning.specs.Finish as finish;
 ghost use Rattle.form_meaning.specs.Select as meant;
@@ -15,9 +13,10 @@ ghost use Rattle.frame_store.specs.Shown.{headings_value, cells_value};
 ghost use Rattle.form_parts.specs.Makes.{MakesBy};
 ghost use Rattle.selections.specs.Selected.{as_it_is, headings_at as meant_headings};
 
-use cell_core::{Cells, Code, Grid, Label, NoMemory, Places, Reason, TextDict, Tuple};
+use crate::headings::first_places;
+use cell_core::{Cells, Code, Grid, Label, NoMemory, Places, TextDict, Tuple};
 use form_parts::{label_of, same_heading};
-use frame_store::{Headings, ObjRef, OpFault};
+use frame_store::{ObjRef, OpFault};
 use std::alloc::Global;
 
 // The fault of a label that no column has.
@@ -25,13 +24,6 @@ fn missing(alloc: Global, label: Label) -> OpFault
     ensures { result ≡ Refused (NoKey (label ∷ [])) }
 {
     OpFault::Refused(Code::NoKey(Tuple::of(alloc, &[label])))
-}
-
-// The fault of a label that two columns would have.
-pub(crate) fn repeated(alloc: Global, label: Label) -> OpFault
-    ensures { result ≡ Refused (BadValue (Repeated (label ∷ []))) }
-{
-    OpFault::Refused(Code::BadValue(Reason::Repeated(Tuple::of(alloc, &[label]))))
 }
 
 // The place of the first column with the label.
@@ -86,10 +78,16 @@ pub(crate) fn column_places(
     ensures answer { MakesBy as_it_is dict.now result (finish.try_all (meant.column_place (table_value dict.now on.now)) (map cell_label (cells_value dict.now cells.now))) }
     ensures inside { IfOk result (All (λ place. place < length on.now.columns)) }
 {
+    // Equal texts have equal numbers: `TextDict::len` says so.
+    let _ = dict.len();
+    let first = first_places(alloc, on)?;
     let mut places = Places::new(alloc);
     for k in 0..cells.len() {
         let label = label_of(*cells.at(k));
-        places.push(column_place(alloc, dict, on, label)?)?;
+        let Some(place) = first.get(&Some(label)) else {
+            return Err(missing(alloc, label));
+        };
+        places.push(*place)?;
     }
     Ok(places)
 }
@@ -99,50 +97,13 @@ pub(crate) fn headings_at(
     alloc: Global,
     on: &ObjRef<'_>,
     places: &Places,
-) -> Result<Headings, NoMemory>
+) -> Result<Vec<Option<Label>>, NoMemory>
     requires { All (λ place. place < length on.now.columns) places.now }
-    ensures { IfOk result (λ made. made ≡ record { columns_name = on.now.columns_name; labels = meant_headings on.now places.now }) }
+    ensures { IfOk result (λ made. made.items ≡ meant_headings on.now places.now) }
 {
-    let mut headings = Headings::new(alloc, on.columns_name());
+    let mut headings = Vec::new(alloc);
     for k in 0..places.len() {
         headings.push(on.heading(*places.at(k)))?;
     }
     Ok(headings)
-}
-
-// Whether a heading stands at one of the places from one on.
-fn stands_again(
-    dict: &TextDict,
-    on: &ObjRef<'_>,
-    places: &Places,
-    heading: Option<Label>,
-    from: usize,
-) -> bool
-    requires settled { IsSettled headings_value dict.now on.now.headings }
-    requires inside { All (λ place. place < length on.now.columns) places.now }
-    requires heading { IsSettled heading_value dict.now heading }
-    requires from { from ≤ length places.now }
-    ensures { result ≡ list_any (finish.same_heading (heading_value dict.now heading)) (headings_value dict.now (meant_headings on.now (drop from places.now))) }
-{
-    for k in from..places.len() {
-        if same_heading(dict, heading, on.heading(*places.at(k))) {
-            return true;
-        }
-    }
-    false
-}
-
-// The first heading at these places that stands again at a later one.
-pub(crate) fn first_repeated(dict: &TextDict, on: &ObjRef<'_>, places: &Places) -> Option<Label>
-    requires settled { IsSettled headings_value dict.now on.now.headings }
-    requires inside { All (λ place. place < length on.now.columns) places.now }
-    ensures { heading_value dict.now result ≡ finish.first_repeated (headings_value dict.now (meant_headings on.now places.now)) }
-{
-    for k in 0..places.len() {
-        let heading = on.heading(*places.at(k));
-        if stands_again(dict, on, places, heading, k + 1) {
-            return heading;
-        }
-    }
-    None
 }

@@ -5,7 +5,8 @@
 //! functions make new objects that have all rows of another one, of columns that they are given by
 //! place; methods are built on them.
 //!
-//! Labels are compared by their numbers, so looking one up takes no memory. What isn't built is refused
+//! Labels are compared by their numbers. One is looked up by a walk, which takes no memory; a list of
+//! them by a map of all columns, made once. What isn't built is refused
 //! by `NotBuilt`. Each contract says that the answer, or the changed table, is the one that is meant,
 //! or the fault is its first one, and that no other object changes; the definitions are in
 //! `specs/Select.antt` and `specs/Set.antt` of the crate `form_meaning`.
@@ -22,6 +23,7 @@
 
 mod assigning;
 mod columns;
+mod headings;
 mod labels;
 mod new_objects;
 mod putting;
@@ -30,9 +32,7 @@ mod selecting;
 mod subscripts;
 
 pub use assigning::assign;
+pub use headings::different_headings;
 pub use new_objects::{as_frame, copied, derived, derived_within, headed_by, renamed};
 pub use removing::remove;
 pub use selecting::select;
-
-#[cfg(test)]
-mod tests;

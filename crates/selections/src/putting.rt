@@ -18,10 +18,10 @@ ghost use Rattle.selections.specs.Assigned.{column_seen, count_after, put_place 
 use crate::columns::missing_columns;
 use crate::labels::place_of_label;
 use cell_core::{Code, Grid, Label, NoMemory, TextDict};
+use column_core::Column;
 use form_parts::{headings_of, within_limits};
 use frame_store::{ObjId, ObjRef, OpFault, Store};
 use multi_index::Axis;
-use nullable_array::Column;
 use std::alloc::Global;
 
 // Whether a table of so many rows and columns may have a column put at a place.

@@ -5,7 +5,7 @@ ghost use Rattle.cell_core.specs.declared.grid.Shape.TheVariants.{Frame};
 ghost use Rattle.meaning.specs.Text.{Text as OneText};
 ghost use Rattle.meaning.specs.Cell.{IsLonger, datum, label_datum};
 ghost use Rattle.meaning.specs.Operator.{cell_label};
-ghost use Rattle.meaning.specs.Tree.{iloc};
+ghost use Rattle.meaning.specs.Symbol.{iloc};
 ghost use Rattle.table_meaning.specs.Settled.{IsSettled};
 ghost use Rattle.table_meaning.specs.Table.{table_value};
 ghost use Rattle.table_meaning.specs.Value.{table, many};
@@ -17,7 +17,8 @@ ghost use Rattle.frame_store.specs.Arguments.{entry_of, argument_of, subscript_o
 ghost use Rattle.frame_store.specs.Shown.{shown, cells_value, FormAnswers};
 ghost use Rattle.selections.specs.Selected.{way_of, scalar_value};
 
-use crate::labels::{column_place, column_places, first_repeated, headings_at, repeated};
+use crate::headings::different_headings;
+use crate::labels::{column_place, column_places, headings_at};
 use crate::new_objects::derived_within;
 use crate::subscripts::{are_truths, only_key, position_in, row_place, scalars_of};
 use cell_core::{Cell, Cells, Code, Grid, Label, Places, Shape, TextDict};
@@ -81,12 +82,11 @@ fn columns_frame(
     ensures settled { IsSettled shown dict.now (tables store.new) }
     ensures answers { FormAnswers dict.now result (finished (meant.columns_frame (table_value dict.now (table_at (tables store.old) on.0)) places.now)) (shown dict.now (tables store.old)) (shown dict.now (tables store.new)) }
 {
+    // Equal texts have equal numbers: `TextDict::len` says so.
+    let _ = dict.len();
     let source = store.read(on);
-    match first_repeated(dict, &source, places) {
-        Some(label) => return Err(repeated(alloc, label)),
-        None => {}
-    }
     let headings = headings_at(alloc, &source, places)?;
+    let headings = different_headings(alloc, source.columns_name(), &headings)?;
     derived_within(alloc, store, dict, on, Shape::Frame, places, headings)
 }
 

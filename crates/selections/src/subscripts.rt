@@ -6,7 +6,7 @@ ghost use Rattle.cell_core.specs.declared.cell.Cell.{Cell as OneCell};
 ghost use Rattle.meaning.specs.Text.{Text as OneText};
 ghost use Rattle.meaning.specs.Cell.{datum};
 ghost use Rattle.meaning.specs.Place as place;
-ghost use Rattle.meaning.specs.Tree.{iloc};
+ghost use Rattle.meaning.specs.Symbol.{iloc};
 ghost use Rattle.table_meaning.specs.Table.{table_value};
 ghost use Rattle.form_meaning.specs.Binding as binding;
 ghost use Rattle.form_meaning.specs.Select as meant;

@@ -1,3 +1,4 @@
 pub mod FormLaws
 pub mod LiveLaws
 pub mod BindLaws
+pub mod RuleLaws

@@ -1,2 +1,3 @@
 pub mod Bound
 pub mod Found
+pub mod Rule

@@ -9,7 +9,7 @@
 //!
 //! The signatures are those of the pandas API reference, as far as this library has them; their
 //! definition is `specs/Signature.antt` of the crate `form_meaning`, and that of binding is
-//! `specs/Binding.antt` there.
+//! `specs/Binding.antt` there. [`binds_by_place`] says by what rule that definition binds.
 //!
 //! ```text
 //! // `s.head(n=3)`: `args` has one argument, the whole number 3 under the name `n`
@@ -26,6 +26,7 @@
 mod binding;
 mod forms;
 mod places;
+mod rule;
 mod table;
 
 pub use binding::{Unbound, bind, counted, goes_to};
@@ -33,9 +34,7 @@ pub use places::{
     dict_at, dict_or_none_at, given_at, is_none_at, list_at, list_or_none_at, object_at, scalar_at,
     scalar_or_none_at, text_at, text_or_none_at, truth_at, whole_at, whole_or_none_at,
 };
+pub use rule::binds_by_place;
 pub use table::{
     default_text, function_named, function_parameters, method_named, parameters, spelled,
 };
-
-#[cfg(test)]
-mod tests;

@@ -8,6 +8,6 @@
 //! Table              the same of texts themselves: TableOf LabelValue CellValue
 //! table_value        a table whose texts are numbers of a dictionary, as a Table
 //! IsValid            its parts fit one another, and it is within the limits of rows, columns and cells
-//! cut_to with_column without_column with_axis with_values    what a call makes of a table
+//! cut_columns with_column without_column with_labels with_values    what a call makes of a table
 //! ```
 #![tactic(auto)]

@@ -1,6 +1,6 @@
 use Rattle.std.proofs.Common.{◌≡◌, ◌∙◌, ◌∷◌, ◌++◌, [], ap, sym, rules}
 use Rattle.std.proofs.lemmas.Option.{slice_get-get_or}
-use Rattle.nullable_array.specs.Blocks.{CellBlock}
+use Rattle.column_core.specs.Blocks.{CellBlock}
 use Rattle.frame_store.specs.Parts.{single_block}
 use Rattle.constructors.specs.Scalars.{table_column}
 use Rattle.constructors.proofs.ColumnLaws.{columns_with, column_more, columns_single, place_below, rest_below}

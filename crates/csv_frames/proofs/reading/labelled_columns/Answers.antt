@@ -1,6 +1,6 @@
 use Rattle.std.proofs.Common.{◌≡◌, ◌∙◌, ℕ, sym, subst, length, All}
 use Rattle.std.proofs.lemmas.List.{length-map}
-use Rattle.nullable_array.specs.Columns.{CellColumn}
+use Rattle.column_core.specs.Columns.{CellColumn}
 use Rattle.csv_frames.specs.Rows.{file_rows}
 use Rattle.csv_frames.specs.Views.{texts_seen}
 use Rattle.csv_frames.proofs.FilledLaws.{count_columns, filled, count_tuples, tuples_differ}

@@ -1,3 +1,5 @@
+use Rattle.std.proofs.Common.{rules, ◌≡◌, true}
+use Rattle.form_meaning.specs.Signature.{function_named}
 use Rattle.method_meaning.specs.Readers as readers
 use Rattle.frame_store.specs.Objects.{tables}
 use Rattle.frame_store.specs.Arguments.{arguments_of}
@@ -8,6 +10,7 @@ returns-in-Some-clause-settled c = c.placed.ensures.settled c.args.dict.now c.re
 
 pub returns-in-Some-clause-answers : goal.returns-in-Some-clause-answers
 returns-in-Some-clause-answers c =
-    rw (c.in-Some.is, ← c.as_slice.ensures)
+    let reads : readers.reads_file (function_named c.args.function.now) ≡ true = search rules in
+    rw (c.in-Some.is, reads, ← c.as_slice.ensures)
     (c.placed.ensures.answers c.args.dict.now (readers.read_result c.in-Some.bytes.now (arguments_of (tables c.args.store.now) c.args.dict.now c.as_slice.result.now))
     c.read_frame-made.ensures.longer c.requires.settled c.read_frame-made.ensures.answer)

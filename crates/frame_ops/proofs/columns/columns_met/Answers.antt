@@ -1,5 +1,5 @@
 use Rattle.std.proofs.Common.{◌≡◌, ◌<◌, List, length, arith, rules, subst, sym, Result, Err}
-use Rattle.nullable_array.specs.Blocks.{CellBlock}
+use Rattle.column_core.specs.Blocks.{CellBlock}
 use Rattle.frame_store.specs.declared.fault.OpFault.{OpFault}
 use Rattle.nullable_array.specs.Tasks.{operator_of}
 use Rattle.form_meaning.specs.Finish.{try_all}

@@ -2,21 +2,22 @@ use Rattle.std.proofs.Common.{ap, sym, ◌∙◌, Ok, option_map}
 use Rattle.std.specs.Fmt.{signed_decimal}
 use Rattle.cell_core.specs.declared.cell.Kind.TheVariants.{Int64, Boolean, Text as string}
 use Rattle.meaning.specs.Cast.{truth_of_number}
-use Rattle.nullable_array.specs.Lanes.{lane_row}
+use Rattle.column_core.specs.Lanes.{lane_row}
 use Rattle.nullable_array.specs.Casts.{partial_cast}
-use Rattle.nullable_array.specs.Columns.{CellColumn, column_value, number_cell, truth_cell, text_value}
-use Rattle.nullable_array.proofs.CellRows.{total_cast_column, kept_cast_column, cast_answer}
-use Rattle.nullable_array.proofs.ColumnLaws.{given_at, given-plain}
+use Rattle.column_core.specs.Columns.{CellColumn, column_value, number_cell, truth_cell, text_value}
+use Rattle.nullable_array.proofs.ColumnAnswers.{total_cast_column, kept_cast_column, cast_answer}
+use Rattle.column_core.proofs.ColumnLaws.{given-plain}
+use Rattle.nullable_array.proofs.ColumnAnswers.{given_at}
 use Rattle.nullable_array.proofs.CastLaws.{number_cast, decimal_cast, number_truth_cast}
-use Rattle.nullable_array.specs.Columns.{number_given}
+use Rattle.column_core.specs.Columns.{number_given}
 use Rattle.nullable_array.proofs.casts.cast_numbers.Goals as goal
 
-pub returns-in_ok-copied-in-Int64-clause-answer : goal.returns-in_ok-copied-in-Int64-clause-answer
-returns-in_ok-copied-in-Int64-clause-answer c =
-    kept_cast_column c.args.dict.now c.args.kind Int64 c.in-Int64.is number_cell _ _ (number_cast c.args.dict.now) ∙ ap (λ (col : CellColumn). Ok (column_value c.args.dict.now col)) (sym c.in_ok-copied-in-Int64.ensures)
+pub returns-in_ok-copied_lane-in-Int64-clause-answer : goal.returns-in_ok-copied_lane-in-Int64-clause-answer
+returns-in_ok-copied_lane-in-Int64-clause-answer c =
+    kept_cast_column c.args.dict.now c.args.kind Int64 c.in-Int64.is number_cell _ _ (number_cast c.args.dict.now) ∙ ap (λ (col : CellColumn). Ok (column_value c.args.dict.now col)) (sym c.in_ok-copied_lane-in-Int64.ensures)
 
-pub returns-in_ok-copied-in-Int64-clause-given : goal.returns-in_ok-copied-in-Int64-clause-given
-returns-in_ok-copied-in-Int64-clause-given c = given-plain c.args.dict.now Int64 number_cell _ _ _ (number_given c.args.dict.now) c.in_ok-copied-in-Int64.ensures
+pub returns-in_ok-copied_lane-in-Int64-clause-given : goal.returns-in_ok-copied_lane-in-Int64-clause-given
+returns-in_ok-copied_lane-in-Int64-clause-given c = given-plain c.args.dict.now Int64 number_cell _ _ _ (number_given c.args.dict.now) c.in_ok-copied_lane-in-Int64.ensures
 
 pub returns-in-Boolean-clause-given : goal.returns-in-Boolean-clause-given
 returns-in-Boolean-clause-given c = given_at c.convert.result c.args.dict.now c.convert.ensures.given

@@ -2,20 +2,20 @@ use Rattle.std.proofs.Common.{ap, sym, subst, ◌∙◌, Ok}
 use Rattle.cell_core.specs.declared.cell.Kind.TheVariants.{Int64, Boolean, Text as string}
 use Rattle.meaning.specs.Cell.{text_of, AreGiven}
 use Rattle.meaning.specs.Cast.{whole_number, truth_value}
-use Rattle.nullable_array.specs.Lanes.{lane_row}
+use Rattle.column_core.specs.Lanes.{lane_row}
 use Rattle.nullable_array.specs.Casts.{partial_cast}
-use Rattle.nullable_array.specs.Columns.{CellColumn, column_value, number_cell, truth_cell, text_cell}
-use Rattle.nullable_array.proofs.CellRows.{kept_cast_column, cast_answer}
-use Rattle.nullable_array.proofs.ColumnLaws.{given_at}
+use Rattle.column_core.specs.Columns.{CellColumn, column_value, number_cell, truth_cell, text_cell}
+use Rattle.nullable_array.proofs.ColumnAnswers.{kept_cast_column, cast_answer}
+use Rattle.nullable_array.proofs.ColumnAnswers.{given_at}
 use Rattle.nullable_array.proofs.CastLaws.{text_cast, text_number_cast, text_truth_cast}
 use Rattle.nullable_array.proofs.casts.cast_texts.Goals as goal
 
-pub returns-in_ok-copied-in-Text-clause-answer : goal.returns-in_ok-copied-in-Text-clause-answer
-returns-in_ok-copied-in-Text-clause-answer c =
-    kept_cast_column c.args.dict.now c.args.kind string c.in-Text.is text_cell _ _ (text_cast c.args.dict.now) ∙ ap (λ (col : CellColumn). Ok (column_value c.args.dict.now col)) (sym c.in_ok-copied-in-Text.ensures)
+pub returns-in_ok-copied_lane-in-Text-clause-answer : goal.returns-in_ok-copied_lane-in-Text-clause-answer
+returns-in_ok-copied_lane-in-Text-clause-answer c =
+    kept_cast_column c.args.dict.now c.args.kind string c.in-Text.is text_cell _ _ (text_cast c.args.dict.now) ∙ ap (λ (col : CellColumn). Ok (column_value c.args.dict.now col)) (sym c.in_ok-copied_lane-in-Text.ensures)
 
-pub returns-in_ok-copied-in-Text-clause-given : goal.returns-in_ok-copied-in-Text-clause-given
-returns-in_ok-copied-in-Text-clause-given c = subst (λ (col : CellColumn). AreGiven c.args.dict.now col.cells) (sym c.in_ok-copied-in-Text.ensures) c.requires
+pub returns-in_ok-copied_lane-in-Text-clause-given : goal.returns-in_ok-copied_lane-in-Text-clause-given
+returns-in_ok-copied_lane-in-Text-clause-given c = subst (λ (col : CellColumn). AreGiven c.args.dict.now col.cells) (sym c.in_ok-copied_lane-in-Text.ensures) c.requires
 
 pub returns-in-Int64-clause-given : goal.returns-in-Int64-clause-given
 returns-in-Int64-clause-given c = given_at c.convert.result c.args.dict.now c.convert.ensures.given

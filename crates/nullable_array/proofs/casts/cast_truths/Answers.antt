@@ -1,21 +1,22 @@
 use Rattle.std.proofs.Common.{ap, sym, ◌∙◌, Ok, option_map}
 use Rattle.cell_core.specs.declared.cell.Kind.TheVariants.{Int64, Boolean, Text as string}
 use Rattle.meaning.specs.Cast.{number_of_truth, truth_text}
-use Rattle.nullable_array.specs.Lanes.{lane_row}
+use Rattle.column_core.specs.Lanes.{lane_row}
 use Rattle.nullable_array.specs.Casts.{total_cast}
-use Rattle.nullable_array.specs.Columns.{CellColumn, column_value, number_cell, truth_cell, text_value}
-use Rattle.nullable_array.proofs.CellRows.{total_cast_column, kept_cast_column, cast_answer}
-use Rattle.nullable_array.proofs.ColumnLaws.{given_at, given-plain}
+use Rattle.column_core.specs.Columns.{CellColumn, column_value, number_cell, truth_cell, text_value}
+use Rattle.nullable_array.proofs.ColumnAnswers.{total_cast_column, kept_cast_column, cast_answer}
+use Rattle.column_core.proofs.ColumnLaws.{given-plain}
+use Rattle.nullable_array.proofs.ColumnAnswers.{given_at}
 use Rattle.nullable_array.proofs.CastLaws.{truth_cast, word_cast, truth_number_cast}
-use Rattle.nullable_array.specs.Columns.{truth_given}
+use Rattle.column_core.specs.Columns.{truth_given}
 use Rattle.nullable_array.proofs.casts.cast_truths.Goals as goal
 
-pub returns-in_ok-copied-in-Boolean-clause-answer : goal.returns-in_ok-copied-in-Boolean-clause-answer
-returns-in_ok-copied-in-Boolean-clause-answer c =
-    kept_cast_column c.args.dict.now c.args.kind Boolean c.in-Boolean.is truth_cell _ _ (truth_cast c.args.dict.now) ∙ ap (λ (col : CellColumn). Ok (column_value c.args.dict.now col)) (sym c.in_ok-copied-in-Boolean.ensures)
+pub returns-in_ok-copied_lane-in-Boolean-clause-answer : goal.returns-in_ok-copied_lane-in-Boolean-clause-answer
+returns-in_ok-copied_lane-in-Boolean-clause-answer c =
+    kept_cast_column c.args.dict.now c.args.kind Boolean c.in-Boolean.is truth_cell _ _ (truth_cast c.args.dict.now) ∙ ap (λ (col : CellColumn). Ok (column_value c.args.dict.now col)) (sym c.in_ok-copied_lane-in-Boolean.ensures)
 
-pub returns-in_ok-copied-in-Boolean-clause-given : goal.returns-in_ok-copied-in-Boolean-clause-given
-returns-in_ok-copied-in-Boolean-clause-given c = given-plain c.args.dict.now Boolean truth_cell _ _ _ (truth_given c.args.dict.now) c.in_ok-copied-in-Boolean.ensures
+pub returns-in_ok-copied_lane-in-Boolean-clause-given : goal.returns-in_ok-copied_lane-in-Boolean-clause-given
+returns-in_ok-copied_lane-in-Boolean-clause-given c = given-plain c.args.dict.now Boolean truth_cell _ _ _ (truth_given c.args.dict.now) c.in_ok-copied_lane-in-Boolean.ensures
 
 pub returns-in-Int64-clause-given : goal.returns-in-Int64-clause-given
 returns-in-Int64-clause-given c = given_at c.convert.result c.args.dict.now c.convert.ensures.given

@@ -2,10 +2,10 @@ use Rattle.std.proofs.Common.{ap, sym, ◌∙◌, Ok}
 use Rattle.cell_core.specs.declared.cell.Kind.TheVariants.{Int64}
 use Rattle.meaning.specs.Cumulate.{cumulate_column}
 use Rattle.nullable_array.specs.declared.ops.Cumulation.{Cumulation}
-use Rattle.nullable_array.specs.Lanes.{lane_row}
-use Rattle.nullable_array.specs.Columns.{CellColumn, column_value, column_with, number_cell, number_given}
+use Rattle.column_core.specs.Lanes.{lane_row}
+use Rattle.column_core.specs.Columns.{CellColumn, column_value, column_with, number_cell, number_given}
 use Rattle.nullable_array.specs.Folds.{cumulation_of}
-use Rattle.nullable_array.proofs.ColumnLaws.{given-plain}
+use Rattle.column_core.proofs.ColumnLaws.{given-plain}
 use Rattle.nullable_array.proofs.RunningLaws.{number_sums, number_leasts, number_greatests}
 use Rattle.nullable_array.proofs.cumulations.cumulate_numbers.Goals as goal
 

@@ -1,7 +1,7 @@
 use Rattle.std.proofs.Common.{◌≡◌, ◌+◌, ◌<◌, length, ap, sym, ◌∙◌, arith, Some, None, is_some, cond}
 use Rattle.nullable_array.specs.Folds.{step_row, folded, running_row}
 use Rattle.nullable_array.proofs.FoldLaws.{folded_more}
-use Rattle.nullable_array.proofs.RowsMade.{row_written}
+use Rattle.column_core.proofs.RowsMade.{row_written}
 use Rattle.nullable_array.proofs.cumulations.fill_running.Goals as goal
 
 pub loop-row-preserved : goal.loop-row-preserved

@@ -1,6 +1,6 @@
 use Rattle.std.proofs.Common.{◌≡◌, Some, None}
 use Rattle.nullable_array.specs.Folds.{folded, running_row}
-use Rattle.nullable_array.specs.Rows.{AreWritten}
+use Rattle.column_core.specs.Rows.{AreWritten}
 use Rattle.nullable_array.proofs.cumulations.fill_running.Given as goal
 
 -- what the rows so far come to, and the rows that are written

@@ -1,8 +1,8 @@
 use Rattle.std.proofs.Common.{◌≡◌, length, refl, ap, ◌∙◌, arith, Some}
 use Rattle.std.proofs.lemmas.List.{take_at}
 use Rattle.nullable_array.specs.Folds.{running_row}
-use Rattle.nullable_array.proofs.RowsMade.{vectors_written}
-use Rattle.nullable_array.proofs.CellRows.{total_made}
+use Rattle.column_core.proofs.RowsMade.{vectors_written}
+use Rattle.column_core.proofs.CellRows.{total_made}
 use Rattle.nullable_array.proofs.cumulations.run.Goals as goal
 
 pub returns : goal.returns

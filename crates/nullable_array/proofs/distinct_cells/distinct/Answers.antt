@@ -1,10 +1,10 @@
 use Rattle.std.proofs.Common.{◌<◌, length, refl, ap, sym, subst, ◌∙◌}
 use Rattle.meaning.specs.Cell.{AreGiven}
 use Rattle.meaning.specs.Reduce.{distinct_count}
-use Rattle.nullable_array.specs.Lanes.{lane_row}
-use Rattle.nullable_array.specs.Columns.{CellColumn, column_value, number_cell, truth_cell, text_cell}
-use Rattle.nullable_array.specs.Views.{borrowed_column}
-use Rattle.nullable_array.proofs.ColumnLaws.{given-row}
+use Rattle.column_core.specs.Lanes.{lane_row}
+use Rattle.column_core.specs.Columns.{CellColumn, column_value, number_cell, truth_cell, text_cell}
+use Rattle.column_core.specs.Views.{borrowed_column}
+use Rattle.column_core.proofs.ColumnLaws.{given-row}
 use Rattle.nullable_array.proofs.DistinctLaws.{if_ok_same, distinct_seen, anything, given_value, numbers_apart, truths_apart, texts_apart}
 use Rattle.std.proofs.Math.Bool.{beq}
 use Rattle.nullable_array.proofs.TruthLaws.{truths_counted}
@@ -15,7 +15,7 @@ returns-in-Ints c = λ texts apart given.
     let a = c.in-Ints.lane in
     let row = lane_row a.values.now a.present.now a.start a.stride a.back in
     let whole = ap borrowed_column (sym c.in-Ints.is) ∙ c.a.view_is in
-    if_ok_same c.distinct_values.result _ _ c.distinct_values.ensures
+    if_ok_same c.distinct_numbers.result _ _ c.distinct_numbers.ensures
     (distinct_seen texts number_cell refl (λ x. refl) _ (λ x. Unit {0}) (λ x y p q. numbers_apart x y) a.count row (λ k lt. anything (row k))
     ∙ ap (λ (col : CellColumn). distinct_count (column_value texts col).cells) whole)
 
@@ -32,6 +32,6 @@ returns-in-Texts c = λ texts apart given.
     let a = c.in-Texts.lane in
     let row = lane_row a.values.now a.present.now a.start a.stride a.back in
     let whole = ap borrowed_column (sym c.in-Texts.is) ∙ c.a.view_is in
-    if_ok_same c.distinct_values-in-Texts.result _ _ c.distinct_values-in-Texts.ensures
+    if_ok_same c.distinct_values.result _ _ c.distinct_values.ensures
     (distinct_seen texts text_cell refl (λ x. refl) _ (λ x. x.0 < length texts) (λ x y p q. texts_apart texts x y apart p q) a.count row (λ k lt. given_value texts (row k) (given-row texts a.count (λ j. text_cell (row j)) (subst (λ (col : CellColumn). AreGiven texts col.cells) (sym whole) given) k lt))
     ∙ ap (λ (col : CellColumn). distinct_count (column_value texts col).cells) whole)

@@ -1,5 +1,5 @@
 use Rattle.cell_core.specs.declared.cell.Kind.TheVariants.{Int64}
-use Rattle.nullable_array.specs.Columns.{number_cell}
+use Rattle.column_core.specs.Columns.{number_cell}
 use Rattle.nullable_array.proofs.Scalars.{number_kept, scalar_on_left, scalar_on_right}
 use Rattle.nullable_array.proofs.kernels.beside_numbers.Goals as goal
 

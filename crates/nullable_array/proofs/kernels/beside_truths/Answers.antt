@@ -1,5 +1,5 @@
 use Rattle.cell_core.specs.declared.cell.Kind.TheVariants.{Boolean}
-use Rattle.nullable_array.specs.Columns.{truth_cell}
+use Rattle.column_core.specs.Columns.{truth_cell}
 use Rattle.nullable_array.proofs.Scalars.{truth_kept, scalar_on_left, scalar_on_right}
 use Rattle.nullable_array.proofs.kernels.beside_truths.Goals as goal
 

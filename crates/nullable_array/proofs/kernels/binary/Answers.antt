@@ -1,6 +1,7 @@
 use Rattle.std.proofs.Common.{ap, sym, ◌∙◌}
-use Rattle.nullable_array.specs.Views.{borrowed_column}
-use Rattle.nullable_array.proofs.ColumnLaws.{length-column, given_at}
+use Rattle.column_core.specs.Views.{borrowed_column}
+use Rattle.column_core.proofs.ColumnLaws.{length-column}
+use Rattle.nullable_array.proofs.ColumnAnswers.{given_at}
 use Rattle.nullable_array.proofs.kernels.binary.Goals as goal
 
 pub numbers-requires : goal.numbers-requires

@@ -4,10 +4,10 @@ use Rattle.std.specs.Cmp.Lexicographic.{slice_cmp}
 use Rattle.cell_core.specs.Values.{text_of}
 use Rattle.cell_core.specs.declared.cell.Kind.TheVariants.{Boolean, Text as string}
 use Rattle.nullable_array.specs.declared.ops.Task.TheVariants as task
-use Rattle.nullable_array.specs.Columns.{text_cell, truth_cell}
+use Rattle.column_core.specs.Columns.{text_cell, truth_cell}
 use Rattle.nullable_array.specs.Operations.{compare_row}
-use Rattle.nullable_array.proofs.CellRows.{pair_answer}
-use Rattle.nullable_array.proofs.ColumnLaws.{given_at}
+use Rattle.nullable_array.proofs.ColumnAnswers.{pair_answer}
+use Rattle.nullable_array.proofs.ColumnAnswers.{given_at}
 use Rattle.nullable_array.proofs.Laws.{texts_law}
 use Rattle.nullable_array.proofs.kernels.compared_texts.Goals as goal
 

@@ -3,9 +3,9 @@ use Rattle.cell_core.specs.declared.cell.Kind.TheVariants.{Boolean}
 use Rattle.meaning.specs.Column.{ColumnValue, ColumnFault, zero_division}
 use Rattle.meaning.specs.Operator.{invert_cell}
 use Rattle.nullable_array.specs.Answers.{Answers}
-use Rattle.nullable_array.specs.Columns.{truth_cell}
+use Rattle.column_core.specs.Columns.{truth_cell}
 use Rattle.nullable_array.specs.Operations.{not_row}
-use Rattle.nullable_array.proofs.CellRows.{total_column}
+use Rattle.column_core.proofs.CellRows.{total_column}
 use Rattle.nullable_array.proofs.Laws.{not_law, not_some}
 use Rattle.nullable_array.proofs.kernels.inverted.Goals as goal
 

@@ -3,9 +3,9 @@ use Rattle.std.specs.Ordering.{int_cmp}
 use Rattle.cell_core.specs.declared.cell.Kind.TheVariants.{Int64, Boolean}
 use Rattle.meaning.specs.Operator.{floor_quotient, floor_rest}
 use Rattle.nullable_array.specs.declared.ops.Task.TheVariants as task
-use Rattle.nullable_array.specs.Columns.{number_cell, truth_cell}
+use Rattle.column_core.specs.Columns.{number_cell, truth_cell}
 use Rattle.nullable_array.specs.Operations.{number_row, division_row, compare_row}
-use Rattle.nullable_array.proofs.CellRows.{pair_answer}
+use Rattle.nullable_array.proofs.ColumnAnswers.{pair_answer}
 use Rattle.nullable_array.proofs.Laws.{sum_law, difference_law, product_law, quotient_law, rest_law, numbers_law}
 use Rattle.nullable_array.proofs.kernels.on_numbers.Goals as goal
 

@@ -3,10 +3,10 @@ use Rattle.cell_core.specs.Values.{text_of}
 use Rattle.cell_core.specs.declared.cell.Kind.TheVariants.{Text as string}
 use Rattle.nullable_array.specs.declared.ops.Task.{Task}
 use Rattle.nullable_array.specs.declared.ops.Task.TheVariants as task
-use Rattle.nullable_array.specs.Columns.{text_cell, text_value, column_value, column_with}
+use Rattle.column_core.specs.Columns.{text_cell, text_value, column_value, column_with}
 use Rattle.nullable_array.specs.Operations.{both}
 use Rattle.nullable_array.specs.Tasks.{task_cell, task_column}
-use Rattle.nullable_array.proofs.CellRows.{pairs_column}
+use Rattle.column_core.proofs.CellRows.{pairs_column}
 use Rattle.nullable_array.proofs.Laws.{join_law}
 use Rattle.nullable_array.proofs.kernels.on_texts.Goals as goal
 

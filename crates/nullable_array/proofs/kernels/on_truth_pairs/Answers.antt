@@ -1,9 +1,9 @@
 use Rattle.std.proofs.Common.{refl}
 use Rattle.cell_core.specs.declared.cell.Kind.TheVariants.{Boolean}
 use Rattle.nullable_array.specs.declared.ops.Task.TheVariants as task
-use Rattle.nullable_array.specs.Columns.{truth_cell}
+use Rattle.column_core.specs.Columns.{truth_cell}
 use Rattle.nullable_array.specs.Operations.{and_row, or_row, xor_row}
-use Rattle.nullable_array.proofs.CellRows.{pair_answer}
+use Rattle.nullable_array.proofs.ColumnAnswers.{pair_answer}
 use Rattle.nullable_array.proofs.Laws.{both_law, either_law, one_of_law}
 use Rattle.nullable_array.proofs.kernels.on_truth_pairs.Goals as goal
 

@@ -1,9 +1,9 @@
 use Rattle.std.proofs.Common.{ap, sym, ◌∙◌, Ok}
 use Rattle.meaning.specs.Column.{zero_division}
-use Rattle.nullable_array.specs.Columns.{column_value}
-use Rattle.nullable_array.proofs.CellRows.{made_column}
-use Rattle.nullable_array.proofs.ColumnLaws.{given-plain}
-use Rattle.nullable_array.proofs.RowsMade.{rows_written}
+use Rattle.column_core.specs.Columns.{column_value}
+use Rattle.column_core.proofs.CellRows.{made_column}
+use Rattle.column_core.proofs.ColumnLaws.{given-plain}
+use Rattle.column_core.proofs.RowsMade.{rows_written}
 use Rattle.nullable_array.proofs.kernels.operate_pairs.Goals as goal
 
 pub returns-clause-answer : goal.returns-clause-answer

@@ -1,4 +1,4 @@
-use Rattle.nullable_array.proofs.ColumnLaws.{given-row}
+use Rattle.column_core.proofs.ColumnLaws.{given-row}
 use Rattle.nullable_array.proofs.kernels.texts.Goals as goal
 
 pub on_texts-requires-clause-a : goal.on_texts-requires-clause-a

@@ -1,7 +1,7 @@
 use Rattle.std.proofs.Common.{refl}
 use Rattle.cell_core.specs.declared.cell.Kind.TheVariants.{Text as string}
-use Rattle.nullable_array.specs.Columns.{text_cell}
-use Rattle.nullable_array.proofs.ColumnLaws.{given-row}
+use Rattle.column_core.specs.Columns.{text_cell}
+use Rattle.column_core.proofs.ColumnLaws.{given-row}
 use Rattle.nullable_array.proofs.Scalars.{text_kept, scalar_on_left, scalar_on_right}
 use Rattle.nullable_array.proofs.kernels.texts_beside.Goals as goal
 

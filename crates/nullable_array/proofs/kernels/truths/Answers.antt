@@ -1,6 +1,7 @@
 use Rattle.cell_core.specs.declared.cell.Kind.TheVariants.{Boolean}
-use Rattle.nullable_array.specs.Columns.{truth_cell}
-use Rattle.nullable_array.proofs.CellRows.{same_column, two_columns}
+use Rattle.column_core.specs.Columns.{truth_cell}
+use Rattle.column_core.proofs.CellRows.{same_column}
+use Rattle.nullable_array.proofs.ColumnAnswers.{two_columns}
 use Rattle.nullable_array.proofs.kernels.truths.Goals as goal
 
 pub returns-in-Some-Some-clause-answer : goal.returns-in-Some-Some-clause-answer

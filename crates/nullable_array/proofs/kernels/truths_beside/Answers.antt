@@ -2,9 +2,9 @@ use Rattle.std.proofs.Common.{subst}
 use Rattle.cell_core.specs.declared.cell.Kind.TheVariants.{Boolean}
 use Rattle.meaning.specs.Cell.{datum}
 use Rattle.nullable_array.specs.Answers.{Answers}
-use Rattle.nullable_array.specs.Columns.{CellColumn, column_value, truth_cell}
+use Rattle.column_core.specs.Columns.{CellColumn, column_value, truth_cell}
 use Rattle.nullable_array.specs.Tasks.{scalar_task}
-use Rattle.nullable_array.proofs.CellRows.{same_column}
+use Rattle.column_core.proofs.CellRows.{same_column}
 use Rattle.nullable_array.proofs.kernels.truths_beside.Goals as goal
 
 pub returns-in-Some-clause-answer : goal.returns-in-Some-clause-answer

@@ -1,4 +1,4 @@
-use Rattle.nullable_array.proofs.ColumnLaws.{given_at}
+use Rattle.nullable_array.proofs.ColumnAnswers.{given_at}
 use Rattle.nullable_array.proofs.kernels.with_scalar.Goals as goal
 
 pub returns-in-Ints-Int-clause-given : goal.returns-in-Ints-Int-clause-given

@@ -1,5 +1,5 @@
-use Rattle.nullable_array.specs.Lanes.{option_at}
-use Rattle.nullable_array.specs.Rows.{AreWritten}
+use Rattle.column_core.specs.Lanes.{option_at}
+use Rattle.column_core.specs.Rows.{AreWritten}
 use Rattle.nullable_array.proofs.pairs.fill_pairs.Given as goal
 
 -- the rows so far are written

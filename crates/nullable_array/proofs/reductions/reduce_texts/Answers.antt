@@ -9,10 +9,10 @@ use Rattle.cell_core.specs.declared.cell.Kind.TheVariants.{Text as string}
 use Rattle.meaning.specs.Cell.{datum, text_of, IsGiven, int_cell}
 use Rattle.meaning.specs.Reduce.{reduce_column}
 use Rattle.nullable_array.specs.declared.ops.Reduction.{Reduction}
-use Rattle.nullable_array.specs.Lanes.{lane_row}
-use Rattle.nullable_array.specs.Columns.{column_value, column_with, text_cell}
+use Rattle.column_core.specs.Lanes.{lane_row}
+use Rattle.column_core.specs.Columns.{column_value, column_with, text_cell}
 use Rattle.nullable_array.specs.Folds.{reduction_of, sum_step}
-use Rattle.nullable_array.proofs.ColumnLaws.{given-row}
+use Rattle.column_core.proofs.ColumnLaws.{given-row}
 use Rattle.nullable_array.proofs.FoldLaws.{folded_seen, least_seen, greatest_seen, least_kept, greatest_kept}
 use Rattle.nullable_array.proofs.reductions.reduce_texts.Goals as goal
 

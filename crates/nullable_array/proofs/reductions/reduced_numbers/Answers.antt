@@ -8,7 +8,7 @@ use Rattle.meaning.specs.Cell.{datum, IsGiven, int_cell, truth_cell as truth_val
 use Rattle.meaning.specs.Column.{tabulate}
 use Rattle.meaning.specs.Reduce.{reduction_cell, number_in, is_true}
 use Rattle.nullable_array.specs.declared.ops.Reduction.{Reduction}
-use Rattle.nullable_array.specs.Columns.{number_cell, number_given}
+use Rattle.column_core.specs.Columns.{number_cell, number_given}
 use Rattle.nullable_array.specs.Folds.{reduction_of, sum_step, is_not_zero}
 use Rattle.nullable_array.proofs.FoldLaws.{folded_seen, least_seen, greatest_seen}
 use Rattle.nullable_array.proofs.reductions.reduced_numbers.Goals as goal

@@ -1,5 +1,5 @@
 use Rattle.std.proofs.Common.{◌≡◌, ◌<◌, ℕ, List, Option, length, subst, ap, ◌∙◌, arith}
-use Rattle.nullable_array.specs.Rows.{IsTextRow}
+use Rattle.column_core.specs.Rows.{IsTextRow}
 use Rattle.nullable_array.proofs.TextRows.{longer_trans, text_written}
 use Rattle.nullable_array.proofs.texts.fill_texts.Goals as goal
 

@@ -1,4 +1,4 @@
-use Rattle.std.proofs.Common.{refl}
+use Rattle.std.proofs.Common.{refl, inl}
 use Rattle.std.specs.FinMap.{empty}
 use Rattle.std.proofs.lemmas.Result.{IfErr-weaker, err_from_is_err_and, on_ok_weaker}
 use Rattle.meaning.specs.Text.{Contents}
@@ -6,13 +6,14 @@ use Rattle.meaning.specs.FaultOf.{fault_of}
 use Rattle.script_meaning.specs.Reading.{Reading}
 use Rattle.script_meaning.specs.Statement.{Answer, done, refused, statement_result}
 use Rattle.script_syntax.specs.View.{form_of}
-use Rattle.script_session.specs.Reads.{Shelf, files_in, shelf}
+use Rattle.script_session.specs.Reads.{Shelf, files_in, paths_of, shelf}
 use Rattle.script_session.specs.Session.{state_of, texts_of}
 use Rattle.script_run.specs.Ends.{Outside, outside}
 use Rattle.script_run.specs.Steps.{GoesOn, Stops}
 use Rattle.script_run.specs.declared.status.Status.TheVariants.{Input}
 use Rattle.script_run.proofs.FileLaws.{some-told}
 use Rattle.script_run.proofs.RunLaws.{front_of_part, reach_told, stuck_told, goes_on, stops_input, stops_refused, stops_refused_warning, stops_showing, stops_warning}
+use Rattle.script_run.proofs.CauseLaws.{warns_line, given_files, fails_here, unwritten, not_input, not_memory}
 use Rattle.script_run.proofs.advance.advance.Goals as goal
 
 pub returns-in_err-warn-in-Ok-clause-stops : goal.returns-in_err-warn-in-Ok-clause-stops
@@ -90,3 +91,37 @@ pub returns-in-Err-Input-clause-input : goal.returns-in-Err-Input-clause-input
 returns-in-Err-Input-clause-input g c =
     let answers = rw c.in-Err-Input.field-0-is at c.in-Err-Input.ensures.answers in
     λ is. (answers empty).risen
+
+pub returns-in_err-warn-in-Ok-clause-cause : goal.returns-in_err-warn-in-Ok-clause-cause
+returns-in_err-warn-in-Ok-clause-cause g c =
+    let p = err_from_is_err_and c.from_residual.result c.from_residual.ensures.1 in
+    rw (p.1, p.2) (λ is. absurd (unwritten _ c.in_err-warn-in-Ok.ensures.status is))
+
+pub returns-in_err-warn-in-Err-Refused-clause-cause : goal.returns-in_err-warn-in-Err-Refused-clause-cause
+returns-in_err-warn-in-Err-Refused-clause-cause g c =
+    let p = err_from_is_err_and c.from_residual-in_err-warn-in-Err-Refused.result c.from_residual-in_err-warn-in-Err-Refused.ensures.1 in
+    rw (p.1, p.2) (λ is. absurd (unwritten _ c.in_err-warn-in-Err-Refused.ensures.status is))
+
+pub returns-in_ok-warn-in-Ok-clause-warned : goal.returns-in_ok-warn-in-Ok-clause-warned
+returns-in_ok-warn-in-Ok-clause-warned g c = on_ok_weaker c.show.result (λ shown. warns_line _ _ _ _ c.in_ok-warn-in-Ok.ensures.shown) c.show.ensures.shown
+
+pub returns-in_ok-warn-in-Ok-clause-cause : goal.returns-in_ok-warn-in-Ok-clause-cause
+returns-in_ok-warn-in-Ok-clause-cause g c = IfErr-weaker c.show.result _ _ (λ status part is. absurd (unwritten status (inl part.0) is)) c.show.ensures.part
+
+pub returns-in_ok-warn-in-Err-Refused-clause-cause : goal.returns-in_ok-warn-in-Err-Refused-clause-cause
+returns-in_ok-warn-in-Err-Refused-clause-cause g c =
+    let answers = rw c.in-Err-Refused.field-0-is at c.in-Err-Refused.ensures.answers in
+    let before : Shelf = shelf g.F.Files.contents g.F.Files.fetches g.F.Files.faults g.F.Files.absences c.args.files.now in
+    let after : Shelf = shelf g.F.Files.contents g.F.Files.fetches g.F.Files.faults g.F.Files.absences c.step.new.files in
+    let line = c.args.statement.now.line in
+    let code = c.in-Err-Refused.code in
+    let texts = texts_of c.step.new.self in
+    let warned = warns_line line c.in-Err-Refused.warned (g.E.Sink.written c.args.err.now) (g.E.Sink.written c.warn-in-Err-Refused.new.err) c.in_ok-warn-in-Err-Refused.ensures.shown in
+    λ is none. fails_here (paths_of c.args.names.now) line (fault_of texts code) c.end_at_fault.result _ _ _ warned (rw c.texts.ensures at c.end_at_fault.ensures.ended) is
+    (given_files texts (paths_of c.args.names.now) before after code (answers empty).1 none)
+
+pub returns-in-Err-Input-clause-cause : goal.returns-in-Err-Input-clause-cause
+returns-in-Err-Input-clause-cause g c = λ is. absurd (not_input is)
+
+pub returns-in-Err-NoMemory-clause-cause : goal.returns-in-Err-NoMemory-clause-cause
+returns-in-Err-NoMemory-clause-cause g c = λ is. absurd (not_memory is)

@@ -6,6 +6,7 @@ use Rattle.script_session.specs.Reads.{files_in}
 use Rattle.script_run.specs.Ends.{Outside, outside, Ends, Is}
 use Rattle.script_run.proofs.FileLaws.{ends_script, ends_syntax, ends_too_large, some-always, some-weaker}
 use Rattle.script_run.proofs.RunLaws.{ends_with_line}
+use Rattle.script_run.proofs.CauseLaws.{not_fault, not_memory, not_syntax}
 use Rattle.script_run.proofs.running.run_bytes.Goals as goal
 
 pub returns-in-Ok-clause-told : goal.returns-in-Ok-clause-told
@@ -33,3 +34,12 @@ returns-in-Err-TooLarge-clause-told g c =
     some-always (g.F.Files.contents c.args.files.now) _ (λ held.
     ends_too_large (files_in c.args.names.now held) c.end_too_large.result old new c.args.bytes.now parsed
     (ends_with_line old new syntax too_large_line c.end_too_large.result refl refl c.end_too_large.ensures.ended))
+
+pub returns-in-Err-SyntaxAt-clause-cause : goal.returns-in-Err-SyntaxAt-clause-cause
+returns-in-Err-SyntaxAt-clause-cause g c = λ is. absurd (not_fault _ _ _ _ _ not_syntax c.end_syntax.ensures.ended is)
+
+pub returns-in-Err-TooLarge-clause-cause : goal.returns-in-Err-TooLarge-clause-cause
+returns-in-Err-TooLarge-clause-cause g c = λ is. absurd (not_fault _ _ _ _ _ not_syntax c.end_too_large.ensures.ended is)
+
+pub returns-in-Err-NoMemory-clause-cause : goal.returns-in-Err-NoMemory-clause-cause
+returns-in-Err-NoMemory-clause-cause g c = λ is. absurd (not_memory is)

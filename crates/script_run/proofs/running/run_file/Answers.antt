@@ -5,6 +5,7 @@ use Rattle.script_session.specs.Reads.{files_in, paths_of}
 use Rattle.script_run.specs.Ends.{Outside, outside, Ends}
 use Rattle.script_run.proofs.FileLaws.{does_fetch, ends_held, ends_absent, ends_too_large, ends_unread, some-always, some-both, some-weaker}
 use Rattle.script_run.proofs.RunLaws.{ends_with_line}
+use Rattle.script_run.proofs.CauseLaws.{not_fault, not_input, not_memory, not_syntax, not_usage, unrisen_later}
 use Rattle.script_run.proofs.running.run_file.Goals as goal
 
 pub returns-in-Ok-clause-told : goal.returns-in-Ok-clause-told
@@ -45,3 +46,18 @@ returns-in-Err-Failed-clause-told g c =
     let words : RunWords = record { script = c.args.path.now; paths = paths_of c.args.names.now } in
     some-always (g.F.Files.contents c.args.files.now) _ (λ held.
     ends_unread words held (outside g.F.Files.fetches g.O.Sink.written g.O.Sink.faults g.E.Sink.written g.E.Sink.faults c.args.files.now c.args.out.now c.args.err.now) (outside g.F.Files.fetches g.O.Sink.written g.O.Sink.faults g.E.Sink.written g.E.Sink.faults c.read_whole.new.files c.args.out.now c.say_unread.new.err) c.read_whole.ensures.fetches refl c.say_unread.ensures.front c.say_unread.ensures.whole)
+
+pub returns-in-Ok-clause-cause : goal.returns-in-Ok-clause-cause
+returns-in-Ok-clause-cause g c = λ is none. c.run_bytes.ensures.cause is (unrisen_later _ _ _ c.read_whole.ensures.absences none)
+
+pub returns-in-Err-Absent-clause-cause : goal.returns-in-Err-Absent-clause-cause
+returns-in-Err-Absent-clause-cause g c = λ is. absurd (not_fault _ _ _ _ _ not_usage c.end_absent.ensures.ended is)
+
+pub returns-in-Err-TooLong-clause-cause : goal.returns-in-Err-TooLong-clause-cause
+returns-in-Err-TooLong-clause-cause g c = λ is. absurd (not_fault _ _ _ _ _ not_syntax c.end_too_large.ensures.ended is)
+
+pub returns-in-Err-Failed-clause-cause : goal.returns-in-Err-Failed-clause-cause
+returns-in-Err-Failed-clause-cause g c = λ is. absurd (not_input is)
+
+pub returns-in-Err-NoMemory-clause-cause : goal.returns-in-Err-NoMemory-clause-cause
+returns-in-Err-NoMemory-clause-cause g c = λ is. absurd (not_memory is)

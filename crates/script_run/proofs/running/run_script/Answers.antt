@@ -13,6 +13,7 @@ use Rattle.script_run.specs.Steps.{ComesTo, GoesOn, Stops}
 use Rattle.script_run.specs.declared.status.Status.TheVariants.{Done}
 use Rattle.script_run.proofs.FileLaws.{some-always, some-both, some-weaker}
 use Rattle.script_run.proofs.RunLaws.{comes_none, comes_more, ends_come, ends_done, next-result}
+use Rattle.script_run.proofs.CauseLaws.{warns_none, warns_both, fails_later, unrisen_later, not_done}
 use Rattle.script_run.proofs.running.run_script.Goals as goal
 
 pub loop-i-init : goal.loop-i-init
@@ -20,6 +21,7 @@ loop-i-init g c =
     let ss = statements_of c.args.script.now in
     record {
       told = some-always (g.F.Files.contents c.args.files.now) _ (λ held. comes_none _ _ (outside g.F.Files.fetches g.O.Sink.written g.O.Sink.faults g.E.Sink.written g.E.Sink.faults c.args.files.now c.args.out.now c.args.err.now) (ap (λ s. statements_result (files_in c.args.names.now held) s ss) (sym c.new-session.ensures.state)));
+      warned = warns_none _;
       contents = refl;
       faults = omega arith;
       absences = omega arith;
@@ -62,6 +64,7 @@ loop-i-preserved g c =
           c.loop-i.invariant.contents c.loop-i.invariant.told c.in-Ok.ensures.on (λ held come on.
           let next = next-result (files_in c.args.names.now held) ss i (statement_of c.statement-statement.result.now) (state_of c.loop-i.session) c.statement-statement.ensures in
           comes_more (whole held) (rest held) (left held) on.0 old mid new come (next ∙ on.2 (λ s. statements_result (files_in c.args.names.now held) s (drop (i + 1) ss))) on.1);
+      warned = warns_both c.loop-i.invariant.warned c.in-Ok.ensures.warned;
       contents = c.in-Ok.ensures.contents ∙ c.loop-i.invariant.contents;
       faults = omega (arith, c.in-Ok.ensures.faults);
       absences = omega (arith, c.in-Ok.ensures.absences);
@@ -79,3 +82,9 @@ returns-clause-told g c =
     let rest : Contents → RunResult = λ held. statements_result (files_in c.args.names.now held) (state_of c.loop-i.session) (drop i ss) in
     some-weaker (g.F.Files.contents c.args.files.now) (λ held. ComesTo (whole held) (rest held) old mid) (λ held. Ends (Is (whole held)) Done old mid) c.loop-i.invariant.told (λ held come.
     ends_done (whole held) (files_in c.args.names.now held) ss i (state_of c.loop-i.session) old mid (omega (arith, c.len-i-end.ensures, c.loop-i-test.false)) come)
+
+pub returns-in-Err-clause-cause : goal.returns-in-Err-clause-cause
+returns-in-Err-clause-cause g c = λ is none. fails_later c.loop-i.invariant.warned (c.in-Err.ensures.cause is (unrisen_later _ _ _ c.loop-i.invariant.absences none))
+
+pub returns-clause-cause : goal.returns-clause-cause
+returns-clause-cause g c = λ is. absurd (not_done is)

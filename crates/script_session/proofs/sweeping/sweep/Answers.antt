@@ -4,10 +4,10 @@ use Rattle.script_session.specs.Bindings.{bindings_of, AreNoted}
 use Rattle.script_session.proofs.LiveObjects.{noted_named, noted_ended, kept_ended}
 use Rattle.script_session.proofs.sweeping.sweep.Goals as goal
 
-pub loop-id-preserved-then-not-is_named : goal.loop-id-preserved-then-not-is_named
-loop-id-preserved-then-not-is_named c =
-    let bs = bindings_of c.args.names.now.entries in
-    let unnamed = sym c.is_named.ensures ∙ c.if-not-is_named.true in
+pub loop-id-preserved-then-not-has : goal.loop-id-preserved-then-not-has
+loop-id-preserved-then-not-has c =
+    let bs = bindings_of c.args.names.now.values.entries in
+    let unnamed = sym c.has.ensures ∙ c.if-not-has.true in
     let before = subst (λ ts. AreNoted bs ts (tables c.loop-id.store)) c.in-Some.ensures.items c.loop-id.invariant.noted in
     record {
       noted = noted_ended bs c.pop.new.self.items c.in-Some.id (tables c.loop-id.store) _ before c.end.ensures;
@@ -16,8 +16,8 @@ loop-id-preserved-then-not-is_named c =
 
 pub loop-id-preserved : goal.loop-id-preserved
 loop-id-preserved c =
-    let bs = bindings_of c.args.names.now.entries in
-    let named = sym c.is_named.ensures ∙ c.if-not-is_named.false in
+    let bs = bindings_of c.args.names.now.values.entries in
+    let named = sym c.has.ensures ∙ c.if-not-has.false in
     let before = subst (λ ts. AreNoted bs ts (tables c.loop-id.store)) c.in-Some.ensures.items c.loop-id.invariant.noted in
     record {
       noted = noted_named bs c.pop.new.self.items c.in-Some.id (tables c.loop-id.store) before named;

@@ -5,8 +5,8 @@ use Rattle.script_session.proofs.sweeping.sweep.Given as goal
 
 abbrev pub invariant-loop-id : goal.invariant-loop-id
 invariant-loop-id l = record {
-  noted : AreNoted (bindings_of l.names.entries) l.temps.items (tables l.store);
-  kept : KeepNamed (bindings_of l.names.entries) (tables l.fn.store) (tables l.store);
+  noted : AreNoted (bindings_of l.names.values.entries) l.temps.items (tables l.store);
+  kept : KeepNamed (bindings_of l.names.values.entries) (tables l.fn.store) (tables l.store);
 }
 
 abbrev pub decreases-loop-id : goal.decreases-loop-id

@@ -1,6 +1,5 @@
-use Rattle.std.proofs.Common.{rules, ◌≡◌, sym, ◌∙◌, ap, subst, Option, Some, None, true, false}
-use Rattle.meaning.specs.Token.{Lexes}
-use Rattle.meaning.specs.Script.{IsBlank}
+use Rattle.std.proofs.Common.{◌≡◌, subst, Some, None}
+use Rattle.language_meaning.specs.Script.{IsBlank}
 use Rattle.script_syntax.specs.View.{form_of}
 use Rattle.script_syntax.specs.Found.{Fails}
 use Rattle.script_syntax.specs.Reading.{form_read}

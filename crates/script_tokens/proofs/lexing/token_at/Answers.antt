@@ -1,5 +1,5 @@
 use Rattle.std.proofs.Common.{◌≡◌, ◌<◌, false, length, get_or, refl, arith, rules}
-use Rattle.meaning.specs.Token.{begins_word, is_digit}
+use Rattle.language_meaning.specs.Token.{begins_word, is_digit}
 use Rattle.script_tokens.proofs.Signs.{first_and_rest}
 use Rattle.script_tokens.proofs.LexLaws.{no_token_short, no_text, only_signs, IsUtf8-after_quote}
 use Rattle.script_tokens.proofs.lexing.token_at.Goals as goal

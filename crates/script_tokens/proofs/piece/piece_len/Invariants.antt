@@ -1,5 +1,5 @@
 use Rattle.std.proofs.Common.{◌≡◌, ◌+◌, ◌≤◌, length}
-use Rattle.meaning.specs.Pieces.{plain}
+use Rattle.language_meaning.specs.Pieces.{plain}
 use Rattle.script_tokens.specs.View.{mode_of}
 use Rattle.script_tokens.proofs.FirstPiece.{rest_len}
 use Rattle.script_tokens.proofs.piece.piece_len.Given as goal

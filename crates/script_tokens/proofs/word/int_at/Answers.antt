@@ -1,5 +1,5 @@
 use Rattle.std.proofs.Common.{subst, ℕ, List}
-use Rattle.meaning.specs.Token.{is_digit, IsRun}
+use Rattle.language_meaning.specs.Token.{is_digit, IsRun}
 use Rattle.script_tokens.proofs.TokenLaws.{run_is_some, no_int}
 use Rattle.script_tokens.proofs.word.int_at.Goals as goal
 

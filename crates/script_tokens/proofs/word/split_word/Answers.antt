@@ -1,5 +1,5 @@
 use Rattle.std.proofs.Common.{arith}
-use Rattle.meaning.specs.Token.{continues_word}
+use Rattle.language_meaning.specs.Token.{continues_word}
 use Rattle.script_tokens.proofs.Runs.{prefix_len-le, run_at}
 use Rattle.script_tokens.proofs.word.split_word.Goals as goal
 

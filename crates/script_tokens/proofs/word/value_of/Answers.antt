@@ -1,5 +1,5 @@
 use Rattle.std.proofs.Common.{◌≡◌, length, get_or, arith}
-use Rattle.meaning.specs.Token.{is_digit}
+use Rattle.language_meaning.specs.Token.{is_digit}
 use Rattle.script_tokens.proofs.Runs.{IsUtf8-run}
 use Rattle.script_tokens.proofs.TokenLaws.{digit_is_ascii, digits_spell, number_parses, no_leading_zero, too_great}
 use Rattle.script_tokens.proofs.word.value_of.Goals as goal

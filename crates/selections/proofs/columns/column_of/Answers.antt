@@ -1,6 +1,6 @@
 use Rattle.std.proofs.Common.{◌∙◌, ◌<◌, length, ap, arith}
 use Rattle.meaning.specs.Cell.{datum, holds}
-use Rattle.nullable_array.specs.Columns.{CellColumn}
+use Rattle.column_core.specs.Columns.{CellColumn}
 use Rattle.selections.proofs.ColumnLaws.{cell_passes, one_pushed}
 use Rattle.selections.proofs.columns.column_of.Goals as goal
 

@@ -4,4 +4,4 @@ use Rattle.selections.proofs.labels.headings_at.Given as goal
 
 -- the headings so far
 abbrev pub invariant-loop-k : goal.invariant-loop-k
-invariant-loop-k l = l.headings ≡ record { columns_name = l.on.columns_name; labels = headings_at l.on (take l.k l.places) }
+invariant-loop-k l = l.headings.items ≡ headings_at l.on (take l.k l.places)

@@ -1,7 +1,7 @@
 use Rattle.std.proofs.Common.{[], ◌∷◌, ◌++◌, ap, sym, ◌∙◌, List}
 use Rattle.cell_core.specs.declared.cell.Cell.{Cell}
 use Rattle.meaning.specs.Column.{tabulate}
-use Rattle.nullable_array.specs.Columns.{CellColumn}
+use Rattle.column_core.specs.Columns.{CellColumn}
 use Rattle.column_bench.specs.Data.{data_kind, data_cell}
 use Rattle.column_bench.proofs.DataLaws.{tabulate_more}
 use Rattle.column_bench.proofs.data.Data.column.Goals as goal

@@ -1,6 +1,6 @@
 use Rattle.std.proofs.Common.{◌∙◌, List, Option, refl, ap, sym, subst, All}
 use Rattle.cell_core.specs.declared.cell.Label.{Label}
-use Rattle.nullable_array.specs.Blocks.{CellBlock}
+use Rattle.column_core.specs.Blocks.{CellBlock}
 use Rattle.table_meaning.specs.Table.{NumberedTable}
 use Rattle.table_meaning.specs.Change.{put_at}
 use Rattle.table_meaning.specs.Valid.{IsWhole}

@@ -1,5 +1,5 @@
 use Rattle.std.proofs.Common.{List, refl, sym, subst, All}
-use Rattle.nullable_array.specs.Blocks.{CellBlock}
+use Rattle.column_core.specs.Blocks.{CellBlock}
 use Rattle.table_meaning.specs.Table.{NumberedTable}
 use Rattle.table_meaning.specs.Valid.{IsWhole}
 use Rattle.frame_store.specs.Parts.{IsSingle}

@@ -5,4 +5,4 @@ use Rattle.script_session.proofs.session.Session.forget.Goals as goal
 pub returns-clause-live : goal.returns-clause-live
 returns-clause-live c =
     let w = c.forget.new.self in
-    live_are_named w.names.entries w.unique (world_of w) w.live (c.forget.ensures.named c.args.self.now.swept)
+    live_are_named w.names.values.entries w.names.unique (world_of w) w.live (c.forget.ensures.named c.args.self.now.swept)

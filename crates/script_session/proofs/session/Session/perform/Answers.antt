@@ -40,9 +40,9 @@ returns-clause-objects g c =
     let p = c.perform-result.new.self in
     let w = c.sweep.new.self in
     let e = c.sweep.ensures in
-    live_refused c.perform-result.result (names_in s) (names_in p) (names_in w) (world_of s) (world_of p) (world_of w) c.perform-result.ensures.names c.perform-result.ensures.kept e.names e.texts e.kept e.named c.args.self.now.swept (named_live s.names.entries s.unique (tables_in s) s.live)
+    live_refused c.perform-result.result (names_in s) (names_in p) (names_in w) (world_of s) (world_of p) (world_of w) c.perform-result.ensures.names c.perform-result.ensures.kept e.names e.texts e.kept e.named c.args.self.now.swept (named_live s.names.values.entries s.names.unique (tables_in s) s.live)
 
 pub returns-clause-live : goal.returns-clause-live
 returns-clause-live g c =
     let w = c.sweep.new.self in
-    live_are_named w.names.entries w.unique (world_of w) w.live c.sweep.ensures.named
+    live_are_named w.names.values.entries w.names.unique (world_of w) w.live c.sweep.ensures.named

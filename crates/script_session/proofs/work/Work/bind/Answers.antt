@@ -38,7 +38,7 @@ returns-clause-answers g c =
     λ held. goes_value refusal (λ v. at_once (done (with_value (state_in s) n o v) [] false)) _ _ (x.reads held)
     (ap (λ a. at_once a) (done_same _ _ (state_in u) [] _ false _ refl (
     ap (λ t. with_value t n o (entry_in (world_of w) v)) (sym same)
-    ∙ sym (bind_state (names_in w) n o v (world_of w) x.object)
+    ∙ sym (bind_state (names_in w) n o v (world_of w) x.found.object)
     ∙ ap (λ b. state_over b (world_of w)) (sym (c.in_ok-set_name.ensures.ok ∙ ap (λ x. bound (names_in w) x v) c.as_str.ensures))
     ∙ ap (state_over (names_in u)) (sym c.set_name.ensures.world)) c.quiet.ensures.printed c.quiet.ensures.warned))
 
@@ -47,3 +47,6 @@ returns-in_err-set_name-clause-answers g c =
     let s = c.args.self.now in
     let p = err_from_is_err_and c.from_residual-in_err-set_name.result c.from_residual-in_err-set_name.ensures.1 in
     rw (p.1, p.2) (λ held. spends_then refusal (λ v. at_once (done (with_value (state_in s) c.args.name.now (named_by (expr_of c.args.expr.now)) v) [] false)) (goes_spends (c.in_ok-value.ensures.reads held)))
+
+pub set_name-requires : goal.set_name-requires
+set_name-requires g c = c.in_ok-value.ensures.found.known

@@ -1,17 +1,17 @@
-use Rattle.std.proofs.Common.{rules, ◌≡◌, true, false, ap, sym}
+use Rattle.std.proofs.Common.{rules, ◌≡◌, ◌∙◌, true, false, ap, sym}
 use Rattle.std.proofs.lemmas.Result.{err_from_is_err_and}
-use Rattle.std.specs.Prelude.{Err, if◌then◌else◌}
+use Rattle.std.specs.Prelude.{Some, Err, if◌then◌else◌}
 use Rattle.form_meaning.specs.declared.Function.TheVariants.{ReadCsv}
 use Rattle.form_meaning.specs.Functions.{make_result}
 use Rattle.form_meaning.specs.Signature.{function_named}
 use Rattle.frame_store.specs.Arguments.{arguments_of}
-use Rattle.method_meaning.specs.Readers.{reads_file, file_name_of, read_result}
+use Rattle.method_meaning.specs.Readers.{reads_file, file_name_of, read_result, make_with}
 use Rattle.script_meaning.specs.Reading.{at_once, then_read, of_file}
 use Rattle.script_session.specs.Reads.{files_in}
 use Rattle.script_session.specs.Work.{world_of}
 use Rattle.script_session.proofs.Worlds.{form_keeps, form_known}
 use Rattle.script_session.proofs.Naming.{form_unnamed}
-use Rattle.script_session.proofs.FormFaults.{make_result_fault, read_result_fault}
+use Rattle.script_session.proofs.FormFaults.{make_result_fault, make_with_fault, reads_made}
 use Rattle.script_session.proofs.Rides.{goes_same, goes_by, goes_to, halts_by, form_reads, evaluated_if}
 use Rattle.script_session.proofs.work.Work.call.Goals as goal
 
@@ -36,7 +36,7 @@ returns-then-not-reads_file-clause-known g c = evaluated_if _ c.make.result _ c.
 pub returns-then-not-reads_file-clause-object : goal.returns-then-not-reads_file-clause-object
 returns-then-not-reads_file-clause-object g c =
     let s = c.args.self.now in
-    evaluated_if _ c.make.result _ c.evaluated.ensures (form_unnamed s.names.entries s.unique _ c.make.result _ _ _ c.make.ensures.names s.live c.make.ensures.answers)
+    evaluated_if _ c.make.result _ c.evaluated.ensures (form_unnamed s.names.values.entries s.names.unique _ c.make.result _ _ _ c.make.ensures.names s.live c.make.ensures.answers)
 
 pub returns-in_err-bytes-clause-reads : goal.returns-in_err-bytes-clause-reads
 returns-in_err-bytes-clause-reads g c =
@@ -62,9 +62,11 @@ returns-clause-reads g c =
     let reads : reads_file (function_named n) ≡ true = search rules in
     λ held.
     let fs = files_in c.args.names.now held in
-    form_reads _ _ _ (read_result c.as_slice.result.now given) (read_result_fault c.as_slice.result.now given)
+    let bytes = c.as_slice.result.now in
+    form_reads _ _ _ (make_with (Some bytes) n given) (make_with_fault (Some bytes) n given)
     (goes_by (ap (λ b. if b then then_read (at_once (file_name_of ReadCsv given)) (λ name. of_file fs name (λ bytes. read_result bytes given)) else at_once (make_result n given)) reads)
-    (goes_to (c.in_ok-bytes.ensures.reads held) (ap (λ b. at_once (read_result b given)) (sym c.as_slice.ensures))))
+    (goes_to (c.in_ok-bytes.ensures.reads held)
+    (ap (λ b. at_once (read_result b given)) (sym c.as_slice.ensures) ∙ ap (λ m. at_once m) (sym (reads_made bytes n given reads)))))
     c.make-2.result _ c.evaluated-2.ensures c.make-2.ensures.answers
 
 pub returns-clause-known : goal.returns-clause-known
@@ -73,4 +75,4 @@ returns-clause-known g c = evaluated_if _ c.make-2.result _ c.evaluated-2.ensure
 pub returns-clause-object : goal.returns-clause-object
 returns-clause-object g c =
     let s = c.args.self.now in
-    evaluated_if _ c.make-2.result _ c.evaluated-2.ensures (form_unnamed s.names.entries s.unique _ c.make-2.result _ _ _ c.make-2.ensures.names s.live c.make-2.ensures.answers)
+    evaluated_if _ c.make-2.result _ c.evaluated-2.ensures (form_unnamed s.names.values.entries s.names.unique _ c.make-2.result _ _ _ c.make-2.ensures.names s.live c.make-2.ensures.answers)

@@ -122,3 +122,6 @@ returns-in-Err-clause-kept g c =
     let of = ap (λ b. value_at b n) x.names ∙ c.in_ok-on.ensures.found in
     let sets = subst (λ r. Sets r on table (world_of w) (world_of u)) c.in-Err.is c.remove.ensures.sets in
     keeps_both _ (world_of w) (world_of u) x.kept (set_failed (world_of w) (world_of u) c.in-Err.fault on table sets)
+
+pub remove-requires-clause-label : goal.remove-requires-clause-label
+remove-requires-clause-label g c = c.in_ok-label.ensures.found.known

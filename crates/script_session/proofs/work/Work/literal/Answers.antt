@@ -2,6 +2,7 @@ use Rattle.frame_store.specs.Shown.{shown}
 use Rattle.frame_store.proofs.Settling.{settled_later}
 use Rattle.script_session.specs.Work.{names_in, tables_in}
 use Rattle.script_session.proofs.Worlds.{longer_keeps, given_after}
+use Rattle.script_session.proofs.Validity.{longer_valid}
 use Rattle.script_session.proofs.work.Work.literal.Goals as goal
 
 pub invariant_of-self : goal.invariant_of-self
@@ -9,8 +10,8 @@ invariant_of-self c =
     let s = c.args.self.now in
     let longer = c.cell_of.ensures.longer in
     record {
-      unique = s.unique;
       settled = settled_later shown s.dict _ (tables_in s) longer s.settled;
+      valid = longer_valid (tables_in s) s.dict _ longer s.settled s.valid;
       live = s.live;
       given = given_after (names_in s) s.dict _ longer s.given;
       noted = s.noted;

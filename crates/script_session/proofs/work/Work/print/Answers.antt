@@ -31,3 +31,6 @@ returns-in_err-printed-clause-answers g c =
     let s = c.args.self.now in
     let p = err_from_is_err_and c.from_residual-in_err-printed.result c.from_residual-in_err-printed.ensures.1 in
     rw (p.1, p.2) (λ held. spends_then refusal (λ v. at_once (done (state_in s) (entry_text v ++ c.args.end.now) false)) (goes_spends (c.in_ok-value.ensures.reads held)))
+
+pub printed_value-requires : goal.printed_value-requires
+printed_value-requires g c = c.in_ok-value.ensures.found.known.live

@@ -85,10 +85,10 @@ assign-requires g c =
     let z = c.in_ok-by.ensures in
     let later = keeps_both (world_of w) (world_of v) (world_of u) y.kept z.kept in
     record {
-      on = value_kept (world_of v) (world_of u) v.settled u.settled z.kept c.in_ok-on.on y.known;
-      first = z.first;
-      second = z.second;
-      value = argument_kept (world_of w) (world_of u) w.settled u.settled later c.in_ok-value.value x.known;
+      on = value_kept (world_of v) (world_of u) v.settled u.settled z.kept c.in_ok-on.on y.found.known;
+      first = z.found.0;
+      second = z.found.1;
+      value = argument_kept (world_of w) (world_of u) w.settled u.settled later c.in_ok-value.value x.found;
     }
 
 pub returns-in-Ok-clause-answers : goal.returns-in-Ok-clause-answers
@@ -107,7 +107,7 @@ returns-in-Ok-clause-answers g c =
     let later = keeps_both (world_of w) (world_of v) (world_of u) y.kept k.kept in
     let all = keeps_both (world_of s) (world_of v) (world_of u) two k.kept in
     let here = sym (state_kept s u (k.names ∙ y.names ∙ x.names) all) in
-    let of = subst (λ b. IsOf b o on) (sym k.names) y.object in
+    let of = subst (λ b. IsOf b o on) (sym k.names) y.found.object in
     let value = argument_of (world_of u).tables (world_of u).texts c.in_ok-value.value in
     let table = assigned (entry_in (world_of u) on) (target_seen (world_of u) (c.in_ok-by.by, c.in_ok-by.first, c.in_ok-by.second)) value in
     let sets = subst (λ r. Sets r on table (world_of u) (world_of z)) c.in-Ok.is c.assign.ensures.sets in
@@ -117,8 +117,8 @@ returns-in-Ok-clause-answers g c =
     let object = value_of fs (state_in s) (expr_of c.args.target.now) in
     let at_on = sym (ap (λ t. value_of fs t (expr_of c.args.target.now)) (state_kept s w x.names x.kept)) in
     let at_target = sym (ap (λ t. target_of fs t (step_of c.args.step.now)) (state_kept s v (y.names ∙ x.names) two)) in
-    let first = goes_to (x.reads held) (ap (λ a. gives a) (sym (argument_seen (world_of w) (world_of u) w.settled u.settled later c.in_ok-value.value x.known))) in
-    let second = goes_by at_on (goes_to (y.reads held) (ap (λ e. gives e) (sym (value_seen (world_of v) (world_of u) v.settled u.settled k.kept on y.known)))) in
+    let first = goes_to (x.reads held) (ap (λ a. gives a) (sym (argument_seen (world_of w) (world_of u) w.settled u.settled later c.in_ok-value.value x.found))) in
+    let second = goes_by at_on (goes_to (y.reads held) (ap (λ e. gives e) (sym (value_seen (world_of v) (world_of u) v.settled u.settled k.kept on y.found.known)))) in
     let meant = goes_both x.serves (goes_value refusal (λ g. then_answer object (λ v. then_answer target (λ t. at_once (set_answer (state_in s) o (assigned v t g))))) _ _ first refl)
     (goes_both y.serves (goes_value refusal (λ v. then_answer target (λ t. at_once (set_answer (state_in s) o (assigned v t value)))) _ _ second refl)
     (goes_value refusal (λ t. at_once (set_answer (state_in s) o (assigned (entry_in (world_of u) on) t value))) _ _ (goes_by at_target (k.reads held)) refl)) in
@@ -145,7 +145,7 @@ returns-in-Ok-clause-apart g c =
     let later = keeps_both (world_of w) (world_of v) (world_of u) y.kept k.kept in
     let all = keeps_both (world_of s) (world_of v) (world_of u) two k.kept in
     let here = sym (state_kept s u (k.names ∙ y.names ∙ x.names) all) in
-    let of = subst (λ b. IsOf b o on) (sym k.names) y.object in
+    let of = subst (λ b. IsOf b o on) (sym k.names) y.found.object in
     let value = argument_of (world_of u).tables (world_of u).texts c.in_ok-value.value in
     let table = assigned (entry_in (world_of u) on) (target_seen (world_of u) (c.in_ok-by.by, c.in_ok-by.first, c.in_ok-by.second)) value in
     let sets = subst (λ r. Sets r on table (world_of u) (world_of z)) c.in-Ok.is c.assign.ensures.sets in
@@ -168,7 +168,7 @@ returns-clause-answers g c =
     let later = keeps_both (world_of w) (world_of v) (world_of u) y.kept k.kept in
     let all = keeps_both (world_of s) (world_of v) (world_of u) two k.kept in
     let here = sym (state_kept s u (k.names ∙ y.names ∙ x.names) all) in
-    let of = subst (λ b. IsOf b o on) (sym k.names) y.object in
+    let of = subst (λ b. IsOf b o on) (sym k.names) y.found.object in
     let value = argument_of (world_of u).tables (world_of u).texts c.in_ok-value.value in
     let table = assigned (entry_in (world_of u) on) (target_seen (world_of u) (c.in_ok-by.by, c.in_ok-by.first, c.in_ok-by.second)) value in
     let sets = subst (λ r. Sets r on table (world_of u) (world_of z)) c.in-Err.is c.assign.ensures.sets in
@@ -178,8 +178,8 @@ returns-clause-answers g c =
     let object = value_of fs (state_in s) (expr_of c.args.target.now) in
     let at_on = sym (ap (λ t. value_of fs t (expr_of c.args.target.now)) (state_kept s w x.names x.kept)) in
     let at_target = sym (ap (λ t. target_of fs t (step_of c.args.step.now)) (state_kept s v (y.names ∙ x.names) two)) in
-    let first = goes_to (x.reads held) (ap (λ a. gives a) (sym (argument_seen (world_of w) (world_of u) w.settled u.settled later c.in_ok-value.value x.known))) in
-    let second = goes_by at_on (goes_to (y.reads held) (ap (λ e. gives e) (sym (value_seen (world_of v) (world_of u) v.settled u.settled k.kept on y.known)))) in
+    let first = goes_to (x.reads held) (ap (λ a. gives a) (sym (argument_seen (world_of w) (world_of u) w.settled u.settled later c.in_ok-value.value x.found))) in
+    let second = goes_by at_on (goes_to (y.reads held) (ap (λ e. gives e) (sym (value_seen (world_of v) (world_of u) v.settled u.settled k.kept on y.found.known)))) in
     let meant = goes_both x.serves (goes_value refusal (λ g. then_answer object (λ v. then_answer target (λ t. at_once (set_answer (state_in s) o (assigned v t g))))) _ _ first refl)
     (goes_both y.serves (goes_value refusal (λ v. then_answer target (λ t. at_once (set_answer (state_in s) o (assigned v t value)))) _ _ second refl)
     (goes_value refusal (λ t. at_once (set_answer (state_in s) o (assigned (entry_in (world_of u) on) t value))) _ _ (goes_by at_target (k.reads held)) refl)) in
@@ -204,7 +204,7 @@ returns-clause-kept g c =
     let later = keeps_both (world_of w) (world_of v) (world_of u) y.kept k.kept in
     let all = keeps_both (world_of s) (world_of v) (world_of u) two k.kept in
     let here = sym (state_kept s u (k.names ∙ y.names ∙ x.names) all) in
-    let of = subst (λ b. IsOf b o on) (sym k.names) y.object in
+    let of = subst (λ b. IsOf b o on) (sym k.names) y.found.object in
     let value = argument_of (world_of u).tables (world_of u).texts c.in_ok-value.value in
     let table = assigned (entry_in (world_of u) on) (target_seen (world_of u) (c.in_ok-by.by, c.in_ok-by.first, c.in_ok-by.second)) value in
     let sets = subst (λ r. Sets r on table (world_of u) (world_of z)) c.in-Err.is c.assign.ensures.sets in

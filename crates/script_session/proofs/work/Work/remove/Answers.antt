@@ -5,6 +5,8 @@ use Rattle.script_session.specs.Values.{World, entry_in}
 use Rattle.script_session.specs.Faults.{Sets}
 use Rattle.script_session.specs.Work.{names_in, world_of}
 use Rattle.script_session.proofs.Worlds.{live_set, noted_set}
+use Rattle.table_laws.proofs.SetLaws.{removal_result_keeps}
+use Rattle.script_session.proofs.Validity.{object_valid, set_valid}
 use Rattle.script_session.proofs.work.Work.remove.Goals as goal
 
 pub invariant_of-self : goal.invariant_of-self
@@ -14,8 +16,8 @@ invariant_of-self c =
     let new : World = record { tables = tables c.remove.new.store; texts = s.dict } in
     let sets : Sets c.remove.result c.args.on (removal_result (entry_in (world_of s) c.args.on) (entry_in (world_of s) c.args.label)) (world_of s) new = (e.answers, longer_self s.dict) in
     record {
-      unique = s.unique;
       settled = e.settled;
+      valid = set_valid c.remove.result c.args.on _ (world_of s) new sets (removal_result_keeps (entry_in (world_of s) c.args.on) (entry_in (world_of s) c.args.label) (object_valid (world_of s) c.args.on s.valid c.requires.on.live)) s.valid;
       live = live_set (world_of s) new (names_in s) c.remove.result c.args.on _ sets s.live;
       given = s.given;
       noted = noted_set (world_of s) new (names_in s) s.temps.items c.remove.result c.args.on _ c.requires.on.live sets s.noted;

@@ -3,6 +3,8 @@ use Rattle.script_session.specs.Values.{World}
 use Rattle.script_session.specs.Faults.{Forms}
 use Rattle.script_session.specs.Work.{names_in, world_of}
 use Rattle.script_session.proofs.Worlds.{form_keeps, live_after, given_after, noted_made, noted_refused}
+use Rattle.table_laws.proofs.SelectLaws.{select_result_keeps}
+use Rattle.script_session.proofs.Validity.{object_valid, form_valid}
 use Rattle.script_session.proofs.work.Work.select.Goals as goal
 
 pub invariant_of-self-in-Break-branch-2 : goal.invariant_of-self-in-Break-branch-2
@@ -12,8 +14,8 @@ invariant_of-self-in-Break-branch-2 c =
     let new : World = record { tables = tables c.select.new.store; texts = c.select.new.dict } in
     let answers : Forms c.select.result _ (world_of s) new = (e.answers, e.longer) in
     record {
-      unique = s.unique;
       settled = e.settled;
+      valid = form_valid c.select.result _ (world_of s) new answers (select_result_keeps _ _ _ _ (object_valid (world_of s) c.args.on s.valid c.requires.on.live)) s.valid;
       live = live_after (names_in s) (world_of s) new (form_keeps c.select.result _ (world_of s) new answers) s.live;
       given = given_after (names_in s) s.dict _ e.longer s.given;
       noted = noted_refused (names_in s) s.temps.items _ c.select.result c.in_err-made.field-0.0 _ (world_of s) new c.in_err-made.was answers c.reserve.ensures.items s.noted;
@@ -26,8 +28,8 @@ invariant_of-self-2 c =
     let new : World = record { tables = tables c.select.new.store; texts = c.select.new.dict } in
     let answers : Forms c.select.result _ (world_of s) new = (e.answers, e.longer) in
     record {
-      unique = s.unique;
       settled = e.settled;
+      valid = form_valid c.select.result _ (world_of s) new answers (select_result_keeps _ _ _ _ (object_valid (world_of s) c.args.on s.valid c.requires.on.live)) s.valid;
       live = live_after (names_in s) (world_of s) new (form_keeps c.select.result _ (world_of s) new answers) s.live;
       given = given_after (names_in s) s.dict _ e.longer s.given;
       noted = noted_made (names_in s) s.temps.items _ _ c.select.result c.in_ok-made.made _ (world_of s) new c.in_ok-made.was answers c.reserve.ensures.items c.note.ensures s.noted;

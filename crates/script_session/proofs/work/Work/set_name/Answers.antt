@@ -9,8 +9,8 @@ invariant_of-self-2 c =
     let v = c.args.value in
     let e = c.in_ok-left.ensures in
     record {
-      unique = e.unique;
       settled = s.settled;
+      valid = s.valid;
       live = bound_is (names_in s) _ n v (world_of s) e.bound c.requires s.live;
       given = given_is (names_in s) _ n v (world_of s) e.bound c.requires s.given;
       noted = bound_noted (names_in s) _ s.temps.items _ _ n v c.in_ok-left.left (tables_in s) e.bound e.left c.reserve.ensures.items c.note_left.ensures s.noted;

@@ -1,0 +1,146 @@
+#!/usr/bin/env python3
+"""Times each form that is built on long columns, reading subtracted, beside pandas with nullable kinds.
+
+    python3 bench/operations.py PROGRAM [--rows N] [--runs N] [--only WORD]
+
+PROGRAM is the built `pdscript`. A file of 1,000,000 rows has three columns of whole numbers, one of different ones,
+two of truth values, a column of few texts and one of different ones; one in eight cells is missing in all but the
+different ones. A script reads it, names the columns and runs one form ten times. Its least time of the runs, less that
+of the script without the form, is a tenth a form. The Python that runs this does the same where it has pandas: it reads
+the file once, with nullable kinds named for all columns, and takes the least time of ten forms in the same number of
+runs. A line for each form gives both in milliseconds and the time of the program as a part of pandas'; the last line
+gives the forms that take longer.
+"""
+import os
+import subprocess
+import sys
+import tempfile
+import time
+
+try:
+    import pandas
+except ImportError:
+    pandas = None
+
+REPEATS = 10
+
+KINDS = {"a": "Int64", "b": "Int64", "z": "Int64", "d": "Int64", "t": "boolean", "u": "boolean", "w": "string", "v": "string"}
+
+NAMES = "".join("%s = f['%s']\n" % (name, name) for name in KINDS) + "g = f[['a', 'b']]\nh = f[['t', 'u']]\n"
+
+FORMS = [
+    "a + b", "a - b", "a * b", "a // z", "a % z", "a + 3", "a // 7", "a % 7", "-a", "w + w", "v + 'x'",
+    "a == b", "a != b", "a < b", "a <= b", "a > 7", "w == 'w7'", "w < v", "t == u",
+    "t & u", "t | u", "t ^ u", "~t", "t & True",
+    "g + g", "g * 2", "g < g",
+    "a.copy()", "f.copy()", "a.isna()", "a.notna()", "w.isna()", "g.isna()",
+    "a.fillna(0)", "a.fillna(0) * 2", "t.fillna(False)", "w.fillna('w')", "g.fillna(1)",
+    "a.isin([1, 2, 3])", "a.isin([%s])" % ", ".join(str(7 * k) for k in range(100)), "t.isin([True])", "w.isin(['w1', 'w2'])", "g.isin([1, 2, 3])",
+    "a.astype('Int64')", "t.astype('Int64')", "d.astype('string')",
+    "a.shift()", "a.shift(-3)", "t.shift(1)", "w.shift(1)", "g.shift(1)",
+    "a.cumsum()", "a.cummin()", "a.cummax()",
+    "a.sum()", "a.min()", "a.max()", "a.count()", "t.any()", "t.all()", "t.sum()", "w.min()",
+    "a.nunique()", "d.nunique()", "t.nunique()", "w.nunique()", "v.nunique()",
+    "g.sum()", "g.max()", "g.count()",
+    "f['a']", "f[['a', 'b']]", "f[['a', 'b']].sum()", "f[['a', 'b']].max()",
+    "a.rename('c')", "g.rename(columns={'b': 'c'})", "a.to_frame()",
+]
+
+SETTINGS = ["f['x'] = a", "f['x'] = a + b", "f['x'] = 5", "f['x'] = 'text'"]
+
+
+def cell(name, k):
+    """The text of a cell."""
+    jump = 40503 * k % 65536
+    if name == "d":
+        return str(2654435761 * k % 4294967296)
+    if name == "v":
+        return "text-%d" % k
+    if jump < 8192:
+        return ""
+    return {
+        "a": str(jump - 32768), "b": str(30011 * k % 65536 - 32768), "z": str(jump % 1000 + 1),
+        "t": str(jump % 4096 < 2048), "u": str(30011 * k % 65536 % 4096 < 2048), "w": "w%d" % (jump % 1000),
+    }[name]
+
+
+def write_table(path, rows):
+    with open(path, "w") as out:
+        out.write(",".join(KINDS) + "\n")
+        out.writelines(",".join(cell(name, k) for name in KINDS) + "\n" for k in range(1, rows + 1))
+
+
+def repeated(form):
+    return (form if form in SETTINGS else "x = " + form) + "\n"
+
+
+class Program:
+    """The program, whose scripts are run from start to end."""
+
+    def __init__(self, program, folder, table, runs):
+        self.program, self.script, self.table, self.runs = program, os.path.join(folder, "s.pds"), table, runs
+        self.head = "f = pd.read_csv('t', dtype={%s})\n" % ", ".join("'%s': '%s'" % pair for pair in KINDS.items()) + NAMES
+        self.nothing = self.least(self.head)
+
+    def least(self, text):
+        with open(self.script, "w") as out:
+            out.write(text)
+        times = []
+        for _ in range(self.runs):
+            begun = time.perf_counter()
+            done = subprocess.run([self.program, self.script, "t=" + self.table], stdout=subprocess.DEVNULL)
+            times.append(time.perf_counter() - begun)
+            if done.returncode:
+                sys.exit("%s ended with %d at\n%s" % (self.program, done.returncode, text[len(self.head):]))
+        return 1000 * min(times)
+
+    def form(self, form):
+        return max(0.0, self.least(self.head + repeated(form) * REPEATS) - self.nothing) / REPEATS
+
+
+class Pandas:
+    """pandas, which has read the file."""
+
+    def __init__(self, table, runs):
+        self.runs = runs
+        self.names = {"pd": pandas, "f": pandas.read_csv(table, dtype=KINDS)}
+        exec(NAMES, self.names)
+
+    def form(self, form):
+        code, times = compile(repeated(form) * REPEATS, form, "exec"), []
+        for _ in range(self.runs):
+            begun = time.perf_counter()
+            exec(code, self.names)
+            times.append(time.perf_counter() - begun)
+        self.names["f"] = self.names["f"][list(KINDS)]
+        return 1000 * min(times) / REPEATS
+
+
+def option(name, default):
+    return sys.argv[sys.argv.index(name) + 1] if name in sys.argv else default
+
+
+def main():
+    program, rows, runs = os.path.abspath(sys.argv[1]), int(option("--rows", 1000000)), int(option("--runs", 5))
+    slow = []
+    with tempfile.TemporaryDirectory() as folder:
+        table = os.path.join(folder, "t.csv")
+        write_table(table, rows)
+        ours = Program(program, folder, table, runs)
+        theirs = Pandas(table, runs) if pandas else None
+        print("%-34s %10s %10s %8s" % ("form, %d rows" % rows, "ms", "pandas", "ratio"))
+        for form in FORMS + SETTINGS:
+            if option("--only", "") not in form:
+                continue
+            took = ours.form(form)
+            other = theirs.form(form) if theirs else None
+            short = form if len(form) < 34 else form[:28] + " ..)"
+            print("%-34s %10.3f %10s %8s" % (short, took, "%.3f" % other if theirs else "", "%.2f" % (took / other) if theirs else ""), flush=True)
+            if theirs and other < took:
+                slow.append(short)
+    if theirs:
+        print("longer than pandas: " + (", ".join(slow) or "none"))
+
+
+if __name__ == "__main__":
+    main()

@@ -1,0 +1,155 @@
+#!/usr/bin/env python3
+"""Runs the cases of cases/, the examples of the documents and the scripts of examples/ on the built program.
+
+    python3 cases/run.py PROGRAM [FILE ..]
+
+A FILE is Markdown: by default each one of cases/, and the documents of docs/ that have examples. A fenced block
+`pdscript` is a script, and begins a case; its name is the heading above it. `csv NAME` before a script is a file that it
+is given by the word NAME=NAME, and the blocks behind it say how its run ends:
+
+    output          what it writes, nothing where there is no such block
+    errors STATUS   what it writes on the error stream, nothing where there is no such block, and the exit status.
+                    The status is 1 where it isn't said, and 0 where there is no such block
+    words           the words of the command line in place of `script.pds NAME=NAME ..`. Each line is a command line, read as
+                    a shell does, and a run of its own; all end alike. `> DEVICE` or `2> DEVICE` may stand last
+
+`pdscript PATH` stands for a script with another path, and `scripts` for many: each line, without its end, is a script of its
+own, and all end alike. Where `bytes` is the last word of a fence, the block is an expression of Python for its bytes.
+
+Where no FILE is given each script examples/NAME.pds is run too, with a word FILE.csv=FILE.csv for each file
+examples/FILE.csv; it writes NAME.out and NAME.err, and nothing on a stream whose file isn't there.
+
+Prints each case that ends otherwise, by its file, line and name, and ends with 1 where there is one, or where a file has
+no case.
+"""
+import contextlib
+import glob
+import os
+import re
+import shlex
+import subprocess
+import sys
+import tempfile
+
+HERE = os.path.dirname(os.path.abspath(__file__))
+TOP = os.path.dirname(HERE)
+SECONDS = 120
+DOCUMENTS = ("LANGUAGE", "METHODS", "FORMATS", "FROM_PANDAS")
+PART = re.compile(r"^#+ (?P<title>.*)$|^```(?P<fence>\w.*)\n(?P<body>(?:.*\n)*?)```$", re.M)
+
+
+class Case:
+    """A script with its files, and how each run of it ends."""
+
+    def __init__(self, place, script, files, path="script.pds"):
+        self.place, self.path, self.files = place, path, {**files, path: script}
+        self.words = [[path, *("%s=%s" % (name, name) for name in files)]]
+        self.output, self.errors, self.status = b"", b"", 0
+
+    def take(self, kind, rest, body):
+        """Takes a block that stands behind the script."""
+        if kind == "output":
+            self.output = body
+        elif kind == "errors":
+            self.errors, self.status = body, int(rest[0]) if rest else 1
+        elif kind == "words":
+            self.words = [shlex.split(line) for line in body.decode(errors="surrogateescape").splitlines()]
+        else:
+            sys.exit("%s: no such block: %s" % (self.place, kind))
+
+    def failures(self, program):
+        """How the runs of the case end, where that is otherwise."""
+        with tempfile.TemporaryDirectory() as folder:
+            for name, body in self.files.items():
+                with open(os.path.join(folder, name), "wb") as out:
+                    out.write(body)
+            for words in self.words:
+                ended = run([program, *words], folder)
+                if ended != (self.output, self.errors, self.status):
+                    yield "%s: %s: ended with %s" % (self.place, shlex.join(words), told(ended))
+
+
+def run(command, folder):
+    """What the command writes on its two streams in the folder, nothing on one that is sent to a device, and its status."""
+    streams = {">": subprocess.PIPE, "2>": subprocess.PIPE}
+    with contextlib.ExitStack() as opened:
+        if len(command) > 2 and command[-2] in streams:
+            streams[command[-2]] = opened.enter_context(open(command[-1], "wb"))
+            command = command[:-2]
+        try:
+            ran = subprocess.run(command, cwd=folder, stdout=streams[">"], stderr=streams["2>"], timeout=SECONDS)
+        except subprocess.TimeoutExpired:
+            return b"", b"", "none in %d seconds" % SECONDS
+    return ran.stdout or b"", ran.stderr or b"", ran.returncode
+
+
+def told(ended):
+    """The two streams and the status, cut to a line."""
+    output, errors, status = ended
+    return "output %.500r, errors %.500r, status %s" % (output, errors, status)
+
+
+def cases_of(name):
+    """The cases of a file of Markdown."""
+    with open(name, encoding="utf-8", newline="") as file:
+        text = file.read()
+    files, latest, title = {}, [], ""
+    for part in PART.finditer(text):
+        if part["title"]:
+            title = part["title"]
+            continue
+        kind, *rest = part["fence"].split()
+        body = part["body"].encode()
+        if rest and rest[-1] == "bytes":
+            rest, body = rest[:-1], eval(body)
+        line = text.count("\n", 0, part.start()) + 1
+        place = "%s:%d: %s" % (os.path.relpath(name, TOP), line, title)
+        if kind == "csv":
+            files[rest[0]] = body
+        elif kind in ("pdscript", "scripts"):
+            yield from latest
+            scripts = [body] if kind == "pdscript" else body.splitlines()
+            latest = [Case(place, script, files, *rest) for script in scripts]
+            files = {}
+        else:
+            for case in latest:
+                case.take(kind, rest, body)
+    yield from latest
+
+
+def bytes_of(name):
+    """What a file holds; nothing where it isn't there."""
+    if not os.path.exists(name):
+        return b""
+    with open(name, "rb") as file:
+        return file.read()
+
+
+def examples_of(folder):
+    """The scripts of a folder, each with all files of the folder and what it writes."""
+    files = {os.path.basename(name): bytes_of(name) for name in sorted(glob.glob(folder + "/*.csv"))}
+    for name in sorted(glob.glob(folder + "/*.pds")):
+        case = Case(os.path.relpath(name, TOP), bytes_of(name), files)
+        case.output = bytes_of(name[:-4] + ".out")
+        case.errors = bytes_of(name[:-4] + ".err")
+        case.status = 1 if case.errors else 0
+        yield case
+
+
+def main():
+    program, names = os.path.abspath(sys.argv[1]), sys.argv[2:]
+    stored = sorted(glob.glob(HERE + "/*.md")) or [HERE + "/*.md"]
+    pages = names or stored + ["%s/docs/%s.md" % (TOP, name) for name in DOCUMENTS]
+    cases = {name: list(cases_of(name)) for name in pages}
+    if not names:
+        cases[TOP + "/examples"] = list(examples_of(TOP + "/examples"))
+    failures = [line for each in cases.values() for case in each for line in case.failures(program)]
+    failures += ["%s: no case" % name for name, each in cases.items() if not each]
+    for line in failures:
+        print(line)
+    print("%d cases, %d failed" % (sum(len(case.words) for each in cases.values() for case in each), len(failures)))
+    return 1 if failures or not cases else 0
+
+
+if __name__ == "__main__":
+    sys.exit(main())

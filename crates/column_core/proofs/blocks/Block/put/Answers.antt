@@ -1,0 +1,30 @@
+use Rattle.std.proofs.Common.{◌<◌, arith}
+use Rattle.column_core.specs.Views.{kept_column}
+use Rattle.column_core.proofs.BlockLaws.{columns_of, rows_of, place_below, put_block}
+use Rattle.column_core.proofs.blocks.Block.put.Goals as goal
+
+pub overflow_mul-column : goal.overflow_mul-column
+overflow_mul-column c =
+    let b = c.self.inside in
+    let lt : c.args.column < b.columns = omega (arith, columns_of (kept_column b.lanes) b.columns b.rows c.args.self.now c.self.view_is, c.requires.column) in
+    let below : c.args.row < b.rows = omega (arith, rows_of (kept_column b.lanes) b.columns b.rows c.args.self.now c.self.view_is, c.requires.row) in
+    omega (arith, place_below c.args.column b.columns c.args.row b.rows lt below, c.self.invariant.few)
+
+pub overflow_add-column : goal.overflow_add-column
+overflow_add-column c =
+    let b = c.self.inside in
+    let lt : c.args.column < b.columns = omega (arith, columns_of (kept_column b.lanes) b.columns b.rows c.args.self.now c.self.view_is, c.requires.column) in
+    let below : c.args.row < b.rows = omega (arith, rows_of (kept_column b.lanes) b.columns b.rows c.args.self.now c.self.view_is, c.requires.row) in
+    omega (arith, place_below c.args.column b.columns c.args.row b.rows lt below, c.self.invariant.few)
+
+pub put_kept-requires-clause-at : goal.put_kept-requires-clause-at
+put_kept-requires-clause-at c =
+    let b = c.self.inside in
+    let lt : c.args.column < b.columns = omega (arith, columns_of (kept_column b.lanes) b.columns b.rows c.args.self.now c.self.view_is, c.requires.column) in
+    let below : c.args.row < b.rows = omega (arith, rows_of (kept_column b.lanes) b.columns b.rows c.args.self.now c.self.view_is, c.requires.row) in
+    omega (arith, place_below c.args.column b.columns c.args.row b.rows lt below, c.self.invariant.as_many)
+
+pub returns : goal.returns
+returns c =
+    let b = c.self.inside in
+    put_block (kept_column b.lanes) (kept_column c.put_kept.new.lanes) b.columns b.rows c.args.column c.args.row c.args.cell c.args.self.now c.self.view_is c.self.invariant.as_many c.put_kept.ensures c.requires.column c.requires.row

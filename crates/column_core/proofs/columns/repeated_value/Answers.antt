@@ -1,0 +1,6 @@
+use Rattle.std.proofs.Common.{◌∙◌}
+use Rattle.column_core.proofs.BlockLaws.{repeated_column}
+use Rattle.column_core.proofs.columns.repeated_value.Goals as goal
+
+pub returns : goal.returns
+returns g c = c.column.ensures ∙ repeated_column g.T.Value.kind g.T.Value.cell _ _ _ c.args.value c.in_ok-rows.ensures.count c.in_ok-rows.ensures.rows

@@ -1,9 +1,0 @@
-use Rattle.frame_store.specs.Objects.{tables}
-use Rattle.frame_methods.proofs.TestLaws.{empty_settled}
-use Rattle.frame_methods.proofs.tests.writes_a_frame.Goals as goal
-
-pub frame-requires : goal.frame-requires
-frame-requires g c = empty_settled (tables c.new-store.result) c.new-store.ensures
-
-pub csv_called-text-requires-clause-settled : goal.csv_called-text-requires-clause-settled
-csv_called-text-requires-clause-settled g c = c.in_ok-on.ensures.settled c.new-dict.result

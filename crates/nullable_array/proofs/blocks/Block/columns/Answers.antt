@@ -1,6 +1,0 @@
-use Rattle.nullable_array.specs.Views.{kept_column}
-use Rattle.nullable_array.proofs.BlockLaws.{columns_of}
-use Rattle.nullable_array.proofs.blocks.Block.columns.Goals as goal
-
-pub returns : goal.returns
-returns c = columns_of (kept_column c.self.inside.lanes) c.self.inside.columns c.self.inside.rows c.args.self.now c.self.view_is

@@ -1,0 +1,14 @@
+use Rattle.std.proofs.Common.{Some}
+use Rattle.std.specs.List.{list_any}
+use Rattle.column_core.specs.Columns.{truth_cell}
+use Rattle.column_core.specs.Lanes.{lane_row}
+use Rattle.nullable_array.specs.Marks.{listed_truth, same_number}
+use Rattle.nullable_array.proofs.MarkLaws.{if_same_rows, truth_listed}
+use Rattle.nullable_array.proofs.membership.listed_truths.Goals as goal
+
+pub returns : goal.returns
+returns c =
+    let a = c.args.a.now in
+    let values = c.args.values.now.keys in
+    if_same_rows c.map_lane.result a.count (lane_row a.values.now a.present.now a.start a.stride a.back) (λ x. Some (listed_truth c.contains.result c.contains-2.result c.contains-3.result x)) (λ x. Some (list_any (same_number (truth_cell x)) values))
+    (truth_listed values c.contains.result c.contains-2.result c.contains-3.result c.contains.ensures c.contains-2.ensures c.contains-3.ensures) c.map_lane.ensures

@@ -1,7 +1,0 @@
-use Rattle.nullable_array.proofs.MoveLaws.{if_ok_cells, shifted_seen}
-use Rattle.nullable_array.proofs.moves.shift_rows.Goals as goal
-
-pub returns-clause-cells : goal.returns-clause-cells
-returns-clause-cells g c = λ p d b.
-    if_ok_cells c.copied.result _ _ c.copied.ensures
-    (shifted_seen g.T.Value.cell g.met.T.Value.missing (g.A.Source.count_of c.args.a.now) (g.A.Source.row_of c.args.a.now) p _ _ d b)

@@ -1,0 +1,296 @@
+-- Bytes are made of tokens, or they are not.
+use Rattle.std.proofs.Common.{◌≡◌, ◌≢◌, ◌⊎◌, inl, inr, ◌∙◌, sym, ap, subst, refl, ℕ, zero, suc, ◌≤◌, ◌^◌, Bool, true, false, ◌&&◌, leb, eqb, List, [], ◌∷◌, ◌++◌, Option, Some, None, length, take, drop, decimal, arith}
+use Rattle.std.specs.Str.Parse.{digits_value}
+use Rattle.std.proofs.lemmas.Bool.{eqb-true, leb-true}
+use Rattle.std.proofs.lemmas.Bool.Decides.{nat_tests}
+use Rattle.std.proofs.lemmas.Fmt.{decimal_is_IsNumeral}
+use Rattle.std.specs.List.{prefix_len}
+use Rattle.meaning.specs.Text.{Text, same_text}
+use Rattle.language_meaning.specs.Tree.{Binary, add, sub, mul, floor_div, mod_, eq, ne, lt, le, gt, ge, and, or, xor}
+use Rattle.language_meaning.specs.Token.{Token, word, int, text, op, mark, Mark, equals, dot, comma, colon, tilde, open_paren, close_paren, open_bracket, close_bracket, open_brace, close_brace, byte_of, spelling_of, may_grow, is_digit, begins_word, continues_word, begins_with, IsRun, escaped, IsQuoted, IsQuote, IsToken, Lexes, skip}
+use Rattle.script_tokens.specs.Absent.{BeginsNoToken}
+use Rattle.script_tokens.proofs.Runs.{true_or_false, not_both, run_of_length, IsRun-unique}
+use Rattle.script_tokens.proofs.TokenLaws.{IsToken-unique, IsToken-shorter}
+use Rattle.script_tokens.proofs.LexLaws.{length-skip}
+use Rattle.script_syntax.proofs.Tools.{text_is, text_same}
+
+abbrev Decided : Type 0 → Type 0
+Decided P = P ⊎ (P → ⊥)
+
+eqb_no : (a b : ℕ) → eqb a b ≡ false → a ≡ b → ⊥
+eqb_no a b against e = absurd (grind (arith, nat_tests))
+
+-- ---- one of a list
+
+Member : {A : Type 0} → A → List A → Type 0
+Member a [] = ⊥
+Member a (x ∷ xs) = (a ≡ x) ⊎ Member a xs
+
+among : {A : Type 0} (P : A → Type 0) → ((a : A) → Decided (P a)) → (xs : List A) → ((a : A) × P a) ⊎ ((a : A) → Member a xs → P a → ⊥)
+unfolding Member
+among P decided [] = inr (λ a is p. is)
+among {A} P decided (x ∷ xs) = elim (decided x) [
+  | inl p ↦ inl (x, p)
+  | inr against ↦ elim (among P decided xs) [
+    | inl found ↦ inl found
+    | inr none ↦ inr (either against none)
+  ]
+]
+  where
+    either : (P x → ⊥) → ((a : A) → Member a xs → P a → ⊥) → (a : A) → Member a (x ∷ xs) → P a → ⊥
+    either against none a (inl e) p = against (subst P e p)
+    either against none a (inr is) p = none a is p
+
+operators : List Binary
+operators = add ∷ sub ∷ mul ∷ floor_div ∷ mod_ ∷ eq ∷ ne ∷ lt ∷ le ∷ gt ∷ ge ∷ and ∷ or ∷ xor ∷ []
+
+is_operator : (o : Binary) → Member o operators
+unfolding Member operators
+is_operator add = inl refl
+is_operator sub = inr (inl refl)
+is_operator mul = inr (inr (inl refl))
+is_operator floor_div = inr (inr (inr (inl refl)))
+is_operator mod_ = inr (inr (inr (inr (inl refl))))
+is_operator eq = inr (inr (inr (inr (inr (inl refl)))))
+is_operator ne = inr (inr (inr (inr (inr (inr (inl refl))))))
+is_operator lt = inr (inr (inr (inr (inr (inr (inr (inl refl)))))))
+is_operator le = inr (inr (inr (inr (inr (inr (inr (inr (inl refl))))))))
+is_operator gt = inr (inr (inr (inr (inr (inr (inr (inr (inr (inl refl)))))))))
+is_operator ge = inr (inr (inr (inr (inr (inr (inr (inr (inr (inr (inl refl))))))))))
+is_operator and = inr (inr (inr (inr (inr (inr (inr (inr (inr (inr (inr (inl refl)))))))))))
+is_operator or = inr (inr (inr (inr (inr (inr (inr (inr (inr (inr (inr (inr (inl refl))))))))))))
+is_operator xor = inr (inr (inr (inr (inr (inr (inr (inr (inr (inr (inr (inr (inr (inl refl)))))))))))))
+
+marks : List Mark
+marks = equals ∷ dot ∷ comma ∷ colon ∷ tilde ∷ open_paren ∷ close_paren ∷ open_bracket ∷ close_bracket ∷ open_brace ∷ close_brace ∷ []
+
+is_mark : (m : Mark) → Member m marks
+unfolding Member marks
+is_mark equals = inl refl
+is_mark dot = inr (inl refl)
+is_mark comma = inr (inr (inl refl))
+is_mark colon = inr (inr (inr (inl refl)))
+is_mark tilde = inr (inr (inr (inr (inl refl))))
+is_mark open_paren = inr (inr (inr (inr (inr (inl refl)))))
+is_mark close_paren = inr (inr (inr (inr (inr (inr (inl refl))))))
+is_mark open_bracket = inr (inr (inr (inr (inr (inr (inr (inl refl)))))))
+is_mark close_bracket = inr (inr (inr (inr (inr (inr (inr (inr (inl refl))))))))
+is_mark open_brace = inr (inr (inr (inr (inr (inr (inr (inr (inr (inl refl)))))))))
+is_mark close_brace = inr (inr (inr (inr (inr (inr (inr (inr (inr (inr (inl refl))))))))))
+
+-- ---- signs
+
+abbrev Stands : Bool → List ℕ → List ℕ → Type 0
+Stands grows spelling bytes = (rest : List ℕ) × (bytes ≡ spelling ++ rest) × (grows && begins_with (λ b. eqb b 61) rest ≡ false)
+
+stands : (grows : Bool) (spelling bytes : List ℕ) → Decided (Stands grows spelling bytes)
+stands grows [] bytes = elim (true_or_false (grows && begins_with (λ b. eqb b 61) bytes)) [
+  | inl more ↦ inr (λ s. let same : bytes ≡ s.0 = s.1 in not_both _ more (subst (λ bs. (grows && begins_with (λ b. eqb b 61) bs) ≡ false) (sym same) s.2))
+  | inr ends ↦ inl (bytes, refl, ends)
+]
+stands grows (x ∷ xs) [] = inr (λ s. let e : [] ≡ x ∷ (xs ++ s.0) = s.1 in absurd cc)
+stands grows (x ∷ xs) (b ∷ bs) = elim (true_or_false (eqb b x)) [
+  | inl same ↦ elim (stands grows xs bs) [
+    | inl s ↦ let first : b ≡ x = eqb-true b x same in inl (s.0, ap (λ c. c ∷ bs) first ∙ ap (λ cs. x ∷ cs) s.1, s.2)
+    | inr against ↦ inr (λ s. let e : b ∷ bs ≡ x ∷ (xs ++ s.0) = s.1 in against (s.0, cc, s.2))
+  ]
+  | inr other ↦ inr (λ s. let e : b ∷ bs ≡ x ∷ (xs ++ s.0) = s.1 in eqb_no b x other cc)
+]
+
+-- ---- texts
+
+abbrev EndsText : ℕ → List ℕ → Type 0
+EndsText quote bytes = (s : Text) × (rest : List ℕ) × IsQuoted quote s bytes rest
+
+text_none : (quote : ℕ) (s rest : List ℕ) → IsQuoted quote s [] rest → ⊥
+text_none quote [] rest q = absurd cc
+text_none quote (c ∷ cs) rest (more, inl a, q) = let e = a.0 in absurd cc
+text_none quote (c ∷ cs) rest (more, inr (e, f, g), q) = absurd cc
+
+-- after a backslash
+text_escaped : (quote b : ℕ) (bs : List ℕ) → b ≢ quote → b ≡ 92 → ((e : ℕ) (after : List ℕ) → bs ≡ e ∷ after → Decided (EndsText quote after)) → Decided (EndsText quote (b ∷ bs))
+text_escaped quote b [] apart back later = inr none
+  where
+    none : EndsText quote (b ∷ []) → ⊥
+    none ([], rest, q) = apart cc
+    none (c ∷ cs, rest, (more, inl a, q)) = a.2 (let e = a.0 in cc)
+    none (c ∷ cs, rest, (more, inr (e, f, g), q)) = absurd cc
+text_escaped quote b (e ∷ after) apart back later = chosen (escaped e) refl
+  where
+    chosen : (r : Option ℕ) → escaped e ≡ r → Decided (EndsText quote (b ∷ e ∷ after))
+    chosen None is = inr none
+      where
+        none : EndsText quote (b ∷ e ∷ after) → ⊥
+        none ([], rest, q) = apart cc
+        none (c ∷ cs, rest, (more, inl a, q)) = a.2 (let f = a.0 in cc)
+        none (c ∷ cs, rest, (more, inr (f, g, h), q)) = let same : f ≡ e = cc in let k : escaped e ≡ Some c = subst (λ x. escaped x ≡ Some c) same h in absurd cc
+    chosen (Some d) is = elim (later e after refl) [
+      | inl (s, rest, q) ↦ inl (d ∷ s, rest, (after, inr (e, ap (λ x. x ∷ e ∷ after) back, is), q))
+      | inr against ↦ inr (none against)
+    ]
+      where
+        none : (EndsText quote after → ⊥) → EndsText quote (b ∷ e ∷ after) → ⊥
+        none against ([], rest, q) = apart cc
+        none against (c ∷ cs, rest, (more, inl a, q)) = a.2 (let f = a.0 in cc)
+        none against (c ∷ cs, rest, (more, inr (f, g, h), q)) = let same : more ≡ after = cc in against (cs, rest, subst (λ m. IsQuoted quote cs m rest) same q)
+
+text_step : (quote b : ℕ) (bs : List ℕ) → Decided (EndsText quote bs) → ((e : ℕ) (after : List ℕ) → bs ≡ e ∷ after → Decided (EndsText quote after)) → Decided (EndsText quote (b ∷ bs))
+text_step quote b bs next later = elim (true_or_false (eqb b quote)) [
+  | inl ends ↦ inl ([], bs, ap (λ x. x ∷ bs) (eqb-true b quote ends))
+  | inr apart ↦ elim (true_or_false (eqb b 92)) [
+    | inl back ↦ text_escaped quote b bs (eqb_no b quote apart) (eqb-true b 92 back) later
+    | inr plain ↦ elim (true_or_false (eqb b 10)) [
+      | inl line ↦ inr (broken (eqb_no b quote apart) (eqb_no b 92 plain) (eqb-true b 10 line))
+      | inr inside ↦ elim next [
+        | inl (s, rest, q) ↦ inl (b ∷ s, rest, (bs, inl (refl, eqb_no b quote apart, eqb_no b 92 plain, eqb_no b 10 inside), q))
+        | inr against ↦ inr (unended (eqb_no b quote apart) (eqb_no b 92 plain) against)
+      ]
+    ]
+  ]
+]
+  where
+    broken : b ≢ quote → b ≢ 92 → b ≡ 10 → EndsText quote (b ∷ bs) → ⊥
+    broken apart plain line ([], rest, q) = apart cc
+    broken apart plain line (c ∷ cs, rest, (more, inl a, q)) = a.3 (let e = a.0 in cc)
+    broken apart plain line (c ∷ cs, rest, (more, inr (e, f, g), q)) = plain cc
+
+    unended : b ≢ quote → b ≢ 92 → (EndsText quote bs → ⊥) → EndsText quote (b ∷ bs) → ⊥
+    unended apart plain against ([], rest, q) = apart cc
+    unended apart plain against (c ∷ cs, rest, (more, inl a, q)) = let e = a.0 in let same : more ≡ bs = cc in against (cs, rest, subst (λ m. IsQuoted quote cs m rest) same q)
+    unended apart plain against (c ∷ cs, rest, (more, inr (e, f, g), q)) = plain cc
+
+ends_text : (quote : ℕ) (bytes : List ℕ) → Decided (EndsText quote bytes)
+ends_text quote [] = inr (λ t. text_none quote t.0 t.1 t.2)
+ends_text quote (b ∷ []) = text_step quote b [] (inr (λ t. text_none quote t.0 t.1 t.2)) (λ e after is. absurd cc)
+ends_text quote (b ∷ e ∷ after) = text_step quote b (e ∷ after) (ends_text quote (e ∷ after)) (λ f more is. let same : after ≡ more = cc in subst (λ m. Decided (EndsText quote m)) same (ends_text quote after))
+
+-- ---- tokens
+
+abbrev word_of : List ℕ → Text
+word_of bytes = take (prefix_len continues_word bytes) bytes
+
+abbrev after_word : List ℕ → List ℕ
+after_word bytes = drop (prefix_len continues_word bytes) bytes
+
+word_decided : (bytes : List ℕ) → Decided ((w : Text) × (rest : List ℕ) × IsToken (word w) bytes rest)
+word_decided bytes =
+    let run = run_of_length continues_word bytes in
+    elim (true_or_false (begins_with begins_word (word_of bytes))) [
+      | inl begins ↦ inl (word_of bytes, after_word bytes, (run, begins))
+      | inr against ↦ inr (λ w. let same = IsRun-unique continues_word bytes w.0 w.1 (word_of bytes) (after_word bytes) w.2.0 run in not_both (begins_with begins_word (word_of bytes)) (subst (λ f. begins_with begins_word f ≡ true) same.0 w.2.1) against)
+    ]
+
+value_of : (n : ℕ) → n ≤ 2 ^ 63 → digits_value 10 (decimal n) ≡ n
+value_of n small = (decimal_is_IsNumeral n (omega (arith, small))).1
+
+abbrev digits_of : List ℕ → List ℕ
+digits_of bytes = take (prefix_len is_digit bytes) bytes
+
+abbrev after_digits : List ℕ → List ℕ
+after_digits bytes = drop (prefix_len is_digit bytes) bytes
+
+abbrev number_of : List ℕ → ℕ
+number_of bytes = digits_value 10 (digits_of bytes)
+
+is_number : (bytes : List ℕ) (n : ℕ) (rest : List ℕ) → IsToken (int n) bytes rest → (decimal n ≡ digits_of bytes) × (number_of bytes ≡ n)
+is_number bytes n rest is =
+    let same = (IsRun-unique is_digit bytes (decimal n) rest (digits_of bytes) (after_digits bytes) is.0 (run_of_length is_digit bytes)).0 in
+    (same, ap (digits_value 10) (sym same) ∙ value_of n is.1)
+
+int_decided : (bytes : List ℕ) → Decided ((n : ℕ) × (rest : List ℕ) × IsToken (int n) bytes rest)
+int_decided bytes = elim (true_or_false (same_text (decimal (number_of bytes)) (digits_of bytes))) [
+  | inl same ↦ elim (true_or_false (leb (number_of bytes) (2 ^ 63))) [
+    | inl small ↦ inl (number_of bytes, after_digits bytes, (subst (λ f. IsRun is_digit f bytes (after_digits bytes)) (sym (text_is _ _ same)) (run_of_length is_digit bytes), leb-true _ _ small))
+    | inr great ↦ inr (λ n. let is = is_number bytes n.0 n.1 n.2 in not_both _ (subst (λ k. leb k (2 ^ 63) ≡ true) (sym is.1) (at_most n.0 (2 ^ 63) n.2.1)) great)
+  ]
+  | inr other ↦ inr (λ n. let is = is_number bytes n.0 n.1 n.2 in not_both _ (subst (λ f. same_text (decimal (number_of bytes)) f ≡ true) (ap decimal is.1 ∙ is.0) (text_same (decimal (number_of bytes)))) other)
+]
+  where
+    at_most : (a b : ℕ) → a ≤ b → leb a b ≡ true
+    at_most a b small = grind (arith, nat_tests)
+
+text_decided : (bytes : List ℕ) → Decided ((s : Text) × (rest : List ℕ) × IsToken (text s) bytes rest)
+text_decided [] = inr (λ t. let e = t.2.3 in absurd cc)
+text_decided (b ∷ bs) = elim (quote_decided b) [
+  | inl is ↦ elim (ends_text b bs) [
+    | inl (s, rest, q) ↦ inl (s, rest, (b, bs, is, refl, q))
+    | inr against ↦ inr (none against)
+  ]
+  | inr other ↦ inr (λ t. let e = t.2.3 in let same : t.2.0 ≡ b = cc in other (subst IsQuote same t.2.2))
+]
+  where
+    quote_decided : (b : ℕ) → Decided (IsQuote b)
+    quote_decided b = elim (true_or_false (eqb b 39)) [
+      | inl e ↦ inl (inl (eqb-true b 39 e))
+      | inr against ↦ elim (true_or_false (eqb b 34)) [
+        | inl e ↦ inl (inr (eqb-true b 34 e))
+        | inr none ↦ inr (neither (eqb_no b 39 against) (eqb_no b 34 none))
+      ]
+    ]
+      where
+        neither : (b ≡ 39 → ⊥) → (b ≡ 34 → ⊥) → IsQuote b → ⊥
+        neither against none (inl e) = against e
+        neither against none (inr e) = none e
+
+    none : (EndsText b bs → ⊥) → ((s : Text) × (rest : List ℕ) × IsToken (text s) (b ∷ bs) rest) → ⊥
+    none against (s, rest, (quote, more, is, e, q)) =
+        let same : quote ≡ b = cc in
+        let others : more ≡ bs = cc in
+        against (s, rest, subst (λ x. IsQuoted x s bs rest) same (subst (λ m. IsQuoted quote s m rest) others q))
+
+as_operator : {bytes : List ℕ} (o : Binary) → Stands (may_grow (op o)) (spelling_of o) bytes → (t : Token) × (rest : List ℕ) × IsToken t bytes rest
+as_operator o (rest, e, ends) = (op o, rest, (e, ends))
+
+as_mark : {bytes : List ℕ} (m : Mark) → Stands (may_grow (mark m)) (byte_of m ∷ []) bytes → (t : Token) × (rest : List ℕ) × IsToken t bytes rest
+as_mark m (rest, e, ends) = (mark m, rest, (e, ends))
+
+pub token_decided : (bytes : List ℕ) → ((t : Token) × (rest : List ℕ) × IsToken t bytes rest) ⊎ BeginsNoToken bytes
+token_decided bytes = elim (word_decided bytes) [
+  | inl (w, rest, is) ↦ inl (word w, rest, is)
+  | inr no_word ↦ elim (int_decided bytes) [
+    | inl (n, rest, is) ↦ inl (int n, rest, is)
+    | inr no_int ↦ elim (text_decided bytes) [
+      | inl (s, rest, is) ↦ inl (text s, rest, is)
+      | inr no_text ↦ elim (among (λ o. Stands (may_grow (op o)) (spelling_of o) bytes) (λ o. stands (may_grow (op o)) (spelling_of o) bytes) operators) [
+        | inl s ↦ inl (as_operator s.0 s.1)
+        | inr no_op ↦ elim (among (λ m. Stands (may_grow (mark m)) (byte_of m ∷ []) bytes) (λ m. stands (may_grow (mark m)) (byte_of m ∷ []) bytes) marks) [
+          | inl s ↦ inl (as_mark s.0 s.1)
+          | inr no_mark ↦ inr (none no_word no_int no_text no_op no_mark)
+        ]
+      ]
+    ]
+  ]
+]
+  where
+    none : (((w : Text) × (rest : List ℕ) × IsToken (word w) bytes rest) → ⊥) → (((n : ℕ) × (rest : List ℕ) × IsToken (int n) bytes rest) → ⊥)
+        → (((s : Text) × (rest : List ℕ) × IsToken (text s) bytes rest) → ⊥)
+        → ((o : Binary) → Member o operators → Stands (may_grow (op o)) (spelling_of o) bytes → ⊥)
+        → ((m : Mark) → Member m marks → Stands (may_grow (mark m)) (byte_of m ∷ []) bytes → ⊥) → BeginsNoToken bytes
+    none w n s o m (word x) rest is = w (x, rest, is)
+    none w n s o m (int x) rest is = n (x, rest, is)
+    none w n s o m (text x) rest is = s (x, rest, is)
+    none w n s o m (op x) rest is = o x (is_operator x) (rest, is.0, is.1)
+    none w n s o m (mark x) rest is = m x (is_mark x) (rest, is.0, is.1)
+
+lexed_within : (n : ℕ) (bytes : List ℕ) → length bytes ≤ n → Decided ((ts : List Token) × Lexes ts bytes)
+lexed_within n [] few = inl ([], refl)
+lexed_within zero (b ∷ bs) few = absurd (omega arith)
+lexed_within (suc n) (b ∷ bs) few = elim (token_decided (b ∷ bs)) [
+  | inl (t, rest, is) ↦ elim (lexed_within n (skip rest) (omega (arith, IsToken-shorter t (b ∷ bs) rest is, length-skip rest))) [
+    | inl (ts, l) ↦ inl (t ∷ ts, (rest, is, l))
+    | inr against ↦ inr (others t rest is against)
+  ]
+  | inr none ↦ inr (nothing none)
+]
+  where
+    others : (t : Token) (rest : List ℕ) → IsToken t (b ∷ bs) rest → (((ts : List Token) × Lexes ts (skip rest)) → ⊥) → ((ts : List Token) × Lexes ts (b ∷ bs)) → ⊥
+    others t rest is against ([], l) = absurd cc
+    others t rest is against (u ∷ us, (after, was, l)) = against (us, subst (λ r. Lexes us (skip r)) (IsToken-unique u t (b ∷ bs) after rest was is).1 l)
+
+    nothing : BeginsNoToken (b ∷ bs) → ((ts : List Token) × Lexes ts (b ∷ bs)) → ⊥
+    nothing none ([], l) = absurd cc
+    nothing none (u ∷ us, (after, was, l)) = none u after was
+
+-- bytes are made of tokens, or they aren't
+pub lexed : (bytes : List ℕ) → Decided ((ts : List Token) × Lexes ts bytes)
+lexed bytes = lexed_within (length bytes) bytes (omega arith)

@@ -1,0 +1,7 @@
+use Rattle.std.proofs.Common.{drop}
+use Rattle.selections.specs.Headings.{HaveFirstPlaces}
+use Rattle.selections.proofs.headings.first_places.Given as goal
+
+-- the headings from a place on
+abbrev pub invariant-loop-place : goal.invariant-loop-place
+invariant-loop-place l = HaveFirstPlaces l.places.entries l.place (drop l.place l.on.headings)

@@ -1,0 +1,12 @@
+use Rattle.std.proofs.Common.{◌≡◌, drop, Option}
+use Rattle.std.specs.List.{list_any}
+use Rattle.cell_core.specs.declared.cell.Label.{Label}
+use Rattle.selections.specs.Headings.{same_heading, repeated_heading}
+use Rattle.selections.proofs.headings.first_repeated.Given as goal
+
+-- the headings from a place on
+abbrev pub invariant-loop-place : goal.invariant-loop-place
+invariant-loop-place l = record {
+  later : (q : Option Label) → list_any (same_heading q) l.later.keys ≡ list_any (same_heading q) (drop l.place l.headings);
+  repeated : l.repeated ≡ repeated_heading (drop l.place l.headings);
+}

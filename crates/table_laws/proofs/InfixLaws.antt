@@ -1,0 +1,198 @@
+-- Operators make valid tables of valid values.
+use Rattle.std.proofs.Common.{◌≡◌, ◌∙◌, refl, ap, sym, subst, ℕ, suc, pos, List, [], ◌∷◌, length, map, arith}
+use Rattle.std.specs.Prelude.{replicate, Bool, true, false, ◌&&◌, if◌then◌else◌, Option, Some, Result, Ok, Err, IfOk, All}
+use Rattle.std.specs.List.{list_all}
+use Rattle.std.proofs.lemmas.List.{length-map}
+use Rattle.std.proofs.lemmas.List.Elements.{All-nil, All-cons, All-head, All-tail}
+use Rattle.cell_core.specs.declared.grid.Shape.{Shape}
+use Rattle.cell_core.specs.declared.grid.Shape.TheVariants.{Series, Frame}
+use Rattle.meaning.specs.Cell.{CellValue, int_cell, Kind, LabelValue}
+use Rattle.meaning.specs.Symbol.{Binary, sub}
+use Rattle.meaning.specs.Fault.{FaultValue, wrong_kind, limit, then_value, not_built}
+use Rattle.table_meaning.specs.Table.{ColumnOf, Table, column_at}
+use Rattle.table_meaning.specs.Valid.{IsValid, within_limits}
+use Rattle.table_meaning.specs.Value.{Entry, cell, table}
+use Rattle.form_meaning.specs.Finish.{same_heading, try_all, with_columns}
+use Rattle.form_meaning.specs.Infix.{Meeting, swapped, meets, met, infix_table, with_scalar, beside, across, turned, scalar_infix, on_levels, same_tuple, same_tuples, same_headings, are_headings, has_one, common_name, first_heading, rows_infix, series_infix, frame_infix, across_series, across_infix, table_infix, infix_result, is_truth_column, inverted_column, inverted, sign_result}
+use Rattle.table_laws.specs.Validity.{IsValidObject, IsValidEntry}
+use Rattle.table_laws.proofs.ListLaws.{both_true, all_made, then_keeps, try_keeps}
+use Rattle.table_laws.proofs.CellLaws.{Held}
+use Rattle.table_laws.proofs.ColumnLaws.{side, IsColumn, IsMeeting, met_keeps, scalar_meets, inverted_keeps, spread_column}
+use Rattle.table_laws.proofs.TableLaws.{IsShaped, shaped, valid, with_columns_shaped, column_of_table, series_heading, frame_headings, one_column}
+
+-- as many meetings as columns, all of the table's rows
+record AreMeetings (t : Table) (meetings : List Meeting) : Type 0 where
+  count : length meetings ≡ length t.columns
+  each : All (IsMeeting (length t.labels)) meetings
+
+columns_keep : (t : Table) → IsShaped t → (rows : Result (List (ColumnOf CellValue)) FaultValue) (count : ℕ) → count ≡ length t.columns → within_limits (length t.labels) count ≡ true
+    → IfOk rows (λ columns. (length columns ≡ count) × All (IsColumn (length t.labels)) columns)
+    → IfOk (then_value rows (λ columns. Ok (table (with_columns t columns)))) IsValidEntry
+columns_keep t s rows count size within h =
+    then_keeps (λ columns. (length columns ≡ count) × All (IsColumn (length t.labels)) columns) IsValidEntry rows _ h
+    (λ columns made. valid (with_columns t columns) (with_columns_shaped t s columns (made.0 ∙ size) made.1) (subst (λ n. within_limits (length t.labels) n ≡ true) (sym made.0) within))
+
+infix_keeps : (op : Binary) (t : Table) (meetings : List Meeting) → IsShaped t → AreMeetings t meetings → IfOk (infix_table op t meetings) IsValidEntry
+infix_keeps op t meetings s m = by (list_all (meets op) meetings) (within_limits (length t.labels) (length meetings)) refl
+  where
+    by : (b c : Bool) → within_limits (length t.labels) (length meetings) ≡ c
+        → IfOk (if b then (if c then then_value (try_all (met op) meetings) (λ columns. Ok (table (with_columns t columns))) else Err limit) else Err wrong_kind) IsValidEntry
+    by false c e = tt
+    by true false e = tt
+    by true true e = columns_keep t s (try_all (met op) meetings) (length meetings) m.count e (try_keeps (IsMeeting (length t.labels)) (IsColumn (length t.labels)) (met op) (met_keeps op (length t.labels)) meetings m.each)
+
+turned_meet : (left : Bool) (t : Table) (meetings : List Meeting) → AreMeetings t meetings → AreMeetings t (turned left meetings)
+turned_meet false t meetings m = m
+turned_meet true t meetings m = record {
+  count = length-map meetings swapped ∙ m.count;
+  each = all_made (IsMeeting (length t.labels)) (IsMeeting (length t.labels)) swapped (λ x h. record { first = h.second; second = h.first }) meetings m.each;
+}
+
+scalar_keeps : (op : Binary) (left : Bool) (t : Table) (c : CellValue) → IsValid t → IfOk (scalar_infix op left t c) IsValidEntry
+scalar_keeps op left t c v =
+    infix_keeps op t (turned left (map (with_scalar c) t.columns)) (shaped t v)
+    (turned_meet left t (map (with_scalar c) t.columns) record {
+      count = length-map t.columns (with_scalar c);
+      each = all_made (IsColumn (length t.labels)) (IsMeeting (length t.labels)) (with_scalar c) (λ a h. scalar_meets c (length t.labels) a h) t.columns (shaped t v).columns;
+    })
+
+length_beside : (as' bs : List (ColumnOf CellValue)) → length as' ≡ length bs → length (beside as' bs) ≡ length as'
+length_beside [] [] e = refl
+length_beside [] (b ∷ bs) e = refl
+length_beside (a ∷ as') [] e = absurd (Prim.omega arith)
+length_beside (a ∷ as') (b ∷ bs) e = ap suc (length_beside as' bs (Prim.omega arith))
+
+beside_meet : (rows : ℕ) (as' bs : List (ColumnOf CellValue)) → All (IsColumn rows) as' → All (IsColumn rows) bs → All (IsMeeting rows) (beside as' bs)
+beside_meet rows [] bs h k = All-nil (IsMeeting rows)
+beside_meet rows (a ∷ as') [] h k = All-nil (IsMeeting rows)
+beside_meet rows (a ∷ as') (b ∷ bs) h k =
+    All-cons (IsMeeting rows) _ (beside as' bs) record { first = side rows a.kind a.cells (All-head (IsColumn rows) a as' h); second = side rows b.kind b.cells (All-head (IsColumn rows) b bs k) }
+    (beside_meet rows as' bs (All-tail (IsColumn rows) a as' h) (All-tail (IsColumn rows) b bs k))
+
+length_across : (count : ℕ) (kind : Kind) (as' : List (ColumnOf CellValue)) (cells : List CellValue) → length as' ≡ length cells → length (across count kind as' cells) ≡ length as'
+length_across count kind [] cells e = refl
+length_across count kind (a ∷ as') [] e = absurd (Prim.omega arith)
+length_across count kind (a ∷ as') (c ∷ cs) e = ap suc (length_across count kind as' cs (Prim.omega arith))
+
+across_meet : (rows : ℕ) (kind : Kind) (as' : List (ColumnOf CellValue)) (cells : List CellValue) → All (IsColumn rows) as' → All (Held kind) cells → All (IsMeeting rows) (across rows kind as' cells)
+across_meet rows kind [] cells h k = All-nil (IsMeeting rows)
+across_meet rows kind (a ∷ as') [] h k = All-nil (IsMeeting rows)
+across_meet rows kind (a ∷ as') (c ∷ cs) h k =
+    All-cons (IsMeeting rows) _ (across rows kind as' cs) record { first = side rows a.kind a.cells (All-head (IsColumn rows) a as' h); second = side rows kind (replicate rows c) (spread_column kind rows c (All-head (Held kind) c cs k)) }
+    (across_meet rows kind as' cs (All-tail (IsColumn rows) a as' h) (All-tail (Held kind) c cs k))
+
+levels_keep : (kinds equal : Bool) (rest : Result Entry FaultValue) → IfOk rest IsValidEntry → IfOk (on_levels kinds equal rest) IsValidEntry
+levels_keep false equal rest h = tt
+levels_keep true false rest h = tt
+levels_keep true true rest h = h
+
+pub length_tuples : (as' bs : List (List LabelValue)) → same_tuples as' bs ≡ true → length as' ≡ length bs
+length_tuples [] [] e = refl
+length_tuples [] (b ∷ bs) e = Prim.cc
+length_tuples (a ∷ as') [] e = Prim.cc
+length_tuples (a ∷ as') (b ∷ bs) e = ap suc (length_tuples as' bs (both_true (same_tuple a b) (same_tuples as' bs) e).1)
+
+length_headings : (as' bs : List (Option LabelValue)) → same_headings as' bs ≡ true → length as' ≡ length bs
+length_headings [] [] e = refl
+length_headings [] (b ∷ bs) e = Prim.cc
+length_headings (a ∷ as') [] e = Prim.cc
+length_headings (a ∷ as') (b ∷ bs) e = ap suc (length_headings as' bs (both_true (same_heading a b) (same_headings as' bs) e).1)
+
+length_labels : (ls : List (List LabelValue)) (hs : List (Option LabelValue)) → are_headings ls hs ≡ true → length ls ≡ length hs
+length_labels [] [] e = refl
+length_labels ((l ∷ []) ∷ ls) (h ∷ hs) e = ap suc (length_labels ls hs (both_true (same_heading (Some l) h) (are_headings ls hs) e).1)
+length_labels ls hs e = Prim.cc
+
+beside_meetings : (a b t : Table) → IsShaped a → IsShaped b → length a.labels ≡ length b.labels → length a.columns ≡ length b.columns → length t.labels ≡ length a.labels → length t.columns ≡ length a.columns
+    → AreMeetings t (beside a.columns b.columns)
+beside_meetings a b t s r rows count rows' count' = record {
+  count = length_beside a.columns b.columns count ∙ sym count';
+  each = subst (λ n. All (IsMeeting n) (beside a.columns b.columns)) (sym rows')
+      (beside_meet (length a.labels) a.columns b.columns s.columns (subst (λ n. All (IsColumn n) b.columns) (sym rows) r.columns));
+}
+
+rows_keep : (op : Binary) (a b t : Table) → IsShaped t → AreMeetings t (beside a.columns b.columns) → IfOk (rows_infix op a b t) IsValidEntry
+rows_keep op a b t s m = levels_keep _ _ (infix_table op t (beside a.columns b.columns)) (infix_keeps op t (beside a.columns b.columns) s m)
+
+series_keep : (op : Binary) (a b : Table) → IsShaped a → IsShaped b → a.shape ≡ Series → b.shape ≡ Series → IfOk (series_infix op a b) IsValidEntry
+series_keep op a b s r is is' = by (same_tuples a.labels b.labels) refl
+  where
+    t : Table
+    t = record a { headings = common_name (first_heading a.headings) (first_heading b.headings) ∷ [] }
+
+    fits : IsShaped t
+    fits = record { some = s.some; few = s.few; levels = s.levels; headed = sym (one_column a s is); columns = s.columns; headings = series_heading a.shape a.columns_name _ is (s.headings.nameless is) }
+
+    by : (c : Bool) → same_tuples a.labels b.labels ≡ c → IfOk (if c then rows_infix op a b t else Err not_built) IsValidEntry
+    by true e = rows_keep op a b t fits (beside_meetings a b t s r (length_tuples a.labels b.labels e) (one_column a s is ∙ sym (one_column b r is')) refl refl)
+    by false e = tt
+
+frames_keep : (op : Binary) (a b : Table) → IsShaped a → IsShaped b → a.shape ≡ Frame → IfOk (frame_infix op a b) IsValidEntry
+frames_keep op a b s r is = by (same_tuples a.labels b.labels && same_headings a.headings b.headings) refl
+  where
+    t : Table
+    t = record a { columns_name = common_name a.columns_name b.columns_name }
+
+    fits : IsShaped t
+    fits = record {
+      some = s.some;
+      few = s.few;
+      levels = s.levels;
+      headed = s.headed;
+      columns = s.columns;
+      headings = frame_headings a.shape _ a.headings is (s.headings.labelled is) (s.headings.different is);
+    }
+
+    by : (c : Bool) → (same_tuples a.labels b.labels && same_headings a.headings b.headings) ≡ c → IfOk (if c then rows_infix op a b t else Err not_built) IsValidEntry
+    by true e =
+        let both = both_true (same_tuples a.labels b.labels) (same_headings a.headings b.headings) e in
+        rows_keep op a b t fits (beside_meetings a b t s r (length_tuples a.labels b.labels both.0) (sym s.headed ∙ length_headings a.headings b.headings both.1 ∙ r.headed) refl refl)
+    by false e = tt
+
+across_keep : (op : Binary) (left : Bool) (f s : Table) → IsShaped f → IsShaped s → s.shape ≡ Series → IfOk (across_infix op left f s) IsValidEntry
+across_keep op left f s h k is = by (are_headings s.labels f.headings) refl
+  where
+    c : ColumnOf CellValue
+    c = column_at s.columns 0
+
+    series : IsColumn (length s.labels) c
+    series = column_of_table s k 0 (Prim.omega (arith, one_column s k is))
+
+    by : (b : Bool) → are_headings s.labels f.headings ≡ b
+        → IfOk (if b then on_levels (list_all (meets op) (across_series left f s)) (has_one s.level_names) (infix_table op f (across_series left f s)) else Err not_built) IsValidEntry
+    by true e = levels_keep _ _ (infix_table op f (across_series left f s)) (infix_keeps op f (across_series left f s) h
+        (turned_meet left f _ record {
+          count = length_across (length f.labels) c.kind f.columns c.cells (sym h.headed ∙ sym (length_labels s.labels f.headings e) ∙ sym series.filled);
+          each = across_meet (length f.labels) c.kind f.columns c.cells h.columns series.held;
+        }))
+    by false e = tt
+
+tables_keep : (op : Binary) (p q : Shape) (a b : Table) → IsShaped a → IsShaped b → a.shape ≡ p → b.shape ≡ q → IfOk (table_infix op p q a b) IsValidEntry
+tables_keep op Series Series a b s r is is' = series_keep op a b s r is is'
+tables_keep op Series Frame a b s r is is' = across_keep op true b a r s is
+tables_keep op Frame Series a b s r is is' = across_keep op false a b s r is'
+tables_keep op Frame Frame a b s r is is' = frames_keep op a b s r is
+
+-- an operator on two values
+pub infix_result_keeps : (op : Binary) (v w : Entry) → IsValidObject v → IsValidObject w → IfOk (infix_result op v w) IsValidEntry
+infix_result_keeps op (cell a) (cell b) h k = tt
+infix_result_keeps op (cell a) (table t) h k = scalar_keeps op true t a k
+infix_result_keeps op (table t) (cell b) h k = scalar_keeps op false t b h
+infix_result_keeps op (table a) (table b) h k = tables_keep op a.shape b.shape a b (shaped a h) (shaped b k) refl refl
+
+inverted_table : (t : Table) → IsValid t → IfOk (inverted (table t)) IsValidEntry
+inverted_table t v = by (list_all is_truth_column t.columns) (within_limits (length t.labels) (length t.columns)) refl
+  where
+    by : (b c : Bool) → within_limits (length t.labels) (length t.columns) ≡ c
+        → IfOk (if b then (if c then then_value (try_all inverted_column t.columns) (λ columns. Ok (table (with_columns t columns))) else Err limit) else Err wrong_kind) IsValidEntry
+    by false c e = tt
+    by true false e = tt
+    by true true e = columns_keep t (shaped t v) (try_all inverted_column t.columns) (length t.columns) refl e
+        (try_keeps (IsColumn (length t.labels)) (IsColumn (length t.labels)) inverted_column (inverted_keeps (length t.labels)) t.columns (shaped t v).columns)
+
+-- a sign before a value
+pub sign_result_keeps : (minus : Bool) (v : Entry) → IsValidObject v → IfOk (sign_result minus v) IsValidEntry
+sign_result_keeps true (cell c) h = tt
+sign_result_keeps true (table t) h = scalar_keeps sub true t (int_cell (pos 0)) h
+sign_result_keeps false (cell c) h = tt
+sign_result_keeps false (table t) h = inverted_table t h

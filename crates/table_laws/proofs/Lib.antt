@@ -1,0 +1,12 @@
+pub mod ListLaws
+pub mod CellLaws
+pub mod ColumnLaws
+pub mod TableLaws
+pub mod InfixLaws
+pub mod HeadingLaws
+pub mod SelectLaws
+pub mod SetLaws
+pub mod MethodLaws
+pub mod MakeLaws
+pub mod CsvLaws
+pub mod StatementLaws

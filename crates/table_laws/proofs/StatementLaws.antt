@@ -1,0 +1,161 @@
+-- A statement leaves a valid state of a valid one.
+use Rattle.std.proofs.Common.{ℕ, List}
+use Rattle.std.specs.Prelude.{Bool, true, false, ◌||◌, if◌then◌else◌, codes, is_some, Option, Some, None, IfSome, Result, Ok, Err, IfOk}
+use Rattle.std.specs.FinMap.{get}
+use Rattle.meaning.specs.Text.{Text, same_text, Contents}
+use Rattle.meaning.specs.Fault.{FaultValue}
+use Rattle.language_meaning.specs.Tree as tree
+use Rattle.language_meaning.specs.Tree.{Expr, Step, Sub, OptionalSub, OptionalArg, OptionalExpr, Arg, ArgList, Args, ArgPairs, Form}
+use Rattle.table_meaning.specs.Table.{Table}
+use Rattle.table_meaning.specs.Valid.{IsValid}
+use Rattle.table_meaning.specs.Value.{Entry, cell, table, NamedGiven, key_given}
+use Rattle.form_meaning.specs.declared.Function.TheVariants.{ReadCsv}
+use Rattle.form_meaning.specs.Signature.{function_named}
+use Rattle.form_meaning.specs.Select.{plain, through}
+use Rattle.form_meaning.specs.Functions.{make_result}
+use Rattle.form_meaning.specs.Set.{removal_result}
+use Rattle.method_meaning.specs.Calls as calls
+use Rattle.method_meaning.specs.Calls.{has_method, chain_result}
+use Rattle.method_meaning.specs.Readers.{reads_file, file_name_of, read_result}
+use Rattle.script_meaning.specs.State.{State, with_new, without_name}
+use Rattle.script_meaning.specs.Reading.{Files, Reading, Reads, at_once, goes_on, then_read, of_bytes, of_path, of_file, path_of_name}
+use Rattle.script_meaning.specs.Expression.{named_by, value_of_name, is_minus, where_named, made, value_of, stepped, sub_of, second_of, bound_of, given_of, parts_of, pairs_of, named_of, target_of}
+use Rattle.script_meaning.specs.Statement.{Answer, refused, then_answer, with_value, set_answer, assigned, statement_result}
+use Rattle.table_laws.specs.Validity.{IsValidObject, IsValidEntry, IsValidGiven, IsValidState, LeavesValid, HasHeldLiterals, IsHeldArgument, IsHeldForm}
+use Rattle.table_laws.proofs.InfixLaws.{infix_result_keeps, sign_result_keeps}
+use Rattle.table_laws.proofs.SelectLaws.{select_result_keeps, length_result_keeps}
+use Rattle.table_laws.proofs.SetLaws.{assign_result_keeps, removal_result_keeps}
+use Rattle.table_laws.proofs.MethodLaws.{chain_result_keeps}
+use Rattle.table_laws.proofs.MakeLaws.{make_result_keeps}
+use Rattle.table_laws.proofs.CsvLaws.{read_result_keeps}
+
+abbrev Any : {A : Type 0} → A → Type 0
+Any a = Unit {0}
+
+any_value : {A : Type 0} (r : Result A FaultValue) → IfOk r Any
+any_value (Ok a) = tt
+any_value (Err fault) = tt
+
+object : (v : Entry) → IsValidEntry v → IsValidObject v
+object (cell c) h = tt
+object (table t) h = h
+
+-- a value goes on, and a fault stops
+read_keeps : {A B : Type 0} (P : A → Type 0) (Q : B → Type 0) (r : Reads A) (go : A → Reads B) → IfOk r.answer P → ((a : A) → P a → IfOk (go a).answer Q) → IfOk (then_read r go).answer Q
+read_keeps {A = A} {B = B} P Q r go h so = by r.answer h
+  where
+    by : (o : Result A FaultValue) → IfOk o P → IfOk (goes_on Err o go).answer Q
+    by (Ok a) h = so a h
+    by (Err fault) h = tt
+
+after_any : {A B : Type 0} (Q : B → Type 0) (r : Reads A) (go : A → Reads B) → ((a : A) → IfOk (go a).answer Q) → IfOk (then_read r go).answer Q
+after_any Q r go so = read_keeps Any Q r go (any_value r.answer) (λ a _. so a)
+
+named_keeps : (known : Bool) (n : Text) (rest : Reads Entry) → IfOk rest.answer IsValidEntry → IfOk (where_named known n rest).answer IsValidEntry
+named_keeps true n rest h = h
+named_keeps false n rest h = tt
+
+-- calls of the functions of `pd`
+
+bytes_keep : (name : Text) (bytes : Option (List ℕ)) (gs : List NamedGiven) → IfOk (of_bytes name bytes (λ bytes. read_result bytes gs)) IsValidEntry
+bytes_keep name None gs = tt
+bytes_keep name (Some bytes) gs = read_result_keeps bytes gs
+
+path_keeps : (held : Contents) (name : Text) (path : Option Text) (gs : List NamedGiven) → IfOk (of_path held name path (λ bytes. read_result bytes gs)).answer IsValidEntry
+path_keeps held name None gs = tt
+path_keeps held name (Some path) gs = bytes_keep name (get held path) gs
+
+made_keeps : (files : Files) (f : Text) (gs : List NamedGiven) → IfOk (made files f gs).answer IsValidEntry
+made_keeps files f gs = by (reads_file (function_named f))
+  where
+    by : (b : Bool) → IfOk (if b then then_read (at_once (file_name_of ReadCsv gs)) (λ name. of_file files name (λ bytes. read_result bytes gs)) else at_once (make_result f gs)).answer IsValidEntry
+    by true = after_any IsValidEntry (at_once (file_name_of ReadCsv gs)) (λ name. of_file files name (λ bytes. read_result bytes gs)) (λ name. path_keeps files.held name (path_of_name files.paths name) gs)
+    by false = make_result_keeps f gs
+
+-- expressions
+
+name_keeps : (n : Text) (o : Option Entry) → IfSome o IsValidEntry → IfOk (value_of_name n o) IsValidEntry
+name_keeps n None h = tt
+name_keeps n (Some v) h = h
+
+module _ (files : Files) (s : State) where
+  step_keeps : (v : Entry) (step : Step) → IsValidObject v → IfOk (stepped files s v step).answer IsValidEntry
+  step_keeps v (tree.item a) h = after_any IsValidEntry (given_of files s a) _ (λ g. select_result_keeps v plain (key_given g) None h)
+  step_keeps v (tree.access by first second) h =
+      after_any IsValidEntry (sub_of files s first) _ (λ g. after_any IsValidEntry (second_of files s second) _ (λ k. select_result_keeps v (through by) g k h))
+  step_keeps v (tree.method n args) h = named_keeps (has_method v n) n _ (after_any IsValidEntry (named_of files s args) _ (λ gs. chain_result_keeps v (calls.plain n) gs h))
+  step_keeps v (tree.group args by n more) h =
+      named_keeps (has_method v (codes "groupby")) (codes "groupby") _
+      (after_any IsValidEntry (named_of files s args) _ (λ g. after_any IsValidEntry (bound_of files s by) _ (λ k. after_any IsValidEntry (named_of files s more) _ (λ gs. chain_result_keeps v (calls.through (codes "groupby")) gs h))))
+  step_keeps v (tree.rolling args n more) h =
+      named_keeps (has_method v (codes "rolling")) (codes "rolling") _
+      (after_any IsValidEntry (named_of files s args) _ (λ g. after_any IsValidEntry (named_of files s more) _ (λ gs. chain_result_keeps v (calls.through (codes "rolling")) gs h)))
+  step_keeps v (tree.expanding args n more) h =
+      named_keeps (has_method v (codes "expanding")) (codes "expanding") _
+      (after_any IsValidEntry (named_of files s args) _ (λ g. after_any IsValidEntry (named_of files s more) _ (λ gs. chain_result_keeps v (calls.through (codes "expanding")) gs h)))
+
+  -- what an expression gives in a valid state
+  pub value_of_keeps : IsValidState s → (x : Expr) → HasHeldLiterals x → IfOk (value_of files s x).answer IsValidEntry
+  value_of_keeps valid (tree.name n) h = name_keeps n (s.value n) (valid n)
+  value_of_keeps valid (tree.literal v) h = h
+  value_of_keeps valid (tree.unary o x) h = read_keeps IsValidEntry IsValidEntry (value_of files s x) _ (value_of_keeps valid x h) (λ v k. sign_result_keeps (is_minus o) v (object v k))
+  value_of_keeps valid (tree.binary o x y) h =
+      read_keeps IsValidEntry IsValidEntry (value_of files s x) _ (value_of_keeps valid x h.0)
+      (λ v k. read_keeps IsValidEntry IsValidEntry (value_of files s y) _ (value_of_keeps valid y h.1) (λ w l. infix_result_keeps o v w (object v k) (object w l)))
+  value_of_keeps valid (tree.after x step) h = read_keeps IsValidEntry IsValidEntry (value_of files s x) _ (value_of_keeps valid x h) (λ v k. step_keeps v step (object v k))
+  value_of_keeps valid (tree.len x) h = after_any IsValidEntry (value_of files s x) _ (λ v. length_result_keeps v)
+  value_of_keeps valid (tree.make f args) h = named_keeps (is_some (function_named f)) f _ (after_any IsValidEntry (named_of files s args) _ (λ gs. made_keeps files f gs))
+  value_of_keeps valid (tree.paren x) h = value_of_keeps valid x h
+
+  given_keeps : IsValidState s → (a : Arg) → IsHeldArgument a → IfOk (given_of files s a).answer IsValidGiven
+  given_keeps valid (tree.expr x) h = read_keeps IsValidEntry IsValidGiven (value_of files s x) _ (value_of_keeps valid x h) (λ v k. k)
+  given_keeps valid (tree.many parts) h = after_any IsValidGiven (parts_of files s parts) _ (λ parts. tt)
+  given_keeps valid (tree.row parts) h = after_any IsValidGiven (parts_of files s parts) _ (λ parts. tt)
+  given_keeps valid (tree.table pairs) h = after_any IsValidGiven (pairs_of files s pairs) _ (λ pairs. tt)
+  given_keeps valid tree.nothing h = tt
+
+-- states
+
+chosen : (b : Bool) (o p : Option Entry) → IfSome o IsValidEntry → IfSome p IsValidEntry → IfSome (if b then o else p) IsValidEntry
+chosen true o p h k = h
+chosen false o p h k = k
+
+new_valid : (s : State) (x : Text) (v : Entry) → IsValidState s → IsValidEntry v → IsValidState (with_new s x v)
+new_valid s x v valid h = λ m. chosen (same_text x m) (Some v) (s.value m) h (valid m)
+
+bound_valid : (s : State) (x : Text) (o : Option Text) (v : Entry) → IsValidState s → IsValidEntry v → IsValidState (with_value s x o v)
+bound_valid s x (Some n) (table t) valid h = λ m. chosen (same_text x m) (s.value n) (s.value m) (valid n) (valid m)
+bound_valid s x (Some n) (cell c) valid h = new_valid s x (cell c) valid h
+bound_valid s x None v valid h = new_valid s x v valid h
+
+set_valid : (s : State) (o : Option Text) (r : Result Table FaultValue) → IsValidState s → IfOk r IsValid → LeavesValid (set_answer s o r)
+set_valid s o (Err fault) valid h = tt
+set_valid s None (Ok t) valid h = valid
+set_valid s (Some n) (Ok t) valid h = λ m. chosen (same_text n m || s.paired n m) (Some (table t)) (s.value m) h (valid m)
+
+pub without_valid : (s : State) (x : Text) → IsValidState s → IsValidState (without_name s x)
+without_valid s x valid = λ m. chosen (same_text x m) None (s.value m) tt (valid m)
+
+-- statements
+
+answer_keeps : {A : Type 0} (P : A → Type 0) (r : Reads A) (go : A → Reading Answer) → IfOk r.answer P → ((a : A) → P a → LeavesValid (go a).answer) → LeavesValid (then_answer r go).answer
+answer_keeps {A = A} P r go h so = by r.answer h
+  where
+    by : (o : Result A FaultValue) → IfOk o P → LeavesValid (goes_on (λ fault. refused fault false) o go).answer
+    by (Ok a) h = so a h
+    by (Err fault) h = tt
+
+-- The names stand for valid tables after a statement if they do before it.
+pub statement_keeps : (files : Files) (s : State) (f : Form) → IsValidState s → IsHeldForm f → LeavesValid (statement_result files s f).answer
+statement_keeps files s tree.import_pandas valid h = valid
+statement_keeps files s (tree.bind x e) valid h = answer_keeps IsValidEntry (value_of files s e) _ (value_of_keeps files s valid e h) (λ v k. bound_valid s x (named_by e) v valid k)
+statement_keeps files s (tree.put x step a) valid h =
+    answer_keeps IsValidGiven (given_of files s a) _ (given_keeps files s valid a h.1)
+    (λ g k. answer_keeps IsValidEntry (value_of files s x) _ (value_of_keeps files s valid x h.0)
+    (λ v l. answer_keeps Any (target_of files s step) _ (any_value (target_of files s step).answer)
+    (λ target _. set_valid s (named_by x) (assigned v target g) valid (assign_result_keeps v target.way target.first target.second g (object v l) k))))
+statement_keeps files s (tree.drop_name n) valid h = answer_keeps Any (at_once (value_of_name n (s.value n))) _ (any_value (value_of_name n (s.value n))) (λ v _. without_valid s n valid)
+statement_keeps files s (tree.drop_column n x) valid h =
+    answer_keeps IsValidEntry (at_once (value_of_name n (s.value n))) _ (name_keeps n (s.value n) (valid n))
+    (λ v k. answer_keeps Any (value_of files s x) _ (any_value (value_of files s x).answer) (λ w _. set_valid s (Some n) (removal_result v w) valid (removal_result_keeps v w (object v k))))
+statement_keeps files s (tree.print x end) valid h = answer_keeps Any (value_of files s x) _ (any_value (value_of files s x).answer) (λ v _. valid)

@@ -1,0 +1,74 @@
+-- Values, states and answers of which each table is valid.
+use Rattle.std.specs.Prelude.{◌≡◌, ℕ, true, Option, Some, IfSome}
+use Rattle.meaning.specs.Text.{Text}
+use Rattle.meaning.specs.Cell.{CellValue, Int64, holds}
+use Rattle.meaning.specs.Operator.{scalar_kind}
+use Rattle.language_meaning.specs.Tree as tree
+use Rattle.language_meaning.specs.Tree.{Expr, Arg, Form}
+use Rattle.table_meaning.specs.Table.{Table}
+use Rattle.table_meaning.specs.Valid.{IsValid}
+use Rattle.table_meaning.specs.Value.{Entry, cell, table, Given, nothing, one, row, many, entries}
+use Rattle.script_meaning.specs.Expression.{cell_of}
+use Rattle.script_meaning.specs.State.{State}
+use Rattle.script_meaning.specs.Statement.{Answer, done, refused}
+
+-- a column can hold the cell: a whole number has 64 bits
+abbrev pub IsHeldCell : CellValue → Type 0
+IsHeldCell c = holds (scalar_kind Int64 c) c ≡ true
+
+-- a table is valid
+abbrev pub IsValidObject : Entry → Type 0
+IsValidObject (cell c) = Unit {0}
+IsValidObject (table t) = IsValid t
+
+-- a table is valid, and a column can hold a scalar
+abbrev pub IsValidEntry : Entry → Type 0
+IsValidEntry (cell c) = IsHeldCell c
+IsValidEntry (table t) = IsValid t
+
+-- an argument that is a value is valid; forms test the parts of lists and dicts themselves
+abbrev pub IsValidGiven : Given → Type 0
+IsValidGiven (one v) = IsValidEntry v
+IsValidGiven nothing = Unit {0}
+IsValidGiven (row parts) = Unit {0}
+IsValidGiven (many parts) = Unit {0}
+IsValidGiven (entries pairs) = Unit {0}
+
+-- each table is valid, of objects by number
+abbrev pub AreValid : (ℕ → Option Table) → Type 0
+AreValid objects = (id : ℕ) (t : Table) → objects id ≡ Some t → IsValid t
+
+-- the value of each name is valid
+abbrev pub IsValidState : State → Type 0
+IsValidState s = (n : Text) → IfSome (s.value n) IsValidEntry
+
+-- where a statement is done, it leaves a valid state
+abbrev pub LeavesValid : Answer → Type 0
+LeavesValid (done s printed mark) = IsValidState s
+LeavesValid (refused fault mark) = Unit {0}
+
+-- the literals that may come into a value's tables have 64 bits if they are numbers
+abbrev pub HasHeldLiterals : Expr → Type 0
+HasHeldLiterals (tree.name n) = Unit {0}
+HasHeldLiterals (tree.literal v) = IsHeldCell (cell_of v)
+HasHeldLiterals (tree.unary o x) = HasHeldLiterals x
+HasHeldLiterals (tree.binary o x y) = HasHeldLiterals x × HasHeldLiterals y
+HasHeldLiterals (tree.after x step) = HasHeldLiterals x
+HasHeldLiterals (tree.len x) = Unit {0}
+HasHeldLiterals (tree.make f args) = Unit {0}
+HasHeldLiterals (tree.paren x) = HasHeldLiterals x
+
+abbrev pub IsHeldArgument : Arg → Type 0
+IsHeldArgument (tree.expr x) = HasHeldLiterals x
+IsHeldArgument (tree.many parts) = Unit {0}
+IsHeldArgument (tree.row parts) = Unit {0}
+IsHeldArgument (tree.table pairs) = Unit {0}
+IsHeldArgument tree.nothing = Unit {0}
+
+abbrev pub IsHeldForm : Form → Type 0
+IsHeldForm tree.import_pandas = Unit {0}
+IsHeldForm (tree.bind x e) = HasHeldLiterals e
+IsHeldForm (tree.put x step a) = HasHeldLiterals x × IsHeldArgument a
+IsHeldForm (tree.drop_name n) = Unit {0}
+IsHeldForm (tree.drop_column n x) = Unit {0}
+IsHeldForm (tree.print x end) = Unit {0}

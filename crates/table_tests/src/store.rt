@@ -1,0 +1,61 @@
+// Objects and their tables.
+ghost use Rattle.std.specs.Prelude.{◌≡◌, ◌∷◌, [], IsSome, IfOk};
+ghost use Rattle.cell_core.specs.declared.cell.Kind.TheVariants.{Int64};
+ghost use Rattle.cell_core.specs.declared.cell.Cell.TheVariants.{Int};
+ghost use Rattle.frame_store.specs.Parts.{IsSingle, single_block};
+ghost use Rattle.frame_store.specs.Objects.{tables};
+
+use cell_core::{Cell, Grid, Kind, Label, NoMemory, Shape};
+use column_core::{Block, Column};
+use frame_store::{Blocks, Headings, ObjId, Store};
+use multi_index::Axis;
+use std::alloc::Global;
+use std::test::Fail;
+
+fn numbers(alloc: Global, first: i64, second: i64) -> Result<Block, NoMemory>
+    ensures { IfOk result (λ block. block ≡ single_block record { kind = Int64; cells = Int first ∷ Int second ∷ [] }) }
+{
+    let mut column = Column::new(alloc, Kind::Int64);
+    column.push(Cell::Int(first))?;
+    column.push(Cell::Int(second))?;
+    Ok(column.into_block())
+}
+
+// A Series of two numbers without a name.
+fn series(alloc: Global, store: &mut Store, block: Block) -> Result<ObjId, NoMemory>
+    requires rows { block.rows ≡ 2 }
+    requires single { IsSingle block }
+    ensures { IfOk result (λ id. IsSome (tables store.new id.0)) }
+{
+    let axis = Axis::range(alloc, 2)?;
+    let mut headings = Headings::new(alloc, None);
+    headings.push(None)?;
+    let mut blocks = Blocks::new(alloc);
+    blocks.push(block)?;
+    store.add(Shape::Series, axis, headings, blocks)
+}
+
+#[test]
+fn an_object_is_read(rt: HostRuntime) -> Result<(), Fail> {
+    let mut store = Store::new(rt.alloc());
+    let on = series(rt.alloc(), &mut store, numbers(rt.alloc(), 3, 4)?)?;
+    let table = store.read(on);
+    assert_eq!(rt; table.rows(), 2);
+    assert_eq!(rt; table.columns(), 1);
+    assert_eq!(rt; table.levels(), 1);
+    assert_eq!(rt; table.shape(), Shape::Series);
+    assert_eq!(rt; table.heading(0), None);
+    assert_eq!(rt; table.label(1, 0), Label::Int(1));
+    assert_eq!(rt; table.cell(1, 0), Cell::Int(4));
+    Ok(())
+}
+
+#[test]
+fn the_cells_of_live_objects_are_held(rt: HostRuntime) -> Result<(), Fail> {
+    let mut store = Store::new(rt.alloc());
+    let on = series(rt.alloc(), &mut store, numbers(rt.alloc(), 3, 4)?)?;
+    assert_eq!(rt; store.held(), 2);
+    store.drop_object(on);
+    assert_eq!(rt; store.held(), 0);
+    Ok(())
+}
