@@ -1,15 +1,15 @@
 #!/usr/bin/env python3
 """Times each form that is built on long columns, reading subtracted, beside pandas with nullable kinds.
 
-    python3 bench/operations.py PROGRAM [--rows N] [--runs N] [--only WORD]
+    python3 bench/operations.py PROGRAM [--rows N] [--runs N] [--repeats N] [--only WORD]
 
 PROGRAM is the built `pdscript`. A file of 1,000,000 rows has three columns of whole numbers, one of different ones,
 two of truth values, a column of few texts and one of different ones; one in eight cells is missing in all but the
-different ones. A script reads it, names the columns and runs one form ten times. Its least time of the runs, less that
-of the script without the form, is a tenth a form. The Python that runs this does the same where it has pandas: it reads
-the file once, with nullable kinds named for all columns, and takes the least time of ten forms in the same number of
-runs. A line for each form gives both in milliseconds and the time of the program as a part of pandas'; the last line
-gives the forms that take longer.
+different ones. A script reads it, names the columns and runs one form ten times, or as often as it is told. Its least
+time of the runs, less that of the script without the form, is divided by that number. The Python that runs this does
+the same where it has pandas: it reads the file once, with nullable kinds named for all columns, and takes the least
+time of as many forms in as many runs. A line for each form gives both in milliseconds and the time of the program as a
+part of pandas'; the last line gives the forms that take longer.
 """
 import os
 import subprocess
@@ -22,9 +22,14 @@ try:
 except ImportError:
     pandas = None
 
-REPEATS = 10
-
 KINDS = {"a": "Int64", "b": "Int64", "z": "Int64", "d": "Int64", "t": "boolean", "u": "boolean", "w": "string", "v": "string"}
+
+
+def option(name, default):
+    return sys.argv[sys.argv.index(name) + 1] if name in sys.argv else default
+
+
+REPEATS = int(option("--repeats", 10))
 
 NAMES = "".join("%s = f['%s']\n" % (name, name) for name in KINDS) + "g = f[['a', 'b']]\nh = f[['t', 'u']]\n"
 
@@ -80,22 +85,24 @@ class Program:
     def __init__(self, program, folder, table, runs):
         self.program, self.script, self.table, self.runs = program, os.path.join(folder, "s.pds"), table, runs
         self.head = "f = pd.read_csv('t', dtype={%s})\n" % ", ".join("'%s': '%s'" % pair for pair in KINDS.items()) + NAMES
-        self.nothing = self.least(self.head)
 
-    def least(self, text):
+    def time(self, text):
         with open(self.script, "w") as out:
             out.write(text)
-        times = []
-        for _ in range(self.runs):
-            begun = time.perf_counter()
-            done = subprocess.run([self.program, self.script, "t=" + self.table], stdout=subprocess.DEVNULL)
-            times.append(time.perf_counter() - begun)
-            if done.returncode:
-                sys.exit("%s ended with %d at\n%s" % (self.program, done.returncode, text[len(self.head):]))
-        return 1000 * min(times)
+        begun = time.perf_counter()
+        done = subprocess.run([self.program, self.script, "t=" + self.table], stdout=subprocess.DEVNULL)
+        took = time.perf_counter() - begun
+        if done.returncode:
+            sys.exit("%s ended with %d at\n%s" % (self.program, done.returncode, text[len(self.head):]))
+        return took
 
     def form(self, form):
-        return max(0.0, self.least(self.head + repeated(form) * REPEATS) - self.nothing) / REPEATS
+        # The script without the form is run anew beside each run with it, since a machine's speed changes.
+        with_it, without = [], []
+        for _ in range(self.runs):
+            without.append(self.time(self.head))
+            with_it.append(self.time(self.head + repeated(form) * REPEATS))
+        return 1000 * max(0.0, min(with_it) - min(without)) / REPEATS
 
 
 class Pandas:
@@ -114,10 +121,6 @@ class Pandas:
             times.append(time.perf_counter() - begun)
         self.names["f"] = self.names["f"][list(KINDS)]
         return 1000 * min(times) / REPEATS
-
-
-def option(name, default):
-    return sys.argv[sys.argv.index(name) + 1] if name in sys.argv else default
 
 
 def main():
