@@ -5,11 +5,13 @@
 
 PROGRAM is the built `pdscript`. A file of 1,000,000 rows has three columns of whole numbers, one of different ones,
 two of truth values, a column of few texts and one of different ones; one in eight cells is missing in all but the
-different ones. A script reads it, names the columns and runs one form ten times, or as often as it is told. Its least
-time of the runs, less that of the script without the form, is divided by that number. The Python that runs this does
-the same where it has pandas: it reads the file once, with nullable kinds named for all columns, and takes the least
-time of as many forms in as many runs. A line for each form gives both in milliseconds and the time of the program as a
-part of pandas'; the last line gives the forms that take longer.
+different ones. A script reads it, names the columns and runs one form ten times, or as often as it is told, and more
+often where the forms together take less than a part of the reading. Its least time of the runs, less that of the script
+without the form, is divided by that number. The Python that runs this does the same where it has pandas: it reads the
+file once, with nullable kinds named for all columns, and takes the least time of as many forms in as many runs. Times
+are those of the processor, of the user and the system, since a busy machine's clock tells the work of others too. A line
+for each form gives both in milliseconds and the time of the program as a part of pandas'; the last line gives the forms
+that take longer.
 """
 import os
 import subprocess
@@ -30,6 +32,8 @@ def option(name, default):
 
 
 REPEATS = int(option("--repeats", 10))
+# The forms of a script are to take this part of the reading at least; a script has fewer forms than this.
+LEAST_PART, MOST_REPEATS = 0.3, 5000
 
 NAMES = "".join("%s = f['%s']\n" % (name, name) for name in KINDS) + "g = f[['a', 'b']]\nh = f[['t', 'u']]\n"
 
@@ -89,20 +93,24 @@ class Program:
     def time(self, text):
         with open(self.script, "w") as out:
             out.write(text)
-        begun = time.perf_counter()
-        done = subprocess.run([self.program, self.script, "t=" + self.table], stdout=subprocess.DEVNULL)
-        took = time.perf_counter() - begun
-        if done.returncode:
-            sys.exit("%s ended with %d at\n%s" % (self.program, done.returncode, text[len(self.head):]))
-        return took
+        begun = subprocess.Popen([self.program, self.script, "t=" + self.table], stdout=subprocess.DEVNULL)
+        _, status, used = os.wait4(begun.pid, 0)
+        if status:
+            sys.exit("%s ended with %d at\n%s" % (self.program, os.waitstatus_to_exitcode(status), text[len(self.head):][:200]))
+        return used.ru_utime + used.ru_stime
 
     def form(self, form):
         # The script without the form is run anew beside each run with it, since a machine's speed changes.
-        with_it, without = [], []
-        for _ in range(self.runs):
-            without.append(self.time(self.head))
-            with_it.append(self.time(self.head + repeated(form) * REPEATS))
-        return 1000 * max(0.0, min(with_it) - min(without)) / REPEATS
+        repeats = REPEATS
+        while True:
+            with_it, without = [], []
+            for _ in range(self.runs):
+                without.append(self.time(self.head))
+                with_it.append(self.time(self.head + repeated(form) * repeats))
+            took = max(0.0, min(with_it) - min(without))
+            if took >= LEAST_PART * min(without) or repeats >= MOST_REPEATS:
+                return 1000 * took / repeats
+            repeats = min(10 * repeats, MOST_REPEATS)
 
 
 class Pandas:
@@ -116,9 +124,9 @@ class Pandas:
     def form(self, form):
         code, times = compile(repeated(form) * REPEATS, form, "exec"), []
         for _ in range(self.runs):
-            begun = time.perf_counter()
+            begun = time.process_time()
             exec(code, self.names)
-            times.append(time.perf_counter() - begun)
+            times.append(time.process_time() - begun)
         self.names["f"] = self.names["f"][list(KINDS)]
         return 1000 * min(times) / REPEATS
 

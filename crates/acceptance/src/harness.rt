@@ -1,21 +1,24 @@
-// Runs over files and sinks in memory.
+// Runs over sinks in memory.
 use cell_core::NoMemory;
-use outside_io::{MemFiles, MemSink};
+use outside_io::{Files, MemFiles, MemSink};
 use script_run::{Status, run};
 use std::alloc::{AllocError, Global};
 use std::process::Abort;
 
-// Room enough for all that these runs print.
+/// Room enough for all that these runs print.
 pub const AMPLE: usize = 4096;
 
-// The number of a call of the files that is never made.
+/// The number of a call of the files that is never made.
 pub const NEVER: u64 = 99;
 
-// What a run leaves.
+/// What a run leaves.
 #[derive(Drop)]
 pub struct Report {
+    /// How it ended.
     pub status: Status,
+    /// What it printed.
     pub output: MemSink,
+    /// What it wrote on the errors.
     pub errors: MemSink,
 }
 
@@ -28,11 +31,11 @@ fn words_of(alloc: Global, words: &[&str]) -> Result<Vec<String>, AllocError> {
     Ok(all)
 }
 
-// Runs the words over these files, with sinks of this room.
-pub fn run_words(
+/// Runs the words over these files, with sinks of this room.
+pub fn run_words<F: Files>(
     alloc: Global,
     words: &[&str],
-    files: &mut MemFiles,
+    files: &mut F,
     output_room: usize,
     error_room: usize,
 ) -> Result<Report, NoMemory> {
@@ -47,8 +50,8 @@ pub fn run_words(
     })
 }
 
-// Runs the script, which has a file of two rows by the name `t` and one of three by `u`. The call of the files with
-// this number fails.
+/// Runs the script, which has a file of two rows by the name `t` and one of three by `u`. The call of the files with
+/// this number fails.
 pub fn run_failing(
     alloc: Global,
     script: &[u8],
@@ -65,7 +68,7 @@ pub fn run_failing(
     run_words(alloc, &words, &mut files, output_room, error_room)
 }
 
-// The run left this status and these bytes.
+/// The run left this status and these bytes.
 pub fn assert_left(
     rt: &impl Abort,
     ran: &Report,

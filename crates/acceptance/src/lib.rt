@@ -1,7 +1,9 @@
-//! Tests of runs: files and sinks in memory that fail at each of their calls, and sessions. Whole scripts that need
-//! none of these are the cases in `cases/`.
+//! Tests of runs: files and sinks in memory that fail at each of their calls, files that change, and sessions. Whole
+//! scripts that need none of these are the cases in `cases/`.
 #![tactic(auto)]
 
+#[cfg(test)]
+mod changing;
 #[cfg(test)]
 mod fronts;
 #[cfg(test)]

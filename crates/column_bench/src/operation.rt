@@ -14,14 +14,23 @@ use std::alloc::Global;
 /// An operation on columns.
 #[derive(Clone, Copy, Debug)]
 pub enum Operation {
+    /// `+` of two columns of whole numbers.
     Add,
+    /// `//` of two columns of whole numbers.
     FloorDiv,
+    /// `<` of two columns of whole numbers.
     Lt,
+    /// `&` of two columns of truth values.
     And,
+    /// The sum of a column of whole numbers.
     Sum,
+    /// The cumulative sum of a column of whole numbers.
     Cumsum,
+    /// A column of whole numbers, moved by one row.
     Shift,
+    /// The cells of a column of whole numbers at the places of earlier rows, NA where a place is none.
     Take,
+    /// A column of the numbers 0 and 1 as truth values.
     Cast,
 }
 

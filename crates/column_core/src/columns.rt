@@ -14,29 +14,39 @@ use cell_core::{Cell, Kind, NoMemory, TextId};
 use std::alloc::Global;
 use std::marker::Model;
 
+/// Values that are borrowed, by the kind of their cells: whole numbers, truth values, or numbers of texts.
 #[derive(Drop)]
 pub enum Borrowed<'a> {
+    /// Whole numbers.
     Ints(Lane<'a, i64>),
+    /// Truth values.
     Truths(Lane<'a, bool>),
+    /// Texts by number.
     Texts(Lane<'a, TextId>),
 }
 
+/// Values that are kept, by the kind of their cells: whole numbers, truth values, or numbers of texts.
 #[derive(Drop)]
 pub enum Kept {
+    /// Whole numbers.
     Ints(Owned<i64>),
+    /// Truth values.
     Truths(Owned<bool>),
+    /// Texts by number.
     Texts(Owned<TextId>),
 }
 
 /// Cells of one kind that are borrowed. Nothing is copied.
 #[derive(Drop)]
 pub struct ColRef<'a> {
+    /// The cells' values, and which of them are present.
     pub lanes: Borrowed<'a>,
 }
 
 /// Cells of one kind. It keeps the allocator that it was made with.
 #[derive(Drop)]
 pub struct Column {
+    /// The cells' values, and which of them are present.
     pub lanes: Kept,
 }
 
@@ -231,6 +241,8 @@ fn push_kept(lanes: &mut Kept, cell: Cell) -> Result<(), NoMemory>
     }
 }
 
+/// The whole number in a cell, or `None` in NA. The cell is one of them: a column of whole numbers holds no other.
+/// Takes no memory.
 pub fn number_in(cell: Cell) -> Option<i64>
     requires { holds Int64 (datum [] cell) ≡ true }
     ensures { number_cell result ≡ cell }
@@ -242,6 +254,8 @@ pub fn number_in(cell: Cell) -> Option<i64>
     }
 }
 
+/// The truth value in a cell, or `None` in NA. The cell is one of them: a column of truth values holds no other.
+/// Takes no memory.
 pub fn truth_in(cell: Cell) -> Option<bool>
     requires { holds Boolean (datum [] cell) ≡ true }
     ensures { truth_cell result ≡ cell }
@@ -253,6 +267,8 @@ pub fn truth_in(cell: Cell) -> Option<bool>
     }
 }
 
+/// The number of the text in a cell, or `None` in NA. The cell is one of them: a column of texts holds no other.
+/// Takes no memory.
 pub fn text_in(cell: Cell) -> Option<TextId>
     requires { holds string (datum [] cell) ≡ true }
     ensures { text_cell result ≡ cell }
@@ -301,6 +317,7 @@ impl ColRef<'_> {
     }
 }
 
+/// The cell of a whole number, and NA of `None`. A column of whole numbers holds it. Takes no memory.
 pub fn cell_of_number(value: Option<i64>) -> Cell
     ensures cell { result ≡ number_cell value }
     ensures held { (texts : List (List ℕ)) → holds Int64 (datum texts result) ≡ true }
@@ -311,6 +328,7 @@ pub fn cell_of_number(value: Option<i64>) -> Cell
     }
 }
 
+/// The cell of a truth value, and NA of `None`. Takes no memory.
 pub fn cell_of_truth(value: Option<bool>) -> Cell
     ensures { result ≡ truth_cell value }
 {
@@ -320,6 +338,7 @@ pub fn cell_of_truth(value: Option<bool>) -> Cell
     }
 }
 
+/// The cell of a text's number, and NA of `None`. Takes no memory.
 pub fn cell_of_text(value: Option<TextId>) -> Cell
     ensures { result ≡ text_cell value }
 {

@@ -7,11 +7,17 @@ use std::alloc::{AllocError, Global};
 
 /// Values that are borrowed: `count` of them, the first at `start`, each further one `stride` places on, or back.
 pub struct Lane<'a, T> {
+    /// The values among which these stand, with something in the place of each missing one.
     pub values: &'a [T],
+    /// For each of them whether it is present.
     pub present: &'a [bool],
+    /// The place of the first.
     pub start: usize,
+    /// How many places there are from one to the next.
     pub stride: usize,
+    /// Whether the next one stands before it.
     pub back: bool,
+    /// How many there are.
     pub count: usize,
     pub ghost fits: { LaneFits start stride back count (length values.now) (length present.now) },
 }
@@ -56,7 +62,9 @@ impl<T: Copy> Lane<'_, T> {
 /// Values of its own, each present or not.
 #[derive(Drop)]
 pub struct Owned<T> {
+    /// The values, with something in the place of each missing one.
     pub values: Vec<T>,
+    /// For each of them whether it is present.
     pub present: Vec<bool>,
     pub ghost alike: { length present.items ≡ length values.items },
 }

@@ -294,13 +294,15 @@ fn shift_rows<T: Value, A: Source<T>>(
     copied(alloc, &moved)
 }
 
-pub fn distance(periods: i64) -> usize
+/// How far a step goes, ahead or back. Takes no memory.
+pub(crate) fn distance(periods: i64) -> usize
     ensures { result ≡ distance_of periods }
 {
     periods.unsigned_abs() as usize
 }
 
-pub fn is_below_zero(periods: i64) -> bool
+/// Whether a step goes back. Takes no memory.
+pub(crate) fn is_below_zero(periods: i64) -> bool
     ensures { result ≡ is_ahead periods }
 {
     periods < 0

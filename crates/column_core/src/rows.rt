@@ -37,7 +37,9 @@ pub trait RowOp<X, Y, U> {
 /// Why no rows are made: the first row that is refused, or want of memory.
 #[derive(Drop)]
 pub enum RowFault {
+    /// The operation refuses this row, the first that it does.
     Row(usize),
+    /// Memory was refused.
     Memory,
 }
 

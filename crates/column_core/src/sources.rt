@@ -8,7 +8,9 @@ use crate::rows::Source;
 /// Values that lie side by side.
 #[derive(Drop)]
 pub struct Dense<'a, T> {
+    /// The values, with something in the place of each missing one.
     pub values: &'a [T],
+    /// For each of them whether it is present.
     pub present: &'a [bool],
     pub ghost alike: { length present.now ≡ length values.now },
 }
@@ -33,7 +35,9 @@ impl<T: Copy> Source<T> for Dense<'_, T> {
 /// One value in each of so many rows.
 #[derive(Drop)]
 pub struct Same<T> {
+    /// The value, or none.
     pub value: Option<T>,
+    /// How many rows there are.
     pub count: usize,
 }
 
@@ -56,6 +60,7 @@ impl<T: Copy> Source<T> for Same<T> {
 /// So many rows of nothing, beside the rows of an operation on one value.
 #[derive(Drop)]
 pub struct Nothing {
+    /// How many rows there are.
     pub count: usize,
 }
 

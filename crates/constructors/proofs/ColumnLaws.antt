@@ -73,8 +73,10 @@ pub column_refused : (texts : List Text) (pairs : List (Label × Argument)) (pla
 column_refused texts pairs place rest p made fault whole here refused before = go fault refused
   where
     go : (f : OpFault) → MakesBy column_seen texts (Err f) (listed_column (list_seen texts p.1)) → MakesBy blocks_value texts (Err f) whole
-    go (Refused code) m =
-        one_refused listed_column (list_at texts (slice_get pairs place)) (lists_seen texts pairs rest) (blocks_value texts made) _ whole (ap (λ o. listed_column (list_at texts o)) here ∙ m) before
+    go (Refused code) m = (
+      one_refused listed_column (list_at texts (slice_get pairs place)) (lists_seen texts pairs rest) (blocks_value texts made) _ whole (ap (λ o. listed_column (list_at texts o)) here ∙ m.0) before,
+      m.1,
+    )
     go NoMemory m = tt
 
 pub columns_single : (made made' : List CellBlock) (column : CellColumn) → All IsSingle made → made' ≡ made ++ single_block (table_column column) ∷ [] → All IsSingle made'

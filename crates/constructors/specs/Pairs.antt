@@ -34,7 +34,7 @@ alone (Some parts) = if each is_scalar parts then Some (cells_of parts) else Non
 abbrev pub scalars_in : Given → Option (List CellValue)
 scalars_in g = alone (list_in g)
 
--- the same of an argument; an object is no scalar, so its table doesn't matter
+-- the scalars of an argument that is a list of them alone; an object is no scalar, so its table doesn't matter
 abbrev pub list_seen : List Text → Argument → Option (List CellValue)
 list_seen texts a = scalars_in (argument_of (λ id. None) texts a)
 

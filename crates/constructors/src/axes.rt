@@ -90,7 +90,7 @@ fn free_axis(alloc: Global, dict: &TextDict, index: &[Item]) -> Result<Axis, OpF
     listed_axis(alloc, dict, &tuples, tuples.len(), 0)
 }
 
-// The same, or without an index the axis without rows.
+// The axis of the labels in the index, as many as there are; the axis without rows where there is no index.
 pub(crate) fn bare_axis(
     alloc: Global,
     dict: &TextDict,

@@ -57,7 +57,7 @@ fn push_held(column: &mut Column, cell: Cell) -> Result<(), OpFault>
     Ok(())
 }
 
-// The same where there is a cell.
+// Appends the cell, if there is one, which the kind must hold.
 fn push_scalar(column: &mut Column, cell: Option<Cell>) -> Result<(), OpFault>
     ensures kind { column.new.kind ≡ column.old.kind }
     ensures ok { OnOk result ((texts : List OneText) (rest : List CellValue) → held_after column.old.kind (map (datum texts) column.new.cells) rest ≡ held_after column.old.kind (map (datum texts) column.old.cells) (with_cell (option_map (datum texts) cell) rest)) }

@@ -40,7 +40,7 @@ fn cast_column(
     }
 }
 
-// The same where there is a kind.
+// The column with its cells cast to the kind; where there is none, as it is.
 #[tactic(auto, using(frame_store::proofs::Settling::longer_self))]
 fn cast_to(
     alloc: Global,

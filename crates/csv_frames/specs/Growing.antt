@@ -51,7 +51,7 @@ truth_in field = if is_missing field then None else truth_value field
 abbrev pub IsPut : {T : Type 0} → Option T → Owned T → Owned T → Type 0
 IsPut value before after = IsPushed before.values.items before.present.items value after.values.items after.present.items
 
--- the same of the text of this field
+-- the number of this field's text more, or one value that is missing
 abbrev pub IsTextPut : List Text → Text → Owned TextId → Owned TextId → Type 0
 IsTextPut texts field before after =
     (text : Option TextId) × IsSettled datum texts (text_cell text) × (datum texts (text_cell text) ≡ cell_of_field string field) × IsPut text before after

@@ -42,7 +42,7 @@ columns_seen texts columns = map (column_seen texts) columns
 abbrev pub entries_seen : List Text → List NamedKind → List (Text × Kind)
 entries_seen texts kinds = map (λ n. (text_of texts n.label, n.kind)) kinds
 
--- the same, kept by label
+-- the kinds that are named for labels, kept by label
 abbrev pub kinds_seen : {Y : Type 0} → List (String Y × Kind) → List (Text × Kind)
 kinds_seen entries = map (λ e. (string_bytes e.0, e.1)) entries
 
@@ -74,7 +74,8 @@ abbrev pub ReadsAs : List Text → Result CsvTable CsvFault → Result CsvValue 
 ReadsAs texts (Ok t) meant = meant ≡ Ok (csv_seen texts t)
 ReadsAs texts (Err fault) meant = IfSome (refusal_of fault) (λ refusal. meant ≡ Err refusal)
 
--- The same; after a refusal no text was given a number.
+-- What a call that reads a file answers: what is meant, or its first refusal, after which no text was given a number.
+-- Want of memory may come in place of any answer.
 abbrev pub ReadAnswers : List Text → List Text → Result CsvTable CsvFault → Result CsvValue CsvRefusal → Type 0
 ReadAnswers old new (Ok t) meant = meant ≡ Ok (csv_seen new t)
 ReadAnswers old new (Err fault) meant = IfSome (refusal_of fault) (λ refusal. (meant ≡ Err refusal) × (new ≡ old))

@@ -15,7 +15,8 @@ pub(crate) fn is_missing(field: &str) -> bool
     }
 }
 
-// The same, by the first byte: few words begin with it, so few are compared, and for most fields none.
+// Whether a field is a missing cell, by its first byte: few words begin with it, so few are compared, and for most
+// fields none.
 fn is_missing_word(first: u8, field: &str) -> bool
     requires { (rest : List ℕ) × (field.now ≡ first ∷ rest) }
     ensures { result ≡ meant.is_missing field.now }

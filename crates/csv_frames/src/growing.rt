@@ -50,7 +50,8 @@ fn push_number(rows: &mut Owned<i64>, field: &str) -> Result<bool, NoMemory>
     Ok(number.is_some())
 }
 
-// The same of the truth value.
+// Appends the truth value that a field is, missing where it is none, and says whether the field can be a cell of its
+// kind.
 fn push_truth(rows: &mut Owned<bool>, field: &str) -> Result<bool, NoMemory>
     ensures fits { IfOk result (λ fits. fits ≡ meant.is_of_kind Boolean field.now) }
     ensures pushed { OnOk result (IsPut (truth_in field.now) rows.old rows.new) }
@@ -100,7 +101,7 @@ fn push_kept(dict: &mut TextDict, lanes: &mut Kept, field: &str) -> Result<bool,
     }
 }
 
-// The same to a column.
+// Appends a field to a column, missing where it can't be a cell of its kind, and says whether it can.
 fn push_field(dict: &mut TextDict, column: &mut Column, field: &str) -> Result<bool, NoMemory>
     ensures longer { IsLonger dict.old dict.new }
     ensures fits { IfOk result (λ fits. fits ≡ meant.is_of_kind column.old.kind field.now) }

@@ -4,8 +4,8 @@ ghost use Rattle.meaning.specs.Text.{Text};
 ghost use Rattle.csv_meaning.specs.CsvRead.{different_labels};
 ghost use Rattle.csv_frames.specs.Numbered.{AreNumbered};
 
-/// What the labels of columns are, for every header; the words of its clause stand in
-/// `specs/Numbered.antt`. It does nothing.
+/// What the labels of columns are, for every header of less than 2^64 labels; the words of its clause
+/// stand in `specs/Numbered.antt`. It does nothing.
 ///
 /// A label of the header stays where it stands for the first time. Where it stands again it gets a dot
 /// and the least number from 1 that gives neither a label of the header nor that of a column before.

@@ -83,7 +83,8 @@ fn labelled_columns(
     })
 }
 
-// The same, if no record is too long, the fields are of the named kinds and the columns within the limits.
+// The columns of a file's records, with these labels, if no record is too long, the fields are of the named kinds and
+// the columns within the limits.
 fn columns_of_rows(
     alloc: Global,
     dict: &mut TextDict,

@@ -11,7 +11,9 @@ pub type Columns = ListOf<Column>;
 /// The kind that is named for the columns of a label.
 #[derive(Clone, Copy, Debug, PartialEq, Eq, Drop)]
 pub struct NamedKind {
+    /// The label, a text by its number.
     pub label: TextId,
+    /// The kind.
     pub kind: Kind,
 }
 

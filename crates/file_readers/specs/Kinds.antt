@@ -13,7 +13,7 @@ abbrev pub kind_for : LabelValue → Option CellValue → Option (Text × Kind)
 kind_for (text label) value = option_map (λ name. (label, kind_named name)) (text_of value)
 kind_for label value = None
 
--- the same as it was read
+-- the text of a label and the kind that is named for it, as they were read
 abbrev pub entry_seen : List Text → NamedKind → Text × Kind
 entry_seen texts n = (text_at texts n.label, n.kind)
 

@@ -6,11 +6,11 @@ use Rattle.cell_core.specs.declared.code.Code.{Code}
 use Rattle.meaning.specs.Text.{Text}
 use Rattle.meaning.specs.Cell.{datum, text_of}
 use Rattle.meaning.specs.Fault.{FaultValue, wrong_kind}
-use Rattle.meaning.specs.FaultOf.{fault_of}
 use Rattle.table_meaning.specs.Settled.{IsSettled}
 use Rattle.table_meaning.specs.Value.{NamedGiven}
 use Rattle.form_meaning.specs.declared.Function.{Function}
 use Rattle.method_meaning.specs.Readers.{file_name_of}
+use Rattle.frame_store.specs.Shown.{Refuses}
 
 -- the text that names the file of a call; a call of no function names none
 abbrev pub name_for : Option Function → List NamedGiven → Result Text FaultValue
@@ -20,4 +20,4 @@ name_for (Some f) gs = file_name_of f gs
 -- a text that was given its number is the name that is meant, or the refusal is
 abbrev pub Names : List Text → Result TextId Code → Result Text FaultValue → Type 0
 Names texts (Ok id) meant = (meant ≡ Ok (text_of texts id)) × IsSettled datum texts (cell.Text id)
-Names texts (Err code) meant = meant ≡ Err (fault_of texts code)
+Names texts (Err code) meant = Refuses texts code meant

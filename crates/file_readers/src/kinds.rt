@@ -41,7 +41,7 @@ fn kind_of_text(dict: &TextDict, label: TextId, value: Option<Cell>) -> Option<N
     }
 }
 
-// The same, if the label is a text as well.
+// The kind that a value names for a label, if both are texts.
 fn kind_for(dict: &TextDict, label: Label, value: Option<Cell>) -> Option<NamedKind>
     ensures { option_map (meant.entry_seen dict.now) result ≡ meant.kind_for (label_datum dict.now label) (option_map (datum dict.now) value) }
 {

@@ -19,7 +19,7 @@ abbrev pub place_of_label : List (Option LabelValue) → LabelValue → Option �
 place_of_label [] l = None
 place_of_label (h ∷ hs) l = if same_heading (Some l) h then Some 0 else option_map suc (place_of_label hs l)
 
--- the same, or a KeyError
+-- the place that was found for a label, or a KeyError
 abbrev pub found : LabelValue → Option ℕ → Result ℕ FaultValue
 found l None = Err (no_key (l ∷ []))
 found l (Some place) = Ok place

@@ -26,7 +26,7 @@ needed n f = record { name = n; form = f; omitted = omitted.Required; listed = l
 abbrev pub optional : ParameterName → Form → Omitted → Parameter
 optional n f o = record { name = n; form = f; omitted = o; listed = listed.Any }
 
--- the same where the values are listed
+-- a parameter whose values are listed
 abbrev pub among : Listed → Parameter → Parameter
 among l p = record { name = p.name; form = p.form; omitted = p.omitted; listed = l }
 

@@ -3,108 +3,210 @@
 //! What a form answers stands in `specs/`: over values that are scalars or whole tables, in which a
 //! text is the text itself. The enums here are the words of the one table of signatures
 //! (`specs/Signature.antt`), which the code has again in the crate `signatures`.
+//!
+//! ```text
+//! // the one parameter of `head(n=5)`
+//! Parameter {
+//!     name: ParameterName::N,
+//!     form: Form::Whole,
+//!     omitted: Omitted::Number(5),
+//!     listed: Listed::Any,
+//! }
+//! ```
 #![tactic(auto)]
 
 /// A method of a Series or a frame. Where the two have a method of one name with different
 /// arguments, it is two methods here.
+///
+/// What is said of each is the rule of the pandas user guide, "Essential basic functionality" and "Working
+/// with missing data", or of the section that stands with it. Of a method that isn't built
+/// only the signature is defined.
 #[derive(Clone, Copy, PartialEq, Eq)]
 pub enum Method {
+    /// `copy`: the table again, as an object of its own.
     Copy,
+    /// `head`: the first `n` rows.
     Head,
+    /// `tail`: the last `n` rows.
     Tail,
+    /// `isna`: whether each cell is missing.
     Isna,
+    /// `notna`: whether each cell is present.
     Notna,
+    /// `fillna`: a scalar in place of each missing cell.
     Fillna,
+    /// `dropna`: the rows without a missing cell.
     Dropna,
+    /// `isin`: whether each cell is in a list.
     Isin,
+    /// `astype`: the cells as cells of a kind.
     Astype,
+    /// `duplicated` of a Series: whether an equal cell stands in an earlier row.
     DuplicatedSeries,
+    /// `duplicated` of a frame: whether an earlier row has equal cells.
     DuplicatedFrame,
+    /// `shift`: the cells moved by a number of rows.
     Shift,
+    /// `cumsum`: at each row the sum of the present cells up to it, and NA where its own cell is missing.
     Cumsum,
+    /// `cummin`: at each row the least of the present cells up to it, and NA where its own cell is missing.
     Cummin,
+    /// `cummax`: at each row the greatest of the present cells up to it, and NA where its own cell is missing.
     Cummax,
+    /// `sum`: the sum of the present cells.
     Sum,
+    /// `min`: the least of the present cells.
     Min,
+    /// `max`: the greatest of the present cells.
     Max,
+    /// `any`: whether one of the present cells is true.
     Any,
+    /// `all`: whether all present cells are true.
     All,
+    /// `count`: how many cells are present.
     Count,
+    /// `nunique`: how many different cells are present.
     Nunique,
+    /// `sort_values` of a Series: the rows in the order of their cells.
     SortValuesSeries,
+    /// `sort_values` of a frame: the rows in the order of the cells of columns.
     SortValuesFrame,
+    /// `sort_index`: the rows in the order of their labels.
     SortIndex,
+    /// `reindex` of a Series: the rows of given labels, missing where there is none.
     ReindexSeries,
+    /// `reindex` of a frame: the rows and the columns of given labels, missing where there is none.
     ReindexFrame,
+    /// `rename` of a Series: another name, or none.
     RenameSeries,
+    /// `rename` of a frame: other labels of its columns.
     RenameFrame,
+    /// `rename_axis`: other names of the levels of the rows' labels.
     RenameAxis,
+    /// `set_index` of a frame: columns as the labels of its rows.
     SetIndex,
+    /// `reset_index`: 0, 1 and so on as the labels of the rows; the old labels become columns or are dropped.
     ResetIndex,
+    /// `drop` of a frame: the frame without some columns.
     DropColumns,
+    /// `droplevel`: the rows' labels without a level.
     Droplevel,
+    /// `swaplevel`: two levels of the rows' labels, each in the place of the other.
     Swaplevel,
+    /// `xs`: the rows that have a label on a level.
     Xs,
+    /// `to_frame` of a Series: the frame of the one column.
     ToFrame,
+    /// `to_csv`: the table as CSV text.
     ToCsv,
+    /// `groupby` of a frame: groups of rows ("Group by: split-apply-combine").
     Groupby,
+    /// `rolling`: at each row a window of so many rows ("Windowing operations").
     Rolling,
+    /// `expanding`: at each row the window of all rows up to it ("Windowing operations").
     Expanding,
+    /// `merge` of a frame: its rows with those of another frame by equal keys
+    /// ("Merge, join, concatenate and compare").
     Merge,
+    /// `stack` of a frame: its columns as a level of the rows' labels ("Reshaping and pivot tables").
     Stack,
+    /// `unstack` of a Series: a level of its rows' labels as columns ("Reshaping and pivot tables").
     Unstack,
+    /// `pivot` of a frame: the cells of a column as labels of columns ("Reshaping and pivot tables").
     Pivot,
+    /// `pivot_table` of a frame: a pivot whose cells are aggregated ("Reshaping and pivot tables").
     PivotTable,
+    /// `melt` of a frame: its columns as rows ("Reshaping and pivot tables").
     Melt,
 }
 
 /// A function of `pd`.
 #[derive(Clone, Copy, PartialEq, Eq)]
 pub enum Function {
+    /// `pd.Series`: a Series of scalars.
     Series,
+    /// `pd.DataFrame`: a frame of the lists in a dict.
     DataFrame,
+    /// `pd.read_csv`: the frame of a file of comma-separated values.
     ReadCsv,
+    /// `pd.concat`: Series and frames put together ("Merge, join, concatenate and compare").
     Concat,
 }
 
 /// The name of a parameter.
 #[derive(Clone, Copy, PartialEq, Eq)]
 pub enum ParameterName {
+    /// `aggfunc`: how the cells of a pivot table are aggregated.
     Aggfunc,
+    /// `as_index`: whether the keys of groups are the labels of the rows.
     AsIndex,
+    /// `ascending`: whether the least comes first.
     Ascending,
+    /// `axis`: 0 for rows below rows, 1 for columns beside columns.
     Axis,
+    /// `by`: the columns by whose cells rows are sorted or grouped.
     By,
+    /// `columns`: columns, or their labels.
     Columns,
+    /// `deep`: a truth value that `copy` takes; the copy is the same for both.
     Deep,
+    /// `drop`: whether `reset_index` drops the labels.
     DropLabels,
+    /// `dropna`: whether `groupby` leaves out the rows with a missing key.
     Dropna,
+    /// `dtype`: the name of a kind, or one for each label of a dict.
     Dtype,
+    /// `dtype_backend`: by which of pandas' arrays columns are kept.
     DtypeBackend,
+    /// `how`: of which sides `merge` keeps the rows without an equal key.
     How,
+    /// `i`: the one level that `swaplevel` moves.
     I,
+    /// `id_vars`: the columns that `melt` leaves as they are.
     IdVars,
+    /// `ignore_index`: whether the labels along the axis of `concat` are 0, 1 and so on.
     IgnoreIndex,
+    /// `index`: the labels of the rows, or the columns that they are made of; of `to_csv`, whether they are written.
     Index,
+    /// `j`: the other level that `swaplevel` moves.
     J,
+    /// `join`: whether `concat` keeps all labels of the other axis, or those that each object has.
     Join,
+    /// `key`: the label that `xs` selects.
     Key,
+    /// `keys`: the columns of `set_index`, or a label for each object of `concat`.
     Keys,
+    /// `level`: a level, by its number or its name.
     Level,
+    /// `min_periods`: how many present cells a window must have.
     MinPeriods,
+    /// `n`: how many rows `head` and `tail` take.
     N,
+    /// `name`: the name of a Series, or of a file.
     Name,
+    /// `names`: the names of the levels.
     Names,
+    /// `objects`: the Series and frames of `concat`.
     Objects,
+    /// `on`: the columns that have the keys of `merge`.
     On,
+    /// `periods`: the number of rows by which `shift` moves the cells.
     Periods,
+    /// `right`: the other frame of `merge`.
     Right,
+    /// `sort`: whether groups stand in the order of their keys.
     Sort,
+    /// `subset`: the columns that `duplicated` compares.
     Subset,
+    /// `validate`: on which sides of `merge` no key may stand twice.
     Validate,
+    /// `value`: the scalar of `fillna`.
     Value,
+    /// `value_vars`: the columns that `melt` makes rows of.
     ValueVars,
+    /// `values`: the scalars of a Series or of `isin`, or the column whose cells a pivot has.
     Values,
+    /// `window`: how many rows a window has.
     Window,
 }
 
@@ -151,17 +253,24 @@ pub enum Form {
 pub enum Omitted {
     /// It must be given.
     Required,
+    /// `None`: nothing is given.
     None,
+    /// This whole number.
     Number(i64),
+    /// This truth value.
     Truth(bool),
+    /// This text.
     Text(DefaultText),
 }
 
 /// A text that stands where an argument isn't given.
 #[derive(Clone, Copy, PartialEq, Eq)]
 pub enum DefaultText {
+    /// `inner`.
     Inner,
+    /// `outer`.
     Outer,
+    /// `numpy_nullable`.
     NumpyNullable,
 }
 
@@ -172,7 +281,7 @@ pub enum Listed {
     Any,
     /// `Int64`, `boolean` and `string`.
     KindNames,
-    /// The same for each value of a dict.
+    /// `Int64`, `boolean` and `string`, for each value of a dict.
     KindNameDict,
     /// `numpy_nullable`.
     Backends,
@@ -191,8 +300,12 @@ pub enum Listed {
 /// One parameter of a signature.
 #[derive(Clone, Copy, PartialEq, Eq)]
 pub struct Parameter {
+    /// Its name.
     pub name: ParameterName,
+    /// What it takes.
     pub form: Form,
+    /// What stands where it isn't given.
     pub omitted: Omitted,
+    /// The values that it may have.
     pub listed: Listed,
 }

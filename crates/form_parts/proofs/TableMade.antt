@@ -69,5 +69,5 @@ pub refused_on : {X Y : Type 0} (view : List Text → X → Y) (texts : List Tex
 refused_on view texts meant go made fault is makes = at fault (subst (λ (m : Result _ OpFault). MakesBy view texts m meant) is makes)
   where
     at : (f : OpFault) → MakesBy view texts (Err f) meant → Makes texts (Err f) (then_value meant go)
-    at (Refused code) m = ap (λ (r : Result _ FaultValue). then_value r go) m
+    at (Refused code) m = (ap (λ (r : Result _ FaultValue). then_value r go) m.0, m.1)
     at NoMemory m = tt

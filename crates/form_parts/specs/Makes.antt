@@ -3,10 +3,9 @@ use Rattle.std.specs.Prelude.{◌≡◌, ℕ, List, length, map, All, Result, Ok
 use Rattle.meaning.specs.Text.{Text}
 use Rattle.meaning.specs.Cell.{CellValue, AreGiven}
 use Rattle.meaning.specs.Fault.{FaultValue}
-use Rattle.meaning.specs.FaultOf.{fault_of}
 use Rattle.column_core.specs.Blocks.{CellBlock}
 use Rattle.table_meaning.specs.Table.{ColumnOf, column_value}
-use Rattle.frame_store.specs.Shown.{columns_value}
+use Rattle.frame_store.specs.Shown.{columns_value, Refuses}
 use Rattle.frame_store.specs.Parts.{block_column, IsSingle, HaveRows}
 use Rattle.frame_store.specs.declared.fault.OpFault.{OpFault}
 use Rattle.frame_store.specs.declared.fault.OpFault.TheVariants.{Refused, NoMemory}
@@ -14,7 +13,7 @@ use Rattle.frame_store.specs.declared.fault.OpFault.TheVariants.{Refused, NoMemo
 -- What is made is what is meant, as it is seen through the texts, or the first fault is. Want of memory may come in place of any answer.
 abbrev pub MakesBy : {X Y : Type 0} → (List Text → X → Y) → List Text → Result X OpFault → Result Y FaultValue → Type 0
 MakesBy view texts (Ok made) meant = meant ≡ Ok (view texts made)
-MakesBy view texts (Err (Refused code)) meant = meant ≡ Err (fault_of texts code)
+MakesBy view texts (Err (Refused code)) meant = Refuses texts code meant
 MakesBy view texts (Err NoMemory) meant = Unit {0}
 
 -- a block's one column, and the columns of such blocks

@@ -24,7 +24,7 @@ pub fn headings_of(alloc: Global, on: &ObjRef<'_>) -> Result<Headings, NoMemory>
     headings_named(alloc, on, on.columns_name())
 }
 
-/// The same with another name of the columns, or none. `NoMemory` is the only refusal.
+/// The headings of a table, for another one, with another name of the columns, or none. `NoMemory` is the only refusal.
 pub fn headings_named(
     alloc: Global,
     on: &ObjRef<'_>,

@@ -126,5 +126,5 @@ same_answer answer first dict a longer given stays =
 -- a refused column is a refused list of columns
 pub refused_columns : (dict : List Text) (fault : OpFault) (one : Result (ColumnOf CellValue) FaultValue) (all : Result (List (ColumnOf CellValue)) FaultValue)
     → ((e : FaultValue) → one ≡ Err e → all ≡ Err e) → MakesColumn dict (Err fault) one → MakesColumns dict (Err fault) all
-refused_columns dict (Refused code) one all same is = same (fault_of dict code) is
+refused_columns dict (Refused code) one all same is = (same (fault_of dict code) is.0, is.1)
 refused_columns dict NoMemory one all same is = tt

@@ -164,7 +164,7 @@ pub op_refused : (texts : List Text) (fault : OpFault) (array : ArrayFault) (who
 op_refused texts fault array whole is refused = subst (λ f. MakesColumn texts (Err f) (made_column whole)) (sym is) (by_fault array refused)
   where
     by_fault : (array : ArrayFault) → IsRefusal array whole → MakesColumn texts (Err (refusal_of array)) (made_column whole)
-    by_fault KindMismatch refused = ap made_column refused
-    by_fault (ZeroDivision row) refused = ap made_column refused
-    by_fault (NotCast row) refused = ap made_column refused
+    by_fault KindMismatch refused = (ap made_column refused, λ more. refl)
+    by_fault (ZeroDivision row) refused = (ap made_column refused, λ more. refl)
+    by_fault (NotCast row) refused = (ap made_column refused, λ more. refl)
     by_fault OutOfMemory refused = tt

@@ -39,6 +39,7 @@ use Rattle.frame_store.specs.Shown.{Shown, headings_value, FormAnswers}
 use Rattle.selections.specs.Picked.{headed_by}
 use Rattle.selections.specs.Headings.{NamesRepeated, same_number, repeated_heading}
 use Rattle.selections.proofs.HeadingLaws.{label_decides, some_same, head_settled, rest_settled, repeated_seen, different}
+use Rattle.selections.proofs.RefusalLaws.{repeated_settled}
 use Rattle.frame_store.specs.declared.arguments.Value.TheVariants.{Object, Scalar}
 use Rattle.frame_store.specs.declared.arguments.Argument.{Argument, Nothing, One, Row, Many, Table'}
 use Rattle.frame_methods.specs.Renames.{label_pair, given_label, given_labels, pair_seen, pairs_seen, have_labels, found_label, heading_by, label_from, heading_from, relabelled, labels_seen}
@@ -281,14 +282,16 @@ new_settled texts es name hs new (Ok made) is settled here same =
 new_settled texts es name hs new (Err fault) is settled here same = tt
 
 -- what is made is what is meant
-unless_all : (texts : List Text) (new : List (Option Label)) (name : Option Label) (r : Result HeadingList OpFault)
+unless_all : (texts : List Text) (new : List (Option Label)) (name : Option Label) (r : Result HeadingList OpFault) → IsSettled headings_value texts new
     → IfOk r (λ made. repeated_heading new ≡ None) → IfOk r (λ made. made ≡ heads name new) → IfErr r (λ fault. NamesRepeated fault (repeated_heading new))
     → MakesBy labels_seen texts r (when true (heading_value texts (repeated_heading new)) (Ok (headings_value texts new)))
-unless_all texts new name (Ok made) none same refused =
+unless_all texts new name (Ok made) settled none same refused =
     ap (λ o. when true (heading_value texts o) (Ok (headings_value texts new))) none ∙ ap (λ h. Ok (labels_seen texts h)) (sym same)
-unless_all texts new name (Err (Refused code)) none same refused =
-    ap (λ o. when true (heading_value texts o) (Ok (headings_value texts new))) refused.1 ∙ ap (λ c. Err (fault_of texts c)) (sym refused.2)
-unless_all texts new name (Err NoMemory) none same refused = tt
+unless_all texts new name (Err (Refused code)) settled none same refused = (
+  ap (λ o. when true (heading_value texts o) (Ok (headings_value texts new))) refused.1 ∙ ap (λ c. Err (fault_of texts c)) (sym refused.2),
+  repeated_settled texts code new refused.0 refused.1 refused.2 settled,
+)
+unless_all texts new name (Err NoMemory) settled none same refused = tt
 
 pub new_meant : (texts : List Text) (es : List (Label × Option Label)) (name : Option Label) (hs new : List (Option Label)) (all : List (LabelValue × Option LabelValue)) (r : Result HeadingList OpFault) → AreDistinct texts → IsSettled pairs_seen texts es
     → IsSettled headings_value texts hs → pairs_seen texts es ≡ all → new ≡ map (heading_by es) hs → have_labels es ≡ true
@@ -298,7 +301,7 @@ new_meant texts es name hs new all r distinct settled here is same labels none m
     (sym
     (relabelled_by texts es hs all distinct settled here is
     ∙ (λ j. when (labels j) (heading_value texts (repeated_heading (sym same j))) (Ok (headings_value texts (sym same j))))))
-    (unless_all texts new name r none made refused)
+    (unless_all texts new name r (subst (IsSettled headings_value texts) (sym same) (headings_settled texts es hs settled here)) none made refused)
 
 pub no_labels : (texts : List Text) (es : List (Label × Option Label)) (all : List (LabelValue × Option LabelValue)) (hs : List (Option LabelValue)) → pairs_seen texts es ≡ all → have_labels es ≡ false → relabelled all hs ≡ Err wrong_kind
 no_labels texts es all hs is none =
@@ -337,9 +340,12 @@ frame_meant live texts pairs o t is =
 pub frame_refused : (live : Tables) (texts : List Text) (pairs : List (Label × Argument)) (o : Option GivenPairs) (source t : NumberedTable) (fault : OpFault) (objects : Shown) → Some (entries_of live texts pairs) ≡ o → source ≡ t
     → MakesBy labels_seen texts (Err fault) (relabelled_with texts pairs (headings_value texts source.headings)) → FormAnswers texts (Err fault) (on o (frame_of (table_value texts t))) objects objects
 frame_refused live texts pairs o source t (Refused code) objects is at makes = (
-  frame_meant live texts pairs o (table_value texts t) is
-      ∙ ap (λ (n : NumberedTable). limited_under (table_value texts t) (relabelled_with texts pairs (headings_value texts n.headings))) (sym at)
-      ∙ ap (limited_under (table_value texts t)) makes,
+  (
+    frame_meant live texts pairs o (table_value texts t) is
+        ∙ ap (λ (n : NumberedTable). limited_under (table_value texts t) (relabelled_with texts pairs (headings_value texts n.headings))) (sym at)
+        ∙ ap (limited_under (table_value texts t)) makes.0,
+    makes.1,
+  ),
   refl,
 )
 frame_refused live texts pairs o source t NoMemory objects is at makes = refl

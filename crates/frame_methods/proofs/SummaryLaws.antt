@@ -80,5 +80,5 @@ cells_end f dict columns kind place made so_far is =
 -- a refusal of one is the refusal of all
 pub refused_all : {X Y X' Y' : Type 0} (view : List Text → X → Y) (view' : List Text → X' → Y') (texts : List Text) (fault : OpFault) (one : Result Y FaultValue) (all : Result Y' FaultValue)
     → ((e : FaultValue) → one ≡ Err e → all ≡ Err e) → MakesBy view texts (Err fault) one → MakesBy view' texts (Err fault) all
-refused_all view view' texts (Refused code) one all same is = same (fault_of texts code) is
+refused_all view view' texts (Refused code) one all same is = (same (fault_of texts code) is.0, is.1)
 refused_all view view' texts NoMemory one all same is = tt

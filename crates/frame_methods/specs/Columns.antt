@@ -4,12 +4,11 @@ use Rattle.cell_core.specs.declared.cell.Cell.{Cell}
 use Rattle.meaning.specs.Text.{Text}
 use Rattle.meaning.specs.Cell.{CellValue, IsLonger, AreGiven}
 use Rattle.meaning.specs.Fault.{FaultValue, then_value}
-use Rattle.meaning.specs.FaultOf.{fault_of}
 use Rattle.column_core.specs.Columns.{CellColumn}
 use Rattle.table_meaning.specs.Table.{ColumnOf, column_value}
 use Rattle.frame_store.specs.declared.fault.OpFault.{OpFault}
 use Rattle.frame_store.specs.declared.fault.OpFault.TheVariants.{Refused, NoMemory}
-use Rattle.frame_store.specs.Shown.{columns_value}
+use Rattle.frame_store.specs.Shown.{columns_value, Refuses}
 use Rattle.frame_store.specs.Parts.{block_column, IsSingle, HaveRows}
 use Rattle.form_meaning.specs.Finish.{try_all}
 use Rattle.column_core.specs.Blocks.{CellBlock}
@@ -21,13 +20,13 @@ table_column c = record { kind = c.kind; cells = c.cells }
 -- the column that is made is the one that is meant, or its fault is
 abbrev pub MakesColumn : List Text → Result CellColumn OpFault → Result (ColumnOf CellValue) FaultValue → Type 0
 MakesColumn texts (Ok c) meant = meant ≡ Ok (column_value texts (table_column c))
-MakesColumn texts (Err (Refused code)) meant = meant ≡ Err (fault_of texts code)
+MakesColumn texts (Err (Refused code)) meant = Refuses texts code meant
 MakesColumn texts (Err NoMemory) meant = Unit {0}
 
--- the same of a list of columns, each of which is a block
+-- the list of columns that is made, each a block, is the one that is meant, or its fault is
 abbrev pub MakesColumns : List Text → Result (List CellBlock) OpFault → Result (List (ColumnOf CellValue)) FaultValue → Type 0
 MakesColumns texts (Ok blocks) meant = meant ≡ Ok (columns_value texts (map block_column blocks))
-MakesColumns texts (Err (Refused code)) meant = meant ≡ Err (fault_of texts code)
+MakesColumns texts (Err (Refused code)) meant = Refuses texts code meant
 MakesColumns texts (Err NoMemory) meant = Unit {0}
 
 -- these, and then what the others come to

@@ -52,7 +52,7 @@ abbrev pub heading_by : List (Label × Option Label) → Option Label → Option
 heading_by es None = None
 heading_by es (Some l) = Some (label_by es l)
 
--- the same with texts
+-- the label of a key, where labels have texts
 abbrev pub label_from : List (LabelValue × Option LabelValue) → LabelValue → Option LabelValue
 label_from [] l = None
 label_from (e ∷ es) l = if same_label e.0 l then e.1 else label_from es l

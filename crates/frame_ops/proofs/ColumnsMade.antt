@@ -145,8 +145,10 @@ module _ (f : Meeting → Result (ColumnOf CellValue) FaultValue) (old mid new :
 
   pub whole_refused : (fault : OpFault) → place < length on.columns → IsOpposite on other → IsGivenOther old other → All (λ c. AreGiven old c.cells) on.columns → IsLonger old mid
       → MakesBy block_value new (Err fault) (f (meeting_value mid pair)) → IsWholeSoFar → MakesBy blocks_value new (Err fault) whole
-  whole_refused (Refused code) lt opposite beside given longer is before =
-      one_refused f (meeting_value old pair) later (blocks_value mid made) (fault_of new code) whole (met_as_before lt opposite beside given longer ∙ is) (split lt before)
+  whole_refused (Refused code) lt opposite beside given longer is before = (
+    one_refused f (meeting_value old pair) later (blocks_value mid made) (fault_of new code) whole (met_as_before lt opposite beside given longer ∙ is.0) (split lt before),
+    is.1,
+  )
   whole_refused NoMemory lt opposite beside given longer is before = tt
 
   pub whole_done : length on.columns ≤ place → IsWholeSoFar → whole ≡ Ok (blocks_value mid made)

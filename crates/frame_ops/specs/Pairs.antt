@@ -42,7 +42,7 @@ pair_at (Scalar c left) place a = turned_pair left a (repeated (kind_beside a.ki
 pair_at (Beside t) place a = (a, column_at t.columns place)
 pair_at (Across s left) place a = turned_pair left a (repeated (column_at s.columns 0).kind (length a.cells) (series_cell s place))
 
--- the same of the columns from a place on
+-- the columns from a place on, each with what it meets
 abbrev pub pairs_from : Other → ℕ → List (ColumnOf Cell) → List Pair
 pairs_from other place [] = []
 pairs_from other place (a ∷ as') = pair_at other place a ∷ pairs_from other (suc place) as'

@@ -50,7 +50,7 @@ fn column_met(
     }
 }
 
-// The same as a block.
+// The block of that one column.
 fn block_met(
     alloc: Global,
     dict: &mut TextDict,

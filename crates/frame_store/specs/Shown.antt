@@ -2,6 +2,7 @@
 use Rattle.std.specs.Prelude.{◌≡◌, ℕ, List, map, nat_eq, Option, Some, None, option_map, IsSome, ⊤, Result, Ok, Err, if◌then◌else◌}
 use Rattle.cell_core.specs.declared.cell.Label.{Label}
 use Rattle.cell_core.specs.declared.cell.Cell.{Cell}
+use Rattle.cell_core.specs.declared.code.Code.{Code}
 use Rattle.meaning.specs.Text.{Text}
 use Rattle.meaning.specs.Cell.{CellValue, LabelValue, datum}
 use Rattle.meaning.specs.Fault.{FaultValue}
@@ -23,7 +24,7 @@ Shown = ℕ → Option Table
 abbrev pub shown : List Text → Tables → Shown
 shown texts tables = λ id. option_map (table_value texts) (tables id)
 
--- the same with another table for an object
+-- the tables with another one for an object
 abbrev pub with_shown : Shown → ℕ → Option Table → Shown
 with_shown objects id t = λ other. if nat_eq id other then t else objects other
 
@@ -54,21 +55,26 @@ abbrev pub Grew : List Text → Value → Shown → Shown → Type 0
 Grew texts (Scalar c) old new = (new ≡ old) × IsSettled datum texts c
 Grew texts (Object id) old new = (old id.0 ≡ None) × IsSome (new id.0) × (new ≡ with_shown old id.0 (new id.0))
 
+-- The first fault is what the code stands for, and each text that the code names was given its number.
+abbrev pub Refuses : {A : Type 0} → List Text → Code → Result A FaultValue → Type 0
+Refuses texts code meant = (meant ≡ Err (fault_of texts code)) × IsSettled fault_of texts code
+
 -- What a form answers is what is meant, or its first fault is. After a refusal all objects are as they were; want of memory may come in place of any answer.
 abbrev pub FormAnswers : List Text → Result Value OpFault → Result Entry FaultValue → Shown → Shown → Type 0
 FormAnswers texts (Ok v) meant old new = (meant ≡ Ok (seen texts new v)) × Grew texts v old new
-FormAnswers texts (Err (Refused code)) meant old new = (meant ≡ Err (fault_of texts code)) × (new ≡ old)
+FormAnswers texts (Err (Refused code)) meant old new = Refuses texts code meant × (new ≡ old)
 FormAnswers texts (Err NoMemory) meant old new = new ≡ old
 
--- the same of a form that changes the object on which it is called, and no other
+-- What a form does that changes the object on which it is called, and no other: what is meant, or its first fault is
+-- answered. After a refusal all objects are as they were; want of memory may come in place of any answer.
 abbrev pub Changes : List Text → Result ⊤ OpFault → Value → Result Table FaultValue → Shown → Shown → Type 0
 Changes texts (Ok done) (Object id) meant old new = (meant ≡ Ok (table_in (new id.0))) × IsSome (new id.0) × (new ≡ with_shown old id.0 (new id.0))
 Changes texts (Ok done) (Scalar c) meant old new = ⊥
-Changes texts (Err (Refused code)) on meant old new = (meant ≡ Err (fault_of texts code)) × (new ≡ old)
+Changes texts (Err (Refused code)) on meant old new = Refuses texts code meant × (new ≡ old)
 Changes texts (Err NoMemory) on meant old new = new ≡ old
 
 -- What is made for a new object, before it is one: the table, or the first fault.
 abbrev pub Makes : List Text → Result NumberedTable OpFault → Result Entry FaultValue → Type 0
 Makes texts (Ok made) meant = meant ≡ Ok (value.table (table_value texts made))
-Makes texts (Err (Refused code)) meant = meant ≡ Err (fault_of texts code)
+Makes texts (Err (Refused code)) meant = Refuses texts code meant
 Makes texts (Err NoMemory) meant = Unit {0}

@@ -57,7 +57,9 @@ pub struct Entries {
 /// An argument of a call, with its name if it has one.
 #[derive(Drop)]
 pub struct Named {
+    /// Its name, if it has one.
     pub name: Option<Words>,
+    /// What is given.
     pub value: Argument,
 }
 
@@ -70,17 +72,24 @@ pub struct NamedList {
 /// A subscript: a key, or the two ends and the step of a slice, `Nothing` where one is left out.
 #[derive(Drop)]
 pub enum Subscript {
+    /// A key.
     Key(Argument),
+    /// A slice: its start, its end and its step.
     Span(Argument, Argument, Argument),
 }
 
 /// What stands before the subscripts: brackets alone, or an accessor.
 #[derive(Clone, Copy, Debug, PartialEq, Eq)]
 pub enum Selector {
+    /// Brackets alone: `v[..]`.
     Plain,
+    /// `v.loc[..]`: by labels.
     Loc,
+    /// `v.iloc[..]`: by positions.
     Iloc,
+    /// `v.at[..]`: one cell, by its labels.
     At,
+    /// `v.iat[..]`: one cell, by its positions.
     Iat,
 }
 
@@ -88,9 +97,13 @@ pub enum Selector {
 /// arguments and brackets; a window with its arguments.
 #[derive(Drop)]
 pub enum Chain {
+    /// `v.name(..)`: the name alone.
     Plain(Words),
+    /// `v.groupby(args)[arg].name(..)`: the arguments, the brackets if there are some, and the name.
     Group(NamedList, Option<Argument>, Words),
+    /// `v.rolling(args).name(..)`: the arguments and the name.
     Rolling(NamedList, Words),
+    /// `v.expanding(args).name(..)`: the arguments and the name.
     Expanding(NamedList, Words),
 }
 

@@ -5,7 +5,9 @@ use std::alloc::{AllocError, AllocFailed};
 /// Why a form gives nothing: the fault of the script, or want of memory.
 #[derive(Drop)]
 pub enum OpFault {
+    /// The form is refused for this cause.
     Refused(Code),
+    /// Memory was refused.
     NoMemory,
 }
 

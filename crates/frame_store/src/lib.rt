@@ -6,7 +6,7 @@
 //! each call changes the table of the named object alone, and a refusal, which is want of memory,
 //! leaves every table as it was.
 //!
-//! In this stage each object keeps columns of its own, one to a block, and `derive` copies them.
+//! Each object keeps columns of its own, one to a block, and `derive` copies them.
 //!
 //! ```text
 //! let mut price = Column::new(alloc, Kind::Int64);

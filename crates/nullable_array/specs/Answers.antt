@@ -19,7 +19,7 @@ abbrev pub Answers : List (List ℕ) → Result CellColumn ArrayFault → Result
 Answers texts (Ok column) whole = whole ≡ Ok (column_value texts column)
 Answers texts (Err fault) whole = IsRefusal fault whole
 
--- the same of a cell
+-- the cell that is answered, read through these texts, is the one that is to be answered, or the refusal is
 abbrev pub AnswersCell : List (List ℕ) → Result Cell ArrayFault → Result CellValue ColumnFault → Type 0
 AnswersCell texts (Ok c) whole = whole ≡ Ok (datum texts c)
 AnswersCell texts (Err NoMemory) whole = ⊥

@@ -20,7 +20,7 @@ truths_of count row = truths_told (folded (λ s x. s || x) false count row) (fol
 abbrev pub AreMarked : ℤ → List Bool → List ℤ → Type 0
 AreMarked least marks seen = (place : ℕ) → place < length marks → slice_index_or marks place false ≡ list_any (int_eq (least +ℤ pos place)) seen
 
--- the same of what was seen with a value more, which was there or not
+-- the marks are those of what was seen with a value more, which was there or not
 pub record IsMarkedMore (least : ℤ) (marks : List Bool) (seen more : List ℤ) (added : Bool) : Type 0 where
   pub marked : AreMarked least marks more
   pub count : length more ≡ length seen + (if added then 1 else 0)

@@ -1,12 +1,14 @@
 -- Marks of cells, and cells in place of missing ones. Texts are told apart by their numbers.
-use Rattle.std.specs.Prelude.{ℕ, ℤ, Bool, true, false, not, List, [], ◌∷◌, Option, Some, None}
+use Rattle.std.specs.Prelude.{◌≡◌, ℕ, ℤ, Bool, true, false, not, ◌||◌, List, [], ◌∷◌, Option, Some, None, unwrap_or, is_some, if◌then◌else◌}
 use Rattle.std.specs.List.{list_any}
 use Rattle.cell_core.specs.declared.cell.Cell.{Cell}
 use Rattle.cell_core.specs.declared.cell.Cell.TheVariants as cell
 use Rattle.cell_core.specs.declared.cell.TextId.{TextId}
 use Rattle.cell_core.specs.declared.cell.Kind.TheVariants.{Boolean}
 use Rattle.cell_core.specs.contracts.cell.CellPartialEq.TheImpl.{eq-value}
+use Rattle.std.proofs.Common.{refl}
 use Rattle.column_core.specs.Columns.{CellColumn, truth_cell, column_with}
+use Rattle.column_core.specs.Rows.{flagged}
 
 -- whether a cell is missing, or is there
 abbrev pub missing_mark : Bool → Cell → Cell
@@ -30,7 +32,7 @@ same_number a b = eq-value.it a b
 abbrev pub listed_mark : List Cell → Cell → Cell
 listed_mark values c = cell.Bool (list_any (same_number c) values)
 
--- the same of the value of a row
+-- the mark of a row by whether its value is missing
 abbrev pub mark_of : {T : Type 0} → Bool → Option T → Bool
 mark_of missing None = missing
 mark_of missing (Some x) = not missing
@@ -38,6 +40,16 @@ mark_of missing (Some x) = not missing
 abbrev pub filled_value : {T : Type 0} → Option T → Option T → Option T
 filled_value value None = value
 filled_value value (Some x) = Some x
+
+-- the same by flags
+pub mark_pair : {T : Type 0} (missing : Bool) (x : T) (p : Bool) → Some (Some (mark_of missing (flagged p x))) ≡ Some (flagged true (if p then not missing else missing))
+mark_pair missing x true = refl
+mark_pair missing x false = refl
+
+pub filled_pair : {T : Type 0} (value : Option T) (x : T) (p : Bool) → Some (filled_value value (flagged p x)) ≡ Some (flagged (p || is_some value) (if p then x else unwrap_or value x))
+filled_pair value x true = refl
+filled_pair None x false = refl
+filled_pair (Some y) x false = refl
 
 -- whether a value is among these, and the mark of a missing one
 abbrev pub listed_value : {T : Type 0} → (T → T → Bool) → Bool → List T → Option T → Bool

@@ -18,7 +18,7 @@ number_row f x y = Some (both (λ m n. int_wrap w64 (f m n)) x y)
 abbrev pub divided : (ℤ → ℤ → ℤ) → ℤ → ℤ → Option (Option ℤ)
 divided f x y = if int_eq y (pos 0) then None else Some (Some (int_wrap w64 (f x y)))
 
--- the same by a divisor, which may not be 0
+-- a number of a number and its divisor, which wraps; the divisor may not be 0
 abbrev pub division_row : (ℤ → ℤ → ℤ) → Option ℤ → Option ℤ → Option (Option ℤ)
 division_row f (Some x) (Some y) = divided f x y
 division_row f x y = Some None

@@ -1,11 +1,12 @@
 -- Operations on the values of a row, told by flags.
-use Rattle.std.specs.Prelude.{◌≡◌, Bool, true, false, not, ◌&&◌, ◌||◌, ℤ, Some}
+use Rattle.std.specs.Prelude.{◌≡◌, ℕ, ◌<◌, Bool, true, false, not, ◌&&◌, ◌||◌, ℤ, List, slice_get, slice_index_or, Option, Some, None, unwrap_or, is_some, if◌then◌else◌}
 use Rattle.std.specs.Int.{int_wrap, w64}
 use Rattle.std.specs.declared.cmp.Ordering.{Ordering}
-use Rattle.std.proofs.Common.{refl}
+use Rattle.std.proofs.Common.{refl, ap}
 use Rattle.nullable_array.specs.declared.ops.Relation.{Relation}
 use Rattle.nullable_array.specs.Tasks.{passes}
 use Rattle.nullable_array.specs.Operations.{number_row, compare_row, and_row, or_row, xor_row}
+use Rattle.column_core.specs.Lanes.{option_at}
 use Rattle.column_core.specs.Rows.{flagged}
 
 -- where `and` and `or` are known: where both values are, and where one decides
@@ -84,3 +85,17 @@ xor_pair false false true true = refl
 xor_pair false false true false = refl
 xor_pair false false false true = refl
 xor_pair false false false false = refl
+
+-- the row of a value and a flag that lie side by side
+pub flagged_at : {T : Type 0} (values : List T) (present : List Bool) (k : ℕ) (x : T) → slice_get values k ≡ Some x → option_at values present k ≡ flagged (slice_index_or present k false) x
+flagged_at values present k x e = ap (λ o. if slice_index_or present k false then o else None) e
+
+-- the row of a value, or none, that stands in each row
+pub flagged_value : {T : Type 0} (o : Option T) (blank x : T) → Some (unwrap_or o blank) ≡ Some x → o ≡ flagged (is_some o) x
+flagged_value None blank x e = refl
+flagged_value (Some y) blank x e = e
+
+-- each flag below count is that of the values and flags of its row
+abbrev pub AreFlagged : {X Y : Type 0} → (X → Bool → Y → Bool → Bool) → (ℕ → Option X) → (ℕ → Bool) → (ℕ → Option Y) → (ℕ → Bool) → ℕ → List Bool → Type 0
+AreFlagged {X} {Y} flag xs ps ys qs count present =
+    (k : ℕ) (x : X) (y : Y) → k < count → xs k ≡ Some x → ys k ≡ Some y → slice_index_or present k false ≡ flag x (ps k) y (qs k)

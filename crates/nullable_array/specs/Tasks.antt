@@ -61,7 +61,7 @@ task_kind OneOf = truth_kind
 abbrev pub task_column : Task → ColumnValue → ColumnValue → Result ColumnValue ColumnFault
 task_column task a b = column_if (task_kind task a.kind b.kind) zero_division (try_pairs (task_cell task) 0 a.cells b.cells)
 
--- the same with a scalar beside each cell, on the left where this is so
+-- a task on a column with a scalar beside each cell, on the left where this is so
 abbrev pub scalar_task : Task → ColumnValue → CellValue → Bool → Result ColumnValue ColumnFault
 scalar_task task a c true = task_column task (scalar_column a c) a
 scalar_task task a c false = task_column task a (scalar_column a c)

@@ -8,13 +8,15 @@ ghost use Rattle.column_core.specs.Columns.{column_value, column_with, number_ce
 ghost use Rattle.column_core.specs.Views.{borrowed_column};
 ghost use Rattle.column_core.specs.Rows.{try_rows, map_rows};
 ghost use Rattle.nullable_array.specs.Answers.{Answers};
-ghost use Rattle.nullable_array.specs.Casts.{total_cast, partial_cast};
+ghost use Rattle.nullable_array.specs.Casts.{total_cast, partial_cast, total_pair};
 
 use crate::ops::ArrayFault;
+use crate::pairs::{PairOp, Side, by_sides};
 use crate::texts::{Decimal, TruthWord, text_column};
 use cell_core::{Kind, TextDict, TextId};
 use column_core::{
-    Borrowed, ColRef, Column, Lane, Nothing, Plain, RowFault, RowOp, Source, by_rows, copied_lane,
+    Borrowed, ColRef, Column, Lane, Nothing, Plain, RowFault, RowOp, Source, Value, by_rows,
+    copied_lane,
 };
 use std::alloc::Global;
 
@@ -35,6 +37,26 @@ impl RowOp<bool, (), i64> for NumberOfTruth {
             None => Some(None),
         }
     }
+}
+
+impl PairOp<bool, (), i64> for NumberOfTruth {
+    ghost flag_of = { λ _ _ p _ _. p };
+
+    ghost value_of = { λ _ x _ _ _. number_of_truth x };
+
+    #[inline(always)]
+    fn flag(&self, _: bool, p: bool, _: (), _: bool) -> bool {
+        p
+    }
+
+    #[inline(always)]
+    fn value(&self, x: bool, _: bool, _: (), _: bool) -> i64
+        ensures { result ≡ number_of_truth x }
+    {
+        if x { 1 } else { 0 }
+    }
+
+    ghost row_is = { λ _ x p _ _. total_pair number_of_truth x p };
 }
 
 /// True for 1, False for 0; no other number is a truth value.
@@ -235,6 +257,27 @@ fn cast_numbers(
     }
 }
 
+// 1 for each True, 0 for each False.
+fn numbers_of_truths(alloc: Global, a: &Lane<'_, bool>) -> Result<Column, ArrayFault>
+    ensures given { IfOk result (λ c. (texts : List (List ℕ)) → AreGiven texts c.cells) }
+    ensures answer { (texts : List (List ℕ)) → Answers texts result (cast_column Int64 (column_value texts (borrowed_column (Borrowed.Truths a.now)))) }
+{
+    match a.dense() {
+        Some(side) => numbers_of_side(alloc, side),
+        None => convert(alloc, &NumberOfTruth, a),
+    }
+}
+
+fn numbers_of_side<A: Side<bool>>(alloc: Global, a: A) -> Result<Column, ArrayFault>
+    ensures given { IfOk result (λ c. (texts : List (List ℕ)) → AreGiven texts c.cells) }
+    ensures answer { (texts : List (List ℕ)) → Answers texts result (cast_column Int64
+        (column_value texts (column_with Boolean truth_cell (A.count_of a) (A.row_of a)))) }
+{
+    let nothing = Nothing { count: a.count() };
+    let rows = by_sides(alloc, &NumberOfTruth, 0, a, nothing)?;
+    Ok(i64::column(rows))
+}
+
 fn cast_truths(
     alloc: Global,
     dict: &mut TextDict,
@@ -246,7 +289,7 @@ fn cast_truths(
     ensures answer { Answers dict.new result (cast_column kind (column_value dict.old (borrowed_column (Borrowed.Truths a.now)))) }
 {
     match kind {
-        Kind::Int64 => convert(alloc, &NumberOfTruth, a),
+        Kind::Int64 => numbers_of_truths(alloc, a),
         Kind::Boolean => Ok(copied_lane(alloc, a)?),
         Kind::Text => Ok(text_column(alloc, dict, &TruthWord, a, &Nothing { count: a.count })?),
     }

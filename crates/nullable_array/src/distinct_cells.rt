@@ -95,7 +95,8 @@ fn distinct_values<T: Eq + Hash + Copy + Drop, A: Source<T>>(
 ) -> Result<u64, NoMemory>
     ensures { IfOk result (λ n. n ≡ length (each_once T.eq (present_values (tabulate (A.count_of a.now) (A.row_of a.now))))) }
 {
-    let mut seen = IndexSet::new(alloc);
+    // Room for a value in each row, so that no value is moved.
+    let mut seen = IndexSet::with_capacity(alloc, a.count())?;
     for row in 0..a.count() {
         note(&mut seen, a.get(row))?;
     }

@@ -16,7 +16,7 @@ use crate::operators::{
     Rest, Sum,
 };
 use crate::ops::{ArrayFault, Binary, Relation, Task, task_of};
-use crate::pairs::{PairOp, by_pairs};
+use crate::pairs::{Constant, PairOp, Side, by_sides};
 use crate::texts::{Join, text_column};
 use cell_core::{Cell, TextDict, TextId};
 use column_core::{
@@ -64,7 +64,7 @@ fn numbers(
         (column_value texts (borrowed_column (Borrowed.Ints a.now))) (column_value texts (borrowed_column (Borrowed.Ints b.now)))) }
 {
     match (a.dense(), b.dense()) {
-        (Some(x), Some(y)) => on_number_pairs(alloc, task, &x, &y),
+        (Some(x), Some(y)) => on_number_sides(alloc, task, x, y),
         _ => on_numbers(alloc, task, a, b),
     }
 }
@@ -81,7 +81,7 @@ fn truths(
         (column_value texts (borrowed_column (Borrowed.Truths a.now))) (column_value texts (borrowed_column (Borrowed.Truths b.now)))) }
 {
     match (a.dense(), b.dense()) {
-        (Some(x), Some(y)) => on_truth_pairs(alloc, task, &x, &y),
+        (Some(x), Some(y)) => on_truth_sides(alloc, task, x, y),
         _ => on_truths(alloc, task, a, b),
     }
 }
@@ -150,8 +150,31 @@ fn numbers_beside(
     ensures answer { (texts : List (List ℕ)) → Answers texts result (scalar_task task (column_value texts (borrowed_column (Borrowed.Ints a.now))) (datum texts (number_cell scalar)) left) }
 {
     match a.dense() {
-        Some(side) => beside_numbers(alloc, task, &side, scalar, left),
+        Some(side) => beside_number_side(alloc, task, side, scalar, left),
         None => beside_numbers(alloc, task, a, scalar, left),
+    }
+}
+
+fn beside_number_side<A: Side<i64>>(
+    alloc: Global,
+    task: Task,
+    a: A,
+    scalar: Option<i64>,
+    left: bool,
+) -> Result<Column, ArrayFault>
+    ensures given { IfOk result (λ c. (texts : List (List ℕ)) → AreGiven texts c.cells) }
+    ensures answer { (texts : List (List ℕ)) → Answers texts result (scalar_task task
+        (column_value texts (column_with Int64 number_cell (A.count_of a) (A.row_of a))) (datum texts (number_cell scalar)) left) }
+{
+    let same = Constant {
+        value: scalar,
+        blank: 0,
+        count: a.count(),
+    };
+    if left {
+        on_number_sides(alloc, task, same, a)
+    } else {
+        on_number_sides(alloc, task, a, same)
     }
 }
 
@@ -188,8 +211,31 @@ fn truths_beside(
     ensures answer { (texts : List (List ℕ)) → Answers texts result (scalar_task task (column_value texts (borrowed_column (Borrowed.Truths a.now))) (datum texts (truth_cell scalar)) left) }
 {
     match a.dense() {
-        Some(side) => beside_truths(alloc, task, &side, scalar, left),
+        Some(side) => beside_truth_side(alloc, task, side, scalar, left),
         None => beside_truths(alloc, task, a, scalar, left),
+    }
+}
+
+fn beside_truth_side<A: Side<bool>>(
+    alloc: Global,
+    task: Task,
+    a: A,
+    scalar: Option<bool>,
+    left: bool,
+) -> Result<Column, ArrayFault>
+    ensures given { IfOk result (λ c. (texts : List (List ℕ)) → AreGiven texts c.cells) }
+    ensures answer { (texts : List (List ℕ)) → Answers texts result (scalar_task task
+        (column_value texts (column_with Boolean truth_cell (A.count_of a) (A.row_of a))) (datum texts (truth_cell scalar)) left) }
+{
+    let same = Constant {
+        value: scalar,
+        blank: false,
+        count: a.count(),
+    };
+    if left {
+        on_truth_sides(alloc, task, same, a)
+    } else {
+        on_truth_sides(alloc, task, a, same)
     }
 }
 
@@ -260,69 +306,69 @@ fn operate<X, Y, U: Plain, O: RowOp<X, Y, U>, A: Source<X>, B: Source<Y>>(
     }
 }
 
-// The same of two columns whose values lie side by side, where the operation refuses no row.
-fn operate_pairs<X: Copy, Y: Copy, U: Plain, O: PairOp<X, Y, U>>(
+// The column that an operation makes of two sides, where it refuses no row.
+#[inline(always)]
+fn operate_sides<X: Copy, Y: Copy, U: Plain, O: PairOp<X, Y, U>, A: Side<X>, B: Side<Y>>(
     alloc: Global,
     op: &O,
-    a: &Dense<'_, X>,
-    b: &Dense<'_, Y>,
+    a: A,
+    b: B,
 ) -> Result<Column, ArrayFault>
-    requires { length a.now.values.now ≡ length b.now.values.now }
+    requires { A.count_of a ≡ B.count_of b }
     ensures given { IfOk result (λ c. (texts : List (List ℕ)) → AreGiven texts c.cells) }
     ensures answer { (texts : List (List ℕ)) → Answers texts result
-        (column_of U.kind zero_division (map_rows (λ z. datum texts (U.cell z)) (try_rows (length a.now.values.now)
-        (λ k. O.row_of op.now (option_at a.now.values.now a.now.present.now k) (option_at b.now.values.now b.now.present.now k))))) }
+        (column_of U.kind zero_division (map_rows (λ z. datum texts (U.cell z)) (try_rows (A.count_of a) (λ k. O.row_of op.now (A.row_of a k) (B.row_of b k))))) }
 {
-    let rows = by_pairs(alloc, op, U::blank(), a, b)?;
+    let rows = by_sides(alloc, op, U::blank(), a, b)?;
     Ok(U::column(rows))
 }
 
-// What an operator does to two columns of whole numbers that lie side by side.
-fn on_number_pairs(
+// What an operator does to two sides of whole numbers.
+fn on_number_sides<A: Side<i64>, B: Side<i64>>(
     alloc: Global,
     task: Task,
-    a: &Dense<'_, i64>,
-    b: &Dense<'_, i64>,
+    a: A,
+    b: B,
 ) -> Result<Column, ArrayFault>
-    requires { length a.now.values.now ≡ length b.now.values.now }
+    requires { A.count_of a ≡ B.count_of b }
     ensures given { IfOk result (λ c. (texts : List (List ℕ)) → AreGiven texts c.cells) }
     ensures answer { (texts : List (List ℕ)) → Answers texts result (task_column task
-        (column_value texts (column_with Int64 number_cell (length a.now.values.now) (option_at a.now.values.now a.now.present.now)))
-        (column_value texts (column_with Int64 number_cell (length b.now.values.now) (option_at b.now.values.now b.now.present.now)))) }
+        (column_value texts (column_with Int64 number_cell (A.count_of a) (A.row_of a)))
+        (column_value texts (column_with Int64 number_cell (B.count_of b) (B.row_of b)))) }
 {
     match task {
-        Task::Sum => operate_pairs(alloc, &Sum, a, b),
-        Task::Difference => operate_pairs(alloc, &Difference, a, b),
-        Task::Product => operate_pairs(alloc, &Product, a, b),
+        Task::Sum => operate_sides(alloc, &Sum, a, b),
+        Task::Difference => operate_sides(alloc, &Difference, a, b),
+        Task::Product => operate_sides(alloc, &Product, a, b),
         Task::Compare(relation) => {
             let compare = Compare {
                 order: ByNumber,
                 relation,
             };
-            operate_pairs(alloc, &compare, a, b)
+            operate_sides(alloc, &compare, a, b)
         }
-        _ => on_numbers(alloc, task, a, b),
+        _ => on_numbers(alloc, task, &a, &b),
     }
 }
 
-// What an operator does to two columns of truth values that lie side by side.
-fn on_truth_pairs(
+// What an operator does to two sides of truth values.
+fn on_truth_sides<A: Side<bool>, B: Side<bool>>(
     alloc: Global,
     task: Task,
-    a: &Dense<'_, bool>,
-    b: &Dense<'_, bool>,
+    a: A,
+    b: B,
 ) -> Result<Column, ArrayFault>
-    requires { length a.now.values.now ≡ length b.now.values.now }
+    requires { A.count_of a ≡ B.count_of b }
     ensures given { IfOk result (λ c. (texts : List (List ℕ)) → AreGiven texts c.cells) }
     ensures answer { (texts : List (List ℕ)) → Answers texts result (task_column task
-        (column_value texts (column_with Boolean truth_cell (length a.now.values.now) (option_at a.now.values.now a.now.present.now)))
-        (column_value texts (column_with Boolean truth_cell (length b.now.values.now) (option_at b.now.values.now b.now.present.now)))) }
+        (column_value texts (column_with Boolean truth_cell (A.count_of a) (A.row_of a)))
+        (column_value texts (column_with Boolean truth_cell (B.count_of b) (B.row_of b)))) }
 {
     match task {
-        Task::Both => operate_pairs(alloc, &Both, a, b),
-        Task::Either => operate_pairs(alloc, &Either, a, b),
-        Task::OneOf => operate_pairs(alloc, &OneOf, a, b),
-        _ => on_truths(alloc, task, a, b),
+        Task::Both => operate_sides(alloc, &Both, a, b),
+        Task::Either => operate_sides(alloc, &Either, a, b),
+        Task::OneOf => operate_sides(alloc, &OneOf, a, b),
+        _ => on_truths(alloc, task, &a, &b),
     }
 }
 

@@ -6,41 +6,65 @@ ghost use Rattle.nullable_array.specs.declared.ops.ArrayFault.TheVariants.{NoMem
 
 use cell_core::NoMemory;
 
-/// An operator on two operands.
+/// An operator on two operands. NA on either side gives NA, but for `And` and `Or` (pandas user guide, "Nullable
+/// Boolean data type", on Kleene's tables).
 #[derive(Clone, Copy, Debug, PartialEq, Eq)]
 pub enum Binary {
+    /// `+`: the sum of whole numbers, which wraps at 64 bits; the one text and then the other.
     Add,
+    /// `-`: the difference of whole numbers, which wraps at 64 bits.
     Sub,
+    /// `*`: the product of whole numbers, which wraps at 64 bits.
     Mul,
+    /// `//`: the quotient of whole numbers, rounded toward minus infinity.
     FloorDiv,
+    /// `%`: the rest of that quotient, with the divisor's sign.
     Mod,
+    /// `==`: whether two cells of one kind are equal.
     Eq,
+    /// `!=`: whether they differ.
     Ne,
+    /// `<`: whether the left one is less: numbers by value, False before True, texts by code point.
     Lt,
+    /// `<=`: whether the left one is less or equal.
     Le,
+    /// `>`: whether the left one is greater.
     Gt,
+    /// `>=`: whether the left one is greater or equal.
     Ge,
+    /// `&`: Kleene's `and` of truth values, which is False where one side is, also beside NA.
     And,
+    /// `|`: Kleene's `or` of truth values, which is True where one side is, also beside NA.
     Or,
+    /// `^`: whether two truth values differ.
     Xor,
 }
 
 /// What is made of all present cells of a column.
 #[derive(Clone, Copy, Debug, PartialEq, Eq)]
 pub enum Reduction {
+    /// The sum, which wraps at 64 bits; True counts as 1, and 0 is the sum of none.
     Sum,
+    /// The least cell; NA where none is present.
     Min,
+    /// The greatest cell; NA where none is present.
     Max,
+    /// Whether one of them is True, or a number other than 0.
     Any,
+    /// Whether each of them is True, or a number other than 0.
     All,
+    /// How many there are.
     Count,
 }
 
-/// What is made at each row of the present cells up to it.
+/// What is made at each row of the present cells up to it. Where the row's own cell is missing it is NA.
 #[derive(Clone, Copy, Debug, PartialEq, Eq)]
 pub enum Cumulation {
+    /// The sum, which wraps at 64 bits; True counts as 1.
     Sum,
+    /// The least cell.
     Min,
+    /// The greatest cell.
     Max,
 }
 

@@ -1,37 +1,37 @@
-// The one loop over values that lie side by side, for the operations that refuse no row.
-ghost use Rattle.std.specs.Prelude.{◌≡◌, ◌<◌, ◌&&◌, ◌||◌, ◌+ℤ◌, ◌-ℤ◌, ◌*ℤ◌, ℕ, Bool, length, Some, IfOk};
+// The one loop over values and flags that lie side by side, for the operations that refuse no row.
+ghost use Rattle.std.specs.Prelude.{◌≡◌, ◌<◌, ◌&&◌, ◌||◌, ◌+ℤ◌, ◌-ℤ◌, ◌*ℤ◌, ℕ, Bool, true, false, length, slice_get, slice_index_or, unwrap_or, is_some, Option, Some, IfOk};
+ghost use Rattle.std.proofs.Common.{refl};
 ghost use Rattle.std.specs.Int.{int_wrap, w64};
-ghost use Rattle.column_core.specs.Lanes.{option_at};
 ghost use Rattle.column_core.specs.Rows.{flagged, AreWritten};
 ghost use Rattle.nullable_array.specs.Tasks.{passes};
-ghost use Rattle.nullable_array.specs.Pairs.{and_flag, or_flag, xor_value, number_pair, compare_pair, and_pair, or_pair, xor_pair};
+ghost use Rattle.nullable_array.specs.Pairs.{and_flag, or_flag, xor_value, AreFlagged, flagged_at, flagged_value, number_pair, compare_pair, and_pair, or_pair, xor_pair};
 
 use crate::operators::{Both, Compare, Difference, Either, OneOf, Order, Product, Sum, is_in};
 use cell_core::NoMemory;
-use column_core::{Dense, Owned, RowOp};
+use column_core::{Dense, Nothing, Owned, RowOp, Source};
 use std::alloc::Global;
 
 /// An operation that refuses no row, told by flags: where a flag is false, its value may be any.
 pub(crate) trait PairOp<X, Y, U>: RowOp<X, Y, U> {
     ghost flag_of: { Self → X → Bool → Y → Bool → Bool };
 
-    ghost value_of: { Self → X → Y → U };
+    ghost value_of: { Self → X → Bool → Y → Bool → U };
 
     /// Whether the row has a value.
     fn flag(&self, x: X, p: bool, y: Y, q: bool) -> bool
         ensures { result ≡ flag_of self.now x p y q };
 
     /// The value, where the row has one.
-    fn value(&self, x: X, y: Y) -> U
-        ensures { result ≡ value_of self.now x y };
+    fn value(&self, x: X, p: bool, y: Y, q: bool) -> U
+        ensures { result ≡ value_of self.now x p y q };
 
-    ghost row_is: { (s : Self) (x : X) (p : Bool) (y : Y) (q : Bool) → Self.row_of s (flagged p x) (flagged q y) ≡ Some (flagged (flag_of s x p y q) (value_of s x y)) };
+    ghost row_is: { (s : Self) (x : X) (p : Bool) (y : Y) (q : Bool) → Self.row_of s (flagged p x) (flagged q y) ≡ Some (flagged (flag_of s x p y q) (value_of s x p y q)) };
 }
 
 impl PairOp<i64, i64, i64> for Sum {
     ghost flag_of = { λ _ _ p _ q. p && q };
 
-    ghost value_of = { λ _ x y. int_wrap w64 (x +ℤ y) };
+    ghost value_of = { λ _ x _ y _. int_wrap w64 (x +ℤ y) };
 
     #[inline(always)]
     fn flag(&self, _: i64, p: bool, _: i64, q: bool) -> bool {
@@ -40,7 +40,7 @@ impl PairOp<i64, i64, i64> for Sum {
 
     #[inline(always)]
     #[tactic(auto, using(std::proofs::lemmas::Int::wraps))]
-    fn value(&self, x: i64, y: i64) -> i64
+    fn value(&self, x: i64, _: bool, y: i64, _: bool) -> i64
         ensures { result ≡ int_wrap w64 (x +ℤ y) }
     {
         x.wrapping_add(y)
@@ -52,7 +52,7 @@ impl PairOp<i64, i64, i64> for Sum {
 impl PairOp<i64, i64, i64> for Difference {
     ghost flag_of = { λ _ _ p _ q. p && q };
 
-    ghost value_of = { λ _ x y. int_wrap w64 (x -ℤ y) };
+    ghost value_of = { λ _ x _ y _. int_wrap w64 (x -ℤ y) };
 
     #[inline(always)]
     fn flag(&self, _: i64, p: bool, _: i64, q: bool) -> bool {
@@ -61,7 +61,7 @@ impl PairOp<i64, i64, i64> for Difference {
 
     #[inline(always)]
     #[tactic(auto, using(std::proofs::lemmas::Int::wraps))]
-    fn value(&self, x: i64, y: i64) -> i64
+    fn value(&self, x: i64, _: bool, y: i64, _: bool) -> i64
         ensures { result ≡ int_wrap w64 (x -ℤ y) }
     {
         x.wrapping_sub(y)
@@ -73,7 +73,7 @@ impl PairOp<i64, i64, i64> for Difference {
 impl PairOp<i64, i64, i64> for Product {
     ghost flag_of = { λ _ _ p _ q. p && q };
 
-    ghost value_of = { λ _ x y. int_wrap w64 (x *ℤ y) };
+    ghost value_of = { λ _ x _ y _. int_wrap w64 (x *ℤ y) };
 
     #[inline(always)]
     fn flag(&self, _: i64, p: bool, _: i64, q: bool) -> bool {
@@ -82,7 +82,7 @@ impl PairOp<i64, i64, i64> for Product {
 
     #[inline(always)]
     #[tactic(auto, using(std::proofs::lemmas::Int::wraps))]
-    fn value(&self, x: i64, y: i64) -> i64
+    fn value(&self, x: i64, _: bool, y: i64, _: bool) -> i64
         ensures { result ≡ int_wrap w64 (x *ℤ y) }
     {
         x.wrapping_mul(y)
@@ -94,7 +94,7 @@ impl PairOp<i64, i64, i64> for Product {
 impl<T: Drop, K: Order<T>> PairOp<T, T, bool> for Compare<K> {
     ghost flag_of = { λ _ _ p _ q. p && q };
 
-    ghost value_of = { λ s x y. passes s.relation (K.cmp s.order x y) };
+    ghost value_of = { λ s x _ y _. passes s.relation (K.cmp s.order x y) };
 
     #[inline(always)]
     fn flag(&self, _: T, p: bool, _: T, q: bool) -> bool {
@@ -102,7 +102,7 @@ impl<T: Drop, K: Order<T>> PairOp<T, T, bool> for Compare<K> {
     }
 
     #[inline(always)]
-    fn value(&self, x: T, y: T) -> bool
+    fn value(&self, x: T, _: bool, y: T, _: bool) -> bool
         ensures { result ≡ passes self.now.relation (K.cmp self.now.order x y) }
     {
         is_in(self.relation, self.order.order(x, y))
@@ -114,7 +114,7 @@ impl<T: Drop, K: Order<T>> PairOp<T, T, bool> for Compare<K> {
 impl PairOp<bool, bool, bool> for Both {
     ghost flag_of = { λ _. and_flag };
 
-    ghost value_of = { λ _ x y. x && y };
+    ghost value_of = { λ _ x _ y _. x && y };
 
     #[inline(always)]
     fn flag(&self, x: bool, p: bool, y: bool, q: bool) -> bool
@@ -124,7 +124,7 @@ impl PairOp<bool, bool, bool> for Both {
     }
 
     #[inline(always)]
-    fn value(&self, x: bool, y: bool) -> bool {
+    fn value(&self, x: bool, _: bool, y: bool, _: bool) -> bool {
         x & y
     }
 
@@ -134,7 +134,7 @@ impl PairOp<bool, bool, bool> for Both {
 impl PairOp<bool, bool, bool> for Either {
     ghost flag_of = { λ _. or_flag };
 
-    ghost value_of = { λ _ x y. x || y };
+    ghost value_of = { λ _ x _ y _. x || y };
 
     #[inline(always)]
     fn flag(&self, x: bool, p: bool, y: bool, q: bool) -> bool
@@ -144,7 +144,7 @@ impl PairOp<bool, bool, bool> for Either {
     }
 
     #[inline(always)]
-    fn value(&self, x: bool, y: bool) -> bool {
+    fn value(&self, x: bool, _: bool, y: bool, _: bool) -> bool {
         x | y
     }
 
@@ -154,7 +154,7 @@ impl PairOp<bool, bool, bool> for Either {
 impl PairOp<bool, bool, bool> for OneOf {
     ghost flag_of = { λ _ _ p _ q. p && q };
 
-    ghost value_of = { λ _. xor_value };
+    ghost value_of = { λ _ x _ y _. xor_value x y };
 
     #[inline(always)]
     fn flag(&self, _: bool, p: bool, _: bool, q: bool) -> bool {
@@ -162,7 +162,7 @@ impl PairOp<bool, bool, bool> for OneOf {
     }
 
     #[inline(always)]
-    fn value(&self, x: bool, y: bool) -> bool
+    fn value(&self, x: bool, _: bool, y: bool, _: bool) -> bool
         ensures { result ≡ xor_value x y }
     {
         x ^ y
@@ -171,43 +171,163 @@ impl PairOp<bool, bool, bool> for OneOf {
     ghost row_is = { λ _. xor_pair };
 }
 
-// Writes each row.
-fn fill_pairs<X: Copy, Y: Copy, U: Copy, O: PairOp<X, Y, U>>(
+/// Rows whose flags and values are read each by itself: where a flag is false, its value may be any.
+pub(crate) trait Side<T>: Source<T> + Drop {
+    ghost flag_at: { Self → ℕ → Bool };
+
+    ghost value_at: { Self → ℕ → Option T };
+
+    /// Whether the row has a value.
+    fn flag(&self, row: usize) -> bool
+        requires { row < Self.count_of self.now }
+        ensures { result ≡ flag_at self.now row };
+
+    /// The value, where the row has one.
+    fn value(&self, row: usize) -> T
+        requires { row < Self.count_of self.now }
+        ensures { value_at self.now row ≡ Some result };
+
+    ghost row_at: { (s : Self) (row : ℕ) (x : T) → value_at s row ≡ Some x → Self.row_of s row ≡ flagged (flag_at s row) x };
+}
+
+impl<T: Copy> Side<T> for Dense<'_, T> {
+    ghost flag_at = { λ s row. slice_index_or s.present.now row false };
+
+    ghost value_at = { λ s row. slice_get s.values.now row };
+
+    #[inline(always)]
+    fn flag(&self, row: usize) -> bool
+        requires { row < length self.now.values.now }
+        ensures { result ≡ slice_index_or self.now.present.now row false }
+    {
+        self.present[row]
+    }
+
+    #[inline(always)]
+    fn value(&self, row: usize) -> T
+        requires { row < length self.now.values.now }
+        ensures { slice_get self.now.values.now row ≡ Some result }
+    {
+        self.values[row]
+    }
+
+    ghost row_at = { λ s row. flagged_at s.values.now s.present.now row };
+}
+
+/// The same value, or none, in each of so many rows. What stands for none may be any.
+#[derive(Drop)]
+pub(crate) struct Constant<T> {
+    pub(crate) value: Option<T>,
+    pub(crate) blank: T,
+    pub(crate) count: usize,
+}
+
+impl<T: Copy> Source<T> for Constant<T> {
+    ghost count_of = { λ s. s.count };
+
+    ghost row_of = { λ s _. s.value };
+
+    #[inline(always)]
+    fn count(&self) -> usize {
+        self.count
+    }
+
+    #[inline(always)]
+    fn get(&self, _row: usize) -> Option<T> {
+        self.value
+    }
+}
+
+impl<T: Copy> Side<T> for Constant<T> {
+    ghost flag_at = { λ s _. is_some s.value };
+
+    ghost value_at = { λ s _. Some (unwrap_or s.value s.blank) };
+
+    #[inline(always)]
+    fn flag(&self, _row: usize) -> bool
+        ensures { result ≡ is_some self.now.value }
+    {
+        self.value.is_some()
+    }
+
+    #[inline(always)]
+    fn value(&self, _row: usize) -> T
+        ensures { Some (unwrap_or self.now.value self.now.blank) ≡ Some result }
+    {
+        self.value.unwrap_or(self.blank)
+    }
+
+    ghost row_at = { λ s _. flagged_value s.value s.blank };
+}
+
+impl Side<()> for Nothing {
+    ghost flag_at = { λ _ _. false };
+
+    ghost value_at = { λ _ _. Some tt };
+
+    #[inline(always)]
+    fn flag(&self, _row: usize) -> bool {
+        false
+    }
+
+    #[inline(always)]
+    fn value(&self, _row: usize) {}
+
+    ghost row_at = { λ _ _ _ _. refl };
+}
+
+// Writes each row: first the flags and then the values, so that either loop goes over a few slices.
+#[inline(always)]
+fn fill_sides<X: Copy, Y: Copy, U: Copy, O: PairOp<X, Y, U>, A: Side<X>, B: Side<Y>>(
     op: &O,
-    a: &Dense<'_, X>,
-    b: &Dense<'_, Y>,
+    a: &A,
+    b: &B,
     values: &mut [U],
     present: &mut [bool],
 )
-    requires values { length values.old ≡ length a.now.values.now }
-    requires present { length present.old ≡ length a.now.values.now }
-    requires same { length a.now.values.now ≡ length b.now.values.now }
-    ensures { AreWritten (λ k. O.row_of op.now (option_at a.now.values.now a.now.present.now k) (option_at b.now.values.now b.now.present.now k)) (length a.now.values.now) values.new present.new }
+    requires values { length values.old ≡ A.count_of a.now }
+    requires present { length present.old ≡ A.count_of a.now }
+    requires same { A.count_of a.now ≡ B.count_of b.now }
+    ensures { AreWritten (λ k. O.row_of op.now (A.row_of a.now k) (B.row_of b.now k)) (A.count_of a.now) values.new present.new }
 {
-    let xs = a.values;
-    let ps = a.present;
-    let ys = b.values;
-    let qs = b.present;
+    fill_flags(op, a, b, present);
+    for row in 0..values.len() {
+        values[row] = op.value(a.value(row), a.flag(row), b.value(row), b.flag(row));
+    }
+}
+
+#[inline(always)]
+fn fill_flags<X: Copy, Y: Copy, U: Copy, O: PairOp<X, Y, U>, A: Side<X>, B: Side<Y>>(
+    op: &O,
+    a: &A,
+    b: &B,
+    present: &mut [bool],
+)
+    requires present { length present.old ≡ A.count_of a.now }
+    requires same { A.count_of a.now ≡ B.count_of b.now }
+    ensures { AreFlagged (O.flag_of op.now) (A.value_at a.now) (A.flag_at a.now) (B.value_at b.now) (B.flag_at b.now) (A.count_of a.now) present.new }
+{
     for row in 0..present.len() {
-        present[row] = op.flag(xs[row], ps[row], ys[row], qs[row]);
-        values[row] = op.value(xs[row], ys[row]);
+        present[row] = op.flag(a.value(row), a.flag(row), b.value(row), b.flag(row));
     }
 }
 
 /// The operation at each row.
-pub(crate) fn by_pairs<X: Copy, Y: Copy, U: Copy + Drop, O: PairOp<X, Y, U>>(
-    alloc: Global,
-    op: &O,
-    blank: U,
-    a: &Dense<'_, X>,
-    b: &Dense<'_, Y>,
-) -> Result<Owned<U>, NoMemory>
-    requires { length a.now.values.now ≡ length b.now.values.now }
-    ensures count { IfOk result (λ made. length made.values.items ≡ length a.now.values.now) }
-    ensures rows { IfOk result (λ made. AreWritten (λ k. O.row_of op.now (option_at a.now.values.now a.now.present.now k) (option_at b.now.values.now b.now.present.now k)) (length a.now.values.now) made.values.items made.present.items) }
+#[inline(always)]
+pub(crate) fn by_sides<
+    X: Copy,
+    Y: Copy,
+    U: Copy + Drop,
+    O: PairOp<X, Y, U>,
+    A: Side<X>,
+    B: Side<Y>,
+>(alloc: Global, op: &O, blank: U, a: A, b: B) -> Result<Owned<U>, NoMemory>
+    requires { A.count_of a ≡ B.count_of b }
+    ensures count { IfOk result (λ made. length made.values.items ≡ A.count_of a) }
+    ensures rows { IfOk result (λ made. AreWritten (λ k. O.row_of op.now (A.row_of a k) (B.row_of b k)) (A.count_of a) made.values.items made.present.items) }
 {
-    let mut values = vec![in alloc; blank; a.values.len()]?;
-    let mut present = vec![in alloc; false; a.values.len()]?;
-    fill_pairs(op, a, b, &mut values, &mut present);
+    let mut values = vec![in alloc; blank; a.count()]?;
+    let mut present = vec![in alloc; false; a.count()]?;
+    fill_sides(op, &a, &b, &mut values, &mut present);
     Ok(Owned { values, present })
 }

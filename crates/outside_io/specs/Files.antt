@@ -8,6 +8,22 @@ use Rattle.outside_io.specs.declared.files.Fetch.TheVariants.{Fetched, Absent, F
 use Rattle.outside_io.specs.declared.files.Got.{Got}
 use Rattle.outside_io.specs.declared.files.Got.TheVariants.{Bytes, End, Failed as ReadFailed}
 
+-- What is seen of a source of files: what each path holds and what is left of the fetched file, where they are told.
+-- Beside them its counts: calls that have failed, fetches that found no file, fetches, and bytes taken since the last fetch.
+pub record FilesValue : Type 0 where
+  pub contents : Option Contents
+  pub rest : Option (List ℕ)
+  pub faults : ℕ
+  pub absences : ℕ
+  pub fetches : ℕ
+  pub taken : ℕ
+
+-- what no call changes, and the counts that none lowers
+pub record Serves (old new : FilesValue) : Type 0 where
+  pub contents : new.contents ≡ old.contents
+  pub faults : old.faults ≤ new.faults
+  pub absences : old.absences ≤ new.absences
+
 -- The rest after a fetch. Only a path that isn't held is absent.
 abbrev pub Fetches : Contents → Text → Fetch → Option (List ℕ) → Type 0
 Fetches held path Fetched rest = (get held path ≡ rest) × ((bytes : List ℕ) × (rest ≡ Some bytes))

@@ -1,5 +1,6 @@
 -- What the files and streams of the machine count.
-use Rattle.std.specs.Prelude.{ℕ}
+use Rattle.std.specs.Prelude.{ℕ, None}
+use Rattle.outside_io.specs.Files.{FilesValue}
 use Rattle.outside_io.specs.declared.real.RealSink.{RealSink}
 use Rattle.outside_io.specs.declared.real.RealFiles.{RealFiles}
 
@@ -22,3 +23,7 @@ source_fetches s = s.fetches
 -- how many bytes were taken since the last fetch
 abbrev pub source_taken : {R F D : Type 0} → RealFiles R F D → ℕ
 source_taken s = s.taken
+
+-- what is seen of the files of the machine, which tell no bytes
+abbrev pub files_value : {R F D : Type 0} → RealFiles R F D → FilesValue
+files_value s = record { contents = None; rest = None; faults = s.faults; absences = s.absences; fetches = s.fetches; taken = s.taken }

@@ -3,6 +3,11 @@ use Rattle.std.specs.Prelude.{◌≡◌, ◌≢◌, ◌<◌, ◌≤◌, ℕ, Lis
 use Rattle.outside_io.specs.declared.sink.Put.{Put}
 use Rattle.outside_io.specs.declared.sink.Put.TheVariants.{Took, Failed}
 
+-- what is seen of a sink: the bytes that were written, where it tells them, and how many calls have failed
+pub record SinkValue : Type 0 where
+  pub written : Option (List ℕ)
+  pub faults : ℕ
+
 -- the bytes with these at their end, where they are told
 abbrev pub appended : Option (List ℕ) → List ℕ → Option (List ℕ)
 appended None bytes = None

@@ -89,17 +89,14 @@ impl MemFiles {
 impl Files for MemFiles {
     ghost use Rattle.std.specs.Prelude.{Some};
 
-    ghost contents = { λ s. Some s.contents };
-
-    ghost rest = { λ s. Some s.rest };
-
-    ghost faults = { λ s. s.faults };
-
-    ghost absences = { λ s. s.absences };
-
-    ghost fetches = { λ s. s.fetches };
-
-    ghost taken = { λ s. s.taken };
+    ghost seen = { λ s. record {
+      contents = Some s.contents;
+      rest = Some s.rest;
+      faults = s.faults;
+      absences = s.absences;
+      fetches = s.fetches;
+      taken = s.taken;
+    } };
 
     ghost tells = { λ _ told. Prim.cc };
 

@@ -51,9 +51,7 @@ impl MemSink {
 impl Sink for MemSink {
     ghost use Rattle.std.specs.Prelude.{Some};
 
-    ghost written = { λ s. Some s.written };
-
-    ghost faults = { λ s. s.faults };
+    ghost seen = { λ s. record { written = Some s.written; faults = s.faults } };
 
     /// Takes what fits of the piece, and fails where no byte fits. Takes no memory.
     fn put(&mut self, piece: &[u8]) -> Put

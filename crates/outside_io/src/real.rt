@@ -1,6 +1,6 @@
 // The files and streams of the machine. They tell no bytes.
 ghost use Rattle.std.specs.Prelude.{◌≡◌, None};
-ghost use Rattle.outside_io.specs.Real.{stream_faults, source_faults, source_absences, source_fetches, source_taken};
+ghost use Rattle.outside_io.specs.Real.{files_value, stream_faults, source_faults, source_absences, source_fetches, source_taken};
 
 use crate::files::{Fetch, Files, Got};
 use crate::sink::{Put, Sink};
@@ -26,9 +26,7 @@ impl<W: Write + Drop> RealSink<W> {
 }
 
 impl<W: Write + Drop> Sink for RealSink<W> {
-    ghost written = { λ _. None };
-
-    ghost faults = { stream_faults };
+    ghost seen = { λ s. record { written = None; faults = stream_faults s } };
 
     /// Writes a front of the piece and flushes the stream.
     fn put(&mut self, piece: &[u8]) -> Put {
@@ -74,17 +72,7 @@ impl<R: rt::Files + Drop> RealFiles<R> {
 }
 
 impl<R: rt::Files + Drop> Files for RealFiles<R> {
-    ghost contents = { λ _. None };
-
-    ghost rest = { λ _. None };
-
-    ghost faults = { source_faults };
-
-    ghost absences = { source_absences };
-
-    ghost fetches = { source_fetches };
-
-    ghost taken = { source_taken };
+    ghost seen = { files_value };
 
     ghost tells = { λ _ told. Prim.cc };
 

@@ -1,7 +1,7 @@
 // Where bytes go.
-ghost use Rattle.std.specs.Prelude.{◌≡◌, ◌<◌, ◌≤◌, [], List, ℕ, Option, length, IsOk, IsErr, OnOk, OnErr};
+ghost use Rattle.std.specs.Prelude.{◌≡◌, ◌<◌, ◌≤◌, [], length, IsOk, IsErr, OnOk, OnErr};
 ghost use Rattle.outside_io.specs.Count.{HasRisen};
-ghost use Rattle.outside_io.specs.Sink.{IsWithin, appended, taken_of, AppendsPart};
+ghost use Rattle.outside_io.specs.Sink.{SinkValue, IsWithin, appended, taken_of, AppendsPart};
 
 /// What a sink did with a piece.
 #[derive(Clone, Copy, Debug, PartialEq, Eq)]
@@ -14,21 +14,21 @@ pub enum Put {
 
 /// A destination of bytes. Its count stops at 2^64 - 1.
 pub trait Sink {
-    /// The bytes that were written, where the sink tells them.
-    ghost written: { Self → Option (List ℕ) };
-
-    /// How many calls have failed.
-    ghost faults: { Self → ℕ };
+    /// What is seen of the sink: the bytes that were written, where it tells them, and how many
+    /// calls have failed.
+    ghost seen: { Self → SinkValue };
 
     /// Appends a front of the piece, which isn't empty.
     fn put(&mut self, piece: &[u8]) -> Put
         requires { 0 < length piece.now }
 
         ensures within { IsWithin result (length piece.now) }
-        ensures written { written self.new ≡ appended (written self.old) (taken_of result piece.now) }
+        ensures written { (seen self.new).written ≡
+            appended (seen self.old).written (taken_of result piece.now) }
 
-        ensures faults { faults self.old ≤ faults self.new }
-        ensures failed { result ≡ Put.Failed → HasRisen (faults self.old) (faults self.new) };
+        ensures faults { (seen self.old).faults ≤ (seen self.new).faults }
+        ensures failed { result ≡ Put.Failed →
+            HasRisen (seen self.old).faults (seen self.new).faults };
 }
 
 /// Why a piece wasn't written to its end.
@@ -41,12 +41,14 @@ pub enum WriteFault {
 /// Writes the whole piece, or fails after a front of it that leaves at least one byte, where a call of
 /// the sink failed. An empty piece is written without a call. Takes no memory.
 pub fn write_piece<S: Sink>(sink: &mut S, piece: &[u8]) -> Result<(), WriteFault>
-    ensures ok { OnOk result (S.written sink.new ≡ appended (S.written sink.old) piece.now) }
-    ensures err { OnErr result (AppendsPart (S.written sink.old) (S.written sink.new) piece.now) }
+    ensures ok { OnOk result (
+        (S.seen sink.new).written ≡ appended (S.seen sink.old).written piece.now) }
+    ensures err { OnErr result (
+        AppendsPart (S.seen sink.old).written (S.seen sink.new).written piece.now) }
     ensures empty { piece.now ≡ [] → IsOk result }
 
-    ensures faults { S.faults sink.old ≤ S.faults sink.new }
-    ensures failed { IsErr result → HasRisen (S.faults sink.old) (S.faults sink.new) }
+    ensures faults { (S.seen sink.old).faults ≤ (S.seen sink.new).faults }
+    ensures failed { IsErr result → HasRisen (S.seen sink.old).faults (S.seen sink.new).faults }
 {
     let mut done = 0;
     while done < piece.len() {

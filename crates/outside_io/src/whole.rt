@@ -1,6 +1,7 @@
 // A file read to its end.
 ghost use Rattle.std.specs.Prelude.{◌≡◌, ◌≢◌, ◌<◌, ◌≤◌, ◌^◌, ◌+◌, ◌↔◌, length, IfOk, IfSome, IsErrOf};
 ghost use Rattle.outside_io.specs.Count.{HasRisen, raised};
+ghost use Rattle.outside_io.specs.Files.{Serves};
 ghost use Rattle.outside_io.specs.Whole.{IsWholeFile, IsLonger, IsAbsent};
 
 use crate::files::{Fetch, Files, Got};
@@ -69,21 +70,23 @@ pub fn read_whole<F: Files>(
 ) -> Result<Bytes, ReadFault>
     requires { limit < 2 ^ 32 }
 
-    ensures told { IfOk result (λ bytes. IsWholeFile (F.contents files.old) path.now bytes) }
-    ensures taken_all { IfOk result (λ bytes. length bytes ≡ F.taken files.new) }
+    ensures told { IfOk result (λ bytes. IsWholeFile (F.seen files.old).contents path.now bytes) }
+    ensures taken_all { IfOk result (λ bytes. length bytes ≡ (F.seen files.new).taken) }
     ensures within { IfOk result (λ bytes. length bytes ≤ limit) }
 
-    ensures too_long { IsErrOf result ReadFault.TooLong ↔ (limit < F.taken files.new) }
-    ensures told_longer { IsErrOf result ReadFault.TooLong → IsLonger (F.contents files.old) path.now limit }
-    ensures absent { IsErrOf result ReadFault.Absent → HasRisen (F.absences files.old) (F.absences files.new) }
-    ensures told_absent { IsErrOf result ReadFault.Absent → IsAbsent (F.contents files.old) path.now }
-    ensures failed { IsErrOf result ReadFault.Failed → HasRisen (F.faults files.old) (F.faults files.new) }
+    ensures too_long { IsErrOf result ReadFault.TooLong ↔ (limit < (F.seen files.new).taken) }
+    ensures told_longer { IsErrOf result ReadFault.TooLong →
+        IsLonger (F.seen files.old).contents path.now limit }
+    ensures absent { IsErrOf result ReadFault.Absent →
+        HasRisen (F.seen files.old).absences (F.seen files.new).absences }
+    ensures told_absent { IsErrOf result ReadFault.Absent →
+        IsAbsent (F.seen files.old).contents path.now }
+    ensures failed { IsErrOf result ReadFault.Failed →
+        HasRisen (F.seen files.old).faults (F.seen files.new).faults }
 
-    ensures taken { F.taken files.new ≤ limit + 1 }
-    ensures fetches { F.fetches files.new ≡ raised (F.fetches files.old) 1 }
-    ensures contents { F.contents files.new ≡ F.contents files.old }
-    ensures faults { F.faults files.old ≤ F.faults files.new }
-    ensures absences { F.absences files.old ≤ F.absences files.new }
+    ensures taken { (F.seen files.new).taken ≤ limit + 1 }
+    ensures fetches { (F.seen files.new).fetches ≡ raised (F.seen files.old).fetches 1 }
+    ensures serves { Serves (F.seen files.old) (F.seen files.new) }
 {
     match files.fetch(path) {
         Fetch::Fetched => {}
@@ -103,22 +106,22 @@ fn read_rest<F: Files>(
 ) -> Result<Bytes, ReadFault>
     requires limit { limit < 2 ^ 32 }
     requires piece { 0 < length piece.old }
-    requires fetched { F.taken files.old ≡ 0 }
+    requires fetched { (F.seen files.old).taken ≡ 0 }
 
-    ensures told { IfOk result (λ bytes. IfSome (F.rest files.old) (λ rest. rest ≡ bytes)) }
-    ensures taken_all { IfOk result (λ bytes. length bytes ≡ F.taken files.new) }
+    ensures told { IfOk result (λ bytes. IfSome (F.seen files.old).rest (λ rest. rest ≡ bytes)) }
+    ensures taken_all { IfOk result (λ bytes. length bytes ≡ (F.seen files.new).taken) }
     ensures within { IfOk result (λ bytes. length bytes ≤ limit) }
 
-    ensures too_long { IsErrOf result ReadFault.TooLong ↔ (limit < F.taken files.new) }
-    ensures told_longer { IsErrOf result ReadFault.TooLong → IfSome (F.rest files.old) (λ rest. limit < length rest) }
+    ensures too_long { IsErrOf result ReadFault.TooLong ↔ (limit < (F.seen files.new).taken) }
+    ensures told_longer { IsErrOf result ReadFault.TooLong →
+        IfSome (F.seen files.old).rest (λ rest. limit < length rest) }
     ensures never_absent { result ≢ Err ReadFault.Absent }
-    ensures failed { IsErrOf result ReadFault.Failed → HasRisen (F.faults files.old) (F.faults files.new) }
+    ensures failed { IsErrOf result ReadFault.Failed →
+        HasRisen (F.seen files.old).faults (F.seen files.new).faults }
 
-    ensures taken { F.taken files.new ≤ limit + 1 }
-    ensures fetches { F.fetches files.new ≡ F.fetches files.old }
-    ensures contents { F.contents files.new ≡ F.contents files.old }
-    ensures faults { F.faults files.old ≤ F.faults files.new }
-    ensures absences { F.absences files.old ≤ F.absences files.new }
+    ensures taken { (F.seen files.new).taken ≤ limit + 1 }
+    ensures fetches { (F.seen files.new).fetches ≡ (F.seen files.old).fetches }
+    ensures serves { Serves (F.seen files.old) (F.seen files.new) }
 {
     let mut bytes = Vec::new(alloc);
     'reading: loop {

@@ -26,7 +26,7 @@ at_once x = record { fetches = 0; answer = x }
 abbrev pub gives : {A : Type 0} → A → Reads A
 gives a = at_once (Ok a)
 
--- the same after so many fetches
+-- what is read after so many fetches
 abbrev pub after : {X : Type 0} → ℕ → Reading X → Reading X
 after n r = record { fetches = n + r.fetches; answer = r.answer }
 

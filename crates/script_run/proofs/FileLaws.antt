@@ -1,5 +1,5 @@
 -- What a run means by the file that its path holds.
-use Rattle.std.proofs.Common.{◌≡◌, ◌≤◌, ◌<◌, ℕ, List, [], ◌∷◌, length, Option, Some, None, refl, sym, ◌∙◌, ap, subst, arith, codes, inl, inr, ◌⊎◌}
+use Rattle.std.proofs.Common.{◌≡◌, ◌≤◌, ◌<◌, ℕ, List, [], ◌∷◌, length, Option, Some, None, refl, sym, ◌∙◌, subst, arith, codes, inl, inr, ◌⊎◌}
 use Rattle.std.specs.Prelude.{IfNone, IfSome}
 use Rattle.std.specs.FinMap.{get}
 use Rattle.outside_io.specs.Count.{HasRisen}
@@ -10,43 +10,34 @@ use Rattle.language_meaning.specs.Tree.{Statement}
 use Rattle.language_meaning.specs.Script.{most_bytes}
 use Rattle.script_meaning.specs.Reading.{Files}
 use Rattle.script_meaning.specs.State.{no_names}
-use Rattle.script_meaning.specs.Run.{RunResult, RunWords, IsScriptResult, IsFileResult, IsWordsResult, fetched, statements_result, with_line, too_large_line, syntax_line, not_found_line, syntax, usage}
+use Rattle.script_meaning.specs.Run.{RunResult, RunWords, IsScriptResult, IsFileResult, IsWordsResult, after_step, fetched, statements_result, with_line, too_large_line, syntax_line, not_found_line, syntax, usage}
 use Rattle.script_syntax.specs.Parsed.{IsTheScript, IsTheSyntaxLine}
 use Rattle.script_session.specs.Reads.{count_after}
 use Rattle.script_run.specs.Ends.{Outside, Ends, EndsByMeaning, EndsWithLine, Is}
+use Rattle.script_run.specs.OneResult.{IsOne}
 use Rattle.script_run.specs.Steps.{Does}
 use Rattle.script_run.proofs.StepLaws.{does_one}
-use Rattle.script_run.proofs.RunLaws.{ends_after, ends_other, unread_first}
+use Rattle.script_run.proofs.RunLaws.{early_none, ends_after, ends_other, unread_first}
+use Rattle.script_run.proofs.OneResult.{file_one}
 use Rattle.script_run.specs.declared.status.Status.{Status}
 use Rattle.script_run.specs.declared.status.Status.TheVariants.{Done, Fault, Usage, Syntax, Input, Output, Memory}
 
 module _ (files : Files) (status : Status) (old new : Outside) where
   -- the bytes are one script, whose statements were run
   pub ends_script : (bytes : List ℕ) (ss : List Statement) → length bytes ≤ most_bytes → IsTheScript bytes ss → Ends (Is (statements_result files no_names ss)) status old new → Ends (IsScriptResult files bytes) status old new
-  ends_script bytes ss small the t = ends_other (Is (statements_result files no_names ss)) (IsScriptResult files bytes) status old new (λ r is. inr (inl (small, (ss, the.0, is)))) back t
-    where
-      back : (r : RunResult) → IsScriptResult files bytes r → Is (statements_result files no_names ss) r
-      back r (inl large) = let large_bytes = large.0 in absurd (omega arith)
-      back r (inr (inl run)) = run.1.2 ∙ ap (statements_result files no_names) (the.1 run.1.0 run.1.1)
-      back r (inr (inr none)) = absurd (the.2 none.1.0 none.1.1)
+  ends_script bytes ss small the t = ends_other (Is (statements_result files no_names ss)) (IsScriptResult files bytes) status old new (λ r is. inr (inl (small, (ss, the.0, is)))) t
 
   -- the bytes are no script, by this line
   pub ends_syntax : (bytes : List ℕ) (line : ℕ) → length bytes ≤ most_bytes → IsTheSyntaxLine bytes line → Ends (Is (with_line (syntax_line line) syntax)) status old new → Ends (IsScriptResult files bytes) status old new
-  ends_syntax bytes line small the t = ends_other (Is (with_line (syntax_line line) syntax)) (IsScriptResult files bytes) status old new (λ r is. inr (inr (small, (line, the.0, is)))) back t
-    where
-      back : (r : RunResult) → IsScriptResult files bytes r → Is (with_line (syntax_line line) syntax) r
-      back r (inl large) = let large_bytes = large.0 in absurd (omega arith)
-      back r (inr (inl run)) = absurd (the.2 run.1.0 run.1.1)
-      back r (inr (inr other)) = other.1.2 ∙ ap (λ l. with_line (syntax_line l) syntax) (the.1 other.1.0 other.1.1)
+  ends_syntax bytes line small the t = ends_other (Is (with_line (syntax_line line) syntax)) (IsScriptResult files bytes) status old new (λ r is. inr (inr (small, (line, the.0, is)))) t
 
   -- more bytes than a script has
   pub ends_too_large : (bytes : List ℕ) → most_bytes < length bytes → Ends (Is (with_line too_large_line syntax)) status old new → Ends (IsScriptResult files bytes) status old new
-  ends_too_large bytes large t = ends_other (Is (with_line too_large_line syntax)) (IsScriptResult files bytes) status old new (λ r is. inl (large, is)) back t
-    where
-      back : (r : RunResult) → IsScriptResult files bytes r → Is (with_line too_large_line syntax) r
-      back r (inl only) = only.1
-      back r (inr (inl run)) = let small_bytes = run.0 in absurd (omega arith)
-      back r (inr (inr none)) = let small_bytes = none.0 in absurd (omega arith)
+  ends_too_large bytes large t = ends_other (Is (with_line too_large_line syntax)) (IsScriptResult files bytes) status old new (λ r is. inl (large, is)) t
+
+-- the run means something, and nothing was written
+pub ends_unbegun : (means : RunResult → Type 0) (old new : Outside) → IsOne means → new.out ≡ old.out → new.err ≡ old.err → Ends means Memory old new
+ends_unbegun means old new one out err = early_none old new means one.0 one.1 out err
 
 -- the script was fetched, before a run of what it means
 pub ends_fetched : (words : RunWords) (held : Contents) (status : Status) (old mid new : Outside) → Does (fetched ∷ []) old mid
@@ -69,7 +60,8 @@ ends_absent words held status old mid new does is t =
 pub ends_unread : (words : RunWords) (held : Contents) (old new : Outside) → new.fetches ≡ count_after old.fetches 1 → new.out ≡ old.out → AppendsFront old.err new.err (codes "input failed\n")
     → (¬ (HasRisen old.err_faults new.err_faults) → new.err ≡ appended old.err (codes "input failed\n")) → Ends (IsWordsResult (Some words) held) Input old new
 ends_unread words held old new fetches out front whole =
-    unread_first old new (IsWordsResult (Some words) held) 1 (λ r (rest, m, is). (fetched, rest.steps, ap (λ (y : RunResult). y.steps) is, omega arith)) (omega arith) fetches out front whole
+    let (rest, is, other) = file_one (record { paths = words.paths; held = held }) words.script (get held words.script) in
+    unread_first old new (IsWordsResult (Some words) held) (after_step fetched rest) (rest, is, refl) fetched rest.steps refl 1 (omega arith) (omega arith) fetches out front whole
 
 -- the script was fetched, and nothing else was done
 pub does_fetch : (old mid : Outside) → mid.out ≡ old.out → mid.err ≡ old.err → mid.fetches ≡ count_after old.fetches 1 → old.out_faults ≤ mid.out_faults → old.err_faults ≤ mid.err_faults → Does (fetched ∷ []) old mid

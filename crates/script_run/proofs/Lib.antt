@@ -3,4 +3,5 @@ pub mod RunLaws
 pub mod FileLaws
 pub mod Quoting
 pub mod KeyLaws
-pub mod CauseLaws
+pub mod ErrorLaws
+pub mod OneResult

@@ -4,6 +4,7 @@ use Rattle.std.specs.Prelude.{slice_get, Bool}
 use Rattle.std.proofs.Math.ListN.{drop_of_length-le}
 use Rattle.std.proofs.lemmas.List.{append-nil}
 use Rattle.outside_io.specs.Count.{HasRisen}
+use Rattle.outside_io.specs.Files.{FilesValue}
 use Rattle.outside_io.specs.Sink.{appended, AppendsFront, AppendsPart}
 use Rattle.outside_io.proofs.Appended.{appended-appended, appended-nil}
 use Rattle.meaning.specs.Text.{Text, Contents}
@@ -14,7 +15,7 @@ use Rattle.script_meaning.specs.Reading.{Files, Reading, at_once}
 use Rattle.script_meaning.specs.State.{State}
 use Rattle.script_meaning.specs.Statement.{Answer, done, refused, statement_result}
 use Rattle.script_meaning.specs.Run.{RunStep, RunResult, Ending, finished, fault, usage, syntax, output_of, errors_of, fetches_of, before_fetch, before_byte, after_step, after_answer, after_reading, statements_result, warning_line, line_about, with_line}
-use Rattle.script_session.specs.Reads.{Shelf, Goes, Stuck, Holds, count_after}
+use Rattle.script_session.specs.Reads.{Goes, Stuck, Holds, count_after}
 use Rattle.script_run.specs.Ends.{Outside, Ends, EndsAs, EndsEarly, EndsUnwritten, EndsUnread, EndsWithLine, Is, status_of}
 use Rattle.script_run.specs.Steps.{Does, ComesTo, GoesOn, Stops, after_steps}
 use Rattle.script_run.proofs.StepLaws.{output_of-append, errors_of-append, fetches_of-append, before_fetch-append, before_byte-append, before_fetch-first, before_byte-first, silent-before, count_after-add, does_none, does_one, does_more, out_more, err_more, fetches_more}
@@ -67,17 +68,18 @@ first_then step others ending = record { steps = step ∷ others; ending = endin
 
 module _ (old new : Outside) where
   -- nothing was written
-  pub early_none : (means : RunResult → Type 0) → new.out ≡ old.out → new.err ≡ old.err → EndsEarly means old new
-  early_none means out err r is = (nothing_yet old.out new.out (output_of r.steps) out, nothing_yet old.err new.err (errors_of r.steps) err)
+  pub early_none : (means : RunResult → Type 0) (r : RunResult) → means r → new.out ≡ old.out → new.err ≡ old.err → EndsEarly means old new
+  early_none means r is out err = (r, is, nothing_yet old.out new.out (output_of r.steps) out, nothing_yet old.err new.err (errors_of r.steps) err)
 
   -- the errors of the first step could not be written
   pub unwritten_first : (r : RunResult) (step : RunStep) (others : List RunStep) → r.steps ≡ step ∷ others → new.out ≡ old.out → AppendsPart old.err new.err step.errors → EndsUnwritten (Is r) old new
   unfolding part_of
-  unwritten_first r step others first out part x is =
-      let steps : x.steps ≡ step ∷ others = ap (λ (y : RunResult). y.steps) is ∙ first in
+  unwritten_first r step others steps out part =
       let all : AppendsPart old.err new.err (errors_of (step ∷ others)) = part_of old.err new.err step.errors (errors_of others) part in
       let place : before_byte (length part.0) (step ∷ others) ≡ [] = before_byte-first step others (length part.0) (part-length step.errors part.0 part.1 part.2 part.4) in (
-        nothing_yet old.out new.out (output_of x.steps) out,
+        r,
+        refl,
+        nothing_yet old.out new.out (output_of r.steps) out,
         (
           part.0,
           all.1,
@@ -90,18 +92,20 @@ module _ (old new : Outside) where
   -- the errors of the first step were written, but not what it prints
   pub unwritten_output : (r : RunResult) (step : RunStep) (others : List RunStep) → r.steps ≡ step ∷ others → AppendsFront old.out new.out step.output → new.err ≡ appended old.err step.errors
       → HasRisen old.out_faults new.out_faults → EndsUnwritten (Is r) old new
-  unwritten_output r step others first front err risen x is =
-      let steps : x.steps ≡ step ∷ others = ap (λ (y : RunResult). y.steps) is ∙ first in (
-        subst (λ s. AppendsFront old.out new.out (output_of s)) (sym steps) (front_of old.out new.out step.output (output_of others) front),
-        (step.errors, errors_of others, ap errors_of steps, err, λ no left. absurd (no risen)),
-      )
+  unwritten_output r step others steps front err risen = (
+    r,
+    refl,
+    subst (λ s. AppendsFront old.out new.out (output_of s)) (sym steps) (front_of old.out new.out step.output (output_of others) front),
+    (step.errors, errors_of others, ap errors_of steps, err, λ no left. absurd (no risen)),
+  )
 
   -- the only step prints nothing on the output, and a front of its errors was written
   pub unwritten_line : (r : RunResult) (step : RunStep) → r.steps ≡ step ∷ [] → step.output ≡ [] → new.out ≡ old.out → AppendsFront old.err new.err step.errors → EndsUnwritten (Is r) old new
-  unwritten_line r step only quiet out front x is =
-      let steps : x.steps ≡ step ∷ [] = ap (λ (y : RunResult). y.steps) is ∙ only in
-      let before : output_of (before_byte (length front.0) x.steps) ≡ [] = ap (λ s. output_of (before_byte (length front.0) s)) steps ∙ silent-before step (length front.0) quiet in (
-        nothing_yet old.out new.out (output_of x.steps) out,
+  unwritten_line r step steps quiet out front =
+      let before : output_of (before_byte (length front.0) r.steps) ≡ [] = ap (λ s. output_of (before_byte (length front.0) s)) steps ∙ silent-before step (length front.0) quiet in (
+        r,
+        refl,
+        nothing_yet old.out new.out (output_of r.steps) out,
         (
           front.0,
           front.1,
@@ -113,20 +117,21 @@ module _ (old new : Outside) where
 
   -- the errors of the first step were written in part, for want of memory
   pub early_errors : (r : RunResult) (step : RunStep) (others : List RunStep) → r.steps ≡ step ∷ others → new.out ≡ old.out → AppendsFront old.err new.err step.errors → EndsEarly (Is r) old new
-  early_errors r step others first out front x is =
-      let steps : x.steps ≡ step ∷ others = ap (λ (y : RunResult). y.steps) is ∙ first in (
-        nothing_yet old.out new.out (output_of x.steps) out,
-        subst (λ s. AppendsFront old.err new.err (errors_of s)) (sym steps) (front_of old.err new.err step.errors (errors_of others) front),
-      )
+  early_errors r step others steps out front = (
+    r,
+    refl,
+    nothing_yet old.out new.out (output_of r.steps) out,
+    subst (λ s. AppendsFront old.err new.err (errors_of s)) (sym steps) (front_of old.err new.err step.errors (errors_of others) front),
+  )
 
   -- a read failed in the first step
-  pub unread_first : (means : RunResult → Type 0) (m : ℕ) → ((r : RunResult) → means r → (step : RunStep) × (others : List RunStep) × (r.steps ≡ step ∷ others) × (m ≤ step.fetches))
-      → 0 < m → new.fetches ≡ count_after old.fetches m → new.out ≡ old.out → AppendsFront old.err new.err (codes "input failed\n")
-      → (¬ (HasRisen old.err_faults new.err_faults) → new.err ≡ appended old.err (codes "input failed\n")) → EndsUnread means old new
-  unread_first means m first some fetches out front whole r is =
-      let (step, others, steps, within) = first r is in
+  pub unread_first : (means : RunResult → Type 0) (r : RunResult) → means r → (step : RunStep) (others : List RunStep) → r.steps ≡ step ∷ others → (m : ℕ) → m ≤ step.fetches → 0 < m → new.fetches ≡ count_after old.fetches m → new.out ≡ old.out
+      → AppendsFront old.err new.err (codes "input failed\n") → (¬ (HasRisen old.err_faults new.err_faults) → new.err ≡ appended old.err (codes "input failed\n")) → EndsUnread means old new
+  unread_first means r is step others steps m within some fetches out front whole =
       let place : before_fetch m r.steps ≡ [] = ap (before_fetch m) steps ∙ before_fetch-first step others m within in
       let all : fetches_of r.steps ≡ step.fetches + fetches_of others = ap fetches_of steps in (
+        r,
+        is,
         nothing_yet old.out new.out (output_of r.steps) out,
         ([], errors_of r.steps, refl, subst (λ w. AppendsFront w new.err (codes "input failed\n")) (sym (appended-nil old.err)) front),
         (
@@ -216,63 +221,60 @@ module _ (means : RunResult → Type 0) (steps : List RunStep) (old mid new : Ou
       errors_of-append steps rest.steps ∙ ap (λ l. errors_of steps ++ l) is ∙ sym (append_assoc (errors_of steps) text left)
 
   early_after : EndsEarly means mid new → EndsEarly (After steps means) old new
-  early_after t r (rest, m, is) =
-      let fronts = t rest m in
-      subst (λ (x : RunResult). AppendsFront old.out new.out (output_of x.steps) × AppendsFront old.err new.err (errors_of x.steps)) (sym is) (out_front rest fronts.0, err_front rest fronts.1)
+  early_after t = (after_steps steps t.0, (t.0, t.1, refl), out_front t.0 t.2, err_front t.0 t.3)
 
   unwritten_after : EndsUnwritten means mid new → EndsUnwritten (After steps means) old new
-  unwritten_after t r (rest, m, is) =
-      let last = t rest m in
+  unwritten_after t =
+      let rest = t.0 in
+      let last = t.3 in
       let errors = errors_of steps in
-      let text = last.1.0 in
+      let text = last.0 in
       let place : before_byte (length (errors ++ text)) (steps ++ rest.steps) ≡ steps ++ before_byte (length text) rest.steps =
-      ap (λ n. before_byte n (steps ++ rest.steps)) (length-append errors text) ∙ before_byte-append steps rest.steps (length text) in
-      subst (λ (x : RunResult). AppendsFront old.out new.out (output_of x.steps)
-      × ((text rest : List ℕ) × (errors_of x.steps ≡ text ++ rest) × (new.err ≡ appended old.err text)
-      × (¬ (HasRisen old.out_faults new.out_faults) → rest ≢ [] → new.out ≡ appended old.out (output_of (before_byte (length text) x.steps))))) (sym is) (
-        out_front rest last.0,
+      ap (λ n. before_byte n (steps ++ rest.steps)) (length-append errors text) ∙ before_byte-append steps rest.steps (length text) in (
+        after_steps steps rest,
+        (rest, t.1, refl),
+        out_front rest t.2,
         (
           errors ++ text,
-          last.1.1,
-          errors_split rest text last.1.1 last.1.2,
-          last.1.3 ∙ ap (λ w. appended w text) does.err ∙ appended-appended old.err errors text,
-          λ no left. out_more steps (before_byte (length text) rest.steps) old.out mid.out new.out does.out (last.1.4 (λ risen. no (risen_before old.out_faults mid.out_faults new.out_faults does.out_faults risen)) left)
+          last.1,
+          errors_split rest text last.1 last.2,
+          last.3 ∙ ap (λ w. appended w text) does.err ∙ appended-appended old.err errors text,
+          λ no left. out_more steps (before_byte (length text) rest.steps) old.out mid.out new.out does.out (last.4 (λ risen. no (risen_before old.out_faults mid.out_faults new.out_faults does.out_faults risen)) left)
               ∙ ap (λ s. appended old.out (output_of s)) (sym place),
         ),
       )
 
   unread_after : EndsUnread means mid new → EndsUnread (After steps means) old new
-  unread_after t r (rest, m, is) =
-      let last = t rest m in
+  unread_after t =
+      let rest = t.0 in
+      let said = t.3 in
+      let read = t.4 in
       let errors = errors_of steps in
       let line = codes "input failed\n" in
-      let n = last.2.0 in
-      let some : 0 < n = last.2.1 in
+      let n = read.0 in
+      let some : 0 < n = read.1 in
       let place : before_fetch (fetches_of steps + n) (steps ++ rest.steps) ≡ steps ++ before_fetch n rest.steps = before_fetch-append steps rest.steps n some in
-      let within : n ≤ fetches_of rest.steps = last.2.2 in
+      let within : n ≤ fetches_of rest.steps = read.2 in
       let no_out : ¬ (HasRisen old.out_faults new.out_faults) → ¬ (HasRisen mid.out_faults new.out_faults) = λ no risen. no (risen_before old.out_faults mid.out_faults new.out_faults does.out_faults risen) in
       let no_err : ¬ (HasRisen old.err_faults new.err_faults) → ¬ (HasRisen mid.err_faults new.err_faults) = λ no risen. no (risen_before old.err_faults mid.err_faults new.err_faults does.err_faults risen) in
       let before = before_fetch n rest.steps in
-      let split : errors_of (steps ++ before) ++ line ≡ errors ++ (errors_of before ++ line) = ap (λ l. l ++ line) (errors_of-append steps before) ∙ append_assoc errors (errors_of before) line in
-      subst (λ (x : RunResult). AppendsFront old.out new.out (output_of x.steps)
-      × ((text rest : List ℕ) × (errors_of x.steps ≡ text ++ rest) × AppendsFront (appended old.err text) new.err (codes "input failed\n"))
-      × ((m : ℕ) × (0 < m) × (m ≤ fetches_of x.steps) × (new.fetches ≡ count_after old.fetches m)
-      × (¬ (HasRisen old.out_faults new.out_faults) → ¬ (HasRisen old.err_faults new.err_faults) →
-      (new.out ≡ appended old.out (output_of (before_fetch m x.steps))) × (new.err ≡ appended old.err (errors_of (before_fetch m x.steps) ++ codes "input failed\n"))))) (sym is) (
-        out_front rest last.0,
+      let split : errors_of (steps ++ before) ++ line ≡ errors ++ (errors_of before ++ line) = ap (λ l. l ++ line) (errors_of-append steps before) ∙ append_assoc errors (errors_of before) line in (
+        after_steps steps rest,
+        (rest, t.1, refl),
+        out_front rest t.2,
         (
-          errors ++ last.1.0,
-          last.1.1,
-          errors_split rest last.1.0 last.1.1 last.1.2,
-          subst (λ w. AppendsFront w new.err (codes "input failed\n")) (ap (λ w. appended w last.1.0) does.err ∙ appended-appended old.err errors last.1.0) last.1.3,
+          errors ++ said.0,
+          said.1,
+          errors_split rest said.0 said.1 said.2,
+          subst (λ w. AppendsFront w new.err (codes "input failed\n")) (ap (λ w. appended w said.0) does.err ∙ appended-appended old.err errors said.0) said.3,
         ),
         (
           fetches_of steps + n,
           omega arith,
           omega (arith, fetches_of-append steps rest.steps),
-          last.2.3 ∙ ap (λ k. count_after k n) does.fetches ∙ count_after-add old.fetches (fetches_of steps) n,
+          read.3 ∙ ap (λ k. count_after k n) does.fetches ∙ count_after-add old.fetches (fetches_of steps) n,
           λ out err.
-              let wrote = last.2.4 (no_out out) (no_err err) in (
+              let wrote = read.4 (no_out out) (no_err err) in (
                 out_more steps before old.out mid.out new.out does.out wrote.0 ∙ ap (λ s. appended old.out (output_of s)) (sym place),
                 wrote.1 ∙ ap (λ w. appended w (errors_of before ++ line)) does.err ∙ appended-appended old.err errors (errors_of before ++ line)
                     ∙ ap (appended old.err) (sym split) ∙ ap (λ s. appended old.err (errors_of s ++ line)) (sym place),
@@ -291,20 +293,20 @@ module _ (means : RunResult → Type 0) (steps : List RunStep) (old mid new : Ou
   ends_after Memory t = early_after t
 
 -- what has one meaning ends as what has that meaning for another reason
-pub ends_other : (means other : RunResult → Type 0) (status : Status) (old new : Outside) → ((r : RunResult) → means r → other r) → ((r : RunResult) → other r → means r) → Ends means status old new → Ends other status old new
-ends_other means other Done old new there back t = (t.0, there t.0 t.1, t.2, t.3, t.4, t.5)
-ends_other means other Fault old new there back t = (t.0, there t.0 t.1, t.2, t.3, t.4, t.5)
-ends_other means other Usage old new there back t = (t.0, there t.0 t.1, t.2, t.3, t.4, t.5)
-ends_other means other Syntax old new there back t = (t.0, there t.0 t.1, t.2, t.3, t.4, t.5)
-ends_other means other Input old new there back t = λ r is. t r (back r is)
-ends_other means other Output old new there back t = λ r is. t r (back r is)
-ends_other means other Memory old new there back t = λ r is. t r (back r is)
+pub ends_other : (means other : RunResult → Type 0) (status : Status) (old new : Outside) → ((r : RunResult) → means r → other r) → Ends means status old new → Ends other status old new
+ends_other means other Done old new there t = (t.0, there t.0 t.1, t.2, t.3, t.4, t.5)
+ends_other means other Fault old new there t = (t.0, there t.0 t.1, t.2, t.3, t.4, t.5)
+ends_other means other Usage old new there t = (t.0, there t.0 t.1, t.2, t.3, t.4, t.5)
+ends_other means other Syntax old new there t = (t.0, there t.0 t.1, t.2, t.3, t.4, t.5)
+ends_other means other Input old new there t = (t.0, there t.0 t.1, t.2, t.3, t.4)
+ends_other means other Output old new there t = (t.0, there t.0 t.1, t.2, t.3)
+ends_other means other Memory old new there t = (t.0, there t.0 t.1, t.2, t.3)
 
 -- a run that has come to the rest, and ends as the rest does
 pub ends_come : (whole rest : RunResult) (status : Status) (old mid new : Outside) → ComesTo whole rest old mid → Ends (Is rest) status mid new → Ends (Is whole) status old new
 ends_come whole rest status old mid new come t =
     let steps = come.0 in
-    ends_other (After steps (Is rest)) (Is whole) status old new (λ r (x, is, same). same ∙ ap (after_steps steps) is ∙ sym come.1) (λ r is. (rest, refl, is ∙ come.1))
+    ends_other (After steps (Is rest)) (Is whole) status old new (λ r (x, is, same). same ∙ ap (after_steps steps) is ∙ sym come.1)
     (ends_after (Is rest) steps old mid new come.2 status t)
 
 -- a run that did all its statements
@@ -358,16 +360,20 @@ module _ (answer : Reading Answer) (line : ℕ) (old new : Outside) where
 
   -- there was no memory for it
   pub stops_memory : new.out ≡ old.out → new.err ≡ old.err → Stops answer line Memory old new
-  stops_memory out err go = early_none old new (Is (after_reading answer line go)) out err
+  stops_memory out err go = early_none old new (Is (after_reading answer line go)) (after_reading answer line go) refl out err
 
   -- a file could not be read
   pub stops_input : (n : ℕ) → 0 < n → n ≤ answer.fetches → new.fetches ≡ count_after old.fetches n → new.out ≡ old.out → AppendsFront old.err new.err (codes "input failed\n")
       → (¬ (HasRisen old.err_faults new.err_faults) → new.err ≡ appended old.err (codes "input failed\n")) → Stops answer line Input old new
-  stops_input n some within fetches out front whole go = unread_first old new (Is (after_reading answer line go)) n (λ r is. first answer.answer r is) some fetches out front whole
+  stops_input n some within fetches out front whole go = first answer.answer
     where
-      first : (a : Answer) (r : RunResult) → r ≡ after_answer answer.fetches a line go → (step : RunStep) × (others : List RunStep) × (r.steps ≡ step ∷ others) × (n ≤ step.fetches)
-      first (done s printed mark) r is = (record { output = printed; errors = warning_line line mark; fetches = answer.fetches }, (go s).steps, ap (λ (y : RunResult). y.steps) is, within)
-      first (refused f mark) r is = (record { output = []; errors = warning_line line mark ++ line_about line (fault_text f); fetches = answer.fetches }, [], ap (λ (y : RunResult). y.steps) is, within)
+      first : (a : Answer) → EndsUnread (Is (after_answer answer.fetches a line go)) old new
+      first (done s printed mark) =
+          let r = after_answer answer.fetches (done s printed mark) line go in
+          unread_first old new (Is r) r refl (record { output = printed; errors = warning_line line mark; fetches = answer.fetches }) (go s).steps refl n within some fetches out front whole
+      first (refused f mark) =
+          let r = after_answer answer.fetches (refused f mark) line go in
+          unread_first old new (Is r) r refl (record { output = []; errors = warning_line line mark ++ line_about line (fault_text f); fetches = answer.fetches }) [] refl n within some fetches out front whole
 
   -- the errors of the first step could not be written
   stops_first : (status : Status) (r : RunResult) (step : RunStep) (others : List RunStep) → r.steps ≡ step ∷ others → (status ≡ Output) ⊎ (status ≡ Memory) → new.out ≡ old.out
@@ -406,7 +412,7 @@ module _ (answer : Reading Answer) (line : ℕ) (old new : Outside) where
       (ends_with_lines old new fault n (warning_line line mark) (line_about line (fault_text f)) status mid out wrote fetches ends)
 
 -- where the contents are told, an answer was reached after these fetches
-pub reach_told : (held : Contents) (old new : Shelf) (answer : Reading Answer) (a : Answer) → old.contents ≡ Some held → Goes held old new answer (at_once a)
+pub reach_told : (held : Contents) (old new : FilesValue) (answer : Reading Answer) (a : Answer) → old.contents ≡ Some held → Goes held old new answer (at_once a)
     → (n : ℕ) × (answer ≡ reached n a) × (new.fetches ≡ count_after old.fetches n)
 reach_told held old new answer a told goes =
     let n = goes.fetched in
@@ -414,7 +420,7 @@ reach_told held old new answer a told goes =
     (n, goes.meant holds ∙ ap (λ k. reached k a) (add-zero n), goes.counted)
 
 -- where the contents are told, the last fetch is one of the statement
-pub stuck_told : (held : Contents) (old new : Shelf) (answer : Reading Answer) → old.contents ≡ Some held → Stuck held old new answer → (n : ℕ) × (0 < n) × (n ≤ answer.fetches) × (new.fetches ≡ count_after old.fetches n)
+pub stuck_told : (held : Contents) (old new : FilesValue) (answer : Reading Answer) → old.contents ≡ Some held → Stuck held old new answer → (n : ℕ) × (0 < n) × (n ≤ answer.fetches) × (new.fetches ≡ count_after old.fetches n)
 stuck_told held old new answer told stuck =
     let n = stuck.fetched in
     let holds : Holds old.contents n answer.fetches held = subst (λ c. Holds c n answer.fetches held) (sym told) refl in

@@ -1,7 +1,8 @@
 -- How a run ends, and what it wrote by then.
 use Rattle.std.specs.Prelude.{◌≡◌, ◌≢◌, ◌⊎◌, ◌<◌, ◌≤◌, ℕ, List, [], ◌++◌, length, Option, codes}
 use Rattle.outside_io.specs.Count.{HasRisen}
-use Rattle.outside_io.specs.Sink.{appended, AppendsFront}
+use Rattle.outside_io.specs.Files.{FilesValue}
+use Rattle.outside_io.specs.Sink.{SinkValue, appended, AppendsFront}
 use Rattle.meaning.specs.Text.{Text}
 use Rattle.script_meaning.specs.Run.{RunResult, Ending, finished, fault, usage, syntax, output_of, errors_of, fetches_of, before_fetch, before_byte}
 use Rattle.script_session.specs.Reads.{count_after}
@@ -16,8 +17,15 @@ pub record Outside : Type 0 where
   pub err_faults : ℕ
   pub fetches : ℕ
 
-abbrev pub outside : {F O E : Type 0} → (F → ℕ) → (O → Option (List ℕ)) → (O → ℕ) → (E → Option (List ℕ)) → (E → ℕ) → F → O → E → Outside
-outside fetches out out_faults err err_faults f o e = record { out = out o; err = err e; out_faults = out_faults o; err_faults = err_faults e; fetches = fetches f }
+-- that of files and of the two sinks
+abbrev pub outside : FilesValue → SinkValue → SinkValue → Outside
+outside files out err = record {
+  out = out.written;
+  err = err.written;
+  out_faults = out.faults;
+  err_faults = err.faults;
+  fetches = files.fetches;
+}
 
 -- the status of a run that ends by its meaning
 abbrev pub status_of : Ending → Status
@@ -32,22 +40,22 @@ EndsAs means status old new =
     (result : RunResult) × means result × (status ≡ status_of result.ending)
     × (new.out ≡ appended old.out (output_of result.steps)) × (new.err ≡ appended old.err (errors_of result.steps)) × (new.fetches ≡ count_after old.fetches (fetches_of result.steps))
 
--- of any result that the run may have, a front was written
+-- of a result that the run may have, a front was written
 abbrev pub EndsEarly : (RunResult → Type 0) → Outside → Outside → Type 0
 EndsEarly means old new =
-    (result : RunResult) → means result → AppendsFront old.out new.out (output_of result.steps) × AppendsFront old.err new.err (errors_of result.steps)
+    (result : RunResult) × means result × AppendsFront old.out new.out (output_of result.steps) × AppendsFront old.err new.err (errors_of result.steps)
 
--- A write failed. Where it was one on the errors that left a byte of them missing, the output is that of the steps before the one in whose errors this byte stands.
+-- The same where a write failed. Where it was one on the errors that left a byte of them missing, the output is that of the steps before the one in whose errors this byte stands.
 abbrev pub EndsUnwritten : (RunResult → Type 0) → Outside → Outside → Type 0
 EndsUnwritten means old new =
-    (result : RunResult) → means result → AppendsFront old.out new.out (output_of result.steps)
+    (result : RunResult) × means result × AppendsFront old.out new.out (output_of result.steps)
     × ((text rest : List ℕ) × (errors_of result.steps ≡ text ++ rest) × (new.err ≡ appended old.err text)
     × (¬ (HasRisen old.out_faults new.out_faults) → rest ≢ [] → new.out ≡ appended old.out (output_of (before_byte (length text) result.steps))))
 
--- A read failed. A front was written, and a front of one line more on the errors. Where no write failed, all steps before the one of the last fetch were written, and the line.
+-- The same where a read failed, with a front of one line more on the errors. Where no write failed, all steps before the one of the last fetch were written, and the line.
 abbrev pub EndsUnread : (RunResult → Type 0) → Outside → Outside → Type 0
 EndsUnread means old new =
-    (result : RunResult) → means result → AppendsFront old.out new.out (output_of result.steps)
+    (result : RunResult) × means result × AppendsFront old.out new.out (output_of result.steps)
     × ((text rest : List ℕ) × (errors_of result.steps ≡ text ++ rest) × AppendsFront (appended old.err text) new.err (codes "input failed\n"))
     × ((m : ℕ) × (0 < m) × (m ≤ fetches_of result.steps) × (new.fetches ≡ count_after old.fetches m)
     × (¬ (HasRisen old.out_faults new.out_faults) → ¬ (HasRisen old.err_faults new.err_faults) →

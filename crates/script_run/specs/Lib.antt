@@ -1,5 +1,6 @@
 pub mod Ends
-pub mod Causes
+pub mod Errors
+pub mod OneResult
 pub mod Exit
 pub mod Names
 pub mod Steps

@@ -8,11 +8,13 @@ use crate::status::Status;
 use outside_io::{Sink, write_piece};
 
 // Writes the line, with which the run ends.
-pub fn end_with<E: Sink>(err: &mut E, status: Status, line: &str) -> Status
+pub(crate) fn end_with<E: Sink>(err: &mut E, status: Status, line: &str) -> Status
     requires { status ≢ Status.Output }
-    ensures ended { EndsWithLine line.now status result (E.written err.old) (E.written err.new) }
-    ensures output { result ≡ Status.Output → HasRisen (E.faults err.old) (E.faults err.new) }
-    ensures faults { E.faults err.old ≤ E.faults err.new }
+    ensures ended { EndsWithLine line.now status result
+        (E.seen err.old).written (E.seen err.new).written }
+    ensures output { result ≡ Status.Output →
+        HasRisen (E.seen err.old).faults (E.seen err.new).faults }
+    ensures faults { (E.seen err.old).faults ≤ (E.seen err.new).faults }
 {
     match write_piece(err, line.as_bytes()) {
         Ok(()) => status,
@@ -21,10 +23,12 @@ pub fn end_with<E: Sink>(err: &mut E, status: Status, line: &str) -> Status
 }
 
 // Says that a file could not be read, as far as the sink takes it.
-pub fn say_unread<E: Sink>(err: &mut E)
-    ensures front { AppendsFront (E.written err.old) (E.written err.new) (codes "input failed\n") }
-    ensures whole { ¬ (HasRisen (E.faults err.old) (E.faults err.new)) → E.written err.new ≡ appended (E.written err.old) (codes "input failed\n") }
-    ensures faults { E.faults err.old ≤ E.faults err.new }
+pub(crate) fn say_unread<E: Sink>(err: &mut E)
+    ensures front { AppendsFront
+        (E.seen err.old).written (E.seen err.new).written (codes "input failed\n") }
+    ensures whole { ¬ (HasRisen (E.seen err.old).faults (E.seen err.new).faults) →
+        (E.seen err.new).written ≡ appended (E.seen err.old).written (codes "input failed\n") }
+    ensures faults { (E.seen err.old).faults ≤ (E.seen err.new).faults }
 {
     match write_piece(err, b"input failed\n") {
         Ok(()) => {}

@@ -9,7 +9,7 @@ use itoa::{Buffer, Integer};
 use std::alloc::AllocError;
 
 /// Appends a key: one label as it is, several in parentheses. Where memory is refused, a part of it may stand there.
-pub fn push_key(line: &mut String, texts: &TextDict, key: &Tuple) -> Result<(), AllocError>
+pub(crate) fn push_key(line: &mut String, texts: &TextDict, key: &Tuple) -> Result<(), AllocError>
     ensures { OnOk result (string_bytes line.new ≡ string_bytes line.old ++ key_text (map (label_datum texts.now) key.now)) }
 {
     if key.len() == 1 {
@@ -22,7 +22,7 @@ pub fn push_key(line: &mut String, texts: &TextDict, key: &Tuple) -> Result<(), 
 }
 
 /// Appends a number in decimal; nothing where memory is refused.
-pub fn push_number<N: Integer>(line: &mut String, number: N) -> Result<(), AllocError>
+pub(crate) fn push_number<N: Integer>(line: &mut String, number: N) -> Result<(), AllocError>
     ensures { OnOk result (string_bytes line.new ≡ string_bytes line.old ++ N.text number) }
 {
     let mut digits = Buffer::new();

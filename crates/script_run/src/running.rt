@@ -1,11 +1,13 @@
 // A run, from the words to the bytes written.
-ghost use Rattle.std.specs.Prelude.{◌≡◌, ◌≢◌, ◌⊎◌, ◌≤◌, IfNone, IfSome, IsSome, map, string_bytes};
+ghost use Rattle.std.specs.Prelude.{◌≡◌, ◌≢◌, ◌⊎◌, ◌≤◌, IfNone, IfSome, map, string_bytes};
 ghost use Rattle.outside_io.specs.Count.{HasRisen};
+ghost use Rattle.outside_io.specs.Files.{Serves};
+ghost use Rattle.outside_io.specs.Sink.{appended};
 ghost use Rattle.script_meaning.specs.State.{no_names};
 ghost use Rattle.script_meaning.specs.Run.{not_found_line, run_in, statements_result, syntax_line, too_large_line, usage, usage_line, with_line, IsRunResult, IsScriptResult, IsWordsResult};
 ghost use Rattle.script_syntax.specs.ScriptView.{statements_of};
 ghost use Rattle.script_session.specs.Reads.{files_in, paths_of};
-ghost use Rattle.script_run.specs.Causes.{FailsUnlessAbsent};
+ghost use Rattle.script_run.specs.Errors.{RunLeaves, StatementsLeave};
 ghost use Rattle.script_run.specs.Ends.{outside, Ends, EndsByMeaning, EndsWithLine, Is};
 
 use crate::advance::advance;
@@ -31,14 +33,29 @@ const MOST_BYTES: usize = 1 << 20;
 /// The script is fetched once, before its first statement. A statement fetches the file of a name each
 /// time that it reads it, and no file is fetched before.
 ///
-/// The status is `Done` after the last statement, and `Fault` at the first one that is refused. A name
-/// without a file is such a fault; it comes only where the name isn't given, or a count of absences rose.
-/// The status is `Usage` where the words are no run, for which the usage line is written on `err`, or the
-/// files don't hold the script, and `Syntax` where its bytes are no script.
-/// `Input` comes only where a count of failed reads rose, `Output` only where a count of failed writes
-/// did; with them and with `Memory` a front of what the run means was written. After a failed read that
-/// is all that the statements before it print, and then the line `input failed`, unless a write failed
-/// too. Where only a write on `err` failed, what the statements before that line print was written.
+/// The status is `Done` after the last statement, and `Fault` at the first one that is refused. It is
+/// `Usage` where the words are no run, or the files don't hold the script, and `Syntax` where its bytes
+/// are no script. `Input` comes only where a count of failed reads rose, `Output` only where a count of
+/// failed writes did.
+///
+/// Where the files tell what they hold, the run has one result ([`one_result`](crate::one_result)). With
+/// `Done`, `Fault`, `Usage` and `Syntax` its status is that of the result and all of it was written; with
+/// the others a front of it was. After a failed read that is all that the statements before it print, and
+/// then the line `input failed`, unless a write failed too. Where only a write on `err` failed, what the
+/// statements before that line print was written.
+///
+/// Whatever the files tell, `err` gets by the end, in words that are a run:
+///
+/// - `Done` and `Memory`: lines that warn of settings, or none, and nothing else;
+/// - `Fault`: such lines, and then the line of a fault. Only where a count of absences rose may it be that
+///   the file of a given name isn't there;
+/// - `Usage`: the line that the script isn't there; and a count of absences rose;
+/// - `Syntax`: the line that the script is too large, or that of a syntax error;
+/// - `Input`: lines that warn, and then a front of the line `input failed`.
+///
+/// Of `Output` this says nothing. For words that are no run `err` gets the usage line, or with `Output` and
+/// `Memory` a front of it. Where `err` doesn't tell what it took, as the error stream of a machine, nothing
+/// is said of its bytes.
 pub fn run<F: Files, O: Sink, E: Sink>(
     alloc: Global,
     words: &Vec<String>,
@@ -47,31 +64,47 @@ pub fn run<F: Files, O: Sink, E: Sink>(
     err: &mut E,
 ) -> Status
     // In told contents the status, the bytes and the fetches are those of the meaning.
-    ensures told { IfSome (F.contents files.old) (λ held. Ends (IsRunResult (map string_bytes words.now.items) held) result (outside F.fetches O.written O.faults E.written E.faults files.old out.old err.old) (outside F.fetches O.written O.faults E.written E.faults files.new out.new err.new)) }
+    ensures told { IfSome (F.seen files.old).contents (λ held.
+        Ends (IsRunResult (map string_bytes words.now.items) held) result
+        (outside (F.seen files.old) (O.seen out.old) (E.seen err.old))
+        (outside (F.seen files.new) (O.seen out.new) (E.seen err.new))) }
 
     // Without a read or a write that failed there is no other ending.
-    ensures complete { IfSome (F.contents files.old) (λ held.
-        ¬ (HasRisen (F.faults files.old) (F.faults files.new)) → ¬ (HasRisen (O.faults out.old) (O.faults out.new)) → ¬ (HasRisen (E.faults err.old) (E.faults err.new)) →
-        EndsByMeaning (IsRunResult (map string_bytes words.now.items) held) result (outside F.fetches O.written O.faults E.written E.faults files.old out.old err.old) (outside F.fetches O.written O.faults E.written E.faults files.new out.new err.new)) }
+    ensures complete { IfSome (F.seen files.old).contents (λ held.
+        ¬ (HasRisen (F.seen files.old).faults (F.seen files.new).faults) →
+        ¬ (HasRisen (O.seen out.old).faults (O.seen out.new).faults) →
+        ¬ (HasRisen (E.seen err.old).faults (E.seen err.new).faults) →
+        EndsByMeaning (IsRunResult (map string_bytes words.now.items) held) result
+        (outside (F.seen files.old) (O.seen out.old) (E.seen err.old))
+        (outside (F.seen files.new) (O.seen out.new) (E.seen err.new))) }
 
     // Words that are no run have one meaning, whatever the files tell, and fetch nothing.
-    ensures words { IfNone (run_in (map string_bytes words.now.items)) (Ends (Is (with_line usage_line usage)) result (outside F.fetches O.written O.faults E.written E.faults files.old out.old err.old) (outside F.fetches O.written O.faults E.written E.faults files.new out.new err.new)) }
-    ensures fetches { IfNone (run_in (map string_bytes words.now.items)) (F.fetches files.new ≡ F.fetches files.old) }
+    ensures words { IfNone (run_in (map string_bytes words.now.items)) (
+        Ends (Is (with_line usage_line usage)) result
+        (outside (F.seen files.old) (O.seen out.old) (E.seen err.old))
+        (outside (F.seen files.new) (O.seen out.new) (E.seen err.new))) }
+    ensures fetches { IfNone (run_in (map string_bytes words.now.items)) (
+        (F.seen files.new).fetches ≡ (F.seen files.old).fetches) }
 
-    // A fault is that the file of a given name isn't there only where a fetch found nothing, whatever the files tell.
-    ensures cause { IfSome (run_in (map string_bytes words.now.items)) (λ run. result ≡ Status.Fault →
-        FailsUnlessAbsent run.paths (F.absences files.old) (F.absences files.new) (E.written err.old) (E.written err.new)) }
+    // What it leaves on the errors, whatever the files tell.
+    ensures errors { IfSome (run_in (map string_bytes words.now.items)) (λ run.
+        RunLeaves run.paths (F.seen files.old).absences (F.seen files.new).absences
+        result (E.seen err.old).written (E.seen err.new).written) }
 
     // The causes of the other answers.
-    ensures usage { result ≡ Status.Usage → IsSome (run_in (map string_bytes words.now.items)) → HasRisen (F.absences files.old) (F.absences files.new) }
-    ensures input { result ≡ Status.Input → HasRisen (F.faults files.old) (F.faults files.new) }
-    ensures output { result ≡ Status.Output → HasRisen (O.faults out.old) (O.faults out.new) ⊎ HasRisen (E.faults err.old) (E.faults err.new) }
+    ensures usage { IfSome (run_in (map string_bytes words.now.items)) (λ run.
+        result ≡ Status.Usage → HasRisen (F.seen files.old).absences (F.seen files.new).absences
+        × ((E.seen err.new).written ≡
+        appended (E.seen err.old).written (not_found_line run.script))) }
+    ensures input { result ≡ Status.Input →
+        HasRisen (F.seen files.old).faults (F.seen files.new).faults }
+    ensures output { result ≡ Status.Output →
+        HasRisen (O.seen out.old).faults (O.seen out.new).faults
+        ⊎ HasRisen (E.seen err.old).faults (E.seen err.new).faults }
 
-    ensures contents { F.contents files.new ≡ F.contents files.old }
-    ensures faults { F.faults files.old ≤ F.faults files.new }
-    ensures absences { F.absences files.old ≤ F.absences files.new }
-    ensures out_faults { O.faults out.old ≤ O.faults out.new }
-    ensures err_faults { E.faults err.old ≤ E.faults err.new }
+    ensures serves { Serves (F.seen files.old) (F.seen files.new) }
+    ensures out_faults { (O.seen out.old).faults ≤ (O.seen out.new).faults }
+    ensures err_faults { (E.seen err.old).faults ≤ (E.seen err.new).faults }
 {
     let Some((script, more)) = script_in(words) else {
         return end_usage(err);
@@ -85,9 +118,11 @@ pub fn run<F: Files, O: Sink, E: Sink>(
 
 // Ends a run whose words are none.
 fn end_usage<E: Sink>(err: &mut E) -> Status
-    ensures ended { EndsWithLine usage_line Status.Usage result (E.written err.old) (E.written err.new) }
-    ensures output { result ≡ Status.Output → HasRisen (E.faults err.old) (E.faults err.new) }
-    ensures faults { E.faults err.old ≤ E.faults err.new }
+    ensures ended { EndsWithLine usage_line Status.Usage result
+        (E.seen err.old).written (E.seen err.new).written }
+    ensures output { result ≡ Status.Output →
+        HasRisen (E.seen err.old).faults (E.seen err.new).faults }
+    ensures faults { (E.seen err.old).faults ≤ (E.seen err.new).faults }
 {
     end_with(
         err,
@@ -105,19 +140,27 @@ fn run_file<F: Files, O: Sink, E: Sink>(
     out: &mut O,
     err: &mut E,
 ) -> Status
-    ensures told { IfSome (F.contents files.old) (λ held. Ends (IsWordsResult (Some record { script = path.now; paths = paths_of names.now }) held) result (outside F.fetches O.written O.faults E.written E.faults files.old out.old err.old) (outside F.fetches O.written O.faults E.written E.faults files.new out.new err.new)) }
+    ensures told { IfSome (F.seen files.old).contents (λ held.
+        Ends (IsWordsResult (Some record { script = path.now; paths = paths_of names.now }) held)
+        result
+        (outside (F.seen files.old) (O.seen out.old) (E.seen err.old))
+        (outside (F.seen files.new) (O.seen out.new) (E.seen err.new))) }
 
-    ensures cause { result ≡ Status.Fault →
-        FailsUnlessAbsent (paths_of names.now) (F.absences files.old) (F.absences files.new) (E.written err.old) (E.written err.new) }
-    ensures usage { result ≡ Status.Usage → HasRisen (F.absences files.old) (F.absences files.new) }
-    ensures input { result ≡ Status.Input → HasRisen (F.faults files.old) (F.faults files.new) }
-    ensures output { result ≡ Status.Output → HasRisen (O.faults out.old) (O.faults out.new) ⊎ HasRisen (E.faults err.old) (E.faults err.new) }
+    ensures errors { RunLeaves (paths_of names.now)
+        (F.seen files.old).absences (F.seen files.new).absences
+        result (E.seen err.old).written (E.seen err.new).written }
+    ensures usage { result ≡ Status.Usage →
+        HasRisen (F.seen files.old).absences (F.seen files.new).absences
+        × ((E.seen err.new).written ≡ appended (E.seen err.old).written (not_found_line path.now)) }
+    ensures input { result ≡ Status.Input →
+        HasRisen (F.seen files.old).faults (F.seen files.new).faults }
+    ensures output { result ≡ Status.Output →
+        HasRisen (O.seen out.old).faults (O.seen out.new).faults
+        ⊎ HasRisen (E.seen err.old).faults (E.seen err.new).faults }
 
-    ensures contents { F.contents files.new ≡ F.contents files.old }
-    ensures faults { F.faults files.old ≤ F.faults files.new }
-    ensures absences { F.absences files.old ≤ F.absences files.new }
-    ensures out_faults { O.faults out.old ≤ O.faults out.new }
-    ensures err_faults { E.faults err.old ≤ E.faults err.new }
+    ensures serves { Serves (F.seen files.old) (F.seen files.new) }
+    ensures out_faults { (O.seen out.old).faults ≤ (O.seen out.new).faults }
+    ensures err_faults { (E.seen err.old).faults ≤ (E.seen err.new).faults }
 {
     match read_whole(alloc, files, path, MOST_BYTES) {
         Ok(bytes) => run_bytes(alloc, bytes.as_slice(), names, files, out, err),
@@ -133,9 +176,11 @@ fn run_file<F: Files, O: Sink, E: Sink>(
 
 // Ends a run whose script isn't there.
 fn end_absent<E: Sink>(alloc: Global, path: &str, err: &mut E) -> Status
-    ensures ended { EndsWithLine (not_found_line path.now) Status.Usage result (E.written err.old) (E.written err.new) }
-    ensures output { result ≡ Status.Output → HasRisen (E.faults err.old) (E.faults err.new) }
-    ensures faults { E.faults err.old ≤ E.faults err.new }
+    ensures ended { EndsWithLine (not_found_line path.now) Status.Usage result
+        (E.seen err.old).written (E.seen err.new).written }
+    ensures output { result ≡ Status.Output →
+        HasRisen (E.seen err.old).faults (E.seen err.new).faults }
+    ensures faults { (E.seen err.old).faults ≤ (E.seen err.new).faults }
 {
     match line_of_absence(alloc, path) {
         Ok(line) => end_with(err, Status::Usage, line.as_str()),
@@ -145,18 +190,22 @@ fn end_absent<E: Sink>(alloc: Global, path: &str, err: &mut E) -> Status
 
 // Ends a run whose script has too many bytes.
 fn end_too_large<E: Sink>(err: &mut E) -> Status
-    ensures ended { EndsWithLine too_large_line Status.Syntax result (E.written err.old) (E.written err.new) }
-    ensures output { result ≡ Status.Output → HasRisen (E.faults err.old) (E.faults err.new) }
-    ensures faults { E.faults err.old ≤ E.faults err.new }
+    ensures ended { EndsWithLine too_large_line Status.Syntax result
+        (E.seen err.old).written (E.seen err.new).written }
+    ensures output { result ≡ Status.Output →
+        HasRisen (E.seen err.old).faults (E.seen err.new).faults }
+    ensures faults { (E.seen err.old).faults ≤ (E.seen err.new).faults }
 {
     end_with(err, Status::Syntax, "script too large\n")
 }
 
 // Ends a run whose bytes are no script, by the line of its first piece that isn't right.
 fn end_syntax<E: Sink>(alloc: Global, line: u64, err: &mut E) -> Status
-    ensures ended { EndsWithLine (syntax_line line) Status.Syntax result (E.written err.old) (E.written err.new) }
-    ensures output { result ≡ Status.Output → HasRisen (E.faults err.old) (E.faults err.new) }
-    ensures faults { E.faults err.old ≤ E.faults err.new }
+    ensures ended { EndsWithLine (syntax_line line) Status.Syntax result
+        (E.seen err.old).written (E.seen err.new).written }
+    ensures output { result ≡ Status.Output →
+        HasRisen (E.seen err.old).faults (E.seen err.new).faults }
+    ensures faults { (E.seen err.old).faults ≤ (E.seen err.new).faults }
 {
     match line_of_syntax(alloc, line) {
         Ok(text) => end_with(err, Status::Syntax, text.as_str()),
@@ -173,19 +222,24 @@ fn run_bytes<F: Files, O: Sink, E: Sink>(
     out: &mut O,
     err: &mut E,
 ) -> Status
-    ensures told { IfSome (F.contents files.old) (λ held. Ends (IsScriptResult (files_in names.now held) bytes.now) result (outside F.fetches O.written O.faults E.written E.faults files.old out.old err.old) (outside F.fetches O.written O.faults E.written E.faults files.new out.new err.new)) }
+    ensures told { IfSome (F.seen files.old).contents (λ held.
+        Ends (IsScriptResult (files_in names.now held) bytes.now) result
+        (outside (F.seen files.old) (O.seen out.old) (E.seen err.old))
+        (outside (F.seen files.new) (O.seen out.new) (E.seen err.new))) }
 
-    ensures cause { result ≡ Status.Fault →
-        FailsUnlessAbsent (paths_of names.now) (F.absences files.old) (F.absences files.new) (E.written err.old) (E.written err.new) }
+    ensures errors { RunLeaves (paths_of names.now)
+        (F.seen files.old).absences (F.seen files.new).absences
+        result (E.seen err.old).written (E.seen err.new).written }
     ensures usage { result ≢ Status.Usage }
-    ensures input { result ≡ Status.Input → HasRisen (F.faults files.old) (F.faults files.new) }
-    ensures output { result ≡ Status.Output → HasRisen (O.faults out.old) (O.faults out.new) ⊎ HasRisen (E.faults err.old) (E.faults err.new) }
+    ensures input { result ≡ Status.Input →
+        HasRisen (F.seen files.old).faults (F.seen files.new).faults }
+    ensures output { result ≡ Status.Output →
+        HasRisen (O.seen out.old).faults (O.seen out.new).faults
+        ⊎ HasRisen (E.seen err.old).faults (E.seen err.new).faults }
 
-    ensures contents { F.contents files.new ≡ F.contents files.old }
-    ensures faults { F.faults files.old ≤ F.faults files.new }
-    ensures absences { F.absences files.old ≤ F.absences files.new }
-    ensures out_faults { O.faults out.old ≤ O.faults out.new }
-    ensures err_faults { E.faults err.old ≤ E.faults err.new }
+    ensures serves { Serves (F.seen files.old) (F.seen files.new) }
+    ensures out_faults { (O.seen out.old).faults ≤ (O.seen out.new).faults }
+    ensures err_faults { (E.seen err.old).faults ≤ (E.seen err.new).faults }
 {
     match parse(alloc, bytes) {
         Ok(script) => run_script(alloc, &script, names, files, out, err),
@@ -204,19 +258,24 @@ fn run_script<F: Files, O: Sink, E: Sink>(
     out: &mut O,
     err: &mut E,
 ) -> Status
-    ensures told { IfSome (F.contents files.old) (λ held. Ends (Is (statements_result (files_in names.now held) no_names (statements_of script.now))) result (outside F.fetches O.written O.faults E.written E.faults files.old out.old err.old) (outside F.fetches O.written O.faults E.written E.faults files.new out.new err.new)) }
+    ensures told { IfSome (F.seen files.old).contents (λ held.
+        Ends (Is (statements_result (files_in names.now held) no_names (statements_of script.now)))
+        result
+        (outside (F.seen files.old) (O.seen out.old) (E.seen err.old))
+        (outside (F.seen files.new) (O.seen out.new) (E.seen err.new))) }
 
-    ensures cause { result ≡ Status.Fault →
-        FailsUnlessAbsent (paths_of names.now) (F.absences files.old) (F.absences files.new) (E.written err.old) (E.written err.new) }
-    ensures usage { result ≢ Status.Usage }
-    ensures input { result ≡ Status.Input → HasRisen (F.faults files.old) (F.faults files.new) }
-    ensures output { result ≡ Status.Output → HasRisen (O.faults out.old) (O.faults out.new) ⊎ HasRisen (E.faults err.old) (E.faults err.new) }
+    ensures errors { StatementsLeave (paths_of names.now)
+        (F.seen files.old).absences (F.seen files.new).absences
+        result (E.seen err.old).written (E.seen err.new).written }
+    ensures input { result ≡ Status.Input →
+        HasRisen (F.seen files.old).faults (F.seen files.new).faults }
+    ensures output { result ≡ Status.Output →
+        HasRisen (O.seen out.old).faults (O.seen out.new).faults
+        ⊎ HasRisen (E.seen err.old).faults (E.seen err.new).faults }
 
-    ensures contents { F.contents files.new ≡ F.contents files.old }
-    ensures faults { F.faults files.old ≤ F.faults files.new }
-    ensures absences { F.absences files.old ≤ F.absences files.new }
-    ensures out_faults { O.faults out.old ≤ O.faults out.new }
-    ensures err_faults { E.faults err.old ≤ E.faults err.new }
+    ensures serves { Serves (F.seen files.old) (F.seen files.new) }
+    ensures out_faults { (O.seen out.old).faults ≤ (O.seen out.new).faults }
+    ensures err_faults { (E.seen err.old).faults ≤ (E.seen err.new).faults }
 {
     let mut session = Session::new(alloc);
     for i in 0..script.len() {

@@ -11,7 +11,11 @@ use cell_core::{Code, Fault, Reason, Side, TextDict, Tuple};
 use std::alloc::{AllocError, Global};
 
 /// The line that the error sink gets for a refused statement: `line N: CLASS: DETAIL`.
-pub fn line_of_fault(alloc: Global, texts: &TextDict, fault: &Fault) -> Result<String, AllocError>
+pub(crate) fn line_of_fault(
+    alloc: Global,
+    texts: &TextDict,
+    fault: &Fault,
+) -> Result<String, AllocError>
     ensures { IfOk result (λ text. string_bytes text ≡ line_about fault.now.line (fault_text (fault_of texts.now fault.now.code))) }
 {
     let line = fault.line;
@@ -22,21 +26,21 @@ pub fn line_of_fault(alloc: Global, texts: &TextDict, fault: &Fault) -> Result<S
 }
 
 /// The line for a script that isn't there.
-pub fn line_of_absence(alloc: Global, path: &str) -> Result<String, AllocError>
+pub(crate) fn line_of_absence(alloc: Global, path: &str) -> Result<String, AllocError>
     ensures { IfOk result (λ text. string_bytes text ≡ not_found_line path.now) }
 {
     format!(in alloc; "script not found: {path}\n")
 }
 
 /// The line for a text that is no script.
-pub fn line_of_syntax(alloc: Global, line: u64) -> Result<String, AllocError>
+pub(crate) fn line_of_syntax(alloc: Global, line: u64) -> Result<String, AllocError>
     ensures { IfOk result (λ text. string_bytes text ≡ syntax_line line) }
 {
     format!(in alloc; "line {line}: SyntaxError\n")
 }
 
 /// The line that warns of a setting of an object without a name.
-pub fn line_of_warning(alloc: Global, line: u64) -> Result<String, AllocError>
+pub(crate) fn line_of_warning(alloc: Global, line: u64) -> Result<String, AllocError>
     ensures { IfOk result (λ text. string_bytes text ≡ warning_line line true) }
 {
     format!(in alloc; "line {line}: warning: ChainedAssignmentError\n")

@@ -10,7 +10,7 @@ use std::alloc::Global;
 
 /// Why the words give no names of files.
 #[derive(Clone, Copy, Debug, PartialEq, Eq)]
-pub enum WordsFault {
+pub(crate) enum WordsFault {
     /// One of them is no name with a path, or its name stands twice.
     Usage,
     /// Memory was refused.
@@ -29,7 +29,7 @@ impl From<NoMemory> for WordsFault {
 }
 
 /// The script's path in the words, of which the first is the program's name, and the words after it.
-pub fn script_in(words: &Vec<String>) -> Option<(&str, &[String])>
+pub(crate) fn script_in(words: &Vec<String>) -> Option<(&str, &[String])>
     ensures { MatchOption result (run_in (map string_bytes words.now.items) ≡ None) (λ r. run_in (map string_bytes words.now.items) ≡ with_script r.0.now (pairs_after [] (map string_bytes r.1.now))) }
 {
     match words.as_slice() {
@@ -40,7 +40,7 @@ pub fn script_in(words: &Vec<String>) -> Option<(&str, &[String])>
 
 /// The names that the words give, each with its path. A word is a name, `=` and a path, cut at its
 /// first `=`; neither is empty, the word doesn't begin with `-`, and no name stands twice.
-pub fn names_in(alloc: Global, words: &[String]) -> Result<FileNames, WordsFault>
+pub(crate) fn names_in(alloc: Global, words: &[String]) -> Result<FileNames, WordsFault>
     ensures names { IfOk result (λ names. pairs_after [] (map string_bytes words.now) ≡ Some (paths_of names)) }
     ensures usage { IsErrOf result WordsFault.Usage → pairs_after [] (map string_bytes words.now) ≡ None }
 {

@@ -5,6 +5,7 @@ use Rattle.meaning.specs.Text.{Text, same_text}
 use Rattle.meaning.specs.Cell.{datum}
 use Rattle.meaning.specs.Fault.{FaultValue}
 use Rattle.meaning.specs.FaultOf.{fault_of}
+use Rattle.table_meaning.specs.Settled.{IsSettled}
 use Rattle.table_meaning.specs.Table.{Table, table_value}
 use Rattle.table_meaning.specs.Value as value
 use Rattle.table_meaning.specs.Value.{Entry}
@@ -25,7 +26,8 @@ use Rattle.script_session.specs.declared.fault.StepFault.TheVariants.{Refused, I
 use Rattle.script_session.specs.declared.fault.EvalFault.{EvalFault}
 use Rattle.script_session.specs.declared.fault.EvalFault.TheVariants.{Refused as EvalRefused, Input as EvalInput, NoMemory as EvalNoMemory}
 use Rattle.script_session.specs.FormFault.{HasFormFault}
-use Rattle.script_session.specs.Reads.{Shelf, Goes, Halts, absent_name}
+use Rattle.outside_io.specs.Files.{FilesValue}
+use Rattle.script_session.specs.Reads.{Goes, Halts, absent_name}
 use Rattle.script_session.specs.Values.{World, objects_of, entry_in, Keeps}
 use Rattle.script_session.specs.Bindings.{Bindings, value_at, is_named, one_object, state_over, IsOf, KeepNamed, AreGiven, AreNamed}
 use Rattle.script_session.specs.Faults.{IsNoName, IsStepFault, IsRefusal, Performs, step_fault, marked_fault, Sets}
@@ -39,7 +41,7 @@ use Rattle.script_session.proofs.Rides.{goes_same, goes_to, halts_first, then_gi
 abbrev pub refusal : FaultValue → Answer
 refusal fault = refused fault false
 
-pub step_halts : (texts : List Text) (files : Files) (old new : Shelf) (whole : Reading Answer) (f : EvalFault) → Halts refusal texts files old new whole f → IsStepFault texts files old new whole (step_fault f)
+pub step_halts : (texts : List Text) (files : Files) (old new : FilesValue) (whole : Reading Answer) (f : EvalFault) → Halts refusal texts files old new whole f → IsStepFault texts files old new whole (step_fault f)
 step_halts texts files old new whole (EvalRefused c) h = h
 step_halts texts files old new whole EvalInput h = h
 step_halts texts files old new whole EvalNoMemory h = h
@@ -111,35 +113,36 @@ pub named_answers : (bs : Bindings) (w : World) (n : Text) (v : Value) → value
 named_answers bs w n v is go = ap (λ o. then_answer (at_once (value_of_name n (option_map (entry_in w) o))) go) is ∙ then_gives refusal (entry_in w v) go
 
 -- a name that stands for nothing
-pub unnamed_answers : (texts : List Text) (files : Files) (shelf : Shelf) (bs : Bindings) (w : World) (n : Text) (f : EvalFault) → IsNoName f n (value_at bs n) → (go : Entry → Reading Answer)
-    → Halts refusal texts files shelf shelf (then_answer (at_once (value_of_name n (option_map (entry_in w) (value_at bs n)))) go) f
-unnamed_answers texts files shelf bs w n f none go = halts_first texts files shelf shelf _ refusal go f (unnamed_fault texts files shelf bs w n f none)
+pub unnamed_answers : (texts : List Text) (files : Files) (seen : FilesValue) (bs : Bindings) (w : World) (n : Text) (f : EvalFault) → IsNoName f n (value_at bs n) → (go : Entry → Reading Answer)
+    → Halts refusal texts files seen seen (then_answer (at_once (value_of_name n (option_map (entry_in w) (value_at bs n)))) go) f
+unnamed_answers texts files seen bs w n f none go = halts_first texts files seen seen _ refusal go f (unnamed_fault texts files seen bs w n f none)
 
 -- a setting that was refused, with its mark
-pub set_refused : {texts : List Text} (files : Files) {first last : Shelf} {whole : Reading Answer} (s : State) (o : Option Text) (on : Value) (meant : Result Table FaultValue) (form : HasFormFault meant) (f : OpFault) (warned : Bool) (e : StepFault) (old new : World)
+pub set_refused : {texts : List Text} (files : Files) {first last : FilesValue} {whole : Reading Answer} (s : State) (o : Option Text) (on : Value) (meant : Result Table FaultValue) (form : HasFormFault meant) (f : OpFault) (warned : Bool) (e : StepFault) (old new : World)
     → Goes files.held first last whole (at_once (set_answer s o meant)) → texts ≡ new.texts → e ≡ marked_fault warned f → warned ≡ is_chained o → Sets (Err f) on meant old new → IsStepFault texts files first last whole e
 set_refused {texts} files {first} {last} {whole} s o on meant form f warned e old new goes same is marked sets = subst (IsStepFault texts files first last whole) (sym is) (at f sets)
   where
     at : (f : OpFault) → Sets (Err f) on meant old new → IsStepFault texts files first last whole (marked_fault warned f)
     at (OpRefused c) sets = (
-      goes_to goes (ap (λ a. at_once a) (ap (set_answer s o) sets.0.0 ∙ (λ j. refused (fault_of (sym same j) c) (sym marked j)))),
-      fault_uncaused new.texts files.paths first last c meant form sets.0.0,
+      goes_to goes (ap (λ a. at_once a) (ap (set_answer s o) sets.0.0.0 ∙ (λ j. refused (fault_of (sym same j) c) (sym marked j)))),
+      fault_uncaused new.texts files.paths first last c meant form sets.0.0.0,
+      subst (λ ts. IsSettled fault_of ts c) (sym same) sets.0.0.1,
     )
     at OpNoMemory sets = goes_spends goes
 
 -- what a statement that reads no file answers
-pub performs_once : (texts : List Text) (files : Files) (shelf : Shelf) (whole : Reading Answer) (s : State) (r : Result Outcome StepFault) → IfOk r (λ o. whole ≡ at_once (done s o.printed o.warned)) → IfErr r (λ f. IsRefusal texts f whole)
-    → Performs s texts files shelf shelf whole r
-performs_once texts files shelf whole s (Ok o) is f = goes_same is
-performs_once texts files shelf whole s (Err (Refused code warned)) is f = (goes_same f.0, uncaused files.paths shelf shelf (absent_name code) f.1)
-performs_once texts files shelf whole s (Err Input) is f = absurd f
-performs_once texts files shelf whole s (Err NoMemory) is f = spends_none
+pub performs_once : (texts : List Text) (files : Files) (seen : FilesValue) (whole : Reading Answer) (s : State) (r : Result Outcome StepFault) → IfOk r (λ o. whole ≡ at_once (done s o.printed o.warned)) → IfErr r (λ f. IsRefusal texts f whole)
+    → Performs s texts files seen seen whole r
+performs_once texts files seen whole s (Ok o) is f = goes_same is
+performs_once texts files seen whole s (Err (Refused code warned)) is f = (goes_same f.0, uncaused files.paths seen seen (absent_name code) f.1, f.2)
+performs_once texts files seen whole s (Err Input) is f = absurd f
+performs_once texts files seen whole s (Err NoMemory) is f = spends_none
 
-pub performs_by : (s : State) (texts : List Text) (files : Files) (old new : Shelf) {whole other : Reading Answer} (r : Result Outcome StepFault) → whole ≡ other → Performs s texts files old new other r → Performs s texts files old new whole r
+pub performs_by : (s : State) (texts : List Text) (files : Files) (old new : FilesValue) {whole other : Reading Answer} (r : Result Outcome StepFault) → whole ≡ other → Performs s texts files old new other r → Performs s texts files old new whole r
 performs_by s texts files old new r is h = subst (λ (a : Reading Answer). Performs s texts files old new a r) (sym is) h
 
 -- after a sweep, which keeps the state and the texts
-pub performs_after : {texts texts' : List Text} (files : Files) (old new : Shelf) (whole : Reading Answer) (s t : State) (r : Result Outcome StepFault) → Performs s texts files old new whole r → s ≡ t → texts ≡ texts'
+pub performs_after : {texts texts' : List Text} (files : Files) (old new : FilesValue) (whole : Reading Answer) (s t : State) (r : Result Outcome StepFault) → Performs s texts files old new whole r → s ≡ t → texts ≡ texts'
     → Performs t texts' files old new whole r
 performs_after {texts} {texts'} files old new whole s t (Ok o) h e same = subst (λ s. Performs s texts files old new whole (Ok o)) e h
 performs_after {texts} {texts'} files old new whole s t (Err f) h e same = subst (λ ts. IsStepFault ts files old new whole f) same h

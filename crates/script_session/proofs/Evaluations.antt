@@ -16,7 +16,8 @@ use Rattle.script_session.specs.Bindings.{value_at, IsOf}
 use Rattle.script_session.specs.Evaluates.{Moment, IsValue, Evaluates}
 use Rattle.script_session.specs.Faults.{IsNoAttribute, IsNoName, Forms, evaluated}
 use Rattle.script_session.specs.FormFault.{HasFormFault}
-use Rattle.script_session.specs.Reads.{Shelf, Serves, Halts, Reaches, files_in}
+use Rattle.outside_io.specs.Files.{FilesValue, Serves}
+use Rattle.script_session.specs.Reads.{Halts, Reaches, files_in}
 use Rattle.script_session.specs.Values.{World, Keeps, IsKnownValue, entry_in}
 use Rattle.script_session.specs.Work.{names_in, world_of, state_in}
 use Rattle.script_session.specs.declared.file_names.FileName.{FileName}
@@ -29,8 +30,8 @@ use Rattle.script_session.proofs.States.{state_kept}
 use Rattle.script_session.proofs.Worlds.{keeps_both, keeps_same, form_keeps, form_known}
 
 -- the names, the objects and the files as they were
-abbrev pub moment_of : Work → Shelf → Moment
-moment_of w s = record { work = w; shelf = s }
+abbrev pub moment_of : Work → FilesValue → Moment
+moment_of w s = record { work = w; files = s }
 
 -- a value that no name stands for, and that of a name
 pub value_if : (w : Work) (r : Result Value EvalFault) → IfOk r (λ v. IsKnownValue (world_of w) v) → IfOk r (λ v. IsOf (names_in w) None v) → IfOk r (IsValue None w)
@@ -55,14 +56,14 @@ module _ {paths : List FileName} where
           names = x.names;
           kept = x.kept;
           serves = x.serves;
-          reads = λ held. reaches_by (view (world_of new.work)) (world_of new.work).texts (files_in paths held) old.shelf new.shelf r (is (files_in paths held)) (x.reads held);
+          reads = λ held. reaches_by (view (world_of new.work)) (world_of new.work).texts (files_in paths held) old.files new.files r (is (files_in paths held)) (x.reads held);
           found = x.found;
         }
 
     -- what isn't built
     pub refuses : {meant : Files → State → Reads A} {at : Moment} → ((files : Files) → meant files (state_in at.work) ≡ at_once (Err not_built)) → Evaluates paths known view meant at at (Err (Refused NotBuilt))
     refuses {meant} {at} is =
-        record { names = refl; kept = keeps_same _ _ refl; serves = serves_self at.shelf; reads = λ held. (goes_same (is (files_in paths held)), tt); found = tt }
+        record { names = refl; kept = keeps_same _ _ refl; serves = serves_self at.files; reads = λ held. (goes_same (is (files_in paths held)), tt, λ more. refl); found = tt }
 
     -- memory was refused before anything was evaluated
     pub runs_out : {meant : Files → State → Reads A} {at : Moment} (r : Result V EvalFault) → IsErrAnd r (λ e. e ≡ NoMemory) → Evaluates paths known view meant at at r
@@ -71,8 +72,8 @@ module _ {paths : List FileName} where
         record {
           names = refl;
           kept = keeps_same _ _ refl;
-          serves = serves_self at.shelf;
-          reads = λ held. subst (λ (f : EvalFault). Halts Err (world_of at.work).texts (files_in paths held) at.shelf at.shelf (meant (files_in paths held) (state_in at.work)) f) (sym is) spends_none;
+          serves = serves_self at.files;
+          reads = λ held. subst (λ (f : EvalFault). Halts Err (world_of at.work).texts (files_in paths held) at.files at.files (meant (files_in paths held) (state_in at.work)) f) (sym is) spends_none;
           found = tt;
         }
 
@@ -86,8 +87,8 @@ module _ {paths : List FileName} where
           kept = x.kept;
           serves = x.serves;
           reads = λ held. let files = files_in paths held in let whole = then_read (first files (state_in old.work)) (go files (state_in old.work)) in
-              subst (λ (e : EvalFault). Halts Err (world_of new.work).texts files old.shelf new.shelf whole e) (sym is)
-              (halts_first (world_of new.work).texts files old.shelf new.shelf (first files (state_in old.work)) Err (go files (state_in old.work)) f (x.reads held));
+              subst (λ (e : EvalFault). Halts Err (world_of new.work).texts files old.files new.files whole e) (sym is)
+              (halts_first (world_of new.work).texts files old.files new.files (first files (state_in old.work)) Err (go files (state_in old.work)) f (x.reads held));
           found = tt;
         }
 
@@ -100,7 +101,7 @@ module _ {paths : List FileName} where
           kept = keeps_both (world_of old.work) (world_of mid.work) (world_of new.work) x.kept y.kept;
           serves = serves_both x.serves y.serves;
           reads = λ held. let files = files_in paths held in let s = state_in old.work in let a = view (world_of mid.work) v in
-              reaches_both (view' (world_of new.work)) (world_of new.work).texts files new.shelf r x.serves
+              reaches_both (view' (world_of new.work)) (world_of new.work).texts files new.files r x.serves
               (goes_value Err (go files s) a (go files (state_in mid.work) a) (x.reads held) (ap (λ t. go files t a) (sym (state_after x))))
               (y.reads held);
           found = y.found;
@@ -115,7 +116,7 @@ module _ {paths : List FileName} where
         names = x.names;
         kept = x.kept;
         serves = x.serves;
-        reads = λ held. let files = files_in paths held in subst (λ (e : EvalFault). Halts Err (world_of new.work).texts files old.shelf new.shelf (meant files (state_in old.work)) e) (sym is) (x.reads held);
+        reads = λ held. let files = files_in paths held in subst (λ (e : EvalFault). Halts Err (world_of new.work).texts files old.files new.files (meant files (state_in old.work)) e) (sym is) (x.reads held);
         found = tt;
       }
 
@@ -124,7 +125,7 @@ module _ {paths : List FileName} where
   becomes v v' x known is = record { names = x.names; kept = x.kept; serves = x.serves; reads = λ held. goes_to (x.reads held) (ap (λ a. gives a) (sym is)); found = known }
 
   -- objects and texts are added to
-  pub adds : {V A : Type 0} {known : Work → V → Type 0} {view : World → V → A} {meant : Files → State → Reads A} {old : Moment} (w u : Work) {s : Shelf} (v : V) → Evaluates paths known view meant old (moment_of w s) (Ok v) → names_in u ≡ names_in w → Keeps (world_of w) (world_of u)
+  pub adds : {V A : Type 0} {known : Work → V → Type 0} {view : World → V → A} {meant : Files → State → Reads A} {old : Moment} (w u : Work) {s : FilesValue} (v : V) → Evaluates paths known view meant old (moment_of w s) (Ok v) → names_in u ≡ names_in w → Keeps (world_of w) (world_of u)
       → known u v → view (world_of u) v ≡ view (world_of w) v → Evaluates paths known view meant old (moment_of u s) (Ok v)
   adds w u v x names kept known is =
       record { names = names ∙ x.names; kept = keeps_both _ (world_of w) (world_of u) x.kept kept; serves = x.serves; reads = λ held. goes_to (x.reads held) (ap (λ a. gives a) (sym is)); found = known }
@@ -144,7 +145,7 @@ module _ {paths : List FileName} where
 
   -- a value that is there
   pub stays : {V A : Type 0} {known : Work → V → Type 0} {view : World → V → A} {at : Moment} (v : V) → known at.work v → Evaluates paths known view (λ files s. gives (view (world_of at.work) v)) at at (Ok v)
-  stays {at = at} v known = record { names = refl; kept = keeps_same _ _ refl; serves = serves_self at.shelf; reads = λ held. goes_same refl; found = known }
+  stays {at = at} v known = record { names = refl; kept = keeps_same _ _ refl; serves = serves_self at.files; reads = λ held. goes_same refl; found = known }
 
   -- an expression that is of this name, or none
   pub as_value : {other : Files → State → Reads Entry} {old new : Moment} {r : Result Value EvalFault} (x : Expr) (name : Option Text) → Evaluates paths (IsValue name) entry_in other old new r → named_by (expr_of x) ≡ name
@@ -153,7 +154,7 @@ module _ {paths : List FileName} where
       evaluates_by (subst (λ (n : Option Text). Evaluates paths (IsValue n) entry_in other old new r) (sym named) y) is
 
   -- what a form answers
-  pub forms : (w u : Work) {s : Shelf} (meant : Result Entry FaultValue) → HasFormFault meant → names_in u ≡ names_in w → (r : Result Value OpFault) (r' : Result Value EvalFault) → r' ≡ evaluated r → Forms r meant (world_of w) (world_of u)
+  pub forms : (w u : Work) {s : FilesValue} (meant : Result Entry FaultValue) → HasFormFault meant → names_in u ≡ names_in w → (r : Result Value OpFault) (r' : Result Value EvalFault) → r' ≡ evaluated r → Forms r meant (world_of w) (world_of u)
       → Evaluates paths (IsValue None) entry_in (λ files t. at_once meant) (moment_of w s) (moment_of u s) r'
   forms w u {s} meant form names r r' is answers =
       record {
@@ -175,15 +176,15 @@ module _ {paths : List FileName} where
       record {
         names = refl;
         kept = keeps_same _ _ refl;
-        serves = serves_self at.shelf;
+        serves = serves_self at.files;
         reads = λ held. let files = files_in paths held in
-            subst (λ (e : EvalFault). Halts Err (world_of at.work).texts files at.shelf at.shelf (where_named there n (meant files (state_in at.work))) e) (sym is)
-            (unknown_fault (world_of at.work).texts files at.shelf f there n (meant files (state_in at.work)) none);
+            subst (λ (e : EvalFault). Halts Err (world_of at.work).texts files at.files at.files (where_named there n (meant files (state_in at.work))) e) (sym is)
+            (unknown_fault (world_of at.work).texts files at.files f there n (meant files (state_in at.work)) none);
         found = tt;
       }
 
   -- the value of a name, and one that is written out
-  pub names_value : (w : Work) {s : Shelf} (n : Text) (r : Result Value EvalFault) → IfOk r (λ v. value_at (names_in w) n ≡ Some v) → IfOk r (λ v. IsKnownValue (world_of w) v) → IfErr r (λ f. IsNoName f n (value_at (names_in w) n))
+  pub names_value : (w : Work) {s : FilesValue} (n : Text) (r : Result Value EvalFault) → IfOk r (λ v. value_at (names_in w) n ≡ Some v) → IfOk r (λ v. IsKnownValue (world_of w) v) → IfErr r (λ f. IsNoName f n (value_at (names_in w) n))
       → Evaluates paths (IsValue (Some n)) entry_in (λ files t. at_once (value_of_name n (t.value n))) (moment_of w s) (moment_of w s) r
   names_value w {s} n r is known none =
       record {
@@ -194,7 +195,7 @@ module _ {paths : List FileName} where
         found = named_if w n r is known;
       }
 
-  pub writes_out : (w u : Work) {s : Shelf} (e : Entry) (r : Result Value EvalFault) → names_in u ≡ names_in w → Keeps (world_of w) (world_of u) → IfOk r (λ v. entry_in (world_of u) v ≡ e) → IfOk r (λ v. IsKnownValue (world_of u) v) → IfOk r (λ v. IsOf (names_in u) None v)
+  pub writes_out : (w u : Work) {s : FilesValue} (e : Entry) (r : Result Value EvalFault) → names_in u ≡ names_in w → Keeps (world_of w) (world_of u) → IfOk r (λ v. entry_in (world_of u) v ≡ e) → IfOk r (λ v. IsKnownValue (world_of u) v) → IfOk r (λ v. IsOf (names_in u) None v)
       → IfErr r (λ f. f ≡ NoMemory) → Evaluates paths (IsValue None) entry_in (λ files t. gives e) (moment_of w s) (moment_of u s) r
   writes_out w u {s} e r names kept is known object memory =
       record { names = names; kept = kept; serves = serves_self s; reads = λ held. made_reads (files_in paths held) s (world_of u) e r is memory; found = value_if u r known object }

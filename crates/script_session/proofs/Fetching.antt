@@ -1,5 +1,5 @@
 -- The file of a name, as it is fetched.
-use Rattle.std.proofs.Common.{◌≡◌, ◌<◌, ◌^◌, ◌+◌, ℕ, Bool, true, false, List, [], ◌∷◌, length, Option, Some, None, sym, ◌∙◌, ap, subst, arith, inl, inr}
+use Rattle.std.proofs.Common.{◌≡◌, ◌<◌, ◌^◌, ◌+◌, ℕ, Bool, true, false, List, [], ◌∷◌, length, Option, Some, None, refl, sym, ◌∙◌, ap, subst, arith, inl, inr}
 use Rattle.std.specs.Prelude.{Result, Ok, Err, nat_lt, if◌then◌else◌}
 use Rattle.std.specs.FinMap.{get}
 use Rattle.std.specs.Str.Lossy.{utf8_valid_len}
@@ -9,6 +9,7 @@ use Rattle.outside_io.specs.Whole.{IsWholeFile, IsLonger, IsAbsent}
 use Rattle.meaning.specs.Text.{Text, Contents}
 use Rattle.meaning.specs.Fault.{FaultValue, limit}
 use Rattle.meaning.specs.FaultOf.{fault_of}
+use Rattle.table_meaning.specs.Settled.{IsSettled}
 use Rattle.table_meaning.specs.Value.{Given, NamedGiven, dict_in}
 use Rattle.form_meaning.specs.declared.Function.TheVariants.{ReadCsv}
 use Rattle.std.proofs.lemmas.Bool.Decides.{nat_tests}
@@ -23,7 +24,8 @@ use Rattle.script_session.specs.declared.file_names.FileName.{FileName}
 use Rattle.script_session.specs.declared.fault.EvalFault.{EvalFault}
 use Rattle.script_session.specs.declared.fault.EvalFault.TheVariants.{Refused, Input, NoMemory}
 use Rattle.script_session.specs.Faults.{IsNoFile}
-use Rattle.script_session.specs.Reads.{Shelf, Holds, Goes, Stuck, Spends, Halts, RefusesLong, IsCaused, absent_name, paths_of, files_in}
+use Rattle.outside_io.specs.Files.{FilesValue}
+use Rattle.script_session.specs.Reads.{Holds, Goes, Stuck, Spends, Halts, RefusesLong, IsCaused, absent_name, paths_of, files_in}
 use Rattle.script_session.proofs.Rides.{goes_same, spends_none}
 
 module _ {A : Type 0} (texts : List Text) (names : List FileName) (held : Contents) (name : Text) (go : List ℕ → Result A FaultValue) where
@@ -31,15 +33,16 @@ module _ {A : Type 0} (texts : List Text) (names : List FileName) (held : Conten
   whole = of_file (files_in names held) name go
 
   -- a name that stands for no path
-  pub unnamed_file : (s : Shelf) (f : EvalFault) → path_of_name (paths_of names) name ≡ None → IsNoFile f name → Halts Err texts (files_in names held) s s whole f
+  pub unnamed_file : (s : FilesValue) (f : EvalFault) → path_of_name (paths_of names) name ≡ None → IsNoFile f name → Halts Err texts (files_in names held) s s whole f
   unnamed_file s (Refused c) none is = (
     goes_same (ap (λ p. of_path held name p go) none ∙ ap (λ c. let r : Reads A = at_once (Err (fault_of texts c)) in r) (sym is)),
     subst (λ c. IsCaused (paths_of names) s s (absent_name c)) (sym is) (inl none),
+    subst (IsSettled fault_of texts) (sym is) (λ more. refl),
   )
   unnamed_file s Input none is = absurd is
   unnamed_file s NoMemory none is = spends_none
 
-  module _ (path : Text) (found : path_of_name (paths_of names) name ≡ Some path) (old new : Shelf) (once : new.fetches ≡ raised old.fetches 1) where
+  module _ (path : Text) (found : path_of_name (paths_of names) name ≡ Some path) (old new : FilesValue) (once : new.fetches ≡ raised old.fetches 1) where
     whole_fetches : whole.fetches ≡ 1 + 0
     whole_fetches = ap (λ p. (of_path held name p go).fetches) found
 
@@ -62,7 +65,11 @@ module _ {A : Type 0} (texts : List Text) (names : List FileName) (held : Conten
         at (Some told) is h = ap (λ c. of_bytes name (get c path) go) h ∙ ap (λ o. of_bytes name o go) is
 
     pub absent_file : (f : EvalFault) → IsNoFile f name → IsAbsent old.contents path → HasRisen old.absences new.absences → Halts Err texts (files_in names held) old new whole f
-    absent_file (Refused c) none is risen = (fetched (Err (fault_of texts c)) (at old.contents is), subst (λ c. IsCaused (paths_of names) old new (absent_name c)) (sym none) (inr risen))
+    absent_file (Refused c) none is risen = (
+      fetched (Err (fault_of texts c)) (at old.contents is),
+      subst (λ c. IsCaused (paths_of names) old new (absent_name c)) (sym none) (inr risen),
+      subst (IsSettled fault_of texts) (sym none) (λ more. refl),
+    )
       where
         at : (contents : Option Contents) → IsAbsent contents path → Holds contents 1 whole.fetches held → of_bytes name (get held path) go ≡ Err (fault_of texts c)
         at None is h = absurd (never h)

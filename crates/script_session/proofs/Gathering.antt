@@ -5,7 +5,8 @@ use Rattle.meaning.specs.Text.{Contents}
 use Rattle.script_meaning.specs.Reading.{Files, Reads, gives}
 use Rattle.script_meaning.specs.State.{State}
 use Rattle.script_session.specs.Evaluates.{Moment, Evaluates}
-use Rattle.script_session.specs.Reads.{Serves, Goes, Halts, files_in}
+use Rattle.outside_io.specs.Files.{Serves}
+use Rattle.script_session.specs.Reads.{Goes, Halts, files_in}
 use Rattle.script_session.specs.Values.{World, Keeps}
 use Rattle.script_session.specs.Work.{names_in, world_of, state_in}
 use Rattle.script_session.specs.declared.file_names.FileName.{FileName}
@@ -20,8 +21,8 @@ use Rattle.script_session.proofs.Worlds.{keeps_both, keeps_same}
 pub record Gathers {L : Type 0} (paths : List FileName) (join : L → L → L) (whole rest : Files → State → Reads L) (so_far : L) (old new : Moment) : Type 0 where
   pub names : names_in new.work ≡ names_in old.work
   pub kept : Keeps (world_of old.work) (world_of new.work)
-  pub serves : Serves old.shelf new.shelf
-  pub seen : (held : Contents) → Goes held old.shelf new.shelf (whole (files_in paths held) (state_in old.work)) (joined join so_far (rest (files_in paths held) (state_in old.work)))
+  pub serves : Serves old.files new.files
+  pub seen : (held : Contents) → Goes held old.files new.files (whole (files_in paths held) (state_in old.work)) (joined join so_far (rest (files_in paths held) (state_in old.work)))
 
 module _ {paths : List FileName} {L : Type 0} {join : L → L → L} {whole : Files → State → Reads L} where
   -- all parts are there
@@ -41,7 +42,7 @@ module _ {paths : List FileName} {L : Type 0} {join : L → L → L} {whole all 
   before : {G : Type 0} (first : Files → State → Reads G) (files : Files) → first files (state_in old.work) ≡ first files (state_in mid.work)
   before first files = ap (λ s. first files s) (sym (state_kept old.work mid.work x.names x.kept))
 
-  seen_as : (some : Files → Reads L) → ((files : Files) → all files (state_in old.work) ≡ some files) → (held : Contents) → let files = files_in paths held in Goes held old.shelf mid.shelf (whole files (state_in old.work)) (joined join so_far (some files))
+  seen_as : (some : Files → Reads L) → ((files : Files) → all files (state_in old.work) ≡ some files) → (held : Contents) → let files = files_in paths held in Goes held old.files mid.files (whole files (state_in old.work)) (joined join so_far (some files))
   seen_as some is held = goes_to (x.seen held) (ap (joined join so_far) (is (files_in paths held)))
 
 module _ {paths : List FileName} {G L : Type 0} (cons : G → L → L) {join : L → L → L} {whole all : Files → State → Reads L} {so_far : L} {first : Files → State → Reads G} (rest : Files → State → Reads L) {old mid new : Moment} (x : Gathers paths join whole all so_far old mid)
@@ -68,8 +69,8 @@ module _ {paths : List FileName} {G L : Type 0} (cons : G → L → L) {join : L
             kept = keeps_both (world_of old.work) (world_of mid.work) (world_of new.work) x.kept y.kept;
             serves = serves_both x.serves y.serves;
             reads = λ held. let files = files_in paths held in let s = state_in old.work in
-                subst (λ (e : EvalFault). Halts Err (world_of new.work).texts files old.shelf new.shelf (whole files s) e) (sym same)
-                (loop_fault (world_of new.work).texts files new.shelf cons join x.serves (first files s) (rest files s) so_far (seen_as x (λ files. ahead cons (first files (state_in old.work)) (rest files (state_in old.work))) is held) f (subst (λ r. Halts Err (world_of new.work).texts files mid.shelf new.shelf r f) (sym (before x first files)) (y.reads held)));
+                subst (λ (e : EvalFault). Halts Err (world_of new.work).texts files old.files new.files (whole files s) e) (sym same)
+                (loop_fault (world_of new.work).texts files new.files cons join x.serves (first files s) (rest files s) so_far (seen_as x (λ files. ahead cons (first files (state_in old.work)) (rest files (state_in old.work))) is held) f (subst (λ r. Halts Err (world_of new.work).texts files mid.files new.files r f) (sym (before x first files)) (y.reads held)));
             found = tt;
           }
 
@@ -82,7 +83,7 @@ module _ {paths : List FileName} {G L : Type 0} (cons : G → L → L) {join : L
             kept = keeps_both (world_of old.work) (world_of mid.work) (world_of new.work) x.kept y.kept;
             serves = serves_both x.serves y.serves;
             reads = λ held. let files = files_in paths held in let s = state_in old.work in
-                subst (λ (e : EvalFault). Halts Err (world_of new.work).texts files old.shelf new.shelf (whole files s) e) (sym same)
+                subst (λ (e : EvalFault). Halts Err (world_of new.work).texts files old.files new.files (whole files s) e) (sym same)
                 (loop_spends cons join x.serves (first files s) (rest files s) so_far (seen_as x (λ files. ahead cons (first files (state_in old.work)) (rest files (state_in old.work))) is held) (view (world_of new.work) v) (goes_by (before x first files) (y.reads held)));
             found = tt;
           }

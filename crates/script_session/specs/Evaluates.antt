@@ -1,5 +1,5 @@
 -- What an evaluation does, with the files that it reads on the way.
-use Rattle.std.specs.Prelude.{◌≡◌, ℕ, List, Option, option_map, Result, IfOk, IfSome}
+use Rattle.std.specs.Prelude.{◌≡◌, List, Option, option_map, Result, IfOk, IfSome}
 use Rattle.meaning.specs.Text.{Text, Contents}
 use Rattle.table_meaning.specs.Value.{Given, GivenList, GivenPairs, GivenSub, NamedGiven}
 use Rattle.frame_store.specs.Arguments.{item_of, items_of, argument_of, entries_of, arguments_of, subscript_of}
@@ -14,7 +14,8 @@ use Rattle.frame_store.specs.declared.arguments.Subscript.{Subscript}
 use Rattle.script_meaning.specs.Reading.{Files, Reads}
 use Rattle.script_meaning.specs.State.{State}
 use Rattle.script_session.specs.Bindings.{IsOf}
-use Rattle.script_session.specs.Reads.{Shelf, shelf, files_in, Serves, Reaches}
+use Rattle.outside_io.specs.Files.{FilesValue, Serves}
+use Rattle.script_session.specs.Reads.{files_in, Reaches}
 use Rattle.script_session.specs.Values.{World, Keeps, IsKnownValue, IsKnownSubscript}
 use Rattle.script_session.specs.Work.{names_in, world_of, state_in}
 use Rattle.script_session.specs.declared.file_names.FileName.{FileName}
@@ -24,10 +25,10 @@ use Rattle.script_session.specs.declared.work.Work.{Work}
 -- where a statement stands: the names, objects and texts, and what is seen of the files
 pub record Moment : Type 0 where
   pub work : Work
-  pub shelf : Shelf
+  pub files : FilesValue
 
-abbrev pub moment : {F : Type 0} → (F → Option Contents) → (F → ℕ) → (F → ℕ) → (F → ℕ) → Work → F → Moment
-moment contents fetches faults absences w f = record { work = w; shelf = shelf contents fetches faults absences f }
+abbrev pub moment : {F : Type 0} → (F → FilesValue) → Work → F → Moment
+moment seen w f = record { work = w; files = seen f }
 
 -- the value of that name, or one that no name stands for
 pub record IsValue (name : Option Text) (w : Work) (v : Value) : Type 0 where
@@ -38,8 +39,8 @@ pub record IsValue (name : Option Text) (w : Work) (v : Value) : Type 0 where
 pub record Evaluates {V A : Type 0} (paths : List FileName) (known : Work → V → Type 0) (view : World → V → A) (meant : Files → State → Reads A) (old new : Moment) (result : Result V EvalFault) : Type 0 where
   pub names : names_in new.work ≡ names_in old.work
   pub kept : Keeps (world_of old.work) (world_of new.work)
-  pub serves : Serves old.shelf new.shelf
-  pub reads : (held : Contents) → Reaches (view (world_of new.work)) (world_of new.work).texts (files_in paths held) old.shelf new.shelf (meant (files_in paths held) (state_in old.work)) result
+  pub serves : Serves old.files new.files
+  pub reads : (held : Contents) → Reaches (view (world_of new.work)) (world_of new.work).texts (files_in paths held) old.files new.files (meant (files_in paths held) (state_in old.work)) result
   pub found : IfOk result (known new.work)
 
 -- parts of arguments, as they are seen

@@ -5,6 +5,7 @@ use Rattle.meaning.specs.Text.{Text}
 use Rattle.meaning.specs.Cell.{IsLonger}
 use Rattle.meaning.specs.Fault.{FaultValue}
 use Rattle.meaning.specs.FaultOf.{fault_of}
+use Rattle.table_meaning.specs.Settled.{IsSettled}
 use Rattle.table_meaning.specs.Table.{Table}
 use Rattle.table_meaning.specs.Value.{Entry}
 use Rattle.frame_store.specs.Shown.{FormAnswers, Changes}
@@ -19,7 +20,8 @@ use Rattle.script_session.specs.declared.fault.EvalFault.TheVariants.{Refused as
 use Rattle.script_session.specs.declared.fault.Outcome.{Outcome}
 use Rattle.script_session.specs.declared.fault.StepFault.{StepFault}
 use Rattle.script_session.specs.declared.fault.StepFault.TheVariants.{Refused, Input, NoMemory}
-use Rattle.script_session.specs.Reads.{Shelf, Goes, Stuck, Spends, IsCaused, absent_name}
+use Rattle.outside_io.specs.Files.{FilesValue}
+use Rattle.script_session.specs.Reads.{Goes, Stuck, Spends, IsCaused, absent_name}
 use Rattle.script_session.specs.Values.{World, objects_of}
 
 -- the fault of a form as one of an evaluation
@@ -56,25 +58,25 @@ step_fault (EvalRefused c) = Refused c false
 step_fault EvalInput = Input
 step_fault EvalNoMemory = NoMemory
 
--- the same with a mark
+-- the fault of a setting, with a mark
 abbrev pub marked_fault : Bool → OpFault → StepFault
 marked_fault warned (OpRefused c) = Refused c warned
 marked_fault warned OpNoMemory = NoMemory
 
--- The answer is that refusal with its mark, a file could not be read, or memory was refused.
-abbrev pub IsStepFault : List Text → Files → Shelf → Shelf → Reading Answer → StepFault → Type 0
-IsStepFault texts files old new answer (Refused code warned) = Goes files.held old new answer (at_once (refused (fault_of texts code) warned)) × IsCaused files.paths old new (absent_name code)
+-- The answer is that refusal with its mark, and its texts were given their numbers; or a file could not be read, or memory was refused.
+abbrev pub IsStepFault : List Text → Files → FilesValue → FilesValue → Reading Answer → StepFault → Type 0
+IsStepFault texts files old new answer (Refused code warned) = Goes files.held old new answer (at_once (refused (fault_of texts code) warned)) × IsCaused files.paths old new (absent_name code) × IsSettled fault_of texts code
 IsStepFault texts files old new answer Input = Stuck files.held old new answer
 IsStepFault texts files old new answer NoMemory = Spends files.held old new answer
 
 -- what a statement answers: its outcome, after which the names stand for this state, or why it wasn't done
-abbrev pub Performs : State → List Text → Files → Shelf → Shelf → Reading Answer → Result Outcome StepFault → Type 0
+abbrev pub Performs : State → List Text → Files → FilesValue → FilesValue → Reading Answer → Result Outcome StepFault → Type 0
 Performs s texts files old new answer (Ok o) = Goes files.held old new answer (at_once (done s o.printed o.warned))
 Performs s texts files old new answer (Err fault) = IsStepFault texts files old new answer fault
 
--- the same refusal of a statement that reads no file
+-- the refusal is the answer of a statement that reads no file, or memory was refused
 abbrev pub IsRefusal : List Text → StepFault → Reading Answer → Type 0
-IsRefusal texts (Refused code warned) answer = (answer ≡ at_once (refused (fault_of texts code) warned)) × (absent_name code ≡ None)
+IsRefusal texts (Refused code warned) answer = (answer ≡ at_once (refused (fault_of texts code) warned)) × (absent_name code ≡ None) × IsSettled fault_of texts code
 IsRefusal texts Input answer = ⊥
 IsRefusal texts NoMemory answer = Unit {0}
 

@@ -24,13 +24,13 @@ impl Work {
 
     // The value of an expression.
     #[cycle(evaluating)]
-    pub fn evaluate<F: Files>(
+    pub(crate) fn evaluate<F: Files>(
         &mut self,
         files: &mut F,
         names: &FileNames,
         expr: &Expr,
     ) -> Result<Value, EvalFault>
-        ensures { let at = moment F.contents F.fetches F.faults F.absences in
+        ensures { let at = moment F.seen in
             Evaluates names.now (IsValue (named_by (expr_of expr.now))) entry_in
             (λ fs s. value_of fs s (expr_of expr.now))
             (at self.old files.old) (at self.new files.new) result }
@@ -74,7 +74,7 @@ impl Work {
         step: &Step,
     ) -> Result<Value, EvalFault>
         requires { IsKnownValue (world_of self.old) on }
-        ensures { let at = moment F.contents F.fetches F.faults F.absences in
+        ensures { let at = moment F.seen in
             Evaluates names.now (IsValue None) entry_in
             (λ fs s. stepped fs s (entry_in (world_of self.old) on) (step_of step.now))
             (at self.old files.old) (at self.new files.new) result }
@@ -125,7 +125,7 @@ impl Work {
         by: &Option<Arg>,
         more: &Args,
     ) -> Result<(NamedList, Argument, NamedList), EvalFault>
-        ensures { let at = moment F.contents F.fetches F.faults F.absences in
+        ensures { let at = moment F.seen in
             Evaluates names.now (λ w p. AreKnownArguments (world_of w) p.2.items.items) (λ w p. arguments_in w p.2)
             (λ fs s. last_of (named_of fs s (named_args (named_parts_of args.now))) (bound_of fs s (optional_arg by.now)) (named_of fs s (named_args (named_parts_of more.now))))
             (at self.old files.old) (at self.new files.new) result }
@@ -138,14 +138,14 @@ impl Work {
 
     // What stands in the brackets of an accessor.
     #[cycle(evaluating)]
-    pub fn subscripts<F: Files>(
+    pub(crate) fn subscripts<F: Files>(
         &mut self,
         files: &mut F,
         names: &FileNames,
         first: &Sub,
         second: &Option<Sub>,
     ) -> Result<(Subscript, Option<Subscript>), EvalFault>
-        ensures { let at = moment F.contents F.fetches F.faults F.absences in
+        ensures { let at = moment F.seen in
             Evaluates names.now AreSubscripts subscripts_in
             (λ fs s. both_of (sub_of fs s (view_sub first.now)) (second_of fs s (optional_sub second.now)))
             (at self.old files.old) (at self.new files.new) result }
@@ -168,7 +168,7 @@ impl Work {
         names: &FileNames,
         sub: &Sub,
     ) -> Result<Subscript, EvalFault>
-        ensures { let at = moment F.contents F.fetches F.faults F.absences in
+        ensures { let at = moment F.seen in
             Evaluates names.now (λ w x. IsKnownSubscript (world_of w) x) subscript_in
             (λ fs s. sub_of fs s (view_sub sub.now))
             (at self.old files.old) (at self.new files.new) result }
@@ -200,7 +200,7 @@ impl Work {
         names: &FileNames,
         arg: &Option<Arg>,
     ) -> Result<Argument, EvalFault>
-        ensures { let at = moment F.contents F.fetches F.faults F.absences in
+        ensures { let at = moment F.seen in
             Evaluates names.now (λ w a. IsKnownArgument (world_of w) a) argument_in
             (λ fs s. bound_of fs s (optional_arg arg.now))
             (at self.old files.old) (at self.new files.new) result }
@@ -213,13 +213,13 @@ impl Work {
 
     // An argument.
     #[cycle(evaluating)]
-    pub fn given<F: Files>(
+    pub(crate) fn given<F: Files>(
         &mut self,
         files: &mut F,
         names: &FileNames,
         arg: &Arg,
     ) -> Result<Argument, EvalFault>
-        ensures { let at = moment F.contents F.fetches F.faults F.absences in
+        ensures { let at = moment F.seen in
             Evaluates names.now (λ w a. IsKnownArgument (world_of w) a) argument_in
             (λ fs s. given_of fs s (arg_of arg.now))
             (at self.old files.old) (at self.new files.new) result }
@@ -253,7 +253,7 @@ impl Work {
         names: &FileNames,
         arg: &Arg,
     ) -> Result<Item, EvalFault>
-        ensures { let at = moment F.contents F.fetches F.faults F.absences in
+        ensures { let at = moment F.seen in
             Evaluates names.now (λ w i. IsKnownItem (world_of w) i) item_in
             (λ fs s. part_of fs s (arg_of arg.now))
             (at self.old files.old) (at self.new files.new) result }
@@ -279,7 +279,7 @@ impl Work {
         names: &FileNames,
         parts: &ArgList,
     ) -> Result<Items, EvalFault>
-        ensures { let at = moment F.contents F.fetches F.faults F.absences in
+        ensures { let at = moment F.seen in
             Evaluates names.now (λ w l. AreKnownItems (world_of w) l.items.items) items_in
             (λ fs s. parts_given fs s (arg_list (parts_of parts.now)))
             (at self.old files.old) (at self.new files.new) result }
@@ -300,7 +300,7 @@ impl Work {
         names: &FileNames,
         pairs: &ArgPairs,
     ) -> Result<Entries, EvalFault>
-        ensures { let at = moment F.contents F.fetches F.faults F.absences in
+        ensures { let at = moment F.seen in
             Evaluates names.now (λ w l. AreKnownPairs (world_of w) l.pairs.items) pairs_in
             (λ fs s. pairs_of fs s (arg_pairs (pair_parts_of pairs.now)))
             (at self.old files.old) (at self.new files.new) result }
@@ -323,7 +323,7 @@ impl Work {
         names: &FileNames,
         args: &Args,
     ) -> Result<NamedList, EvalFault>
-        ensures { let at = moment F.contents F.fetches F.faults F.absences in
+        ensures { let at = moment F.seen in
             Evaluates names.now (λ w l. AreKnownArguments (world_of w) l.items.items) arguments_in
             (λ fs s. named_of fs s (named_args (named_parts_of args.now)))
             (at self.old files.old) (at self.new files.new) result }

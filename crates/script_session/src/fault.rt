@@ -61,7 +61,7 @@ impl From<EvalFault> for StepFault {
 
 // Why a value isn't found.
 #[derive(Drop)]
-pub enum EvalFault {
+pub(crate) enum EvalFault {
     Refused(Code),
     Input,
     NoMemory,
@@ -93,7 +93,7 @@ impl From<OpFault> for EvalFault {
 }
 
 // What a form answers, as an evaluation answers it.
-pub fn evaluated(made: Result<Value, OpFault>) -> Result<Value, EvalFault>
+pub(crate) fn evaluated(made: Result<Value, OpFault>) -> Result<Value, EvalFault>
     ensures { result ≡ evaluated made }
 {
     match made {

@@ -10,7 +10,8 @@ ghost use Rattle.script_meaning.specs.Reading.{at_once, then_read, of_file};
 ghost use Rattle.script_meaning.specs.Expression.{made};
 ghost use Rattle.script_session.specs.Values.{Keeps, IsKnownValue, AreKnownArguments, entry_in};
 ghost use Rattle.script_session.specs.Bindings.{IsOf};
-ghost use Rattle.script_session.specs.Reads.{files_in, shelf, Serves, Reaches, ReachesBytes, RefusesLong};
+ghost use Rattle.outside_io.specs.Files.{Serves};
+ghost use Rattle.script_session.specs.Reads.{files_in, Reaches, ReachesBytes, RefusesLong};
 ghost use Rattle.script_session.specs.Faults.{IsNoFile};
 
 use crate::fault::{EvalFault, evaluated};
@@ -30,7 +31,7 @@ impl Work {
     ghost use Rattle.script_session.specs.Work.{names_in, world_of};
 
     // What a function of `pd` gives. One that reads a file is asked for its name first.
-    pub fn call<F: Files>(
+    pub(crate) fn call<F: Files>(
         &mut self,
         files: &mut F,
         names: &FileNames,
@@ -40,10 +41,15 @@ impl Work {
         requires { AreKnownArguments (world_of self.old) args.now.items.items }
         ensures names { names_in self.new ≡ names_in self.old }
         ensures kept { Keeps (world_of self.old) (world_of self.new) }
-        ensures reads { (held : Contents) → Reaches (entry_in (world_of self.new)) (world_of self.new).texts (files_in names.now held) (shelf F.contents F.fetches F.faults F.absences files.old) (shelf F.contents F.fetches F.faults F.absences files.new) (made (files_in names.now held) function.now (arguments_of (world_of self.old).tables (world_of self.old).texts args.now.items.items)) result }
+        ensures reads { (held : Contents) →
+            Reaches (entry_in (world_of self.new)) (world_of self.new).texts (files_in names.now held)
+            (F.seen files.old) (F.seen files.new)
+            (made (files_in names.now held) function.now
+            (arguments_of (world_of self.old).tables (world_of self.old).texts args.now.items.items))
+            result }
         ensures known { IfOk result (λ v. IsKnownValue (world_of self.new) v) }
         ensures object { IfOk result (λ v. IsOf (names_in self.new) None v) }
-        ensures serves { Serves (shelf F.contents F.fetches F.faults F.absences files.old) (shelf F.contents F.fetches F.faults F.absences files.new) }
+        ensures serves { Serves (F.seen files.old) (F.seen files.new) }
     {
         if !reads_file(function.as_str()) {
             return evaluated(self.make(function, args, None));
@@ -60,8 +66,14 @@ impl Work {
         args: &NamedList,
     ) -> Result<Bytes, EvalFault>
         requires { AreKnownArguments (world_of self.now) args.now.items.items }
-        ensures reads { let given = arguments_of (world_of self.now).tables (world_of self.now).texts args.now.items.items in (held : Contents) → ReachesBytes (λ bytes. read_result bytes given) (world_of self.now).texts (files_in names.now held) (shelf F.contents F.fetches F.faults F.absences files.old) (shelf F.contents F.fetches F.faults F.absences files.new) (then_read (at_once (file_name_of ReadCsv given)) (λ name. of_file (files_in names.now held) name (λ bytes. read_result bytes given))) result }
-        ensures serves { Serves (shelf F.contents F.fetches F.faults F.absences files.old) (shelf F.contents F.fetches F.faults F.absences files.new) }
+        ensures reads { let w = world_of self.now in let given = arguments_of w.tables w.texts args.now.items.items in
+            (held : Contents) →
+            ReachesBytes (λ bytes. read_result bytes given) w.texts (files_in names.now held)
+            (F.seen files.old) (F.seen files.new)
+            (then_read (at_once (file_name_of ReadCsv given)) (λ name.
+            of_file (files_in names.now held) name (λ bytes. read_result bytes given)))
+            result }
+        ensures serves { Serves (F.seen files.old) (F.seen files.new) }
     {
         match file_name(&self.store, &self.dict, "read_csv", args) {
             Ok(name) => file_named(self.alloc, files, names, self.dict.text(name)),
@@ -77,8 +89,11 @@ fn file_named<F: Files>(
     names: &FileNames,
     name: &str,
 ) -> Result<Bytes, EvalFault>
-    ensures reads { (texts : List Text) (held : Contents) (go : List ℕ → Result Entry FaultValue) → RefusesLong go → ReachesBytes go texts (files_in names.now held) (shelf F.contents F.fetches F.faults F.absences files.old) (shelf F.contents F.fetches F.faults F.absences files.new) (of_file (files_in names.now held) name.now go) result }
-    ensures serves { Serves (shelf F.contents F.fetches F.faults F.absences files.old) (shelf F.contents F.fetches F.faults F.absences files.new) }
+    ensures reads { (texts : List Text) (held : Contents) (go : List ℕ → Result Entry FaultValue) →
+        RefusesLong go →
+        ReachesBytes go texts (files_in names.now held) (F.seen files.old) (F.seen files.new)
+        (of_file (files_in names.now held) name.now go) result }
+    ensures serves { Serves (F.seen files.old) (F.seen files.new) }
 {
     let Some(path) = names.path(name) else {
         return Err(no_file(alloc, name));

@@ -42,7 +42,7 @@ impl Work {
     ghost use Rattle.script_session.specs.Work.{names_in, world_of};
 
     // The value of a name.
-    pub fn named(&self, name: &Words) -> Result<Value, EvalFault>
+    pub(crate) fn named(&self, name: &Words) -> Result<Value, EvalFault>
         ensures found { IfOk result (λ v. value_at (names_in self.now) name.now ≡ Some v) }
         ensures known { IfOk result (λ v. IsKnownValue (world_of self.now) v) }
         ensures fault { IfErr result (λ f. IsNoName f name.now (value_at (names_in self.now) name.now)) }
@@ -57,7 +57,7 @@ impl Work {
     }
 
     // A value that is written out.
-    pub fn literal(&mut self, literal: &Literal) -> Result<Value, EvalFault>
+    pub(crate) fn literal(&mut self, literal: &Literal) -> Result<Value, EvalFault>
         ensures names { names_in self.new ≡ names_in self.old }
         ensures kept { Keeps (world_of self.old) (world_of self.new) }
         ensures value { IfOk result (λ v. entry_in (world_of self.new) v ≡ cell (cell_of (literal_of literal.now))) }
@@ -70,7 +70,7 @@ impl Work {
     }
 
     // A key of a dict that is written out.
-    pub fn key(&mut self, literal: &Literal) -> Result<Label, EvalFault>
+    pub(crate) fn key(&mut self, literal: &Literal) -> Result<Label, EvalFault>
         ensures names { names_in self.new ≡ names_in self.old }
         ensures kept { Keeps (world_of self.old) (world_of self.new) }
         ensures label { IfOk result (λ l. label_datum (world_of self.new).texts l ≡ cell_label (cell_of (literal_of literal.now))) }
@@ -82,7 +82,7 @@ impl Work {
     }
 
     // An operator between two values.
-    pub fn infix(&mut self, op: Binary, a: Value, b: Value) -> Result<Value, OpFault>
+    pub(crate) fn infix(&mut self, op: Binary, a: Value, b: Value) -> Result<Value, OpFault>
         requires left { IsKnownValue (world_of self.old) a }
         requires right { IsKnownValue (world_of self.old) b }
         ensures names { names_in self.new ≡ names_in self.old }
@@ -96,7 +96,7 @@ impl Work {
     }
 
     // A sign before a value.
-    pub fn sign(&mut self, op: Unary, a: Value) -> Result<Value, OpFault>
+    pub(crate) fn sign(&mut self, op: Unary, a: Value) -> Result<Value, OpFault>
         requires { IsKnownValue (world_of self.old) a }
         ensures names { names_in self.new ≡ names_in self.old }
         ensures answers { Forms result (sign_result (is_minus (unary_of op)) (entry_in (world_of self.old) a)) (world_of self.old) (world_of self.new) }
@@ -115,7 +115,7 @@ impl Work {
     }
 
     // What a function of `pd` gives, with the bytes of the file that it reads.
-    pub fn make(
+    pub(crate) fn make(
         &mut self,
         function: &Words,
         args: &NamedList,
@@ -140,7 +140,12 @@ impl Work {
     }
 
     // What a method gives.
-    pub fn method(&mut self, on: Value, chain: &Chain, args: &NamedList) -> Result<Value, OpFault>
+    pub(crate) fn method(
+        &mut self,
+        on: Value,
+        chain: &Chain,
+        args: &NamedList,
+    ) -> Result<Value, OpFault>
         requires on { IsKnownValue (world_of self.old) on }
         requires arguments { AreKnownArguments (world_of self.old) args.now.items.items }
         ensures names { names_in self.new ≡ names_in self.old }
@@ -160,7 +165,7 @@ impl Work {
     }
 
     // What brackets or an accessor give.
-    pub fn select(
+    pub(crate) fn select(
         &mut self,
         on: Value,
         by: Selector,
@@ -189,7 +194,7 @@ impl Work {
     }
 
     // What brackets or an accessor name is set.
-    pub fn assign(
+    pub(crate) fn assign(
         &mut self,
         on: Value,
         by: Selector,
@@ -220,7 +225,7 @@ impl Work {
     }
 
     // A column is taken out.
-    pub fn remove(&mut self, on: Value, label: Value) -> Result<(), OpFault>
+    pub(crate) fn remove(&mut self, on: Value, label: Value) -> Result<(), OpFault>
         requires on { IsKnownValue (world_of self.old) on }
         requires label { IsKnownValue (world_of self.old) label }
         ensures names { names_in self.new ≡ names_in self.old }
@@ -230,7 +235,7 @@ impl Work {
     }
 
     // The number of rows.
-    pub fn length(&self, on: Value) -> Result<Value, OpFault>
+    pub(crate) fn length(&self, on: Value) -> Result<Value, OpFault>
         requires { IsKnownValue (world_of self.now) on }
         ensures { FormAnswers (world_of self.now).texts result (length_result (entry_in (world_of self.now) on)) (objects_of (world_of self.now)) (objects_of (world_of self.now)) }
     {
@@ -300,7 +305,12 @@ fn is_minus(op: Unary) -> bool
 }
 
 // Whether the value has a method of this name, or an AttributeError.
-pub fn expect_method(alloc: Global, store: &Store, on: Value, name: &str) -> Result<(), EvalFault>
+pub(crate) fn expect_method(
+    alloc: Global,
+    store: &Store,
+    on: Value,
+    name: &str,
+) -> Result<(), EvalFault>
     requires { IsLive (tables store.now) on }
     ensures known { (texts : List OneText) → OnOk result (has_method (entry_of (tables store.now) texts on) name.now ≡ true) }
     ensures fault { (texts : List OneText) → IfErr result (λ f. IsNoAttribute f name.now (has_method (entry_of (tables store.now) texts on) name.now)) }
@@ -309,7 +319,7 @@ pub fn expect_method(alloc: Global, store: &Store, on: Value, name: &str) -> Res
 }
 
 // Whether `pd` has a function of this name, or an AttributeError.
-pub fn expect_function(alloc: Global, name: &str) -> Result<(), EvalFault>
+pub(crate) fn expect_function(alloc: Global, name: &str) -> Result<(), EvalFault>
     ensures known { OnOk result (is_some (function_named name.now) ≡ true) }
     ensures fault { IfErr result (λ f. IsNoAttribute f name.now (is_some (function_named name.now))) }
 {

@@ -8,7 +8,7 @@ use cell_core::{Cell, NoMemory, TextDict};
 use script_syntax::Literal;
 
 // The cell of a literal.
-pub fn cell_of(dict: &mut TextDict, literal: &Literal) -> Result<Cell, NoMemory>
+pub(crate) fn cell_of(dict: &mut TextDict, literal: &Literal) -> Result<Cell, NoMemory>
     ensures longer { IsLonger dict.old dict.new }
     ensures value { IfOk result (λ c. datum dict.new c ≡ cell_of (literal_of literal.now)) }
     ensures given { IfOk result (λ c. IsGiven dict.new c) }

@@ -15,9 +15,9 @@ use std::alloc::Global;
 
 // Names with their values, and beside them how many names stand for each object.
 #[derive(Drop)]
-pub struct Names {
-    pub values: IndexMap<String, Value>,
-    pub uses: Uses,
+pub(crate) struct Names {
+    pub(crate) values: IndexMap<String, Value>,
+    pub(crate) uses: Uses,
     ghost unique: { IsUnique string_eq values } by { IsDistinct-prop string_eq (keys values) },
     ghost counted: { AreCounted (bindings_of values.entries) uses },
 }
@@ -25,7 +25,7 @@ pub struct Names {
 impl Names {
     ghost use Rattle.std.specs.Prelude.{[]};
 
-    pub fn new(alloc: Global) -> Names
+    pub(crate) fn new(alloc: Global) -> Names
         ensures { bindings_of result.values.entries ≡ [] }
     {
         Names {
@@ -35,14 +35,14 @@ impl Names {
     }
 
     // Whether a name stands for the object.
-    pub fn has(&self, id: ObjId) -> bool
+    pub(crate) fn has(&self, id: ObjId) -> bool
         ensures { result ≡ is_named (bindings_of self.now.values.entries) id.0 }
     {
         self.uses.count(id) > 0
     }
 
     // The name gets the value, in its own place or last. Answers the value that it had.
-    pub fn bind(
+    pub(crate) fn bind(
         &mut self,
         alloc: Global,
         name: &str,
@@ -60,7 +60,7 @@ impl Names {
     }
 
     // The name is taken out. Answers the value that it had. Takes no memory.
-    pub fn unbind(&mut self, name: &str) -> Option<Value>
+    pub(crate) fn unbind(&mut self, name: &str) -> Option<Value>
         ensures unbound { bindings_of self.new.values.entries ≡ unbound (bindings_of self.old.values.entries) name.now }
         ensures left { result ≡ value_at (bindings_of self.old.values.entries) name.now }
     {
@@ -71,7 +71,7 @@ impl Names {
 }
 
 // The value of a name.
-pub fn find(names: &IndexMap<String, Value>, name: &str) -> Option<Value>
+pub(crate) fn find(names: &IndexMap<String, Value>, name: &str) -> Option<Value>
     ensures { result ≡ value_at (bindings_of names.now.entries) name.now }
 {
     names.get(name).copied()

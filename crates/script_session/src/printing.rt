@@ -12,7 +12,7 @@ use itoa::Buffer;
 use std::alloc::Global;
 
 // The printed text of a value, and then the end.
-pub fn printed_value(
+pub(crate) fn printed_value(
     alloc: Global,
     dict: &TextDict,
     store: &Store,

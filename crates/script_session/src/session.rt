@@ -32,7 +32,8 @@ pub struct Session {
 impl Session {
     ghost use Rattle.std.specs.Prelude.{ℕ};
     ghost use Rattle.script_session.specs.Session.{state_of, live_of, texts_of, LiveAreNamed};
-    ghost use Rattle.script_session.specs.Reads.{files_in, shelf, Serves};
+    ghost use Rattle.outside_io.specs.Files.{Serves};
+    ghost use Rattle.script_session.specs.Reads.{files_in};
     ghost use Rattle.script_session.specs.Faults.{Performs};
 
     /// A session without names. Takes no memory.
@@ -72,8 +73,13 @@ impl Session {
         names: &FileNames,
         statement: &Statement,
     ) -> Result<Outcome, StepFault>
-        ensures answers { (held : Contents) → Performs (state_of self.new) (texts_of self.new) (files_in names.now held) (shelf F.contents F.fetches F.faults F.absences files.old) (shelf F.contents F.fetches F.faults F.absences files.new) (statement_result (files_in names.now held) (state_of self.old) (form_of statement.now.form)) result }
-        ensures serves { Serves (shelf F.contents F.fetches F.faults F.absences files.old) (shelf F.contents F.fetches F.faults F.absences files.new) }
+        ensures answers { (held : Contents) →
+            Performs (state_of self.new) (texts_of self.new) (files_in names.now held)
+            (F.seen files.old) (F.seen files.new)
+            (statement_result (files_in names.now held) (state_of self.old)
+            (form_of statement.now.form))
+            result }
+        ensures serves { Serves (F.seen files.old) (F.seen files.new) }
         ensures same { OnErr result (state_of self.new ≡ state_of self.old) }
         ensures objects { OnErr result (live_of self.new ≡ live_of self.old) }
         ensures live { LiveAreNamed self.new }
@@ -108,8 +114,13 @@ impl Session {
         names: &FileNames,
         form: &Form,
     ) -> Result<Outcome, StepFault>
-        ensures answers { (held : Contents) → Performs (state_of self.new) (texts_of self.new) (files_in names.now held) (shelf F.contents F.fetches F.faults F.absences files.old) (shelf F.contents F.fetches F.faults F.absences files.new) (statement_result (files_in names.now held) (state_of self.old) (form_of form.now)) result }
-        ensures serves { Serves (shelf F.contents F.fetches F.faults F.absences files.old) (shelf F.contents F.fetches F.faults F.absences files.new) }
+        ensures answers { (held : Contents) →
+            Performs (state_of self.new) (texts_of self.new) (files_in names.now held)
+            (F.seen files.old) (F.seen files.new)
+            (statement_result (files_in names.now held) (state_of self.old)
+            (form_of form.now))
+            result }
+        ensures serves { Serves (F.seen files.old) (F.seen files.new) }
         ensures same { OnErr result (state_of self.new ≡ state_of self.old) }
         ensures objects { OnErr result (live_of self.new ≡ live_of self.old) }
         ensures live { LiveAreNamed self.new }

@@ -11,7 +11,8 @@ ghost use Rattle.script_syntax.specs.View.{expr_of, step_of, arg_of, form_of};
 ghost use Rattle.script_session.specs.Values.{Keeps, IsKnownValue};
 ghost use Rattle.script_session.specs.Bindings.{bound, unbound, value_at, noted_old, AreNamed, KeepNamed};
 ghost use Rattle.script_meaning.specs.Reading.{Files as SomeFiles, at_once};
-ghost use Rattle.script_session.specs.Reads.{files_in, shelf, Serves};
+ghost use Rattle.outside_io.specs.Files.{Serves};
+ghost use Rattle.script_session.specs.Reads.{files_in};
 ghost use Rattle.script_session.specs.Evaluates.{moment, Evaluates, IsTarget};
 ghost use Rattle.script_session.specs.Faults.{Performs, IsRefusal, marked_fault};
 ghost use Rattle.script_session.specs.Parts.{target_seen};
@@ -33,14 +34,19 @@ impl Work {
     ghost use Rattle.script_session.specs.Work.{names_in, tables_in, world_of, state_in};
 
     // Does the statement.
-    pub fn perform<F: Files>(
+    pub(crate) fn perform<F: Files>(
         &mut self,
         files: &mut F,
         names: &FileNames,
         form: &Form,
     ) -> Result<Outcome, StepFault>
-        ensures answers { (held : Contents) → Performs (state_in self.new) (world_of self.new).texts (files_in names.now held) (shelf F.contents F.fetches F.faults F.absences files.old) (shelf F.contents F.fetches F.faults F.absences files.new) (statement_result (files_in names.now held) (state_in self.old) (form_of form.now)) result }
-        ensures serves { Serves (shelf F.contents F.fetches F.faults F.absences files.old) (shelf F.contents F.fetches F.faults F.absences files.new) }
+        ensures answers { (held : Contents) →
+            Performs (state_in self.new) (world_of self.new).texts (files_in names.now held)
+            (F.seen files.old) (F.seen files.new)
+            (statement_result (files_in names.now held) (state_in self.old)
+            (form_of form.now))
+            result }
+        ensures serves { Serves (F.seen files.old) (F.seen files.new) }
         ensures names { OnErr result (names_in self.new ≡ names_in self.old) }
         ensures kept { OnErr result (Keeps (world_of self.old) (world_of self.new)) }
         ensures apart { OnOk result (ChangesOneObject (form_of form.now) (state_in self.old) (state_in self.new)) }
@@ -56,7 +62,7 @@ impl Work {
     }
 
     // Ends what no name stands for.
-    pub fn sweep(&mut self)
+    pub(crate) fn sweep(&mut self)
         ensures names { names_in self.new ≡ names_in self.old }
         ensures texts { (world_of self.new).texts ≡ (world_of self.old).texts }
         ensures named { AreNamed (names_in self.new) (tables_in self.new) }
@@ -66,7 +72,7 @@ impl Work {
     }
 
     // Takes a name out, with its object if no other name stands for it. Answers whether it was there.
-    pub fn forget(&mut self, name: &str) -> bool
+    pub(crate) fn forget(&mut self, name: &str) -> bool
         ensures there { result ≡ is_some (value_at (names_in self.old) name.now) }
         ensures state { state_in self.new ≡ without_name (state_in self.old) name.now }
         ensures named { AreNamed (names_in self.old) (tables_in self.old) → AreNamed (names_in self.new) (tables_in self.new) }
@@ -88,8 +94,13 @@ impl Work {
         name: &Words,
         expr: &Expr,
     ) -> Result<Outcome, StepFault>
-        ensures answers { (held : Contents) → Performs (state_in self.new) (world_of self.new).texts (files_in names.now held) (shelf F.contents F.fetches F.faults F.absences files.old) (shelf F.contents F.fetches F.faults F.absences files.new) (statement_result (files_in names.now held) (state_in self.old) (tree.bind name.now (expr_of expr.now))) result }
-        ensures serves { Serves (shelf F.contents F.fetches F.faults F.absences files.old) (shelf F.contents F.fetches F.faults F.absences files.new) }
+        ensures answers { (held : Contents) →
+            Performs (state_in self.new) (world_of self.new).texts (files_in names.now held)
+            (F.seen files.old) (F.seen files.new)
+            (statement_result (files_in names.now held) (state_in self.old)
+            (tree.bind name.now (expr_of expr.now)))
+            result }
+        ensures serves { Serves (F.seen files.old) (F.seen files.new) }
         ensures names { OnErr result (names_in self.new ≡ names_in self.old) }
         ensures kept { OnErr result (Keeps (world_of self.old) (world_of self.new)) }
     {
@@ -107,8 +118,13 @@ impl Work {
         step: &Step,
         arg: &Arg,
     ) -> Result<Outcome, StepFault>
-        ensures answers { (held : Contents) → Performs (state_in self.new) (world_of self.new).texts (files_in names.now held) (shelf F.contents F.fetches F.faults F.absences files.old) (shelf F.contents F.fetches F.faults F.absences files.new) (statement_result (files_in names.now held) (state_in self.old) (tree.put (expr_of target.now) (step_of step.now) (arg_of arg.now))) result }
-        ensures serves { Serves (shelf F.contents F.fetches F.faults F.absences files.old) (shelf F.contents F.fetches F.faults F.absences files.new) }
+        ensures answers { (held : Contents) →
+            Performs (state_in self.new) (world_of self.new).texts (files_in names.now held)
+            (F.seen files.old) (F.seen files.new)
+            (statement_result (files_in names.now held) (state_in self.old)
+            (tree.put (expr_of target.now) (step_of step.now) (arg_of arg.now)))
+            result }
+        ensures serves { Serves (F.seen files.old) (F.seen files.new) }
         ensures names { OnErr result (names_in self.new ≡ names_in self.old) }
         ensures kept { OnErr result (Keeps (world_of self.old) (world_of self.new)) }
         ensures apart { OnOk result (IsSetApart (named_by (expr_of target.now)) (state_in self.old) (state_in self.new)) }
@@ -130,7 +146,7 @@ impl Work {
         names: &FileNames,
         step: &Step,
     ) -> Result<(Selector, Subscript, Option<Subscript>), EvalFault>
-        ensures { let at = moment F.contents F.fetches F.faults F.absences in
+        ensures { let at = moment F.seen in
             Evaluates names.now IsTarget target_seen (λ fs s. target_of fs s (step_of step.now))
             (at self.old files.old) (at self.new files.new) result }
     {
@@ -170,8 +186,13 @@ impl Work {
         name: &Words,
         key: &Expr,
     ) -> Result<Outcome, StepFault>
-        ensures answers { (held : Contents) → Performs (state_in self.new) (world_of self.new).texts (files_in names.now held) (shelf F.contents F.fetches F.faults F.absences files.old) (shelf F.contents F.fetches F.faults F.absences files.new) (statement_result (files_in names.now held) (state_in self.old) (tree.drop_column name.now (expr_of key.now))) result }
-        ensures serves { Serves (shelf F.contents F.fetches F.faults F.absences files.old) (shelf F.contents F.fetches F.faults F.absences files.new) }
+        ensures answers { (held : Contents) →
+            Performs (state_in self.new) (world_of self.new).texts (files_in names.now held)
+            (F.seen files.old) (F.seen files.new)
+            (statement_result (files_in names.now held) (state_in self.old)
+            (tree.drop_column name.now (expr_of key.now)))
+            result }
+        ensures serves { Serves (F.seen files.old) (F.seen files.new) }
         ensures names { OnErr result (names_in self.new ≡ names_in self.old) }
         ensures kept { OnErr result (Keeps (world_of self.old) (world_of self.new)) }
         ensures apart { OnOk result (IsSetApart (Some name.now) (state_in self.old) (state_in self.new)) }
@@ -192,8 +213,13 @@ impl Work {
         expr: &Expr,
         end: &Words,
     ) -> Result<Outcome, StepFault>
-        ensures answers { (held : Contents) → Performs (state_in self.new) (world_of self.new).texts (files_in names.now held) (shelf F.contents F.fetches F.faults F.absences files.old) (shelf F.contents F.fetches F.faults F.absences files.new) (statement_result (files_in names.now held) (state_in self.old) (tree.print (expr_of expr.now) end.now)) result }
-        ensures serves { Serves (shelf F.contents F.fetches F.faults F.absences files.old) (shelf F.contents F.fetches F.faults F.absences files.new) }
+        ensures answers { (held : Contents) →
+            Performs (state_in self.new) (world_of self.new).texts (files_in names.now held)
+            (F.seen files.old) (F.seen files.new)
+            (statement_result (files_in names.now held) (state_in self.old)
+            (tree.print (expr_of expr.now) end.now))
+            result }
+        ensures serves { Serves (F.seen files.old) (F.seen files.new) }
         ensures names { OnErr result (names_in self.new ≡ names_in self.old) }
         ensures kept { OnErr result (Keeps (world_of self.old) (world_of self.new)) }
     {

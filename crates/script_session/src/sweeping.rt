@@ -7,7 +7,7 @@ use crate::names::Names;
 use frame_store::{ObjId, Store, Value};
 
 // Ends each noted object that no name stands for.
-pub fn sweep(names: &Names, temps: &mut Vec<ObjId>, store: &mut Store)
+pub(crate) fn sweep(names: &Names, temps: &mut Vec<ObjId>, store: &mut Store)
     requires { AreNoted (bindings_of names.now.values.entries) temps.old.items (tables store.old) }
     ensures named { AreNamed (bindings_of names.now.values.entries) (tables store.new) }
     ensures kept { KeepNamed (bindings_of names.now.values.entries) (tables store.old) (tables store.new) }
@@ -20,7 +20,7 @@ pub fn sweep(names: &Names, temps: &mut Vec<ObjId>, store: &mut Store)
 }
 
 // The object that a name has left ends if no other name stands for it.
-pub fn release(names: &Names, store: &mut Store, left: Option<Value>)
+pub(crate) fn release(names: &Names, store: &mut Store, left: Option<Value>)
     ensures { tables store.new ≡ released (bindings_of names.now.values.entries) (tables store.old) left }
 {
     if let Some(Value::Object(id)) = left {

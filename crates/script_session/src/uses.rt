@@ -11,12 +11,12 @@ use std::alloc::Global;
 
 // How many names stand for each object. An object that isn't among them has none.
 #[derive(Drop)]
-pub struct Uses {
-    pub counts: IndexMap<ObjId, usize>,
+pub(crate) struct Uses {
+    pub(crate) counts: IndexMap<ObjId, usize>,
 }
 
 impl Uses {
-    pub fn new(alloc: Global) -> Uses
+    pub(crate) fn new(alloc: Global) -> Uses
         ensures { (id : Id) → count_at result id ≡ 0 }
     {
         Uses {
@@ -25,7 +25,7 @@ impl Uses {
     }
 
     // How many names stand for the object.
-    pub fn count(&self, id: ObjId) -> usize
+    pub(crate) fn count(&self, id: ObjId) -> usize
         ensures { result ≡ count_at self.now id }
     {
         match self.counts.get(&id) {
@@ -35,7 +35,7 @@ impl Uses {
     }
 
     // Makes room for one name more of a value. `NoMemory` also where a count can't rise.
-    pub fn make_room(&mut self, value: Value) -> Result<(), NoMemory>
+    pub(crate) fn make_room(&mut self, value: Value) -> Result<(), NoMemory>
         ensures same { (id : Id) → count_at self.new id ≡ count_at self.old id }
         ensures room { OnOk result (HasRoom self.new value) }
     {
@@ -46,7 +46,7 @@ impl Uses {
     }
 
     // One name more stands for the value.
-    pub fn add(&mut self, value: Value)
+    pub(crate) fn add(&mut self, value: Value)
         requires { HasRoom self.old value }
         ensures { (id : Id) → count_at self.new id ≡ with_one value id.0 (count_at self.old id) }
     {
@@ -57,7 +57,7 @@ impl Uses {
     }
 
     // One name less stands for the value that a name has left.
-    pub fn take(&mut self, left: Option<Value>)
+    pub(crate) fn take(&mut self, left: Option<Value>)
         requires { CanTake left (count_at self.old) }
         ensures { (id : Id) → with_left left id.0 (count_at self.new id) ≡ count_at self.old id }
     {

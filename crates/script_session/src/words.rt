@@ -10,7 +10,7 @@ use script_syntax::Accessor;
 use std::alloc::Global;
 
 // The name of an argument, if it has one.
-pub fn copied_name(alloc: Global, name: &Option<Words>) -> Result<Option<Words>, NoMemory>
+pub(crate) fn copied_name(alloc: Global, name: &Option<Words>) -> Result<Option<Words>, NoMemory>
     ensures { IfOk result (λ n. n ≡ name.now) }
 {
     match name {
@@ -20,7 +20,7 @@ pub fn copied_name(alloc: Global, name: &Option<Words>) -> Result<Option<Words>,
 }
 
 // An accessor before its brackets.
-pub fn selector_of(by: Accessor) -> Selector
+pub(crate) fn selector_of(by: Accessor) -> Selector
     ensures { way_of result ≡ through (accessor_of by) }
 {
     match by {

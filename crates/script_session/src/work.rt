@@ -13,12 +13,12 @@ use std::alloc::Global;
 
 // Names, objects and texts, and the objects that the statement at work has made.
 #[derive(Drop)]
-pub struct Work {
-    pub alloc: Global,
-    pub dict: TextDict,
-    pub names: Names,
-    pub store: Store,
-    pub temps: Vec<ObjId>,
+pub(crate) struct Work {
+    pub(crate) alloc: Global,
+    pub(crate) dict: TextDict,
+    pub(crate) names: Names,
+    pub(crate) store: Store,
+    pub(crate) temps: Vec<ObjId>,
     ghost settled: { IsSettled shown dict (tables store) },
     ghost valid: { AreValid (shown dict (tables store)) },
     ghost live: { AreLive (bindings_of names.values.entries) (tables store) },

@@ -271,7 +271,7 @@ pub(crate) fn expect<'t, 'a>(
     }
 }
 
-// The same tokens. A loop goes on with what a call returns by itself, and not with a part of it.
+// The tokens as they are. A loop goes on with what a call returns by itself, and not with a part of it.
 pub(crate) fn onwards<'t, 'a>(tokens: &'t [Token<'a>]) -> &'t [Token<'a>]
     ensures { result.now ≡ tokens.now }
 {

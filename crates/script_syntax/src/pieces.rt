@@ -41,7 +41,7 @@ impl From<NoMemory> for ParseFault {
 
 // What one piece of a text is.
 #[derive(Drop)]
-pub enum PieceRead {
+pub(crate) enum PieceRead {
     Blank,
     Statement(Form),
     Wrong,

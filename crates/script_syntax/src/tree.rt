@@ -4,10 +4,12 @@ use crate::parts::{ArgList, ArgPairs, Args};
 use cell_core::Words;
 use script_tokens::Binary;
 
-/// A statement, and the line of its first token, counted from 1.
+/// A statement.
 #[derive(Drop)]
 pub struct Statement {
+    /// The line of its first token, counted from 1.
     pub line: u64,
+    /// What it does.
     pub form: Form,
 }
 
@@ -32,9 +34,13 @@ pub enum Form {
 #[derive(Drop)]
 #[cycle(tree)]
 pub enum Expr {
+    /// `name`
     Name(Words),
+    /// A value that is written out.
     Literal(Literal),
+    /// An operator before its operand: `-expr` or `~expr`.
     Unary(Unary, Box<Expr>),
+    /// An operator between two operands: `expr + expr`, and so for the others.
     Infix(Binary, Box<Expr>, Box<Expr>),
     /// An expression with a step after it.
     After(Box<Expr>, Box<Step>),
@@ -68,6 +74,7 @@ pub enum Step {
 #[derive(Drop)]
 #[cycle(tree)]
 pub enum Sub {
+    /// `arg`
     Key(Arg),
     /// `start:end:step`, each of which may be absent.
     Span(Option<Arg>, Option<Arg>, Option<Expr>),
@@ -77,6 +84,7 @@ pub enum Sub {
 #[derive(Drop)]
 #[cycle(tree)]
 pub enum Arg {
+    /// `expr`
     Expr(Expr),
     /// A list: `[arg, ..]`.
     Many(ArgList),

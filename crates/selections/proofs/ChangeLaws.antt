@@ -52,7 +52,7 @@ changed texts tables tables' on t meant settled put here =
 -- a part that is refused
 pub change_refused : {X Y : Type 0} (view : List Text → X → Y) (texts : List Text) (meant : Result Y FaultValue) (go : Y → Result Table FaultValue) (on : Value) (fault : OpFault) (old : Shown) → MakesBy view texts (Err fault) meant
     → Changes texts (Err fault) on (then_value meant go) old old
-change_refused view texts meant go on (Refused code) old makes = (ap (λ (r : Result _ FaultValue). then_value r go) makes, refl)
+change_refused view texts meant go on (Refused code) old makes = ((ap (λ (r : Result _ FaultValue). then_value r go) makes.0, makes.1), refl)
 change_refused view texts meant go on NoMemory old makes = refl
 
 -- a column is removed

@@ -36,6 +36,7 @@ use Rattle.selections.proofs.AnswerLaws.{column_seen}
 use Rattle.selections.specs.Headings.{NamesRepeated, repeated_heading}
 use Rattle.selections.proofs.PlaceLaws.{heading_seen, heading_settled}
 use Rattle.selections.proofs.HeadingLaws.{repeated_seen, different}
+use Rattle.selections.proofs.RefusalLaws.{repeated_settled}
 
 -- another name for what is meant
 pub answers_so : (texts : List Text) (result : Result Value OpFault) (meant meant' : Result Entry FaultValue) (old new : Shown) → meant ≡ meant' → FormAnswers texts result meant old new → FormAnswers texts result meant' old new
@@ -44,7 +45,7 @@ answers_so texts result meant meant' old new is answers = subst (λ (m : Result 
 -- a part that is refused
 pub refused_part : {X Y : Type 0} (view : List Text → X → Y) (texts : List Text) (meant : Result Y FaultValue) (go : Y → Result Entry FaultValue) (fault : OpFault) (old : Shown) → MakesBy view texts (Err fault) meant
     → FormAnswers texts (Err fault) (then_value meant go) old old
-refused_part view texts meant go (Refused code) old makes = (ap (λ (r : Result _ FaultValue). then_value r go) makes, refl)
+refused_part view texts meant go (Refused code) old makes = ((ap (λ (r : Result _ FaultValue). then_value r go) makes.0, makes.1), refl)
 refused_part view texts meant go NoMemory old makes = refl
 
 -- one column as a Series
@@ -116,7 +117,13 @@ frame_meant texts t headings places distinct settled shape headed none = ap limi
 
 pub frame_refused : (texts : List Text) (t : NumberedTable) (places : List ℕ) (fault : OpFault) (old : Shown) → AreDistinct texts → IsSettled headings_value texts t.headings → NamesRepeated fault (repeated_heading (headings_at t places))
     → FormAnswers texts (Err fault) (finished (columns_frame (table_value texts t) places)) old old
-frame_refused texts t places (Refused code) old distinct settled named = (finished_is texts t places (Some named.0) distinct settled named.1 ∙ ap (λ c. Err (fault_of texts c)) (sym named.2), refl)
+frame_refused texts t places (Refused code) old distinct settled named = (
+  (
+    finished_is texts t places (Some named.0) distinct settled named.1 ∙ ap (λ c. Err (fault_of texts c)) (sym named.2),
+    repeated_settled texts code (headings_at t places) named.0 named.1 named.2 (all_settled texts t places settled),
+  ),
+  refl,
+)
 frame_refused texts t places NoMemory old distinct settled named = refl
 
 all_labelled : (t : NumberedTable) (places : List ℕ) → All IsSome t.headings → All (λ p. p < length t.headings) places → All IsSome (headings_at t places)

@@ -53,6 +53,9 @@ fn heading_list(
 
 /// The headings of a table of which none stands twice, and the name that its columns have together.
 ///
+/// At most one heading of a table is missing, that of a Series without a name. A missing heading that stands
+/// twice in the list has no label to be named: it isn't refused, and nothing behind it is looked at.
+///
 /// # Errors
 ///
 /// `BadValue(Repeated)` of the first heading that stands again at a later place. `NoMemory` may come in

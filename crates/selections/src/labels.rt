@@ -46,7 +46,7 @@ pub(crate) fn place_of_label(dict: &TextDict, on: &ObjRef<'_>, label: Label) -> 
     None
 }
 
-// The same, or a refusal: no column has the label.
+// The place of the first column with the label, or a refusal: no column has it.
 pub(crate) fn column_place(
     alloc: Global,
     dict: &TextDict,

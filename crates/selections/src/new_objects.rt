@@ -43,7 +43,7 @@ pub fn derived(
     store.derive(on, shape, rows, places, axis, headings)
 }
 
-/// The same as the answer of a form: `Limit` where the new table would be beyond the limits.
+/// The object that [`derived`] makes, as the answer of a form: `Limit` where the new table would be beyond the limits.
 /// `NoMemory` may come in place of any answer. After a refusal all objects are as they were.
 pub fn derived_within(
     alloc: Global,

@@ -69,7 +69,7 @@ fn place_of(position: i64, count: usize) -> Option<usize>
     }
 }
 
-// The same for the rows of a table, or a refusal: no row is there.
+// The row of a table that a position names, or a refusal: no row is there.
 pub(crate) fn row_place(on: &ObjRef<'_>, position: i64) -> Result<usize, OpFault>
     ensures answer { (texts : List OneText) → MakesBy as_it_is texts result (meant.row_place (table_value texts on.now) position) }
     ensures inside { IfOk result (λ row. row < length on.now.labels) }

@@ -165,7 +165,7 @@ fn is_kind_name(dict: &TextDict, argument: &Argument) -> bool
     }
 }
 
-// The same for names of kinds.
+// Whether each value that isn't replaced by a later one of its key is the name of a kind.
 fn are_kind_names(dict: &TextDict, pairs: &[(Label, Argument)]) -> bool
     ensures { (live : Tables) → result ≡ plain.each_value plain.is_kind_name (entries_of live dict.now pairs.now) }
 {

@@ -1,4 +1,4 @@
-use Rattle.std.proofs.Common.{◌∙◌, sym}
+use Rattle.std.proofs.Common.{◌∙◌, sym, refl}
 use Rattle.frame_store.specs.Shown.{headings_value}
 use Rattle.frame_store.proofs.Settling.{headings_part}
 use Rattle.frame_methods.proofs.RenameLaws.{new_heads, new_settled, new_meant, no_labels}
@@ -6,7 +6,7 @@ use Rattle.frame_methods.proofs.relabelling.renamed_headings.Goals as goal
 
 pub returns-then-not-have_labels-clause-answer : goal.returns-then-not-have_labels-clause-answer
 returns-then-not-have_labels-clause-answer c =
-    no_labels c.args.dict.now c.in_ok-labels.labels.entries _ (headings_value c.args.dict.now c.args.on.now.headings) c.in_ok-labels.ensures.last (sym c.have_labels.ensures ∙ c.if-not-have_labels.true)
+    (no_labels c.args.dict.now c.in_ok-labels.labels.entries _ (headings_value c.args.dict.now c.args.on.now.headings) c.in_ok-labels.ensures.last (sym c.have_labels.ensures ∙ c.if-not-have_labels.true), λ more. refl)
 
 pub returns-clause-headings : goal.returns-clause-headings
 returns-clause-headings c =

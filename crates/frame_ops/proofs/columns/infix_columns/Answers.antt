@@ -1,4 +1,4 @@
-use Rattle.std.proofs.Common.{◌≡◌, List, length, true, false, rules, sym, subst, Result}
+use Rattle.std.proofs.Common.{◌≡◌, List, length, true, false, rules, sym, subst, Result, refl}
 use Rattle.std.specs.List.{list_all}
 use Rattle.meaning.specs.Cell.{CellValue}
 use Rattle.meaning.specs.Fault.{FaultValue}
@@ -13,20 +13,20 @@ use Rattle.frame_ops.proofs.columns.infix_columns.Goals as goal
 pub returns-then-not-all_meet-clause-made : goal.returns-then-not-all_meet-clause-made
 returns-then-not-all_meet-clause-made c =
     let kinds : list_all (kinds_meet (operator_of c.args.op)) (pairs_from c.args.other.now 0 c.args.on.now.columns) ≡ false = search rules in
-    kinds_refused (operator_of c.args.op) c.args.dict.now (length c.args.on.now.labels) (levels_fit c.args.on.now c.args.other.now) (pairs_from c.args.other.now 0 c.args.on.now.columns) kinds
+    (kinds_refused (operator_of c.args.op) c.args.dict.now (length c.args.on.now.labels) (levels_fit c.args.on.now c.args.other.now) (pairs_from c.args.other.now 0 c.args.on.now.columns) kinds, λ more. refl)
 
 pub returns-then-not-levels_fit-clause-made : goal.returns-then-not-levels_fit-clause-made
 returns-then-not-levels_fit-clause-made c =
     let kinds : list_all (kinds_meet (operator_of c.args.op)) (pairs_from c.args.other.now 0 c.args.on.now.columns) ≡ true = search rules in
     let fit : levels_fit c.args.on.now c.args.other.now ≡ false = search rules in
-    levels_refused (operator_of c.args.op) c.args.dict.now (length c.args.on.now.labels) (levels_fit c.args.on.now c.args.other.now) (pairs_from c.args.other.now 0 c.args.on.now.columns) kinds fit
+    (levels_refused (operator_of c.args.op) c.args.dict.now (length c.args.on.now.labels) (levels_fit c.args.on.now c.args.other.now) (pairs_from c.args.other.now 0 c.args.on.now.columns) kinds fit, λ more. refl)
 
 pub returns-then-not-within_limits-clause-made : goal.returns-then-not-within_limits-clause-made
 returns-then-not-within_limits-clause-made c =
     let kinds : list_all (kinds_meet (operator_of c.args.op)) (pairs_from c.args.other.now 0 c.args.on.now.columns) ≡ true = search rules in
     let fit : levels_fit c.args.on.now c.args.other.now ≡ true = search rules in
     let within : within_limits (length c.args.on.now.labels) (length c.args.on.now.columns) ≡ false = search rules in
-    limit_refused (operator_of c.args.op) c.args.dict.now (length c.args.on.now.labels) (levels_fit c.args.on.now c.args.other.now) c.args.other.now c.args.on.now.columns kinds fit within
+    (limit_refused (operator_of c.args.op) c.args.dict.now (length c.args.on.now.labels) (levels_fit c.args.on.now c.args.other.now) c.args.other.now c.args.on.now.columns kinds fit within, λ more. refl)
 
 pub returns-clause-made : goal.returns-clause-made
 returns-clause-made c =

@@ -1,13 +1,15 @@
-use Rattle.std.proofs.Common.{ap, sym, ◌∙◌, Ok, option_map}
+use Rattle.std.proofs.Common.{ap, sym, subst, ◌∙◌, Ok, option_map}
+use Rattle.cell_core.specs.declared.cell.Kind.{Kind}
 use Rattle.cell_core.specs.declared.cell.Kind.TheVariants.{Int64, Boolean, Text as string}
-use Rattle.meaning.specs.Cast.{number_of_truth, truth_text}
-use Rattle.column_core.specs.Lanes.{lane_row}
-use Rattle.nullable_array.specs.Casts.{total_cast}
-use Rattle.column_core.specs.Columns.{CellColumn, column_value, number_cell, truth_cell, text_value}
-use Rattle.nullable_array.proofs.ColumnAnswers.{total_cast_column, kept_cast_column, cast_answer}
+use Rattle.meaning.specs.Cast.{truth_text, cast_column}
+use Rattle.column_core.specs.declared.columns.Borrowed.TheVariants as Borrowed
+use Rattle.column_core.specs.Views.{borrowed_column}
+use Rattle.nullable_array.specs.Answers.{Answers}
+use Rattle.column_core.specs.Columns.{CellColumn, column_value, truth_cell, text_value}
+use Rattle.nullable_array.proofs.ColumnAnswers.{total_cast_column, kept_cast_column}
 use Rattle.column_core.proofs.ColumnLaws.{given-plain}
 use Rattle.nullable_array.proofs.ColumnAnswers.{given_at}
-use Rattle.nullable_array.proofs.CastLaws.{truth_cast, word_cast, truth_number_cast}
+use Rattle.nullable_array.proofs.CastLaws.{truth_cast, word_cast}
 use Rattle.column_core.specs.Columns.{truth_given}
 use Rattle.nullable_array.proofs.casts.cast_truths.Goals as goal
 
@@ -19,12 +21,12 @@ pub returns-in_ok-copied_lane-in-Boolean-clause-given : goal.returns-in_ok-copie
 returns-in_ok-copied_lane-in-Boolean-clause-given c = given-plain c.args.dict.now Boolean truth_cell _ _ _ (truth_given c.args.dict.now) c.in_ok-copied_lane-in-Boolean.ensures
 
 pub returns-in-Int64-clause-given : goal.returns-in-Int64-clause-given
-returns-in-Int64-clause-given c = given_at c.convert.result c.args.dict.now c.convert.ensures.given
+returns-in-Int64-clause-given c = given_at c.numbers_of_truths.result c.args.dict.now c.numbers_of_truths.ensures.given
 
 pub returns-in-Int64-clause-answer : goal.returns-in-Int64-clause-answer
 returns-in-Int64-clause-answer c =
-    let a = c.args.a.now in
-    cast_answer c.args.dict.now c.args.kind Int64 c.in-Int64.is Boolean truth_cell number_cell (total_cast number_of_truth) (truth_number_cast c.args.dict.now) a.count (lane_row a.values.now a.present.now a.start a.stride a.back) c.convert.result (c.convert.ensures.answer c.args.dict.now)
+    subst (λ (kind : Kind). Answers c.args.dict.now c.numbers_of_truths.result (cast_column kind (column_value c.args.dict.now (borrowed_column (Borrowed.Truths c.args.a.now)))))
+    (sym c.in-Int64.is) (c.numbers_of_truths.ensures.answer c.args.dict.now)
 
 pub returns-in_ok-text_column-in-Text-clause-answer : goal.returns-in_ok-text_column-in-Text-clause-answer
 returns-in_ok-text_column-in-Text-clause-answer c =

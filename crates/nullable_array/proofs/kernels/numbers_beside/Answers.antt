@@ -9,5 +9,5 @@ use Rattle.nullable_array.proofs.kernels.numbers_beside.Goals as goal
 
 pub returns-in-Some-clause-answer : goal.returns-in-Some-clause-answer
 returns-in-Some-clause-answer c = λ texts.
-    subst (λ (col : CellColumn). Answers texts c.beside_numbers.result (scalar_task c.args.task (column_value texts col) (datum texts (number_cell c.args.scalar)) c.args.left))
-    (same_column Int64 number_cell _ _ _ _ c.in-Some.ensures.count c.in-Some.ensures.rows) (c.beside_numbers.ensures.answer texts)
+    subst (λ (col : CellColumn). Answers texts c.beside_number_side.result (scalar_task c.args.task (column_value texts col) (datum texts (number_cell c.args.scalar)) c.args.left))
+    (same_column Int64 number_cell _ _ _ _ c.in-Some.ensures.count c.in-Some.ensures.rows) (c.beside_number_side.ensures.answer texts)

@@ -6,5 +6,5 @@ use Rattle.nullable_array.proofs.kernels.truths.Goals as goal
 
 pub returns-in-Some-Some-clause-answer : goal.returns-in-Some-Some-clause-answer
 returns-in-Some-Some-clause-answer c = λ texts.
-    two_columns texts c.args.task _ _ _ _ c.on_truth_pairs.result (same_column Boolean truth_cell _ _ _ _ c.in-Some-Some.ensures.count c.in-Some-Some.ensures.rows)
-    (same_column Boolean truth_cell _ _ _ _ c.in-Some-Some.ensures'.count c.in-Some-Some.ensures'.rows) (c.on_truth_pairs.ensures.answer texts)
+    two_columns texts c.args.task _ _ _ _ c.on_truth_sides.result (same_column Boolean truth_cell _ _ _ _ c.in-Some-Some.ensures.count c.in-Some-Some.ensures.rows)
+    (same_column Boolean truth_cell _ _ _ _ c.in-Some-Some.ensures'.count c.in-Some-Some.ensures'.rows) (c.on_truth_sides.ensures.answer texts)

@@ -9,5 +9,5 @@ use Rattle.nullable_array.proofs.kernels.truths_beside.Goals as goal
 
 pub returns-in-Some-clause-answer : goal.returns-in-Some-clause-answer
 returns-in-Some-clause-answer c = λ texts.
-    subst (λ (col : CellColumn). Answers texts c.beside_truths.result (scalar_task c.args.task (column_value texts col) (datum texts (truth_cell c.args.scalar)) c.args.left))
-    (same_column Boolean truth_cell _ _ _ _ c.in-Some.ensures.count c.in-Some.ensures.rows) (c.beside_truths.ensures.answer texts)
+    subst (λ (col : CellColumn). Answers texts c.beside_truth_side.result (scalar_task c.args.task (column_value texts col) (datum texts (truth_cell c.args.scalar)) c.args.left))
+    (same_column Boolean truth_cell _ _ _ _ c.in-Some.ensures.count c.in-Some.ensures.rows) (c.beside_truth_side.ensures.answer texts)

@@ -1,4 +1,5 @@
 use Rattle.std.proofs.Common.{◌≡◌, ◌≤◌, ◌-◌, ◌+◌, length}
+use Rattle.outside_io.specs.Files.{Serves}
 use Rattle.outside_io.proofs.ReadOff.{IsReadOff}
 use Rattle.outside_io.proofs.whole.read_rest.Given as goal
 
@@ -7,12 +8,10 @@ invariant-reading g l =
     let F = g.F.Files in
     record {
       within : length l.bytes.items ≤ l.limit;
-      taken : F.taken l.files ≡ length l.bytes.items;
-      told : IsReadOff (F.rest l.fn.files) l.bytes.items (F.rest l.files);
-      contents : F.contents l.files ≡ F.contents l.fn.files;
-      faults : F.faults l.fn.files ≤ F.faults l.files;
-      absences : F.absences l.fn.files ≤ F.absences l.files;
-      fetches : F.fetches l.files ≡ F.fetches l.fn.files;
+      taken : (F.seen l.files).taken ≡ length l.bytes.items;
+      told : IsReadOff (F.seen l.fn.files).rest l.bytes.items (F.seen l.files).rest;
+      serves : Serves (F.seen l.fn.files) (F.seen l.files);
+      fetches : (F.seen l.files).fetches ≡ (F.seen l.fn.files).fetches;
     }
 
 abbrev pub decreases-reading : goal.decreases-reading

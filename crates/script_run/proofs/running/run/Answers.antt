@@ -1,99 +1,134 @@
-use Rattle.std.proofs.Common.{◌≡◌, ◌∙◌, ℕ, List, Option, ap, map, refl, subst, sym, inr}
+use Rattle.std.proofs.Common.{◌≡◌, ◌∙◌, Option, ap, map, refl, subst, sym, inr}
 use Rattle.std.specs.Prelude.{IfNone, IfSome, string_bytes}
-use Rattle.script_meaning.specs.Run.{RunWords, IsRunResult, IsWordsResult, run_in, usage, usage_line, with_line, with_script}
+use Rattle.outside_io.specs.Count.{HasRisen}
+use Rattle.outside_io.specs.Files.{FilesValue}
+use Rattle.outside_io.specs.Sink.{SinkValue, appended}
+use Rattle.script_meaning.specs.Run.{RunWords, IsRunResult, IsWordsResult, not_found_line, run_in, usage, usage_line, with_line, with_script}
+use Rattle.script_session.proofs.Rides.{serves_self}
 use Rattle.script_run.specs.Ends.{Outside, outside, Ends, Is}
 use Rattle.script_run.proofs.RunLaws.{early_none, ends_with_line}
-use Rattle.script_run.proofs.FileLaws.{complete_run, none-always, not_unread, some-always}
-use Rattle.script_run.proofs.CauseLaws.{not_memory}
-use Rattle.script_run.specs.Causes.{FailsUnlessAbsent}
+use Rattle.script_run.proofs.FileLaws.{complete_run, ends_unbegun, none-always, not_unread, some-always}
+use Rattle.script_run.specs.Errors.{RunLeaves}
+use Rattle.script_run.proofs.ErrorLaws.{warns_none}
+use Rattle.script_run.proofs.OneResult.{run_one}
 use Rattle.script_run.specs.declared.status.Status.{Status}
-use Rattle.script_run.specs.declared.status.Status.TheVariants.{Fault}
+use Rattle.script_run.specs.declared.status.Status.TheVariants.{Usage}
 use Rattle.script_run.proofs.running.run.Goals as goal
 
 pub returns-in_default-clause-told : goal.returns-in_default-clause-told
 returns-in_default-clause-told g c =
-    let old : Outside = outside g.F.Files.fetches g.O.Sink.written g.O.Sink.faults g.E.Sink.written g.E.Sink.faults c.args.files.now c.args.out.now c.args.err.now in
-    let new : Outside = outside g.F.Files.fetches g.O.Sink.written g.O.Sink.faults g.E.Sink.written g.E.Sink.faults c.args.files.now c.args.out.now c.end_usage.new.err in
-    some-always (g.F.Files.contents c.args.files.now) _ (λ held.
+    let old : Outside = outside (g.F.Files.seen c.args.files.now) (g.O.Sink.seen c.args.out.now) (g.E.Sink.seen c.args.err.now) in
+    let new : Outside = outside (g.F.Files.seen c.args.files.now) (g.O.Sink.seen c.args.out.now) (g.E.Sink.seen c.end_usage.new.err) in
+    some-always (g.F.Files.seen c.args.files.now).contents _ (λ held.
     subst (λ run. Ends (IsWordsResult run held) c.end_usage.result old new) (sym c.in_default.ensures) (ends_with_line old new usage usage_line c.end_usage.result refl refl c.end_usage.ensures.ended))
 
 pub returns-in_default-clause-complete : goal.returns-in_default-clause-complete
 returns-in_default-clause-complete g c =
     let words = map string_bytes c.args.words.now.items in
-    let old : Outside = outside g.F.Files.fetches g.O.Sink.written g.O.Sink.faults g.E.Sink.written g.E.Sink.faults c.args.files.now c.args.out.now c.args.err.now in
-    let new : Outside = outside g.F.Files.fetches g.O.Sink.written g.O.Sink.faults g.E.Sink.written g.E.Sink.faults c.args.files.now c.args.out.now c.end_usage.new.err in
-    complete_run (g.F.Files.contents c.args.files.now) (IsRunResult words) c.end_usage.result old new _ _ _
+    let old : Outside = outside (g.F.Files.seen c.args.files.now) (g.O.Sink.seen c.args.out.now) (g.E.Sink.seen c.args.err.now) in
+    let new : Outside = outside (g.F.Files.seen c.args.files.now) (g.O.Sink.seen c.args.out.now) (g.E.Sink.seen c.end_usage.new.err) in
+    complete_run (g.F.Files.seen c.args.files.now).contents (IsRunResult words) c.end_usage.result old new _ _ _
     (returns-in_default-clause-told g c)
     (λ is. absurd (not_unread _ _ _ _ c.end_usage.ensures.ended is))
     (λ is. inr (c.end_usage.ensures.output is))
 
 pub returns-in-Ok-clause-told : goal.returns-in-Ok-clause-told
 returns-in-Ok-clause-told g c =
-    let old : Outside = outside g.F.Files.fetches g.O.Sink.written g.O.Sink.faults g.E.Sink.written g.E.Sink.faults c.args.files.now c.args.out.now c.args.err.now in
-    let new : Outside = outside g.F.Files.fetches g.O.Sink.written g.O.Sink.faults g.E.Sink.written g.E.Sink.faults c.run_file.new.files c.run_file.new.out c.run_file.new.err in
+    let old : Outside = outside (g.F.Files.seen c.args.files.now) (g.O.Sink.seen c.args.out.now) (g.E.Sink.seen c.args.err.now) in
+    let new : Outside = outside (g.F.Files.seen c.run_file.new.files) (g.O.Sink.seen c.run_file.new.out) (g.E.Sink.seen c.run_file.new.err) in
     let is = c.in-Some.ensures ∙ ap (with_script c.in-Some.script.now) c.in-Ok.ensures.names in
-    subst (λ run. IfSome (g.F.Files.contents c.args.files.now) (λ held. Ends (IsWordsResult run held) c.run_file.result old new)) (sym is) c.run_file.ensures.told
+    subst (λ run. IfSome (g.F.Files.seen c.args.files.now).contents (λ held. Ends (IsWordsResult run held) c.run_file.result old new)) (sym is) c.run_file.ensures.told
 
 pub returns-in-Ok-clause-complete : goal.returns-in-Ok-clause-complete
 returns-in-Ok-clause-complete g c =
     let words = map string_bytes c.args.words.now.items in
-    let old : Outside = outside g.F.Files.fetches g.O.Sink.written g.O.Sink.faults g.E.Sink.written g.E.Sink.faults c.args.files.now c.args.out.now c.args.err.now in
-    let new : Outside = outside g.F.Files.fetches g.O.Sink.written g.O.Sink.faults g.E.Sink.written g.E.Sink.faults c.run_file.new.files c.run_file.new.out c.run_file.new.err in
-    complete_run (g.F.Files.contents c.args.files.now) (IsRunResult words) c.run_file.result old new _ _ _ (returns-in-Ok-clause-told g c) c.run_file.ensures.input c.run_file.ensures.output
+    let old : Outside = outside (g.F.Files.seen c.args.files.now) (g.O.Sink.seen c.args.out.now) (g.E.Sink.seen c.args.err.now) in
+    let new : Outside = outside (g.F.Files.seen c.run_file.new.files) (g.O.Sink.seen c.run_file.new.out) (g.E.Sink.seen c.run_file.new.err) in
+    complete_run (g.F.Files.seen c.args.files.now).contents (IsRunResult words) c.run_file.result old new _ _ _ (returns-in-Ok-clause-told g c) c.run_file.ensures.input c.run_file.ensures.output
 
 pub returns-in-Err-Usage-clause-told : goal.returns-in-Err-Usage-clause-told
 returns-in-Err-Usage-clause-told g c =
-    let old : Outside = outside g.F.Files.fetches g.O.Sink.written g.O.Sink.faults g.E.Sink.written g.E.Sink.faults c.args.files.now c.args.out.now c.args.err.now in
-    let new : Outside = outside g.F.Files.fetches g.O.Sink.written g.O.Sink.faults g.E.Sink.written g.E.Sink.faults c.args.files.now c.args.out.now c.end_usage-in-Err-Usage.new.err in
+    let old : Outside = outside (g.F.Files.seen c.args.files.now) (g.O.Sink.seen c.args.out.now) (g.E.Sink.seen c.args.err.now) in
+    let new : Outside = outside (g.F.Files.seen c.args.files.now) (g.O.Sink.seen c.args.out.now) (g.E.Sink.seen c.end_usage-in-Err-Usage.new.err) in
     let none = c.in-Some.ensures ∙ ap (with_script c.in-Some.script.now) (c.in-Err-Usage.ensures.usage (cc)) in
-    some-always (g.F.Files.contents c.args.files.now) _ (λ held.
+    some-always (g.F.Files.seen c.args.files.now).contents _ (λ held.
     subst (λ run. Ends (IsWordsResult run held) c.end_usage-in-Err-Usage.result old new) (sym none) (ends_with_line old new usage usage_line c.end_usage-in-Err-Usage.result refl refl c.end_usage-in-Err-Usage.ensures.ended))
 
 pub returns-in-Err-Usage-clause-complete : goal.returns-in-Err-Usage-clause-complete
 returns-in-Err-Usage-clause-complete g c =
     let words = map string_bytes c.args.words.now.items in
-    let old : Outside = outside g.F.Files.fetches g.O.Sink.written g.O.Sink.faults g.E.Sink.written g.E.Sink.faults c.args.files.now c.args.out.now c.args.err.now in
-    let new : Outside = outside g.F.Files.fetches g.O.Sink.written g.O.Sink.faults g.E.Sink.written g.E.Sink.faults c.args.files.now c.args.out.now c.end_usage-in-Err-Usage.new.err in
-    complete_run (g.F.Files.contents c.args.files.now) (IsRunResult words) c.end_usage-in-Err-Usage.result old new _ _ _
+    let old : Outside = outside (g.F.Files.seen c.args.files.now) (g.O.Sink.seen c.args.out.now) (g.E.Sink.seen c.args.err.now) in
+    let new : Outside = outside (g.F.Files.seen c.args.files.now) (g.O.Sink.seen c.args.out.now) (g.E.Sink.seen c.end_usage-in-Err-Usage.new.err) in
+    complete_run (g.F.Files.seen c.args.files.now).contents (IsRunResult words) c.end_usage-in-Err-Usage.result old new _ _ _
     (returns-in-Err-Usage-clause-told g c)
     (λ is. absurd (not_unread _ _ _ _ c.end_usage-in-Err-Usage.ensures.ended is))
     (λ is. inr (c.end_usage-in-Err-Usage.ensures.output is))
 
 pub returns-in-Err-Usage-clause-words : goal.returns-in-Err-Usage-clause-words
 returns-in-Err-Usage-clause-words g c =
-    let old : Outside = outside g.F.Files.fetches g.O.Sink.written g.O.Sink.faults g.E.Sink.written g.E.Sink.faults c.args.files.now c.args.out.now c.args.err.now in
-    let new : Outside = outside g.F.Files.fetches g.O.Sink.written g.O.Sink.faults g.E.Sink.written g.E.Sink.faults c.args.files.now c.args.out.now c.end_usage-in-Err-Usage.new.err in
+    let old : Outside = outside (g.F.Files.seen c.args.files.now) (g.O.Sink.seen c.args.out.now) (g.E.Sink.seen c.args.err.now) in
+    let new : Outside = outside (g.F.Files.seen c.args.files.now) (g.O.Sink.seen c.args.out.now) (g.E.Sink.seen c.end_usage-in-Err-Usage.new.err) in
     let none = c.in-Some.ensures ∙ ap (with_script c.in-Some.script.now) (c.in-Err-Usage.ensures.usage (cc)) in
     subst (λ run. IfNone run (Ends (Is (with_line usage_line usage)) c.end_usage-in-Err-Usage.result old new)) (sym none) (ends_with_line old new usage usage_line c.end_usage-in-Err-Usage.result refl refl c.end_usage-in-Err-Usage.ensures.ended)
 
 pub returns-in-Err-NoMemory-clause-told : goal.returns-in-Err-NoMemory-clause-told
 returns-in-Err-NoMemory-clause-told g c =
     let words = map string_bytes c.args.words.now.items in
-    let old : Outside = outside g.F.Files.fetches g.O.Sink.written g.O.Sink.faults g.E.Sink.written g.E.Sink.faults c.args.files.now c.args.out.now c.args.err.now in
-    some-always (g.F.Files.contents c.args.files.now) _ (λ held. early_none old old (IsRunResult words held) refl refl)
+    let old : Outside = outside (g.F.Files.seen c.args.files.now) (g.O.Sink.seen c.args.out.now) (g.E.Sink.seen c.args.err.now) in
+    some-always (g.F.Files.seen c.args.files.now).contents _ (λ held. ends_unbegun (IsRunResult words held) old old (run_one words held) refl refl)
 
 pub returns-in-Err-NoMemory-clause-words : goal.returns-in-Err-NoMemory-clause-words
 returns-in-Err-NoMemory-clause-words g c =
     let words = map string_bytes c.args.words.now.items in
-    let old : Outside = outside g.F.Files.fetches g.O.Sink.written g.O.Sink.faults g.E.Sink.written g.E.Sink.faults c.args.files.now c.args.out.now c.args.err.now in
-    none-always (run_in words) _ (early_none old old (Is (with_line usage_line usage)) refl refl)
+    let old : Outside = outside (g.F.Files.seen c.args.files.now) (g.O.Sink.seen c.args.out.now) (g.E.Sink.seen c.args.err.now) in
+    none-always (run_in words) _ (early_none old old (Is (with_line usage_line usage)) (with_line usage_line usage) refl refl refl)
 
--- what holds of the run in the words
-abbrev Fit : {F E : Type 0} → (F → ℕ) → (E → Option (List ℕ)) → F → F → E → E → Status → Option RunWords → Type 0
-Fit absences written f f' e e' result run = IfSome run (λ run. result ≡ Fault → FailsUnlessAbsent run.paths (absences f) (absences f') (written e) (written e'))
+-- what is left on the errors by a run in these words
+abbrev Leaves : FilesValue → FilesValue → SinkValue → SinkValue → Status → Option RunWords → Type 0
+Leaves old new err err' result run = IfSome run (λ run. RunLeaves run.paths old.absences new.absences result err.written err'.written)
 
-pub returns-in_default-clause-cause : goal.returns-in_default-clause-cause
-returns-in_default-clause-cause g c = subst (Fit g.F.Files.absences g.E.Sink.written c.args.files.now c.args.files.now c.args.err.now c.end_usage.new.err c.end_usage.result) (sym c.in_default.ensures) tt
+-- and where its script isn't there
+abbrev IsAbsent : FilesValue → FilesValue → SinkValue → SinkValue → Status → Option RunWords → Type 0
+IsAbsent old new err err' result run =
+    IfSome run (λ run. result ≡ Usage → HasRisen old.absences new.absences × (err'.written ≡ appended err.written (not_found_line run.script)))
 
-pub returns-in-Ok-clause-cause : goal.returns-in-Ok-clause-cause
-returns-in-Ok-clause-cause g c =
+pub returns-in_default-clause-errors : goal.returns-in_default-clause-errors
+returns-in_default-clause-errors g c = subst (Leaves (g.F.Files.seen c.args.files.now) (g.F.Files.seen c.args.files.now) (g.E.Sink.seen c.args.err.now) (g.E.Sink.seen c.end_usage.new.err) c.end_usage.result) (sym c.in_default.ensures) tt
+
+pub returns-in_default-clause-usage : goal.returns-in_default-clause-usage
+returns-in_default-clause-usage g c = subst (IsAbsent (g.F.Files.seen c.args.files.now) (g.F.Files.seen c.args.files.now) (g.E.Sink.seen c.args.err.now) (g.E.Sink.seen c.end_usage.new.err) c.end_usage.result) (sym c.in_default.ensures) tt
+
+pub returns-in-Ok-clause-errors : goal.returns-in-Ok-clause-errors
+returns-in-Ok-clause-errors g c =
     let is = c.in-Some.ensures ∙ ap (with_script c.in-Some.script.now) c.in-Ok.ensures.names in
-    subst (Fit g.F.Files.absences g.E.Sink.written c.args.files.now c.run_file.new.files c.args.err.now c.run_file.new.err c.run_file.result) (sym is) c.run_file.ensures.cause
+    subst (Leaves (g.F.Files.seen c.args.files.now) (g.F.Files.seen c.run_file.new.files) (g.E.Sink.seen c.args.err.now) (g.E.Sink.seen c.run_file.new.err) c.run_file.result) (sym is) c.run_file.ensures.errors
 
-pub returns-in-Err-Usage-clause-cause : goal.returns-in-Err-Usage-clause-cause
-returns-in-Err-Usage-clause-cause g c =
+pub returns-in-Ok-clause-usage : goal.returns-in-Ok-clause-usage
+returns-in-Ok-clause-usage g c =
+    let is = c.in-Some.ensures ∙ ap (with_script c.in-Some.script.now) c.in-Ok.ensures.names in
+    subst (IsAbsent (g.F.Files.seen c.args.files.now) (g.F.Files.seen c.run_file.new.files) (g.E.Sink.seen c.args.err.now) (g.E.Sink.seen c.run_file.new.err) c.run_file.result) (sym is) c.run_file.ensures.usage
+
+pub returns-in-Err-Usage-clause-errors : goal.returns-in-Err-Usage-clause-errors
+returns-in-Err-Usage-clause-errors g c =
     let none = c.in-Some.ensures ∙ ap (with_script c.in-Some.script.now) (c.in-Err-Usage.ensures.usage (cc)) in
-    subst (Fit g.F.Files.absences g.E.Sink.written c.args.files.now c.args.files.now c.args.err.now c.end_usage-in-Err-Usage.new.err c.end_usage-in-Err-Usage.result) (sym none) tt
+    subst (Leaves (g.F.Files.seen c.args.files.now) (g.F.Files.seen c.args.files.now) (g.E.Sink.seen c.args.err.now) (g.E.Sink.seen c.end_usage-in-Err-Usage.new.err) c.end_usage-in-Err-Usage.result) (sym none) tt
 
-pub returns-in-Err-NoMemory-clause-cause : goal.returns-in-Err-NoMemory-clause-cause
-returns-in-Err-NoMemory-clause-cause g c = some-always (run_in (map string_bytes c.args.words.now.items)) _ (λ run is. absurd (not_memory is))
+pub returns-in-Err-Usage-clause-usage : goal.returns-in-Err-Usage-clause-usage
+returns-in-Err-Usage-clause-usage g c =
+    let none = c.in-Some.ensures ∙ ap (with_script c.in-Some.script.now) (c.in-Err-Usage.ensures.usage (cc)) in
+    subst (IsAbsent (g.F.Files.seen c.args.files.now) (g.F.Files.seen c.args.files.now) (g.E.Sink.seen c.args.err.now) (g.E.Sink.seen c.end_usage-in-Err-Usage.new.err) c.end_usage-in-Err-Usage.result) (sym none) tt
+
+pub returns-in-Err-NoMemory-clause-errors : goal.returns-in-Err-NoMemory-clause-errors
+returns-in-Err-NoMemory-clause-errors g c = some-always (run_in (map string_bytes c.args.words.now.items)) _ (λ run. warns_none _)
+
+pub returns-in-Err-NoMemory-clause-usage : goal.returns-in-Err-NoMemory-clause-usage
+returns-in-Err-NoMemory-clause-usage g c = some-always (run_in (map string_bytes c.args.words.now.items)) _ (λ run is. absurd (cc))
+
+pub returns-in_default-clause-serves : goal.returns-in_default-clause-serves
+returns-in_default-clause-serves g c = serves_self _
+
+pub returns-in-Err-Usage-clause-serves : goal.returns-in-Err-Usage-clause-serves
+returns-in-Err-Usage-clause-serves g c = serves_self _
+
+pub returns-in-Err-NoMemory-clause-serves : goal.returns-in-Err-NoMemory-clause-serves
+returns-in-Err-NoMemory-clause-serves g c = serves_self _

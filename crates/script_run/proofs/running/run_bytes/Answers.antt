@@ -1,45 +1,68 @@
-use Rattle.std.proofs.Common.{refl}
+use Rattle.std.proofs.Common.{inl, inr, refl}
 use Rattle.script_meaning.specs.State.{no_names}
 use Rattle.script_meaning.specs.Run.{IsScriptResult, statements_result, syntax_line, too_large_line, syntax}
 use Rattle.script_syntax.specs.ScriptView.{statements_of}
 use Rattle.script_session.specs.Reads.{files_in}
+use Rattle.script_session.proofs.Rides.{serves_self}
 use Rattle.script_run.specs.Ends.{Outside, outside, Ends, Is}
-use Rattle.script_run.proofs.FileLaws.{ends_script, ends_syntax, ends_too_large, some-always, some-weaker}
+use Rattle.script_run.specs.declared.status.Status.TheVariants.{Syntax}
+use Rattle.script_run.proofs.FileLaws.{ends_script, ends_syntax, ends_too_large, ends_unbegun, some-always, some-weaker}
 use Rattle.script_run.proofs.RunLaws.{ends_with_line}
-use Rattle.script_run.proofs.CauseLaws.{not_fault, not_memory, not_syntax}
+use Rattle.script_run.proofs.ErrorLaws.{never_usage, run_leaves, run_leaves_line, warns_none}
+use Rattle.script_run.proofs.OneResult.{script_one}
 use Rattle.script_run.proofs.running.run_bytes.Goals as goal
 
 pub returns-in-Ok-clause-told : goal.returns-in-Ok-clause-told
 returns-in-Ok-clause-told g c =
-    let old : Outside = outside g.F.Files.fetches g.O.Sink.written g.O.Sink.faults g.E.Sink.written g.E.Sink.faults c.args.files.now c.args.out.now c.args.err.now in
-    let new : Outside = outside g.F.Files.fetches g.O.Sink.written g.O.Sink.faults g.E.Sink.written g.E.Sink.faults c.run_script.new.files c.run_script.new.out c.run_script.new.err in
-    some-weaker (g.F.Files.contents c.args.files.now) (λ held. Ends (Is (statements_result (files_in c.args.names.now held) no_names (statements_of c.in-Ok.script))) c.run_script.result old new)
+    let old : Outside = outside (g.F.Files.seen c.args.files.now) (g.O.Sink.seen c.args.out.now) (g.E.Sink.seen c.args.err.now) in
+    let new : Outside = outside (g.F.Files.seen c.run_script.new.files) (g.O.Sink.seen c.run_script.new.out) (g.E.Sink.seen c.run_script.new.err) in
+    some-weaker (g.F.Files.seen c.args.files.now).contents (λ held. Ends (Is (statements_result (files_in c.args.names.now held) no_names (statements_of c.in-Ok.script))) c.run_script.result old new)
     (λ held. Ends (IsScriptResult (files_in c.args.names.now held) c.args.bytes.now) c.run_script.result old new) c.run_script.ensures.told (λ held t.
     ends_script (files_in c.args.names.now held) c.run_script.result old new c.args.bytes.now (statements_of c.in-Ok.script) c.in-Ok.ensures.0 c.in-Ok.ensures.1 t)
 
 pub returns-in-Err-SyntaxAt-clause-told : goal.returns-in-Err-SyntaxAt-clause-told
 returns-in-Err-SyntaxAt-clause-told g c =
     let parsed = rw c.in-Err-SyntaxAt.field-0-is at c.in-Err-SyntaxAt.ensures in
-    let old : Outside = outside g.F.Files.fetches g.O.Sink.written g.O.Sink.faults g.E.Sink.written g.E.Sink.faults c.args.files.now c.args.out.now c.args.err.now in
-    let new : Outside = outside g.F.Files.fetches g.O.Sink.written g.O.Sink.faults g.E.Sink.written g.E.Sink.faults c.args.files.now c.args.out.now c.end_syntax.new.err in
-    some-always (g.F.Files.contents c.args.files.now) _ (λ held.
+    let old : Outside = outside (g.F.Files.seen c.args.files.now) (g.O.Sink.seen c.args.out.now) (g.E.Sink.seen c.args.err.now) in
+    let new : Outside = outside (g.F.Files.seen c.args.files.now) (g.O.Sink.seen c.args.out.now) (g.E.Sink.seen c.end_syntax.new.err) in
+    some-always (g.F.Files.seen c.args.files.now).contents _ (λ held.
     ends_syntax (files_in c.args.names.now held) c.end_syntax.result old new c.args.bytes.now c.in-Err-SyntaxAt.line parsed.0 parsed.1
     (ends_with_line old new syntax (syntax_line c.in-Err-SyntaxAt.line) c.end_syntax.result refl refl c.end_syntax.ensures.ended))
 
 pub returns-in-Err-TooLarge-clause-told : goal.returns-in-Err-TooLarge-clause-told
 returns-in-Err-TooLarge-clause-told g c =
     let parsed = rw c.in-Err-TooLarge.field-0-is at c.in-Err-TooLarge.ensures in
-    let old : Outside = outside g.F.Files.fetches g.O.Sink.written g.O.Sink.faults g.E.Sink.written g.E.Sink.faults c.args.files.now c.args.out.now c.args.err.now in
-    let new : Outside = outside g.F.Files.fetches g.O.Sink.written g.O.Sink.faults g.E.Sink.written g.E.Sink.faults c.args.files.now c.args.out.now c.end_too_large.new.err in
-    some-always (g.F.Files.contents c.args.files.now) _ (λ held.
+    let old : Outside = outside (g.F.Files.seen c.args.files.now) (g.O.Sink.seen c.args.out.now) (g.E.Sink.seen c.args.err.now) in
+    let new : Outside = outside (g.F.Files.seen c.args.files.now) (g.O.Sink.seen c.args.out.now) (g.E.Sink.seen c.end_too_large.new.err) in
+    some-always (g.F.Files.seen c.args.files.now).contents _ (λ held.
     ends_too_large (files_in c.args.names.now held) c.end_too_large.result old new c.args.bytes.now parsed
     (ends_with_line old new syntax too_large_line c.end_too_large.result refl refl c.end_too_large.ensures.ended))
 
-pub returns-in-Err-SyntaxAt-clause-cause : goal.returns-in-Err-SyntaxAt-clause-cause
-returns-in-Err-SyntaxAt-clause-cause g c = λ is. absurd (not_fault _ _ _ _ _ not_syntax c.end_syntax.ensures.ended is)
+pub returns-in-Err-NoMemory-clause-told : goal.returns-in-Err-NoMemory-clause-told
+returns-in-Err-NoMemory-clause-told g c =
+    let old : Outside = outside (g.F.Files.seen c.args.files.now) (g.O.Sink.seen c.args.out.now) (g.E.Sink.seen c.args.err.now) in
+    some-always (g.F.Files.seen c.args.files.now).contents _ (λ held. ends_unbegun (IsScriptResult (files_in c.args.names.now held) c.args.bytes.now) old old (script_one (files_in c.args.names.now held) c.args.bytes.now) refl refl)
 
-pub returns-in-Err-TooLarge-clause-cause : goal.returns-in-Err-TooLarge-clause-cause
-returns-in-Err-TooLarge-clause-cause g c = λ is. absurd (not_fault _ _ _ _ _ not_syntax c.end_too_large.ensures.ended is)
+pub returns-in-Ok-clause-errors : goal.returns-in-Ok-clause-errors
+returns-in-Ok-clause-errors g c = run_leaves _ _ _ c.run_script.result _ _ c.run_script.ensures.errors
 
-pub returns-in-Err-NoMemory-clause-cause : goal.returns-in-Err-NoMemory-clause-cause
-returns-in-Err-NoMemory-clause-cause g c = λ is. absurd (not_memory is)
+pub returns-in-Ok-clause-usage : goal.returns-in-Ok-clause-usage
+returns-in-Ok-clause-usage g c = never_usage _ _ _ c.run_script.result _ _ c.run_script.ensures.errors
+
+pub returns-in-Err-SyntaxAt-clause-errors : goal.returns-in-Err-SyntaxAt-clause-errors
+returns-in-Err-SyntaxAt-clause-errors g c = run_leaves_line _ _ _ _ Syntax c.end_syntax.result _ _ (λ said. inr (c.in-Err-SyntaxAt.line, said)) c.end_syntax.ensures.ended
+
+pub returns-in-Err-TooLarge-clause-errors : goal.returns-in-Err-TooLarge-clause-errors
+returns-in-Err-TooLarge-clause-errors g c = run_leaves_line _ _ _ _ Syntax c.end_too_large.result _ _ (λ said. inl said) c.end_too_large.ensures.ended
+
+pub returns-in-Err-NoMemory-clause-errors : goal.returns-in-Err-NoMemory-clause-errors
+returns-in-Err-NoMemory-clause-errors g c = warns_none _
+
+pub returns-in-Err-SyntaxAt-clause-serves : goal.returns-in-Err-SyntaxAt-clause-serves
+returns-in-Err-SyntaxAt-clause-serves g c = serves_self _
+
+pub returns-in-Err-TooLarge-clause-serves : goal.returns-in-Err-TooLarge-clause-serves
+returns-in-Err-TooLarge-clause-serves g c = serves_self _
+
+pub returns-in-Err-NoMemory-clause-serves : goal.returns-in-Err-NoMemory-clause-serves
+returns-in-Err-NoMemory-clause-serves g c = serves_self _

@@ -1,4 +1,4 @@
-use Rattle.std.proofs.Common.{ap, sym}
+use Rattle.std.proofs.Common.{ap, sym, refl}
 use Rattle.std.specs.Prelude.{Err}
 use Rattle.script_session.proofs.Fetching.{unnamed_file, whole_file, absent_file, long_file, failed_file, spent_file}
 use Rattle.script_session.proofs.Rides.{serves_self}
@@ -14,7 +14,7 @@ returns-in-Err-Absent-clause-reads g c = λ texts held go refuses.
 
 pub returns-in-Err-TooLong-clause-reads : goal.returns-in-Err-TooLong-clause-reads
 returns-in-Err-TooLong-clause-reads g c = λ texts held go refuses.
-    (long_file texts c.args.names.now held c.args.name.now go c.in-Some.path.now (sym c.in-Some.ensures) _ _ c.read_whole.ensures.fetches refuses (c.in-Err-TooLong.ensures.told_longer (ap (λ e. Err e) c.in-Err-TooLong.field-0-is)), tt)
+    (long_file texts c.args.names.now held c.args.name.now go c.in-Some.path.now (sym c.in-Some.ensures) _ _ c.read_whole.ensures.fetches refuses (c.in-Err-TooLong.ensures.told_longer (ap (λ e. Err e) c.in-Err-TooLong.field-0-is)), tt, λ more. refl)
 
 pub returns-in-Err-Failed-clause-reads : goal.returns-in-Err-Failed-clause-reads
 returns-in-Err-Failed-clause-reads g c = λ texts held go refuses.

@@ -1,11 +1,11 @@
-use Rattle.std.proofs.Common.{◌≡◌, ◌∙◌, sym, true, false, rules}
+use Rattle.std.proofs.Common.{◌≡◌, ◌∙◌, sym, true, false, rules, refl}
 use Rattle.selections.proofs.ColumnLaws.{list_refused, list_made}
 use Rattle.selections.proofs.columns.list_column.Goals as goal
 
 pub returns-then-not-holds_all-clause-answer : goal.returns-then-not-holds_all-clause-answer
 returns-then-not-holds_all-clause-answer c = λ texts.
     let other : c.holds_all.result ≡ false = search rules in
-    list_refused texts c.args.cells.now c.first_kind-kind.result c.holds_all.result (c.first_kind-kind.ensures texts) (c.holds_all.ensures texts) other
+    (list_refused texts c.args.cells.now c.first_kind-kind.result c.holds_all.result (c.first_kind-kind.ensures texts) (c.holds_all.ensures texts) other, λ more. refl)
 
 pub returns-clause-answer : goal.returns-clause-answer
 returns-clause-answer c = λ texts.

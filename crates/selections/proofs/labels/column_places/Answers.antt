@@ -5,6 +5,7 @@ use Rattle.std.specs.Option.{option_copied}
 use Rattle.std.proofs.lemmas.List.Elements.{All-push}
 use Rattle.table_meaning.specs.Table.{table_value}
 use Rattle.selections.proofs.PlaceLaws.{listed_settled, looked_up, looked_inside, places_more, place_refused}
+use Rattle.selections.proofs.RefusalLaws.{no_key_settled}
 use Rattle.selections.proofs.labels.column_places.Goals as goal
 
 pub returns-in_default-clause-answer : goal.returns-in_default-clause-answer
@@ -15,8 +16,10 @@ returns-in_default-clause-answer c =
     let lt : c.loop-k.k < length c.args.cells.now = omega arith in
     let settled = listed_settled dict c.args.cells.now c.loop-k.k c.at.result.now label c.at.ensures c.label_of-label.ensures.seen c.requires.cells in
     let none = looked_up dict c.in_ok-first.first.entries t label None c.len.ensures.distinct c.requires.settled settled c.in_ok-first.ensures c.in_default.ensures.value in
-    rw c.missing.ensures
-    (place_refused dict (table_value dict t) c.args.cells.now c.loop-k.k c.at.result.now label c.loop-k.places (no_key (label_datum dict label ∷ [])) _ lt c.at.ensures (c.label_of-label.ensures.seen dict) none c.loop-k.invariant.places)
+    rw c.missing.ensures (
+      place_refused dict (table_value dict t) c.args.cells.now c.loop-k.k c.at.result.now label c.loop-k.places (no_key (label_datum dict label ∷ [])) _ lt c.at.ensures (c.label_of-label.ensures.seen dict) none c.loop-k.invariant.places,
+      no_key_settled dict label settled,
+    )
 
 pub loop-k-preserved : goal.loop-k-preserved
 loop-k-preserved c =

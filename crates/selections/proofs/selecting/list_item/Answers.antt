@@ -11,8 +11,11 @@ pub returns-then-are_truths-clause-answers : goal.returns-then-are_truths-clause
 returns-then-are_truths-clause-answers c =
     let dict = c.args.dict.now in
     let live = tables c.args.store.now in (
-      truth_list (table_value dict (table_at live c.args.on.0)) (items_of live dict c.args.items.now) (cells_value dict c.in-Some.cells) c.are_truths.result
-          (ap (option_map (cells_value dict)) (sym c.in-Some.is) ∙ c.in_ok-cells.ensures live dict) (c.are_truths.ensures dict) c.if-are_truths.true,
+      (
+        truth_list (table_value dict (table_at live c.args.on.0)) (items_of live dict c.args.items.now) (cells_value dict c.in-Some.cells) c.are_truths.result
+            (ap (option_map (cells_value dict)) (sym c.in-Some.is) ∙ c.in_ok-cells.ensures live dict) (c.are_truths.ensures dict) c.if-are_truths.true,
+        λ more. refl,
+      ),
       refl,
     )
 

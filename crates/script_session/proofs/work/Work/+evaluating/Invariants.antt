@@ -12,19 +12,19 @@ use Rattle.script_session.proofs.Parts.{join_parts, join_pairs}
 use Rattle.script_session.proofs.work.Work.+evaluating.Given as goal
 
 abbrev pub invariant-arguments-loop-i : goal.invariant-arguments-loop-i
-invariant-arguments-loop-i g l = let F = g.F.Files in let at = moment F.contents F.fetches F.faults F.absences in record {
+invariant-arguments-loop-i g l = let F = g.F.Files in let at = moment F.seen in record {
   known : AreKnownArguments (world_of l.self) l.arguments.items.items;
   gathers : Gathers l.names (λ a b. a ++ b) (λ fs s. named_of fs s (named_args (named_parts_of l.args))) (λ fs s. named_of fs s (named_args (drop l.i (named_parts_of l.args)))) (arguments_in (world_of l.self) l.arguments) (at l.fn.self l.fn.files) (at l.self l.files);
 }
 
 abbrev pub invariant-entries-loop-i : goal.invariant-entries-loop-i
-invariant-entries-loop-i g l = let F = g.F.Files in let at = moment F.contents F.fetches F.faults F.absences in record {
+invariant-entries-loop-i g l = let F = g.F.Files in let at = moment F.seen in record {
   known : AreKnownPairs (world_of l.self) l.entries.pairs.items;
   gathers : Gathers l.names join_pairs (λ fs s. pairs_of fs s (arg_pairs (pair_parts_of l.pairs))) (λ fs s. pairs_of fs s (arg_pairs (drop l.i (pair_parts_of l.pairs)))) (pairs_in (world_of l.self) l.entries) (at l.fn.self l.fn.files) (at l.self l.files);
 }
 
 abbrev pub invariant-items-loop-i : goal.invariant-items-loop-i
-invariant-items-loop-i g l = let F = g.F.Files in let at = moment F.contents F.fetches F.faults F.absences in record {
+invariant-items-loop-i g l = let F = g.F.Files in let at = moment F.seen in record {
   known : AreKnownItems (world_of l.self) l.items.items.items;
   gathers : Gathers l.names join_parts (λ fs s. parts_given fs s (arg_list (parts_of l.parts))) (λ fs s. parts_given fs s (arg_list (drop l.i (parts_of l.parts)))) (items_in (world_of l.self) l.items) (at l.fn.self l.fn.files) (at l.self l.files);
 }

@@ -5,7 +5,7 @@ use Rattle.form_meaning.specs.declared.Function.TheVariants.{ReadCsv}
 use Rattle.method_meaning.specs.Readers.{file_name_of, read_result}
 use Rattle.script_meaning.specs.Reading.{at_once, then_read, of_file}
 use Rattle.script_session.specs.declared.fault.EvalFault.TheVariants.{Refused}
-use Rattle.script_session.specs.Reads.{files_in, shelf}
+use Rattle.script_session.specs.Reads.{files_in}
 use Rattle.script_session.specs.Work.{world_of}
 use Rattle.script_session.proofs.Fetching.{refuses_long}
 use Rattle.script_session.proofs.FormFaults.{file_name_of_fault}
@@ -30,10 +30,10 @@ returns-in-Err-clause-reads g c =
     let w = world_of c.args.self.now in
     let given = arguments_of w.tables w.texts c.args.args.now.items.items in
     let F = g.F.Files in
-    let here = shelf F.contents F.fetches F.faults F.absences c.args.files.now in
+    let here = F.seen c.args.files.now in
     λ held.
     let fs = files_in c.args.names.now held in
-    halts_first w.texts _ _ _ _ Err (λ name. of_file fs name (λ bytes. read_result bytes given)) (Refused c.in-Err.code) (goes_same (ap (λ r. at_once r) c.in-Err.ensures), fault_uncaused w.texts fs.paths here here c.in-Err.code (file_name_of ReadCsv given) (file_name_of_fault ReadCsv given) c.in-Err.ensures)
+    halts_first w.texts _ _ _ _ Err (λ name. of_file fs name (λ bytes. read_result bytes given)) (Refused c.in-Err.code) (goes_same (ap (λ r. at_once r) c.in-Err.ensures.0), fault_uncaused w.texts fs.paths here here c.in-Err.code (file_name_of ReadCsv given) (file_name_of_fault ReadCsv given) c.in-Err.ensures.0, c.in-Err.ensures.1)
 
 pub returns-in-Err-clause-serves : goal.returns-in-Err-clause-serves
 returns-in-Err-clause-serves g c = serves_self _

@@ -4,7 +4,7 @@ use Rattle.column_core.specs.Columns.{column_value}
 use Rattle.column_core.proofs.CellRows.{made_column}
 use Rattle.column_core.proofs.ColumnLaws.{given-plain}
 use Rattle.column_core.proofs.RowsMade.{rows_written}
-use Rattle.nullable_array.proofs.kernels.operate_pairs.Goals as goal
+use Rattle.nullable_array.proofs.kernels.operate_sides.Goals as goal
 
 pub returns-clause-answer : goal.returns-clause-answer
 returns-clause-answer g c = λ texts.

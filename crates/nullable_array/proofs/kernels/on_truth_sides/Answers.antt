@@ -1,0 +1,17 @@
+use Rattle.std.proofs.Common.{refl}
+use Rattle.cell_core.specs.declared.cell.Kind.TheVariants.{Boolean}
+use Rattle.nullable_array.specs.declared.ops.Task.TheVariants as task
+use Rattle.column_core.specs.Columns.{truth_cell}
+use Rattle.nullable_array.specs.Operations.{and_row, or_row, xor_row}
+use Rattle.nullable_array.proofs.ColumnAnswers.{pair_answer}
+use Rattle.nullable_array.proofs.Laws.{both_law, either_law, one_of_law}
+use Rattle.nullable_array.proofs.kernels.on_truth_sides.Goals as goal
+
+pub returns-in-Both-clause-answer : goal.returns-in-Both-clause-answer
+returns-in-Both-clause-answer g c = λ texts. pair_answer texts _ task.Both c.in-Both.is Boolean Boolean Boolean truth_cell truth_cell truth_cell and_row refl (both_law texts) _ _ _ _ c.requires _ (c.operate_sides.ensures.answer texts)
+
+pub returns-in-Either-clause-answer : goal.returns-in-Either-clause-answer
+returns-in-Either-clause-answer g c = λ texts. pair_answer texts _ task.Either c.in-Either.is Boolean Boolean Boolean truth_cell truth_cell truth_cell or_row refl (either_law texts) _ _ _ _ c.requires _ (c.operate_sides-in-Either.ensures.answer texts)
+
+pub returns-in-OneOf-clause-answer : goal.returns-in-OneOf-clause-answer
+returns-in-OneOf-clause-answer g c = λ texts. pair_answer texts _ task.OneOf c.in-OneOf.is Boolean Boolean Boolean truth_cell truth_cell truth_cell xor_row refl (one_of_law texts) _ _ _ _ c.requires _ (c.operate_sides-in-OneOf.ensures.answer texts)

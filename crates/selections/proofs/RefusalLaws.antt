@@ -1,0 +1,36 @@
+-- Refusals that name a label whose text was given its number.
+use Rattle.std.proofs.Common.{◌≡◌, Bool, true, false, List, [], ◌∷◌, ap, sym, subst, refl, if◌then◌else◌, Option, Some}
+use Rattle.std.specs.List.{list_any}
+use Rattle.cell_core.specs.declared.cell.Label.{Label}
+use Rattle.cell_core.specs.declared.code.Code.{Code}
+use Rattle.cell_core.specs.declared.code.Code.TheVariants.{NoKey, BadValue}
+use Rattle.cell_core.specs.declared.code.Reason.TheVariants.{Repeated}
+use Rattle.meaning.specs.Text.{Text}
+use Rattle.meaning.specs.Cell.{label_datum}
+use Rattle.meaning.specs.Fault.{no_key, bad_value, repeated}
+use Rattle.meaning.specs.FaultOf.{fault_of}
+use Rattle.table_meaning.specs.Settled.{IsSettled}
+use Rattle.table_meaning.specs.Table.{heading_value}
+use Rattle.form_parts.proofs.LabelLaws.{heading_label}
+use Rattle.frame_store.specs.Shown.{headings_value}
+use Rattle.selections.specs.Headings.{same_heading, repeated_heading}
+use Rattle.selections.proofs.HeadingLaws.{head_settled, rest_settled}
+
+-- a key that isn't there
+pub no_key_settled : (texts : List Text) (label : Label) → IsSettled label_datum texts label → IsSettled fault_of texts (NoKey (label ∷ []))
+no_key_settled texts label settled = λ more. ap (λ l. no_key (l ∷ [])) (settled more)
+
+-- a heading that stands again
+heading_repeated : (texts : List Text) (hs : List (Option Label)) → IsSettled headings_value texts hs → IsSettled heading_value texts (repeated_heading hs)
+heading_repeated texts [] settled = λ more. refl
+heading_repeated texts (h ∷ hs) settled = go (heading_repeated texts hs (rest_settled heading_value texts h hs settled)) (list_any (same_heading h) hs)
+  where
+    go : IsSettled heading_value texts (repeated_heading hs) → (b : Bool) → IsSettled heading_value texts (if b then h else repeated_heading hs)
+    go later true = head_settled heading_value texts h hs settled
+    go later false = later
+
+pub repeated_settled : (texts : List Text) (code : Code) (hs : List (Option Label)) (label : Label) → repeated_heading hs ≡ Some label → code ≡ BadValue (Repeated (label ∷ [])) → IsSettled headings_value texts hs
+    → IsSettled fault_of texts code
+repeated_settled texts code hs label found is settled =
+    let here : IsSettled label_datum texts label = heading_label texts (repeated_heading hs) label found (heading_repeated texts hs settled) in
+    subst (IsSettled fault_of texts) (sym is) (λ more. ap (λ l. bad_value (repeated (l ∷ []))) (here more))
