@@ -7,7 +7,6 @@ ghost use Rattle.cell_core.specs.declared.grid.Shape.TheVariants.{Frame};
 ghost use Rattle.meaning.specs.Text.{Text as OneText};
 ghost use Rattle.meaning.specs.Cell.{label_datum};
 ghost use Rattle.table_meaning.specs.Settled.{IsSettled};
-ghost use Rattle.table_meaning.specs.Table.{table_value};
 ghost use Rattle.table_meaning.specs.Valid.{AreHeadings};
 ghost use Rattle.form_meaning.specs.Make as make;
 ghost use Rattle.form_parts.specs.Makes.{MakesBy, blocks_value};
@@ -102,8 +101,9 @@ pub(crate) fn frame_of(
     requires keys { All (λ (p : OneLabel × OneArgument). IsSettled label_datum dict.now p.0) pairs.now }
     requires values { All (λ (p : OneLabel × OneArgument). IsSettled list_seen dict.now p.1) pairs.now }
     requires index { IsSettled (λ texts given. option_map (λ items. scalars texts items.now) given) dict.now index }
-    ensures settled { IfOk result (IsSettled table_value dict.now) }
-    ensures answer { (live : Tables) → Makes dict.now result (meant.frame_from (make.pairs_in (entries_of live dict.now pairs.now)) (option_map (λ items. scalars dict.now items.now) index.entry)) }
+    ensures { (live : Tables) → Makes dict.now result (meant.frame_from
+        (make.pairs_in (entries_of live dict.now pairs.now))
+        (option_map (λ items. scalars dict.now items.now) index.entry)) }
 {
     let places = last_places(alloc, dict, pairs)?;
     let columns = listed_columns(alloc, pairs, &places)?;

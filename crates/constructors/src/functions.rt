@@ -1,13 +1,10 @@
 // The functions of `pd` that make tables.
-ghost use Rattle.std.specs.Prelude.{◌≡◌, is_some, IfOk};
+ghost use Rattle.std.specs.Prelude.{◌≡◌, is_some};
 ghost use Rattle.meaning.specs.Cell.{IsLonger};
-ghost use Rattle.table_meaning.specs.Settled.{IsSettled};
-ghost use Rattle.table_meaning.specs.Table.{table_value};
 ghost use Rattle.form_meaning.specs.Signature as signature;
 ghost use Rattle.form_meaning.specs.Functions as functions;
-ghost use Rattle.frame_store.specs.Objects.{tables};
-ghost use Rattle.frame_store.specs.Arguments.{arguments_of, AreLive};
-ghost use Rattle.frame_store.specs.Shown.{shown, FormAnswers, Makes};
+ghost use Rattle.frame_store.specs.Shown.{Makes};
+ghost use Rattle.frame_store.specs.World.{world, arguments_in, IsSettledWorld, AreKnownArguments, Forms};
 
 use crate::given::{made_frame, made_series};
 use cell_core::{Code, TextDict, Words};
@@ -33,11 +30,10 @@ fn made_by(
     function: Function,
     args: &[Named],
 ) -> Result<Table, OpFault>
-    requires live { AreLive (tables store.now) args.now }
-    requires given { IsSettled (arguments_of (tables store.now)) dict.old args.now }
+    requires { AreKnownArguments (world store.now dict.old) args.now }
     ensures longer { IsLonger dict.old dict.new }
-    ensures settled { IfOk result (IsSettled table_value dict.new) }
-    ensures answer { Makes dict.new result (functions.made_by function (arguments_of (tables store.now) dict.old args.now)) }
+    ensures answer { Makes dict.new result
+        (functions.made_by function (arguments_in (world store.now dict.old) args.now)) }
 {
     match function {
         Function::Series => made_series(alloc, store, dict, args),
@@ -56,11 +52,10 @@ fn made_named(
     name: &str,
     args: &[Named],
 ) -> Result<Table, OpFault>
-    requires live { AreLive (tables store.now) args.now }
-    requires given { IsSettled (arguments_of (tables store.now)) dict.old args.now }
+    requires { AreKnownArguments (world store.now dict.old) args.now }
     ensures longer { IsLonger dict.old dict.new }
-    ensures settled { IfOk result (IsSettled table_value dict.new) }
-    ensures answer { Makes dict.new result (functions.make_result name.now (arguments_of (tables store.now) dict.old args.now)) }
+    ensures answer { Makes dict.new result
+        (functions.make_result name.now (arguments_in (world store.now dict.old) args.now)) }
 {
     match function_named(name) {
         Some(function) => made_by(alloc, store, dict, function, args),
@@ -96,12 +91,11 @@ pub fn make(
     function: &str,
     args: &NamedList,
 ) -> Result<Value, OpFault>
-    requires live { AreLive (tables store.old) args.now.items.items }
-    requires settled { IsSettled shown dict.old (tables store.old) }
-    requires given { IsSettled (arguments_of (tables store.old)) dict.old args.now.items.items }
-    ensures longer { IsLonger dict.old dict.new }
-    ensures settled { IsSettled shown dict.new (tables store.new) }
-    ensures answers { FormAnswers dict.new result (functions.make_result function.now (arguments_of (tables store.old) dict.old args.now.items.items)) (shown dict.old (tables store.old)) (shown dict.new (tables store.new)) }
+    requires settled { IsSettledWorld (world store.old dict.old) }
+    requires known { AreKnownArguments (world store.old dict.old) args.now.items.items }
+    ensures { Forms result (functions.make_result function.now
+        (arguments_in (world store.old dict.old) args.now.items.items))
+        (world store.old dict.old) (world store.new dict.new) }
 {
     let made = made_named(alloc, store, dict, function, args.as_slice());
     placed(store, dict, made)

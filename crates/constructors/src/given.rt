@@ -1,16 +1,15 @@
 // What a constructor makes of its arguments.
-ghost use Rattle.std.specs.Prelude.{◌≡◌, IfOk};
+ghost use Rattle.std.specs.Prelude.{◌≡◌};
 ghost use Rattle.meaning.specs.Cell.{IsLonger};
-ghost use Rattle.table_meaning.specs.Settled.{IsSettled};
-ghost use Rattle.table_meaning.specs.Table.{table_value};
 ghost use Rattle.table_meaning.specs.Value.{scalar_in};
 ghost use Rattle.form_meaning.specs.declared.Function.TheVariants as function_of;
 ghost use Rattle.form_meaning.specs.Binding.{argument_at};
 ghost use Rattle.form_meaning.specs.Make as make;
 ghost use Rattle.form_meaning.specs.Functions as functions;
-ghost use Rattle.frame_store.specs.Objects.{Tables, tables};
-ghost use Rattle.frame_store.specs.Arguments.{arguments_of, AreLive};
+ghost use Rattle.frame_store.specs.Objects.{Tables};
+ghost use Rattle.frame_store.specs.Arguments.{arguments_of};
 ghost use Rattle.frame_store.specs.Shown.{Makes};
+ghost use Rattle.frame_store.specs.World.{world, arguments_in, AreKnownArguments};
 
 use crate::frames::frame_of;
 use crate::levels::has_levels;
@@ -50,11 +49,10 @@ pub(crate) fn made_series(
     dict: &mut TextDict,
     args: &[Named],
 ) -> Result<Table, OpFault>
-    requires live { AreLive (tables store.now) args.now }
-    requires given { IsSettled (arguments_of (tables store.now)) dict.old args.now }
+    requires { AreKnownArguments (world store.now dict.old) args.now }
     ensures longer { IsLonger dict.old dict.new }
-    ensures settled { IfOk result (IsSettled table_value dict.new) }
-    ensures answer { Makes dict.new result (functions.made_by function_of.Series (arguments_of (tables store.now) dict.old args.now)) }
+    ensures answer { Makes dict.new result (functions.made_by function_of.Series
+        (arguments_in (world store.now dict.old) args.now)) }
 {
     let parameters = function_parameters(Function::Series);
     if has_levels(parameters, args) {
@@ -77,10 +75,9 @@ pub(crate) fn made_frame(
     dict: &TextDict,
     args: &[Named],
 ) -> Result<Table, OpFault>
-    requires live { AreLive (tables store.now) args.now }
-    requires given { IsSettled (arguments_of (tables store.now)) dict.now args.now }
-    ensures settled { IfOk result (IsSettled table_value dict.now) }
-    ensures answer { Makes dict.now result (functions.made_by function_of.DataFrame (arguments_of (tables store.now) dict.now args.now)) }
+    requires { AreKnownArguments (world store.now dict.now) args.now }
+    ensures { Makes dict.now result (functions.made_by function_of.DataFrame
+        (arguments_in (world store.now dict.now) args.now)) }
 {
     let parameters = function_parameters(Function::DataFrame);
     if has_levels(parameters, args) {

@@ -4,7 +4,7 @@ ghost use Rattle.std.specs.Option.{option_map};
 ghost use Rattle.cell_core.specs.declared.grid.Shape.TheVariants.{Series};
 ghost use Rattle.meaning.specs.Cell.{AreGiven, IsLonger};
 ghost use Rattle.table_meaning.specs.Settled.{IsSettled};
-ghost use Rattle.table_meaning.specs.Table.{heading_value, table_value};
+ghost use Rattle.table_meaning.specs.Table.{heading_value};
 ghost use Rattle.form_meaning.specs.Make as make;
 ghost use Rattle.form_parts.specs.Makes.{MakesBy};
 ghost use Rattle.frame_store.specs.Parts.{table_with};
@@ -89,8 +89,9 @@ pub(crate) fn series_of(
     requires index { IsSettled (λ texts given. option_map (λ items. scalars texts items.now) given) dict.old index }
     requires name { IsSettled heading_value dict.old name }
     ensures longer { IsLonger dict.old dict.new }
-    ensures settled { IfOk result (IsSettled table_value dict.new) }
-    ensures answer { Makes dict.new result (meant.series_with (scalars dict.old values.now) (option_map (λ items. scalars dict.old items.now) index.entry) (heading_value dict.old name) kind) }
+    ensures answer { Makes dict.new result (meant.series_with (scalars dict.old values.now)
+        (option_map (λ items. scalars dict.old items.now) index.entry)
+        (heading_value dict.old name) kind) }
 {
     let listed = list_column(alloc, values)?;
     let column = cast_to(alloc, dict, listed, kind)?;

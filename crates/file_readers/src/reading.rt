@@ -1,15 +1,14 @@
 // What the functions of `pd` make, with the file of those that read one.
-ghost use Rattle.std.specs.Prelude.{◌≡◌, IfOk};
+ghost use Rattle.std.specs.Prelude.{◌≡◌};
 ghost use Rattle.std.specs.Option.{option_map};
 ghost use Rattle.meaning.specs.Cell.{IsLonger};
-ghost use Rattle.table_meaning.specs.Settled.{IsSettled};
-ghost use Rattle.table_meaning.specs.Table.{table_value};
 ghost use Rattle.csv_meaning.specs.CsvRead.{columns_of_file};
 ghost use Rattle.csv_frames.specs.Views.{entries_seen};
 ghost use Rattle.method_meaning.specs.Readers as readers;
 ghost use Rattle.frame_store.specs.Objects.{tables};
-ghost use Rattle.frame_store.specs.Arguments.{arguments_of, AreLive};
-ghost use Rattle.frame_store.specs.Shown.{shown, FormAnswers, Makes};
+ghost use Rattle.frame_store.specs.Arguments.{AreLive};
+ghost use Rattle.frame_store.specs.Shown.{Makes};
+ghost use Rattle.frame_store.specs.World.{world, arguments_in, IsSettledWorld, AreKnownArguments, Forms};
 ghost use Rattle.file_readers.specs.Frames as meant;
 
 use crate::frames::frame_of;
@@ -47,8 +46,8 @@ pub(crate) fn frame_of_file(
     kinds: &Entries,
 ) -> Result<Table, OpFault>
     ensures longer { IsLonger dict.old dict.new }
-    ensures settled { IfOk result (IsSettled table_value dict.new) }
-    ensures answer { Makes dict.new result (readers.frame_or_fault (columns_of_file bytes.now (entries_seen dict.old kinds.now))) }
+    ensures answer { Makes dict.new result (readers.frame_or_fault
+        (columns_of_file bytes.now (entries_seen dict.old kinds.now))) }
 {
     match read_csv(alloc, dict, bytes, kinds) {
         Ok(read) => Ok(frame_of(alloc, read)?),
@@ -66,8 +65,8 @@ fn read_frame(
 ) -> Result<Table, OpFault>
     requires { AreLive (tables store.now) args.now }
     ensures longer { IsLonger dict.old dict.new }
-    ensures settled { IfOk result (IsSettled table_value dict.new) }
-    ensures answer { Makes dict.new result (readers.read_result bytes.now (arguments_of (tables store.now) dict.old args.now)) }
+    ensures answer { Makes dict.new result
+        (readers.read_result bytes.now (arguments_in (world store.now dict.old) args.now)) }
 {
     let parameters = function_parameters(Function::ReadCsv);
     bind(store, dict, parameters, args)?;
@@ -99,12 +98,11 @@ pub fn make(
     args: &NamedList,
     file: Option<&[u8]>,
 ) -> Result<Value, OpFault>
-    requires live { AreLive (tables store.old) args.now.items.items }
-    requires settled { IsSettled shown dict.old (tables store.old) }
-    requires given { IsSettled (arguments_of (tables store.old)) dict.old args.now.items.items }
-    ensures longer { IsLonger dict.old dict.new }
-    ensures settled { IsSettled shown dict.new (tables store.new) }
-    ensures answers { FormAnswers dict.new result (readers.make_with (option_map (λ bytes. bytes.now) file.entry) function.now (arguments_of (tables store.old) dict.old args.now.items.items)) (shown dict.old (tables store.old)) (shown dict.new (tables store.new)) }
+    requires settled { IsSettledWorld (world store.old dict.old) }
+    requires known { AreKnownArguments (world store.old dict.old) args.now.items.items }
+    ensures { Forms result (readers.make_with (option_map (λ bytes. bytes.now) file.entry)
+        function.now (arguments_in (world store.old dict.old) args.now.items.items))
+        (world store.old dict.old) (world store.new dict.new) }
 {
     match file {
         Some(bytes) if reads_file(function) => {

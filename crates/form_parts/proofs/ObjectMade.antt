@@ -1,6 +1,6 @@
 -- The object that is made of a table.
 use Rattle.std.proofs.Common.{◌≡◌, ◌∙◌, ℕ, true, List, ◌++◌, ap, sym, subst, arith, nat_eq, if◌then◌else◌, Some, None, option_map, Result, Ok, Err}
-use Rattle.std.specs.Prelude.{is_some, IfOk}
+use Rattle.std.specs.Prelude.{is_some}
 use Rattle.std.proofs.lemmas.Bool.Decides.{nat_tests}
 use Rattle.cell_core.specs.Texts.{IsLonger}
 use Rattle.meaning.specs.Text.{Text}
@@ -55,7 +55,7 @@ pub added : (earlier texts : List Text) (tables tables' : Tables) (made : Result
     → made ≡ Ok t → tables id.0 ≡ None → tables' ≡ with_object tables id.0 (Some t) → IsLonger earlier texts → IsSettled shown earlier tables → Makes texts made meant
     → FormAnswers texts (Ok (Object id)) meant (shown earlier tables) (shown texts tables')
 added earlier texts tables tables' made id t meant was fresh put longer settled makes =
-    let here : meant ≡ Ok (value.table (table_value texts t)) = subst (λ (m : Result NumberedTable OpFault). Makes texts m meant) was makes in
+    let here : meant ≡ Ok (value.table (table_value texts t)) = (subst (λ (m : Result NumberedTable OpFault). Makes texts m meant) was makes).0 in
     let grown : shown texts tables' ≡ with_shown (shown earlier tables) id.0 (Some (table_value texts t)) = shown_with earlier texts tables tables' id.0 t longer settled put in
     let at : shown texts tables' id.0 ≡ Some (table_value texts t) =
     ap (λ (f : Shown). f id.0) grown ∙ ap (λ b. if b then Some (table_value texts t) else shown earlier tables id.0) (nat_eq_self id.0) in (
@@ -63,6 +63,6 @@ added earlier texts tables tables' made id t meant was fresh put longer settled 
       (ap (option_map (table_value earlier)) fresh, ap is_some at, grown ∙ ap (with_shown (shown earlier tables) id.0) (sym at)),
     )
 
--- the table that was made
-pub made_settled : (texts : List Text) (made : Result NumberedTable OpFault) (t : NumberedTable) → made ≡ Ok t → IfOk made (λ t. IsSettled table_value texts t) → IsSettled table_value texts t
-made_settled texts made t was settled = subst (λ (m : Result NumberedTable OpFault). IfOk m (λ t. IsSettled table_value texts t)) was settled
+-- the table that was made is settled
+pub made_settled : (texts : List Text) (made : Result NumberedTable OpFault) (t : NumberedTable) (meant : Result Entry FaultValue) → made ≡ Ok t → Makes texts made meant → IsSettled table_value texts t
+made_settled texts made t meant was makes = (subst (λ (m : Result NumberedTable OpFault). Makes texts m meant) was makes).1

@@ -1,13 +1,11 @@
 // The object that a form answers.
-ghost use Rattle.std.specs.Prelude.{List, Result, IfOk};
+ghost use Rattle.std.specs.Prelude.{List, Result};
 ghost use Rattle.cell_core.specs.Texts.{IsLonger};
 ghost use Rattle.meaning.specs.Text.{Text};
 ghost use Rattle.meaning.specs.Fault.{FaultValue};
-ghost use Rattle.table_meaning.specs.Settled.{IsSettled};
-ghost use Rattle.table_meaning.specs.Table.{table_value};
 ghost use Rattle.table_meaning.specs.Value.{Entry};
-ghost use Rattle.frame_store.specs.Objects.{tables};
-ghost use Rattle.frame_store.specs.Shown.{shown, FormAnswers, Makes};
+ghost use Rattle.frame_store.specs.Shown.{Makes};
+ghost use Rattle.frame_store.specs.World.{world, IsSettledWorld, Forms};
 
 use cell_core::TextDict;
 use frame_store::{OpFault, Store, Table, Value};
@@ -21,10 +19,9 @@ pub fn placed(
     dict: &TextDict,
     made: Result<Table, OpFault>,
 ) -> Result<Value, OpFault>
-    requires { IfOk made (λ t. IsSettled table_value dict.now t) }
-    ensures settled { (earlier : List Text) → IsLonger earlier dict.now → IsSettled shown earlier (tables store.old) → IsSettled shown dict.now (tables store.new) }
-    ensures answers { (earlier : List Text) (meant : Result Entry FaultValue) → IsLonger earlier dict.now → IsSettled shown earlier (tables store.old) → Makes dict.now made meant
-        → FormAnswers dict.now result meant (shown earlier (tables store.old)) (shown dict.now (tables store.new)) }
+    ensures { (earlier : List Text) (meant : Result Entry FaultValue) → IsLonger earlier dict.now
+        → IsSettledWorld (world store.old earlier) → Makes dict.now made meant
+        → Forms result meant (world store.old earlier) (world store.new dict.now) }
 {
     let id = store.insert(made?)?;
     Ok(Value::Object(id))

@@ -39,7 +39,7 @@ table_of (value.table t) = t
 table_of (value.cell c) = no_table
 
 -- the table that was made is settled
-pub table_settled_in : (texts : List Text) (m : Result Made OpFault) (one : Made) (t : NumberedTable) → m ≡ Ok one → one ≡ made.Table t → IfOk m (IsSettled made_value texts) → IsSettled table_value texts t
+table_settled_in : (texts : List Text) (m : Result Made OpFault) (one : Made) (t : NumberedTable) → m ≡ Ok one → one ≡ made.Table t → IfOk m (IsSettled made_value texts) → IsSettled table_value texts t
 table_settled_in texts m one t was is settled =
     let here : IsSettled made_value texts (made.Table t) = subst (λ (r : Result Made OpFault). IfOk r (IsSettled made_value texts)) (was ∙ ap Ok is) settled in
     λ more. ap table_of (here more)
@@ -56,7 +56,8 @@ scalar_answered earlier texts tables m one c meant was is given longer settled m
     let here : IsSettled made_value texts (made.Scalar c) = subst (λ (r : Result Made OpFault). IfOk r (IsSettled made_value texts)) (was ∙ ap Ok is) given in
     (subst (λ (r : Result Made OpFault). MakesBy made_value texts r meant) (was ∙ ap Ok is) makes, (seen_later shown earlier texts tables longer settled, λ more. ap cell_of (here more)))
 
--- a table is meant
-pub table_meant : (texts : List Text) (m : Result Made OpFault) (one : Made) (t : NumberedTable) (meant : Result Entry FaultValue) → m ≡ Ok one → one ≡ made.Table t → MakesBy made_value texts m meant
-    → Makes texts (Ok t) meant
-table_meant texts m one t meant was is makes = subst (λ (r : Result Made OpFault). MakesBy made_value texts r meant) (was ∙ ap Ok is) makes
+-- a table is meant, and it is settled
+pub table_meant : (texts : List Text) (m : Result Made OpFault) (one : Made) (t : NumberedTable) (meant : Result Entry FaultValue) → m ≡ Ok one → one ≡ made.Table t → IfOk m (IsSettled made_value texts)
+    → MakesBy made_value texts m meant → Makes texts (Ok t) meant
+table_meant texts m one t meant was is given makes =
+    (subst (λ (r : Result Made OpFault). MakesBy made_value texts r meant) (was ∙ ap Ok is) makes, table_settled_in texts m one t was is given)

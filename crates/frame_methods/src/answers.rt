@@ -2,13 +2,13 @@
 ghost use Rattle.std.specs.Prelude.{◌≡◌, true, IfOk, IfSome};
 ghost use Rattle.meaning.specs.Cell.{IsLonger};
 ghost use Rattle.table_meaning.specs.Table.{table_value};
-ghost use Rattle.table_meaning.specs.Valid.{IsWhole};
 ghost use Rattle.table_meaning.specs.Settled.{IsSettled};
 ghost use Rattle.method_meaning.specs.Methods.{answer_for};
 ghost use Rattle.form_parts.specs.Makes.{MakesBy};
 ghost use Rattle.frame_store.specs.Objects.{tables};
 ghost use Rattle.frame_store.specs.Arguments.{arguments_of};
 ghost use Rattle.frame_store.specs.Shown.{Makes};
+ghost use Rattle.frame_store.specs.World.{world, arguments_in, IsKnownTable};
 ghost use Rattle.frame_methods.specs.Given.{given_for};
 ghost use Rattle.frame_methods.specs.Made.{made_value};
 ghost use Rattle.frame_methods.specs.Kinds.{summary_method, is_column_method, is_made_method};
@@ -50,12 +50,12 @@ fn column_table(
     on: &ObjRef<'_>,
 ) -> Result<Table, OpFault>
     requires method { is_column_method method ≡ true }
-    requires whole { IsWhole on.now }
-    requires settled { IsSettled table_value dict.old on.now }
+    requires known { IsKnownTable dict.old on.now }
     requires given { IsSettled (arguments_of (tables store.now)) dict.old args.now }
     ensures longer { IsLonger dict.old dict.new }
-    ensures settled { IfOk result (IsSettled table_value dict.new) }
-    ensures answer { Makes dict.new result (answer_for method (given_for method (arguments_of (tables store.now) dict.old args.now)) (table_value dict.old on.now)) }
+    ensures answer { Makes dict.new result (answer_for method
+        (given_for method (arguments_in (world store.now dict.old) args.now))
+        (table_value dict.old on.now)) }
 {
     match method {
         Method::Isna => columns_table(alloc, dict, &Marked { missing: true }, on),
@@ -102,12 +102,13 @@ pub(crate) fn made(
     on: &ObjRef<'_>,
 ) -> Result<Made, OpFault>
     requires method { is_made_method method ≡ true }
-    requires whole { IsWhole on.now }
-    requires settled { IsSettled table_value dict.old on.now }
+    requires known { IsKnownTable dict.old on.now }
     requires given { IsSettled (arguments_of (tables store.now)) dict.old args.now }
     ensures longer { IsLonger dict.old dict.new }
     ensures settled { IfOk result (IsSettled made_value dict.new) }
-    ensures answer { MakesBy made_value dict.new result (answer_for method (given_for method (arguments_of (tables store.now) dict.old args.now)) (table_value dict.old on.now)) }
+    ensures answer { MakesBy made_value dict.new result (answer_for method
+        (given_for method (arguments_in (world store.now dict.old) args.now))
+        (table_value dict.old on.now)) }
 {
     match summary_of(method) {
         Some(op) => summarize(alloc, dict, op, on),

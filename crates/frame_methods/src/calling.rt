@@ -10,9 +10,9 @@ ghost use Rattle.table_meaning.specs.Value.{Entry};
 ghost use Rattle.method_meaning.specs.Methods.{answer_for, is_built as built};
 ghost use Rattle.method_meaning.specs.Calls.{chain_result, method_result};
 ghost use Rattle.form_parts.specs.Makes.{MakesBy};
-ghost use Rattle.frame_store.specs.Arguments.{arguments_of, entry_of, AreLive, IsLive};
+ghost use Rattle.frame_store.specs.Arguments.{arguments_of, entry_of, IsLive};
 ghost use Rattle.frame_store.specs.Objects.{tables, table_at};
-ghost use Rattle.frame_store.specs.Shown.{shown, FormAnswers};
+ghost use Rattle.frame_store.specs.World.{world, entry_in, arguments_in, IsSettledWorld, AreKnownArguments, Forms};
 ghost use Rattle.frame_methods.specs.Calls.{chain_of, fits_shape};
 ghost use Rattle.frame_methods.specs.Given.{given_for};
 ghost use Rattle.frame_methods.specs.Kinds.{is_made_method};
@@ -38,9 +38,9 @@ fn answer_made(
     made: Result<Made, OpFault>,
 ) -> Result<Value, OpFault>
     requires { IfOk made (IsSettled made_value dict.now) }
-    ensures settled { (earlier : List OneText) → IsLonger earlier dict.now → IsSettled shown earlier (tables store.old) → IsSettled shown dict.now (tables store.new) }
-    ensures answers { (earlier : List OneText) (meant : Result Entry FaultValue) → IsLonger earlier dict.now → IsSettled shown earlier (tables store.old) → MakesBy made_value dict.now made meant
-        → FormAnswers dict.now result meant (shown earlier (tables store.old)) (shown dict.now (tables store.new)) }
+    ensures { (earlier : List OneText) (meant : Result Entry FaultValue) → IsLonger earlier dict.now
+        → IsSettledWorld (world store.old earlier) → MakesBy made_value dict.now made meant
+        → Forms result meant (world store.old earlier) (world store.new dict.now) }
 {
     match made? {
         Made::Scalar(cell) => Ok(Value::Scalar(cell)),
@@ -71,11 +71,12 @@ fn answer(
     requires live { IsSome (tables store.old on.0) }
     requires built { built method ≡ true }
     requires shape { fits_shape method (table_at (tables store.old) on.0).shape ≡ true }
-    requires settled { IsSettled shown dict.old (tables store.old) }
+    requires settled { IsSettledWorld (world store.old dict.old) }
     requires given { IsSettled (arguments_of (tables store.old)) dict.old args.now }
-    ensures longer { IsLonger dict.old dict.new }
-    ensures settled { IsSettled shown dict.new (tables store.new) }
-    ensures answers { FormAnswers dict.new result (answer_for method (given_for method (arguments_of (tables store.old) dict.old args.now)) (table_value dict.old (table_at (tables store.old) on.0))) (shown dict.old (tables store.old)) (shown dict.new (tables store.new)) }
+    ensures { Forms result (answer_for method
+        (given_for method (arguments_in (world store.old dict.old) args.now))
+        (table_value dict.old (table_at (tables store.old) on.0)))
+        (world store.old dict.old) (world store.new dict.new) }
 {
     match method {
         Method::Copy => copied(alloc, store, dict, on),
@@ -103,12 +104,11 @@ fn call(
     args: &[Named],
 ) -> Result<Value, OpFault>
     requires live { IsLive (tables store.old) on }
-    requires arguments { AreLive (tables store.old) args.now }
-    requires settled { IsSettled shown dict.old (tables store.old) }
-    requires given { IsSettled (arguments_of (tables store.old)) dict.old args.now }
-    ensures longer { IsLonger dict.old dict.new }
-    ensures settled { IsSettled shown dict.new (tables store.new) }
-    ensures answers { FormAnswers dict.new result (method_result (entry_of (tables store.old) dict.old on) name.now (arguments_of (tables store.old) dict.old args.now)) (shown dict.old (tables store.old)) (shown dict.new (tables store.new)) }
+    requires settled { IsSettledWorld (world store.old dict.old) }
+    requires arguments { AreKnownArguments (world store.old dict.old) args.now }
+    ensures { Forms result (method_result (entry_in (world store.old dict.old) on)
+        name.now (arguments_in (world store.old dict.old) args.now))
+        (world store.old dict.old) (world store.new dict.new) }
 {
     let Value::Object(id) = on else {
         return Err(no_attribute(alloc, name));
@@ -139,12 +139,11 @@ pub fn method(
     args: &NamedList,
 ) -> Result<Value, OpFault>
     requires live { IsLive (tables store.old) on }
-    requires arguments { AreLive (tables store.old) args.now.items.items }
-    requires settled { IsSettled shown dict.old (tables store.old) }
-    requires given { IsSettled (arguments_of (tables store.old)) dict.old args.now.items.items }
-    ensures longer { IsLonger dict.old dict.new }
-    ensures settled { IsSettled shown dict.new (tables store.new) }
-    ensures answers { FormAnswers dict.new result (chain_result (entry_of (tables store.old) dict.old on) (chain_of chain.now) (arguments_of (tables store.old) dict.old args.now.items.items)) (shown dict.old (tables store.old)) (shown dict.new (tables store.new)) }
+    requires settled { IsSettledWorld (world store.old dict.old) }
+    requires arguments { AreKnownArguments (world store.old dict.old) args.now.items.items }
+    ensures { Forms result (chain_result (entry_in (world store.old dict.old) on)
+        (chain_of chain.now) (arguments_in (world store.old dict.old) args.now.items.items))
+        (world store.old dict.old) (world store.new dict.new) }
 {
     match chain {
         Chain::Plain(name) => call(alloc, store, dict, on, name.as_str(), args.as_slice()),

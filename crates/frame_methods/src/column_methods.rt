@@ -1,14 +1,14 @@
 // The methods that make each column by itself.
-ghost use Rattle.std.specs.Prelude.{◌≡◌, IfOk};
+ghost use Rattle.std.specs.Prelude.{◌≡◌};
 ghost use Rattle.meaning.specs.Cell.{IsLonger};
 ghost use Rattle.table_meaning.specs.Table.{table_value};
-ghost use Rattle.table_meaning.specs.Valid.{IsWhole};
 ghost use Rattle.table_meaning.specs.Settled.{IsSettled};
 ghost use Rattle.method_meaning.specs.Methods.{answer_for};
 ghost use Rattle.form_meaning.specs.Make as make;
 ghost use Rattle.frame_store.specs.Objects.{tables};
 ghost use Rattle.frame_store.specs.Arguments.{arguments_of};
 ghost use Rattle.frame_store.specs.Shown.{Makes};
+ghost use Rattle.frame_store.specs.World.{world, arguments_in, IsKnownTable};
 ghost use Rattle.frame_methods.specs.Given.{given_for};
 
 use crate::column_ops::{Cast, Filled, Shifted};
@@ -28,12 +28,12 @@ pub(crate) fn fillna(
     args: &[Named],
     on: &ObjRef<'_>,
 ) -> Result<Table, OpFault>
-    requires whole { IsWhole on.now }
-    requires settled { IsSettled table_value dict.old on.now }
+    requires known { IsKnownTable dict.old on.now }
     requires given { IsSettled (arguments_of (tables store.now)) dict.old args.now }
     ensures longer { IsLonger dict.old dict.new }
-    ensures settled { IfOk result (IsSettled table_value dict.new) }
-    ensures answer { Makes dict.new result (answer_for Method.Fillna (given_for Method.Fillna (arguments_of (tables store.now) dict.old args.now)) (table_value dict.old on.now)) }
+    ensures answer { Makes dict.new result (answer_for Method.Fillna
+        (given_for Method.Fillna (arguments_in (world store.now dict.old) args.now))
+        (table_value dict.old on.now)) }
 {
     let Some(value) = scalar_at(parameters(Method::Fillna), args, 0) else {
         return Err(OpFault::Refused(Code::WrongKind));
@@ -49,12 +49,12 @@ pub(crate) fn isin(
     args: &[Named],
     on: &ObjRef<'_>,
 ) -> Result<Table, OpFault>
-    requires whole { IsWhole on.now }
-    requires settled { IsSettled table_value dict.old on.now }
+    requires known { IsKnownTable dict.old on.now }
     requires given { IsSettled (arguments_of (tables store.now)) dict.old args.now }
     ensures longer { IsLonger dict.old dict.new }
-    ensures settled { IfOk result (IsSettled table_value dict.new) }
-    ensures answer { Makes dict.new result (answer_for Method.Isin (given_for Method.Isin (arguments_of (tables store.now) dict.old args.now)) (table_value dict.old on.now)) }
+    ensures answer { Makes dict.new result (answer_for Method.Isin
+        (given_for Method.Isin (arguments_in (world store.now dict.old) args.now))
+        (table_value dict.old on.now)) }
 {
     let Some(items) = list_at(parameters(Method::Isin), args, 0) else {
         return Err(OpFault::Refused(Code::WrongKind));
@@ -71,11 +71,11 @@ pub(crate) fn shift_rows(
     args: &[Named],
     on: &ObjRef<'_>,
 ) -> Result<Table, OpFault>
-    requires whole { IsWhole on.now }
-    requires settled { IsSettled table_value dict.old on.now }
+    requires { IsKnownTable dict.old on.now }
     ensures longer { IsLonger dict.old dict.new }
-    ensures settled { IfOk result (IsSettled table_value dict.new) }
-    ensures answer { Makes dict.new result (answer_for Method.Shift (given_for Method.Shift (arguments_of (tables store.now) dict.old args.now)) (table_value dict.old on.now)) }
+    ensures answer { Makes dict.new result (answer_for Method.Shift
+        (given_for Method.Shift (arguments_in (world store.now dict.old) args.now))
+        (table_value dict.old on.now)) }
 {
     let Some(periods) = whole_at(parameters(Method::Shift), args, 0) else {
         return Err(OpFault::Refused(Code::WrongKind));
@@ -102,11 +102,11 @@ pub(crate) fn astype(
     args: &[Named],
     on: &ObjRef<'_>,
 ) -> Result<Table, OpFault>
-    requires whole { IsWhole on.now }
-    requires settled { IsSettled table_value dict.old on.now }
+    requires { IsKnownTable dict.old on.now }
     ensures longer { IsLonger dict.old dict.new }
-    ensures settled { IfOk result (IsSettled table_value dict.new) }
-    ensures answer { Makes dict.new result (answer_for Method.Astype (given_for Method.Astype (arguments_of (tables store.now) dict.old args.now)) (table_value dict.old on.now)) }
+    ensures answer { Makes dict.new result (answer_for Method.Astype
+        (given_for Method.Astype (arguments_in (world store.now dict.old) args.now))
+        (table_value dict.old on.now)) }
 {
     let Some(name) = text_at(dict, parameters(Method::Astype), args, 0) else {
         return Err(OpFault::Refused(Code::WrongKind));

@@ -3,13 +3,13 @@ ghost use Rattle.std.specs.Prelude.{◌≡◌, ◌∷◌, [], List, map, length,
 ghost use Rattle.meaning.specs.Text.{Text as OneText};
 ghost use Rattle.meaning.specs.Cell.{AreGiven, IsGiven, datum, holds};
 ghost use Rattle.table_meaning.specs.Table.{column_value, table_value};
-ghost use Rattle.table_meaning.specs.Valid.{IsWhole};
 ghost use Rattle.table_meaning.specs.Settled.{IsSettled};
 ghost use Rattle.form_meaning.specs.Finish.{try_all};
 ghost use Rattle.method_meaning.specs.Methods as meant;
 ghost use Rattle.form_parts.specs.Makes.{MakesBy};
 ghost use Rattle.cell_core.specs.declared.grid.Shape.TheVariants.{Frame};
 ghost use Rattle.frame_store.specs.Shown.{columns_value, Makes};
+ghost use Rattle.frame_store.specs.World.{IsKnownTable};
 ghost use Rattle.frame_methods.specs.Made.{made_value};
 ghost use Rattle.frame_methods.specs.Columns.{table_column};
 ghost use Rattle.frame_methods.specs.Summaries.{summary_value, counted_cell, column_cells};
@@ -133,10 +133,9 @@ fn frame_summary(
     op: Summary,
     on: &ObjRef<'_>,
 ) -> Result<Table, OpFault>
-    requires whole { IsWhole on.now }
-    requires settled { IsSettled table_value dict.now on.now }
-    ensures settled { IfOk result (IsSettled table_value dict.now) }
-    ensures answer { Makes dict.now result (meant.summary_of Frame (summary_value op) (table_value dict.now on.now)) }
+    requires { IsKnownTable dict.now on.now }
+    ensures { Makes dict.now result
+        (meant.summary_of Frame (summary_value op) (table_value dict.now on.now)) }
 {
     let kind = kind_for(op, on);
     let cells = summary_column(alloc, dict, op, kind, on)?;
@@ -154,8 +153,7 @@ pub(crate) fn summarize(
     op: Summary,
     on: &ObjRef<'_>,
 ) -> Result<Made, OpFault>
-    requires whole { IsWhole on.now }
-    requires settled { IsSettled table_value dict.now on.now }
+    requires { IsKnownTable dict.now on.now }
     ensures settled { IfOk result (IsSettled made_value dict.now) }
     ensures answer { MakesBy made_value dict.now result (meant.summary (summary_value op) (table_value dict.now on.now)) }
 {

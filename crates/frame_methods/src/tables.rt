@@ -1,11 +1,10 @@
 // Tables whose columns are made one by one.
-ghost use Rattle.std.specs.Prelude.{◌≡◌, All, IfOk};
+ghost use Rattle.std.specs.Prelude.{◌≡◌, All};
 ghost use Rattle.meaning.specs.Cell.{IsLonger};
 ghost use Rattle.table_meaning.specs.Table.{table_value};
-ghost use Rattle.table_meaning.specs.Valid.{IsWhole};
-ghost use Rattle.table_meaning.specs.Settled.{IsSettled};
 ghost use Rattle.method_meaning.specs.Methods as meant;
 ghost use Rattle.frame_store.specs.Shown.{Makes};
+ghost use Rattle.frame_store.specs.World.{IsKnownTable};
 
 use crate::columns::{ColumnOp, each_column};
 use cell_core::{Code, Grid, TextDict};
@@ -21,11 +20,10 @@ pub(crate) fn columns_table<O: ColumnOp>(
     on: &ObjRef<'_>,
 ) -> Result<Table, OpFault>
     requires own { O.given op.now dict.old }
-    requires whole { IsWhole on.now }
-    requires settled { IsSettled table_value dict.old on.now }
+    requires known { IsKnownTable dict.old on.now }
     ensures longer { IsLonger dict.old dict.new }
-    ensures settled { IfOk result (IsSettled table_value dict.new) }
-    ensures answer { Makes dict.new result (meant.each_column (O.answer op.now dict.old) (table_value dict.old on.now)) }
+    ensures answer { Makes dict.new result
+        (meant.each_column (O.answer op.now dict.old) (table_value dict.old on.now)) }
 {
     let columns = each_column(alloc, dict, op, on)?;
     if !within_limits(on.rows(), columns.len()) {

@@ -1,13 +1,11 @@
 // The forms: an operator on one or two values of an expression.
-ghost use Rattle.std.specs.Prelude.{◌≡◌, IfOk};
 ghost use Rattle.meaning.specs.Cell.{IsLonger};
 ghost use Rattle.nullable_array.specs.Tasks.{operator_of};
-ghost use Rattle.table_meaning.specs.Settled.{IsSettled};
-ghost use Rattle.table_meaning.specs.Table.{table_value};
 ghost use Rattle.form_meaning.specs.Infix.{infix_result, sign_result};
-ghost use Rattle.frame_store.specs.Arguments.{entry_of, IsLive};
+ghost use Rattle.frame_store.specs.Arguments.{IsLive};
 ghost use Rattle.frame_store.specs.Objects.{tables};
-ghost use Rattle.frame_store.specs.Shown.{shown, FormAnswers, Makes};
+ghost use Rattle.frame_store.specs.Shown.{Makes};
+ghost use Rattle.frame_store.specs.World.{world, entry_in, IsSettledWorld, IsKnownValue, Forms};
 
 use crate::tables::{scalar_infix, table_infix};
 use cell_core::{Cell, Code, TextDict};
@@ -25,14 +23,12 @@ fn infix_made(
     a: Value,
     b: Value,
 ) -> Result<Table, OpFault>
-    requires left { IsLive (tables store.now) a }
-    requires right { IsLive (tables store.now) b }
-    requires settled { IsSettled shown dict.old (tables store.now) }
-    requires left_given { IsSettled (entry_of (tables store.now)) dict.old a }
-    requires right_given { IsSettled (entry_of (tables store.now)) dict.old b }
+    requires settled { IsSettledWorld (world store.now dict.old) }
+    requires left { IsKnownValue (world store.now dict.old) a }
+    requires right { IsKnownValue (world store.now dict.old) b }
     ensures longer { IsLonger dict.old dict.new }
-    ensures settled { IfOk result (λ made. IsSettled table_value dict.new made) }
-    ensures makes { Makes dict.new result (infix_result (operator_of op) (entry_of (tables store.now) dict.old a) (entry_of (tables store.now) dict.old b)) }
+    ensures makes { Makes dict.new result (infix_result (operator_of op)
+        (entry_in (world store.now dict.old) a) (entry_in (world store.now dict.old) b)) }
 {
     match (a, b) {
         (Value::Object(x), Value::Object(y)) => table_infix(
@@ -70,11 +66,11 @@ fn sign_made(
     negate: bool,
     a: Value,
 ) -> Result<Table, OpFault>
+    requires settled { IsSettledWorld (world store.now dict.old) }
     requires live { IsLive (tables store.now) a }
-    requires settled { IsSettled shown dict.old (tables store.now) }
     ensures longer { IsLonger dict.old dict.new }
-    ensures settled { IfOk result (λ made. IsSettled table_value dict.new made) }
-    ensures makes { Makes dict.new result (sign_result negate (entry_of (tables store.now) dict.old a)) }
+    ensures makes { Makes dict.new result
+        (sign_result negate (entry_in (world store.now dict.old) a)) }
 {
     let Value::Object(id) = a else {
         return Err(OpFault::Refused(Code::WrongKind));
@@ -126,14 +122,12 @@ pub fn infix(
     a: Value,
     b: Value,
 ) -> Result<Value, OpFault>
-    requires left { IsLive (tables store.old) a }
-    requires right { IsLive (tables store.old) b }
-    requires settled { IsSettled shown dict.old (tables store.old) }
-    requires left_given { IsSettled (entry_of (tables store.old)) dict.old a }
-    requires right_given { IsSettled (entry_of (tables store.old)) dict.old b }
-    ensures longer { IsLonger dict.old dict.new }
-    ensures settled { IsSettled shown dict.new (tables store.new) }
-    ensures answers { FormAnswers dict.new result (infix_result (operator_of op) (entry_of (tables store.old) dict.old a) (entry_of (tables store.old) dict.old b)) (shown dict.old (tables store.old)) (shown dict.new (tables store.new)) }
+    requires settled { IsSettledWorld (world store.old dict.old) }
+    requires left { IsKnownValue (world store.old dict.old) a }
+    requires right { IsKnownValue (world store.old dict.old) b }
+    ensures { Forms result (infix_result (operator_of op)
+        (entry_in (world store.old dict.old) a) (entry_in (world store.old dict.old) b))
+        (world store.old dict.old) (world store.new dict.new) }
 {
     let made = infix_made(alloc, store, dict, op, a, b);
     placed(store, dict, made)
@@ -156,11 +150,10 @@ pub fn invert_or_negate(
     negate: bool,
     a: Value,
 ) -> Result<Value, OpFault>
+    requires settled { IsSettledWorld (world store.old dict.old) }
     requires live { IsLive (tables store.old) a }
-    requires settled { IsSettled shown dict.old (tables store.old) }
-    ensures longer { IsLonger dict.old dict.new }
-    ensures settled { IsSettled shown dict.new (tables store.new) }
-    ensures answers { FormAnswers dict.new result (sign_result negate (entry_of (tables store.old) dict.old a)) (shown dict.old (tables store.old)) (shown dict.new (tables store.new)) }
+    ensures { Forms result (sign_result negate (entry_in (world store.old dict.old) a))
+        (world store.old dict.old) (world store.new dict.new) }
 {
     let made = sign_made(alloc, store, dict, negate, a);
     placed(store, dict, made)

@@ -1,8 +1,7 @@
 // Labels of columns that meet.
 ghost use Rattle.std.specs.Prelude.{◌≡◌};
-ghost use Rattle.table_meaning.specs.Settled.{IsSettled};
-ghost use Rattle.table_meaning.specs.Valid.{IsWhole};
 ghost use Rattle.frame_store.specs.Shown.{headings_value, labels_value};
+ghost use Rattle.frame_store.specs.World.{IsKnownTable};
 ghost use Rattle.form_meaning.specs.Infix as meant;
 
 use cell_core::{Grid, TextDict};
@@ -11,11 +10,10 @@ use frame_store::ObjRef;
 
 /// Whether two tables have the same labels at the same columns.
 pub(crate) fn same_headings(dict: &TextDict, a: &ObjRef<'_>, b: &ObjRef<'_>) -> bool
-    requires whole_a { IsWhole a.now }
-    requires whole_b { IsWhole b.now }
-    requires a { IsSettled headings_value dict.now a.now.headings }
-    requires b { IsSettled headings_value dict.now b.now.headings }
-    ensures { result ≡ meant.same_headings (headings_value dict.now a.now.headings) (headings_value dict.now b.now.headings) }
+    requires a { IsKnownTable dict.now a.now }
+    requires b { IsKnownTable dict.now b.now }
+    ensures { result ≡ meant.same_headings
+        (headings_value dict.now a.now.headings) (headings_value dict.now b.now.headings) }
 {
     if a.columns() != b.columns() {
         return false;
@@ -30,10 +28,10 @@ pub(crate) fn same_headings(dict: &TextDict, a: &ObjRef<'_>, b: &ObjRef<'_>) -> 
 
 /// Whether the labels of a Series' rows, of one level, are the labels of a frame's columns, in their order.
 pub(crate) fn are_headings(dict: &TextDict, series: &ObjRef<'_>, frame: &ObjRef<'_>) -> bool
-    requires whole { IsWhole frame.now }
-    requires labels { IsSettled labels_value dict.now series.now.labels }
-    requires headings { IsSettled headings_value dict.now frame.now.headings }
-    ensures { result ≡ meant.are_headings (labels_value dict.now series.now.labels) (headings_value dict.now frame.now.headings) }
+    requires series { IsKnownTable dict.now series.now }
+    requires frame { IsKnownTable dict.now frame.now }
+    ensures { result ≡ meant.are_headings
+        (labels_value dict.now series.now.labels) (headings_value dict.now frame.now.headings) }
 {
     if series.rows() != frame.columns() {
         return false;

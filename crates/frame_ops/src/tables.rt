@@ -1,16 +1,15 @@
 // The tables that an operator makes.
-ghost use Rattle.std.specs.Prelude.{◌≡◌, List, All, length, IfOk, Ok};
+ghost use Rattle.std.specs.Prelude.{◌≡◌, List, All, length, Ok};
 ghost use Rattle.cell_core.specs.declared.grid.Shape.TheVariants.{Series as one_column, Frame as columns};
 ghost use Rattle.meaning.specs.Cell.{AreGiven, IsGiven, IsLonger, datum};
 ghost use Rattle.meaning.specs.Fault.{then_value};
 ghost use Rattle.nullable_array.specs.Tasks.{operator_of};
-ghost use Rattle.table_meaning.specs.Settled.{IsSettled};
 ghost use Rattle.table_meaning.specs.Table.{table_value};
-ghost use Rattle.table_meaning.specs.Valid.{IsWhole};
 ghost use Rattle.table_meaning.specs.Value as value;
 ghost use Rattle.form_meaning.specs.Finish.{with_columns};
 ghost use Rattle.form_meaning.specs.Infix as meant;
 ghost use Rattle.frame_store.specs.Shown.{Makes};
+ghost use Rattle.frame_store.specs.World.{IsKnownTable};
 ghost use Rattle.frame_ops.specs.Pairs.{pairs_from, meetings_value, levels_fit, IsOpposite, IsGivenOther, columns_meant};
 ghost use Rattle.frame_ops.specs.Namings.{named_by, IsNaming, IsSettledNaming};
 
@@ -33,17 +32,17 @@ fn table_met(
     other: &Other<'_>,
     naming: Naming,
 ) -> Result<Table, OpFault>
-    requires whole { IsWhole on.now }
-    requires settled { IsSettled table_value dict.old on.now }
+    requires known { IsKnownTable dict.old on.now }
     requires opposite { IsOpposite on.now other.now }
     requires other { IsGivenOther dict.old other.now }
     requires naming { IsNaming on.now naming }
     requires name { IsSettledNaming dict.old naming }
     ensures longer { IsLonger dict.old dict.new }
-    ensures settled { IfOk result (λ made. IsSettled table_value dict.new made) }
     ensures makes { Makes dict.new result (then_value
-        (columns_meant (operator_of op) (length on.now.labels) (levels_fit on.now other.now) (meetings_value dict.old (pairs_from other.now 0 on.now.columns)))
-        (λ columns. Ok (value.table (with_columns (table_value dict.old (named_by on.now naming)) columns)))) }
+        (columns_meant (operator_of op) (length on.now.labels) (levels_fit on.now other.now)
+        (meetings_value dict.old (pairs_from other.now 0 on.now.columns)))
+        (λ columns. Ok (value.table
+        (with_columns (table_value dict.old (named_by on.now naming)) columns)))) }
 {
     let blocks = infix_columns(alloc, dict, op, on, other)?;
     let headings = headings_by(alloc, on, naming)?;
@@ -59,12 +58,11 @@ pub(crate) fn scalar_infix(
     cell: Cell,
     left: bool,
 ) -> Result<Table, OpFault>
-    requires whole { IsWhole on.now }
-    requires settled { IsSettled table_value dict.old on.now }
+    requires known { IsKnownTable dict.old on.now }
     requires cell { IsGiven dict.old cell }
     ensures longer { IsLonger dict.old dict.new }
-    ensures settled { IfOk result (λ made. IsSettled table_value dict.new made) }
-    ensures makes { Makes dict.new result (meant.scalar_infix (operator_of op) left (table_value dict.old on.now) (datum dict.old cell)) }
+    ensures makes { Makes dict.new result (meant.scalar_infix (operator_of op) left
+        (table_value dict.old on.now) (datum dict.old cell)) }
 {
     table_met(
         alloc,
@@ -84,15 +82,13 @@ fn series_infix(
     a: &ObjRef<'_>,
     b: ObjRef<'_>,
 ) -> Result<Table, OpFault>
-    requires whole_a { IsWhole a.now }
-    requires whole_b { IsWhole b }
-    requires settled_a { IsSettled table_value dict.old a.now }
-    requires settled_b { IsSettled table_value dict.old b }
+    requires known_a { IsKnownTable dict.old a.now }
+    requires known_b { IsKnownTable dict.old b }
     requires series_a { a.now.shape ≡ one_column }
     requires series_b { b.shape ≡ one_column }
     ensures longer { IsLonger dict.old dict.new }
-    ensures settled { IfOk result (λ made. IsSettled table_value dict.new made) }
-    ensures makes { Makes dict.new result (meant.series_infix (operator_of op) (table_value dict.old a.now) (table_value dict.old b.entry)) }
+    ensures makes { Makes dict.new result (meant.series_infix (operator_of op)
+        (table_value dict.old a.now) (table_value dict.old b.entry)) }
 {
     if !same_rows(dict, a.axis(), b.axis()) {
         return Err(OpFault::Refused(Code::NotBuilt));
@@ -109,14 +105,12 @@ fn frame_infix(
     a: &ObjRef<'_>,
     b: ObjRef<'_>,
 ) -> Result<Table, OpFault>
-    requires whole_a { IsWhole a.now }
-    requires whole_b { IsWhole b }
-    requires settled_a { IsSettled table_value dict.old a.now }
-    requires settled_b { IsSettled table_value dict.old b }
+    requires known_a { IsKnownTable dict.old a.now }
+    requires known_b { IsKnownTable dict.old b }
     requires frame { a.now.shape ≡ columns }
     ensures longer { IsLonger dict.old dict.new }
-    ensures settled { IfOk result (λ made. IsSettled table_value dict.new made) }
-    ensures makes { Makes dict.new result (meant.frame_infix (operator_of op) (table_value dict.old a.now) (table_value dict.old b.entry)) }
+    ensures makes { Makes dict.new result (meant.frame_infix (operator_of op)
+        (table_value dict.old a.now) (table_value dict.old b.entry)) }
 {
     if !same_rows(dict, a.axis(), b.axis()) || !same_headings(dict, a, &b) {
         return Err(OpFault::Refused(Code::NotBuilt));
@@ -141,14 +135,12 @@ fn across_infix(
     frame: &ObjRef<'_>,
     series: ObjRef<'_>,
 ) -> Result<Table, OpFault>
-    requires whole_frame { IsWhole frame.now }
-    requires whole_series { IsWhole series }
-    requires settled_frame { IsSettled table_value dict.old frame.now }
-    requires settled_series { IsSettled table_value dict.old series }
+    requires known_frame { IsKnownTable dict.old frame.now }
+    requires known_series { IsKnownTable dict.old series }
     requires series { series.shape ≡ one_column }
     ensures longer { IsLonger dict.old dict.new }
-    ensures settled { IfOk result (λ made. IsSettled table_value dict.new made) }
-    ensures makes { Makes dict.new result (meant.across_infix (operator_of op) left (table_value dict.old frame.now) (table_value dict.old series.entry)) }
+    ensures makes { Makes dict.new result (meant.across_infix (operator_of op) left
+        (table_value dict.old frame.now) (table_value dict.old series.entry)) }
 {
     if !are_headings(dict, &series, frame) {
         return Err(OpFault::Refused(Code::NotBuilt));
@@ -171,13 +163,11 @@ pub(crate) fn table_infix(
     a: ObjRef<'_>,
     b: ObjRef<'_>,
 ) -> Result<Table, OpFault>
-    requires whole_a { IsWhole a }
-    requires whole_b { IsWhole b }
-    requires settled_a { IsSettled table_value dict.old a }
-    requires settled_b { IsSettled table_value dict.old b }
+    requires known_a { IsKnownTable dict.old a }
+    requires known_b { IsKnownTable dict.old b }
     ensures longer { IsLonger dict.old dict.new }
-    ensures settled { IfOk result (λ made. IsSettled table_value dict.new made) }
-    ensures makes { Makes dict.new result (meant.table_infix (operator_of op) a.entry.shape b.entry.shape (table_value dict.old a.entry) (table_value dict.old b.entry)) }
+    ensures makes { Makes dict.new result (meant.table_infix (operator_of op)
+        a.entry.shape b.entry.shape (table_value dict.old a.entry) (table_value dict.old b.entry)) }
 {
     match (a.shape(), b.shape()) {
         (Shape::Series, Shape::Series) => series_infix(alloc, dict, op, &a, b),

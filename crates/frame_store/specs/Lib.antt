@@ -4,3 +4,4 @@ pub mod Grids
 pub mod Objects
 pub mod Arguments
 pub mod Shown
+pub mod World

@@ -73,8 +73,8 @@ Changes texts (Ok done) (Scalar c) meant old new = ⊥
 Changes texts (Err (Refused code)) on meant old new = Refuses texts code meant × (new ≡ old)
 Changes texts (Err NoMemory) on meant old new = new ≡ old
 
--- What is made for a new object, before it is one: the table, or the first fault.
+-- What is made for a new object, before it is one: the table, whose texts were given their numbers, or the first fault.
 abbrev pub Makes : List Text → Result NumberedTable OpFault → Result Entry FaultValue → Type 0
-Makes texts (Ok made) meant = meant ≡ Ok (value.table (table_value texts made))
+Makes texts (Ok made) meant = (meant ≡ Ok (value.table (table_value texts made))) × IsSettled table_value texts made
 Makes texts (Err (Refused code)) meant = Refuses texts code meant
 Makes texts (Err NoMemory) meant = Unit {0}

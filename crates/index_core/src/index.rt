@@ -96,7 +96,7 @@ impl Index {
         }
     }
 
-    // The same, label by label.
+    // Whether the other index has the same labels at the same places, label by label.
     fn same_places(&self, other: &Index) -> bool
         ensures { Decides result (self.now ≡ other.now) }
     {

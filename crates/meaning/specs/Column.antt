@@ -28,7 +28,7 @@ abbrev pub try_each : {A C : Type 0} → (A → Option C) → ℕ → List A →
 try_each f row [] = Ok []
 try_each f row (x ∷ xs) = then_rows (f x) row (try_each f (suc row) xs)
 
--- the same of each two that stand side by side
+-- what f makes of each two that stand side by side, or the number of the first two that it refuses
 abbrev pub try_pairs : {A B C : Type 0} → (A → B → Option C) → ℕ → List A → List B → Result (List C) ℕ
 try_pairs f row (x ∷ xs) (y ∷ ys) = then_rows (f x y) row (try_pairs f (suc row) xs ys)
 try_pairs f row xs ys = Ok []
@@ -38,7 +38,7 @@ abbrev pub column_of : Kind → (ℕ → ColumnFault) → Result (List CellValue
 column_of kind refuse (Ok cells) = Ok record { kind = kind; cells = cells }
 column_of kind refuse (Err row) = Err (refuse row)
 
--- the same where there is a kind; else the kinds don't fit
+-- the column where there is a kind, or the fault of the row; else the kinds don't fit
 abbrev pub column_if : Option Kind → (ℕ → ColumnFault) → Result (List CellValue) ℕ → Result ColumnValue ColumnFault
 column_if None refuse made = Err kind_mismatch
 column_if (Some kind) refuse made = column_of kind refuse made

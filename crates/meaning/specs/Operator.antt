@@ -41,7 +41,7 @@ abbrev pub number_cells : (ℤ → ℤ → ℤ) → CellValue → CellValue → 
 number_cells f (int_cell x) (int_cell y) = int_cell (int_wrap w64 (f x y))
 number_cells f a b = na_cell
 
--- the same by a divisor; a present cell by 0 is refused
+-- a number of a number and its divisor, which wraps; a present cell by 0 is refused
 abbrev pub division_cells : (ℤ → ℤ → ℤ) → CellValue → CellValue → Option CellValue
 division_cells f (int_cell x) (int_cell y) = if int_eq y (pos 0) then None else Some (int_cell (int_wrap w64 (f x y)))
 division_cells f a b = Some na_cell

@@ -136,7 +136,7 @@ impl Axis {
         }
     }
 
-    // The same, row by row. Without rows, axes of different levels have the same tuples as well.
+    // Whether the other axis has the same tuples, row by row. Without rows, axes of different levels have them as well.
     fn same_rows(&self, other: &Axis) -> bool
         ensures { Decides result (self.now.tuples ≡ other.now.tuples) }
     {

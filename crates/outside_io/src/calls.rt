@@ -8,13 +8,14 @@ use std::alloc::Global;
 /// The number of the next call, counted from 0, and the calls that are to fail. A call from 2^64 on
 /// has no number.
 #[derive(Drop)]
-pub struct Calls {
-    pub next: Option<u64>,
-    pub failing: Vec<u64>,
+pub(crate) struct Calls {
+    pub(crate) next: Option<u64>,
+    pub(crate) failing: Vec<u64>,
 }
 
 impl Calls {
-    pub fn new(alloc: Global) -> Calls
+    /// Calls of which none is to fail; the next one is the first. Takes no memory.
+    pub(crate) fn new(alloc: Global) -> Calls
         ensures next { result.next ≡ Some 0 }
         ensures failing { result.failing.items ≡ [] }
     {
@@ -25,7 +26,7 @@ impl Calls {
     }
 
     /// Names a call that is to fail. `NoMemory` leaves all as it was.
-    pub fn fail_at(&mut self, call: u64) -> Result<(), NoMemory>
+    pub(crate) fn fail_at(&mut self, call: u64) -> Result<(), NoMemory>
         ensures ok { OnOk result (self.new.failing.items ≡ self.old.failing.items ++ call ∷ []) }
         ensures err { OnErr result (self.new.failing.items ≡ self.old.failing.items) }
         ensures next { self.new.next ≡ self.old.next }
@@ -35,7 +36,7 @@ impl Calls {
     }
 
     /// Counts a call, and says whether it is to fail.
-    pub fn fails(&mut self) -> bool
+    pub(crate) fn fails(&mut self) -> bool
         ensures named { IsTrue result ↔ IsNamed self.old.next self.old.failing.items }
         ensures next { self.new.next ≡ call_after self.old.next }
         ensures failing { self.new.failing ≡ self.old.failing }

@@ -10,14 +10,15 @@ use std::mem;
 
 /// A file by its path.
 #[derive(Drop)]
-pub struct HeldFile {
-    pub path: Words,
-    pub bytes: Vec<u8>,
+pub(crate) struct HeldFile {
+    pub(crate) path: Words,
+    pub(crate) bytes: Vec<u8>,
 }
 
 /// Which file is read. Other bytes under its path leave it as it was.
 #[derive(Drop)]
-pub enum Reading {
+pub(crate) enum Reading {
+    /// No file, or one that was read and left.
     Nothing,
     /// The held file at this place.
     Held(usize),
@@ -27,7 +28,7 @@ pub enum Reading {
 
 /// Held files, and how far one of them was read.
 #[derive(Drop)]
-pub struct Shelf {
+pub(crate) struct Shelf {
     files: Vec<HeldFile>,
     reading: Reading,
     at: usize,
@@ -47,7 +48,8 @@ impl Model for Shelf {
 }
 
 impl Shelf {
-    pub fn new(alloc: Global) -> Shelf
+    /// A shelf without files, of which none is read. Takes no memory.
+    pub(crate) fn new(alloc: Global) -> Shelf
         ensures { result ≡ record { contents = empty; rest = [] } }
     {
         Shelf {
@@ -58,7 +60,7 @@ impl Shelf {
     }
 
     /// Reads no file any more.
-    pub fn leave(&mut self)
+    pub(crate) fn leave(&mut self)
         ensures { self.new ≡ record self.old { rest = [] } }
     {
         self.reading = Reading::Nothing;
@@ -66,7 +68,7 @@ impl Shelf {
     }
 
     /// Goes to the first byte of the file under a path, and says whether there is one.
-    pub fn fetch(&mut self, path: &str) -> bool
+    pub(crate) fn fetch(&mut self, path: &str) -> bool
         ensures contents { self.new.contents ≡ self.old.contents }
         ensures held { IsTrue result → get self.old.contents path.now ≡ Some self.new.rest }
         ensures absent { IsFalse result → (get self.old.contents path.now ≡ None) × (self.new.rest ≡ []) }
@@ -86,7 +88,7 @@ impl Shelf {
 
     /// Puts the next bytes of the file that is read at the front of the piece, as many as fit, and
     /// counts them.
-    pub fn read(&mut self, piece: &mut [u8]) -> usize
+    pub(crate) fn read(&mut self, piece: &mut [u8]) -> usize
         ensures contents { self.new.contents ≡ self.old.contents }
         ensures within { result ≤ length piece.old }
         ensures count { result ≤ length self.old.rest }
@@ -100,7 +102,7 @@ impl Shelf {
     }
 
     /// Holds these bytes under the path. The file that is read stays as it is.
-    pub fn hold(&mut self, alloc: Global, path: &str, bytes: &[u8]) -> Result<(), NoMemory>
+    pub(crate) fn hold(&mut self, alloc: Global, path: &str, bytes: &[u8]) -> Result<(), NoMemory>
         ensures ok { OnOk result (self.new ≡ record self.old { contents = insert self.old.contents path.now bytes.now }) }
         ensures err { OnErr result (self.new ≡ self.old) }
     {

@@ -28,9 +28,9 @@ use Rattle.script_session.specs.declared.fault.EvalFault.TheVariants.{Refused as
 use Rattle.script_session.specs.FormFault.{HasFormFault}
 use Rattle.outside_io.specs.Files.{FilesValue}
 use Rattle.script_session.specs.Reads.{Goes, Halts, absent_name}
-use Rattle.script_session.specs.Values.{World, objects_of, entry_in, Keeps}
+use Rattle.frame_store.specs.World.{World, objects_of, entry_in, Keeps, Sets}
 use Rattle.script_session.specs.Bindings.{Bindings, value_at, is_named, one_object, state_over, IsOf, KeepNamed, AreGiven, AreNamed}
-use Rattle.script_session.specs.Faults.{IsNoName, IsStepFault, IsRefusal, Performs, step_fault, marked_fault, Sets}
+use Rattle.script_session.specs.Faults.{IsNoName, IsStepFault, IsRefusal, Performs, step_fault, marked_fault}
 use Rattle.script_session.proofs.Numbers.{nat_same, nat_eq_self, true_false, same_congr}
 use Rattle.script_session.proofs.Bindings.{named_object}
 use Rattle.script_session.proofs.States.{same_state, state_swept}

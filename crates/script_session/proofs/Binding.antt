@@ -18,7 +18,7 @@ use Rattle.frame_store.specs.declared.object.ObjId.{ObjId}
 use Rattle.frame_store.specs.declared.arguments.Value.{Value}
 use Rattle.frame_store.specs.declared.arguments.Value.TheVariants.{Object, Scalar}
 use Rattle.script_meaning.specs.State.{without_name}
-use Rattle.script_session.specs.Values.{World, entry_in, IsKnownValue}
+use Rattle.frame_store.specs.World.{World, entry_in, IsKnownValue}
 use Rattle.script_session.specs.Bindings.{Bindings, bindings_of, bound, unbound, value_at, is_named, is_object, one_object, state_over, contains, released, noted_old, AreLive, AreGiven, AreNoted, AreNamed, KeepNamed}
 use Rattle.script_session.proofs.Numbers.{nat_same, true_false, some_none, same_congr, same_sym}
 use Rattle.script_session.proofs.Bindings.{value_at-bound, named_object}

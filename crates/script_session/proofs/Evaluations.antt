@@ -14,11 +14,11 @@ use Rattle.script_syntax.specs.declared.tree.Expr.{Expr}
 use Rattle.script_syntax.specs.View.{expr_of}
 use Rattle.script_session.specs.Bindings.{value_at, IsOf}
 use Rattle.script_session.specs.Evaluates.{Moment, IsValue, Evaluates}
-use Rattle.script_session.specs.Faults.{IsNoAttribute, IsNoName, Forms, evaluated}
+use Rattle.script_session.specs.Faults.{IsNoAttribute, IsNoName, evaluated}
 use Rattle.script_session.specs.FormFault.{HasFormFault}
 use Rattle.outside_io.specs.Files.{FilesValue, Serves}
 use Rattle.script_session.specs.Reads.{Halts, Reaches, files_in}
-use Rattle.script_session.specs.Values.{World, Keeps, IsKnownValue, entry_in}
+use Rattle.frame_store.specs.World.{World, Keeps, IsKnownValue, entry_in, Forms}
 use Rattle.script_session.specs.Work.{names_in, world_of, state_in}
 use Rattle.script_session.specs.declared.file_names.FileName.{FileName}
 use Rattle.script_session.specs.declared.fault.EvalFault.{EvalFault}

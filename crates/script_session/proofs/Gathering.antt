@@ -7,7 +7,7 @@ use Rattle.script_meaning.specs.State.{State}
 use Rattle.script_session.specs.Evaluates.{Moment, Evaluates}
 use Rattle.outside_io.specs.Files.{Serves}
 use Rattle.script_session.specs.Reads.{Goes, Halts, files_in}
-use Rattle.script_session.specs.Values.{World, Keeps}
+use Rattle.frame_store.specs.World.{World, Keeps}
 use Rattle.script_session.specs.Work.{names_in, world_of, state_in}
 use Rattle.script_session.specs.declared.file_names.FileName.{FileName}
 use Rattle.script_session.specs.declared.fault.EvalFault.{EvalFault}

@@ -12,7 +12,7 @@ use Rattle.frame_store.specs.Objects.{table_or}
 use Rattle.frame_store.specs.declared.object.ObjId.{ObjId}
 use Rattle.frame_store.specs.declared.arguments.Value.{Value}
 use Rattle.frame_store.specs.declared.arguments.Value.TheVariants.{Object}
-use Rattle.script_session.specs.Values.{World, entry_in}
+use Rattle.frame_store.specs.World.{World, entry_in}
 
 wrapped : (n : ℕ) → n < 18446744073709551616 → int_wrap w64 (pos n) ≡ cast_signed w64 n
 unfolding int_wrap

@@ -15,9 +15,8 @@ use Rattle.frame_store.specs.declared.object.ObjId.{ObjId}
 use Rattle.frame_store.specs.declared.arguments.Value.{Value}
 use Rattle.frame_store.specs.declared.arguments.Value.TheVariants.{Object, Scalar}
 use Rattle.frame_store.specs.declared.fault.OpFault.{OpFault}
-use Rattle.script_session.specs.Values.{World, objects_of}
+use Rattle.frame_store.specs.World.{World, objects_of, Forms}
 use Rattle.script_session.specs.Bindings.{Bindings, bindings_of, value_at, is_named, is_object, AreLive, AreNamed, IsOf}
-use Rattle.script_session.specs.Faults.{Forms}
 use Rattle.script_session.proofs.Numbers.{nat_same, some_none}
 use Rattle.script_session.proofs.Bindings.{value_at-bindings_of}
 use Rattle.script_session.proofs.Worlds.{some_shown, none_shown}

@@ -18,7 +18,7 @@ use Rattle.frame_store.specs.declared.arguments.Named.{Named}
 use Rattle.frame_store.specs.declared.arguments.Subscript.TheVariants as subscript
 use Rattle.frame_store.specs.declared.arguments.Value.{Value}
 use Rattle.frame_store.proofs.RowLaws.{item_of-Row, argument_of-Table}
-use Rattle.script_session.specs.Values.{World, IsKnownValue, IsKnownItem, AreKnownItems, IsKnownArgument, AreKnownPairs, AreKnownArguments, IsKnownSubscript}
+use Rattle.frame_store.specs.World.{World, IsKnownValue, IsKnownItem, AreKnownItems, IsKnownArgument, AreKnownPairs, AreKnownArguments, IsKnownSubscript}
 
 -- parts behind parts
 abbrev pub join_parts : GivenList → GivenList → GivenList

@@ -18,11 +18,11 @@ use Rattle.script_session.specs.Bindings.{Bindings, value_at}
 use Rattle.script_session.specs.FormFault.{IsOfForm, HasFormFault}
 use Rattle.script_session.specs.declared.fault.EvalFault.{EvalFault}
 use Rattle.script_session.specs.declared.fault.EvalFault.TheVariants.{Refused, Input, NoMemory}
-use Rattle.script_session.specs.Faults.{IsNoAttribute, IsNoName, Forms, evaluated}
+use Rattle.script_session.specs.Faults.{IsNoAttribute, IsNoName, evaluated}
 use Rattle.script_session.specs.Parts.{both_of, last_of}
 use Rattle.outside_io.specs.Files.{FilesValue, Serves}
 use Rattle.script_session.specs.Reads.{Holds, Goes, Stuck, Spends, Halts, Reaches, ReachesBytes, IsCaused, absent_name, count_after}
-use Rattle.script_session.specs.Values.{World, entry_in}
+use Rattle.frame_store.specs.World.{World, entry_in, Forms}
 use Rattle.script_session.proofs.Worlds.{entry_seen}
 
 -- counts of fetches

@@ -10,7 +10,7 @@ use Rattle.frame_store.specs.declared.arguments.Value.{Value}
 use Rattle.script_meaning.specs.Reading.{Files, Reads, gives, then_read}
 use Rattle.script_meaning.specs.State.{State}
 use Rattle.script_session.specs.Evaluates.{Moment, IsValue, Evaluates, argument_in, subscript_in}
-use Rattle.script_session.specs.Values.{World, IsKnownArgument, IsKnownSubscript, entry_in}
+use Rattle.frame_store.specs.World.{World, IsKnownArgument, IsKnownSubscript, entry_in}
 use Rattle.script_session.specs.Work.{world_of}
 use Rattle.script_session.specs.declared.file_names.FileName.{FileName}
 use Rattle.script_session.specs.declared.fault.EvalFault.{EvalFault}

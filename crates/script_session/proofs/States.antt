@@ -13,7 +13,7 @@ use Rattle.frame_store.specs.declared.arguments.Value.{Value}
 use Rattle.frame_store.specs.declared.arguments.Value.TheVariants.{Object, Scalar}
 use Rattle.script_meaning.specs.State.{State, with_new, with_object}
 use Rattle.script_meaning.specs.Statement.{with_value}
-use Rattle.script_session.specs.Values.{World, entry_in, IsSettledWorld, Keeps, IsKnownValue}
+use Rattle.frame_store.specs.World.{World, entry_in, IsSettledWorld, Keeps, IsKnownValue}
 use Rattle.script_session.specs.Bindings.{Bindings, bound, value_at, is_named, is_object, one_object, state_over, AreLive, AreGiven, KeepNamed, IsOf}
 use Rattle.script_session.specs.Work.{names_in, world_of, state_in}
 use Rattle.script_session.specs.declared.work.Work.{Work}

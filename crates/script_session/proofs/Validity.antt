@@ -19,9 +19,8 @@ use Rattle.frame_store.specs.declared.arguments.Value.TheVariants.{Object, Scala
 use Rattle.frame_store.specs.declared.fault.OpFault.{OpFault}
 use Rattle.frame_store.specs.declared.fault.OpFault.TheVariants.{Refused, NoMemory}
 use Rattle.frame_store.proofs.Settling.{seen_later}
-use Rattle.script_session.specs.Values.{World, objects_of, entry_in}
+use Rattle.frame_store.specs.World.{World, objects_of, entry_in, Forms, Sets}
 use Rattle.script_session.specs.Bindings.{Bindings, is_named, released, AreNamed, KeepNamed}
-use Rattle.script_session.specs.Faults.{Forms, Sets}
 
 -- the same by cases
 abbrev Each : Shown → Type 0

@@ -22,9 +22,8 @@ use Rattle.frame_store.specs.declared.arguments.Subscript.{Subscript}
 use Rattle.frame_store.specs.declared.fault.OpFault.{OpFault}
 use Rattle.frame_store.specs.declared.fault.OpFault.TheVariants.{Refused, NoMemory}
 use Rattle.frame_store.proofs.Settling.{settled_later, seen_later, longer_self, longer_twice}
-use Rattle.script_session.specs.Values.{World, objects_of, entry_in, IsSettledWorld, Keeps, IsKnown, IsKnownValue, AreKnownItems, IsKnownArgument, AreKnownPairs, AreKnownArguments, IsKnownSubscript}
+use Rattle.frame_store.specs.World.{World, objects_of, entry_in, IsSettledWorld, Keeps, IsKnown, IsKnownValue, AreKnownItems, IsKnownArgument, AreKnownPairs, AreKnownArguments, IsKnownSubscript, Forms, Sets}
 use Rattle.script_session.specs.Bindings.{Bindings, is_named, contains, noted, AreLive, AreGiven, AreNoted}
-use Rattle.script_session.specs.Faults.{Forms, Sets}
 use Rattle.script_session.proofs.Numbers.{nat_same, some_none}
 use Rattle.script_session.proofs.LiveObjects.{or_right, or_map, contains_last, contains_more}
 use Rattle.script_session.proofs.Views.{entry_same, items_same, argument_same, pairs_same, arguments_same, subscript_same, value_later, items_later, argument_later, pairs_later, arguments_later, subscript_later}

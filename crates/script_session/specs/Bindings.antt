@@ -10,7 +10,7 @@ use Rattle.frame_store.specs.declared.object.ObjId.{ObjId}
 use Rattle.frame_store.specs.declared.arguments.Value.{Value}
 use Rattle.frame_store.specs.declared.arguments.Value.TheVariants.{Object, Scalar}
 use Rattle.script_meaning.specs.State.{State}
-use Rattle.script_session.specs.Values.{World, entry_in}
+use Rattle.frame_store.specs.World.{World, entry_in}
 
 -- the value of each name, in the order in which the names were first bound
 abbrev pub Bindings : Type 0

@@ -16,7 +16,7 @@ use Rattle.script_meaning.specs.State.{State}
 use Rattle.script_session.specs.Bindings.{IsOf}
 use Rattle.outside_io.specs.Files.{FilesValue, Serves}
 use Rattle.script_session.specs.Reads.{files_in, Reaches}
-use Rattle.script_session.specs.Values.{World, Keeps, IsKnownValue, IsKnownSubscript}
+use Rattle.frame_store.specs.World.{World, Keeps, IsKnownValue, IsKnownSubscript}
 use Rattle.script_session.specs.Work.{names_in, world_of, state_in}
 use Rattle.script_session.specs.declared.file_names.FileName.{FileName}
 use Rattle.script_session.specs.declared.fault.EvalFault.{EvalFault}

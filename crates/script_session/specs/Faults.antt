@@ -1,14 +1,9 @@
--- What a refusal says of what a statement means, and what the forms do to the objects.
-use Rattle.std.specs.Prelude.{◌≡◌, Bool, false, List, Option, None, ⊤, Result, Ok, Err}
+-- What a refusal says of what a statement means.
+use Rattle.std.specs.Prelude.{◌≡◌, Bool, false, List, Option, None, Result, Ok, Err}
 use Rattle.cell_core.specs.declared.code.Code.TheVariants.{NoName, NoAttribute, NoFile}
 use Rattle.meaning.specs.Text.{Text}
-use Rattle.meaning.specs.Cell.{IsLonger}
-use Rattle.meaning.specs.Fault.{FaultValue}
 use Rattle.meaning.specs.FaultOf.{fault_of}
 use Rattle.table_meaning.specs.Settled.{IsSettled}
-use Rattle.table_meaning.specs.Table.{Table}
-use Rattle.table_meaning.specs.Value.{Entry}
-use Rattle.frame_store.specs.Shown.{FormAnswers, Changes}
 use Rattle.frame_store.specs.declared.arguments.Value.{Value}
 use Rattle.frame_store.specs.declared.fault.OpFault.{OpFault}
 use Rattle.frame_store.specs.declared.fault.OpFault.TheVariants.{Refused as OpRefused, NoMemory as OpNoMemory}
@@ -22,7 +17,6 @@ use Rattle.script_session.specs.declared.fault.StepFault.{StepFault}
 use Rattle.script_session.specs.declared.fault.StepFault.TheVariants.{Refused, Input, NoMemory}
 use Rattle.outside_io.specs.Files.{FilesValue}
 use Rattle.script_session.specs.Reads.{Goes, Stuck, Spends, IsCaused, absent_name}
-use Rattle.script_session.specs.Values.{World, objects_of}
 
 -- the fault of a form as one of an evaluation
 abbrev pub eval_fault : OpFault → EvalFault
@@ -79,11 +73,3 @@ abbrev pub IsRefusal : List Text → StepFault → Reading Answer → Type 0
 IsRefusal texts (Refused code warned) answer = (answer ≡ at_once (refused (fault_of texts code) warned)) × (absent_name code ≡ None) × IsSettled fault_of texts code
 IsRefusal texts Input answer = ⊥
 IsRefusal texts NoMemory answer = Unit {0}
-
--- what a form answers in a world, which may get more texts
-abbrev pub Forms : Result Value OpFault → Result Entry FaultValue → World → World → Type 0
-Forms r meant old new = FormAnswers new.texts r meant (objects_of old) (objects_of new) × IsLonger old.texts new.texts
-
--- what a form changes in a world
-abbrev pub Sets : Result ⊤ OpFault → Value → Result Table FaultValue → World → World → Type 0
-Sets r on meant old new = Changes new.texts r on meant (objects_of old) (objects_of new) × IsLonger old.texts new.texts

@@ -1,4 +1,3 @@
-pub mod Values
 pub mod Bindings
 pub mod Uses
 pub mod FormFault

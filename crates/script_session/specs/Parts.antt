@@ -10,7 +10,7 @@ use Rattle.frame_store.specs.declared.arguments.Selector.{Selector}
 use Rattle.frame_store.specs.declared.arguments.Subscript.{Subscript}
 use Rattle.selections.specs.Selected.{way_of}
 use Rattle.script_meaning.specs.Expression.{Target}
-use Rattle.script_session.specs.Values.{World}
+use Rattle.frame_store.specs.World.{World}
 
 abbrev pub optional_sub : Option Sub → tree.OptionalSub
 optional_sub None = tree.no_sub

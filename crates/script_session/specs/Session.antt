@@ -5,7 +5,7 @@ use Rattle.frame_store.specs.Shown.{Shown}
 use Rattle.frame_store.specs.declared.arguments.Value.TheVariants.{Object}
 use Rattle.frame_store.specs.declared.object.ObjId.{ObjId}
 use Rattle.script_meaning.specs.State.{State}
-use Rattle.script_session.specs.Values.{objects_of}
+use Rattle.frame_store.specs.World.{objects_of}
 use Rattle.script_session.specs.Bindings.{value_at}
 use Rattle.script_session.specs.Work.{names_in, world_of, state_in}
 use Rattle.script_session.specs.declared.session.Session.{Session}

@@ -1,7 +1,7 @@
 -- What stands in the midst of a statement.
 use Rattle.frame_store.specs.Objects.{Tables, tables}
 use Rattle.script_meaning.specs.State.{State}
-use Rattle.script_session.specs.Values.{World}
+use Rattle.frame_store.specs.World.{World}
 use Rattle.script_session.specs.Bindings.{Bindings, bindings_of, state_over}
 use Rattle.script_session.specs.declared.work.Work.{Work}
 

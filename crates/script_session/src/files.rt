@@ -8,7 +8,7 @@ ghost use Rattle.method_meaning.specs.Readers.{file_name_of, read_result};
 ghost use Rattle.frame_store.specs.Arguments.{arguments_of};
 ghost use Rattle.script_meaning.specs.Reading.{at_once, then_read, of_file};
 ghost use Rattle.script_meaning.specs.Expression.{made};
-ghost use Rattle.script_session.specs.Values.{Keeps, IsKnownValue, AreKnownArguments, entry_in};
+ghost use Rattle.frame_store.specs.World.{Keeps, IsKnownValue, AreKnownArguments, entry_in};
 ghost use Rattle.script_session.specs.Bindings.{IsOf};
 ghost use Rattle.outside_io.specs.Files.{Serves};
 ghost use Rattle.script_session.specs.Reads.{files_in, Reaches, ReachesBytes, RefusesLong};

@@ -13,7 +13,7 @@ ghost use Rattle.method_meaning.specs.Calls.{chain_result, has_method};
 ghost use Rattle.method_meaning.specs.Readers.{make_with};
 ghost use Rattle.table_laws.specs.Validity.{IsHeldCell};
 ghost use Rattle.frame_store.specs.Objects.{tables};
-ghost use Rattle.frame_store.specs.Arguments.{argument_of, arguments_of, entry_of, subscript_of, IsLive};
+ghost use Rattle.frame_store.specs.Arguments.{entry_of, IsLive};
 ghost use Rattle.frame_store.specs.Shown.{FormAnswers};
 ghost use Rattle.frame_methods.specs.Calls.{chain_of};
 ghost use Rattle.selections.specs.Selected.{way_of};
@@ -21,9 +21,9 @@ ghost use Rattle.nullable_array.specs.Tasks.{operator_of};
 ghost use Rattle.script_tokens.specs.View.{binary_of};
 ghost use Rattle.script_syntax.specs.View.{literal_of, unary_of};
 ghost use Rattle.script_meaning.specs.Expression.{cell_of, is_minus};
-ghost use Rattle.script_session.specs.Values.{Keeps, IsKnownValue, IsKnownArgument, AreKnownArguments, IsKnownSubscript, entry_in, objects_of};
+ghost use Rattle.frame_store.specs.World.{objects_of, entry_in, argument_in, arguments_in, subscript_in, Keeps, IsKnownValue, IsKnownArgument, AreKnownArguments, IsKnownSubscript, Forms, Sets};
 ghost use Rattle.script_session.specs.Bindings.{value_at, noted, IsOf};
-ghost use Rattle.script_session.specs.Faults.{Forms, Sets, IsNoName, IsNoAttribute};
+ghost use Rattle.script_session.specs.Faults.{IsNoName, IsNoAttribute};
 
 use crate::fault::EvalFault;
 use crate::literal::cell_of;
@@ -86,7 +86,10 @@ impl Work {
         requires left { IsKnownValue (world_of self.old) a }
         requires right { IsKnownValue (world_of self.old) b }
         ensures names { names_in self.new ≡ names_in self.old }
-        ensures answers { Forms result (infix_result (binary_of op) (entry_in (world_of self.old) a) (entry_in (world_of self.old) b)) (world_of self.old) (world_of self.new) }
+        ensures answers { Forms result
+            (infix_result (binary_of op)
+            (entry_in (world_of self.old) a) (entry_in (world_of self.old) b))
+            (world_of self.old) (world_of self.new) }
     {
         self.temps.reserve(1)?;
         let operator = operator_of(op);
@@ -99,7 +102,9 @@ impl Work {
     pub(crate) fn sign(&mut self, op: Unary, a: Value) -> Result<Value, OpFault>
         requires { IsKnownValue (world_of self.old) a }
         ensures names { names_in self.new ≡ names_in self.old }
-        ensures answers { Forms result (sign_result (is_minus (unary_of op)) (entry_in (world_of self.old) a)) (world_of self.old) (world_of self.new) }
+        ensures answers { Forms result
+            (sign_result (is_minus (unary_of op)) (entry_in (world_of self.old) a))
+            (world_of self.old) (world_of self.new) }
     {
         self.temps.reserve(1)?;
         let negate = is_minus(op);
@@ -123,7 +128,9 @@ impl Work {
     ) -> Result<Value, OpFault>
         requires { AreKnownArguments (world_of self.old) args.now.items.items }
         ensures names { names_in self.new ≡ names_in self.old }
-        ensures answers { Forms result (make_with (option_map (λ bytes. bytes.now) file.entry) function.now (arguments_of (world_of self.old).tables (world_of self.old).texts args.now.items.items)) (world_of self.old) (world_of self.new) }
+        ensures answers { Forms result (make_with (option_map (λ bytes. bytes.now) file.entry)
+            function.now (arguments_in (world_of self.old) args.now.items.items))
+            (world_of self.old) (world_of self.new) }
     {
         self.temps.reserve(1)?;
         let name = function.as_str();
@@ -149,7 +156,9 @@ impl Work {
         requires on { IsKnownValue (world_of self.old) on }
         requires arguments { AreKnownArguments (world_of self.old) args.now.items.items }
         ensures names { names_in self.new ≡ names_in self.old }
-        ensures answers { Forms result (chain_result (entry_in (world_of self.old) on) (chain_of chain.now) (arguments_of (world_of self.old).tables (world_of self.old).texts args.now.items.items)) (world_of self.old) (world_of self.new) }
+        ensures answers { Forms result (chain_result (entry_in (world_of self.old) on)
+            (chain_of chain.now) (arguments_in (world_of self.old) args.now.items.items))
+            (world_of self.old) (world_of self.new) }
     {
         self.temps.reserve(1)?;
         let made = frame_methods::method(
@@ -176,7 +185,10 @@ impl Work {
         requires first { IsKnownSubscript (world_of self.old) first.now }
         requires second { IfSome second.now (IsKnownSubscript (world_of self.old)) }
         ensures names { names_in self.new ≡ names_in self.old }
-        ensures answers { Forms result (select_result (entry_in (world_of self.old) on) (way_of by) (subscript_of (world_of self.old).tables (world_of self.old).texts first.now) (option_map (subscript_of (world_of self.old).tables (world_of self.old).texts) second.now)) (world_of self.old) (world_of self.new) }
+        ensures answers { Forms result (select_result (entry_in (world_of self.old) on) (way_of by)
+            (subscript_in (world_of self.old) first.now)
+            (option_map (subscript_in (world_of self.old)) second.now))
+            (world_of self.old) (world_of self.new) }
     {
         self.temps.reserve(1)?;
         let second = second.as_ref();
@@ -207,7 +219,11 @@ impl Work {
         requires second { IfSome second.now (IsKnownSubscript (world_of self.old)) }
         requires value { IsKnownArgument (world_of self.old) value.now }
         ensures names { names_in self.new ≡ names_in self.old }
-        ensures sets { Sets result on (assign_result (entry_in (world_of self.old) on) (way_of by) (subscript_of (world_of self.old).tables (world_of self.old).texts first.now) (option_map (subscript_of (world_of self.old).tables (world_of self.old).texts) second.now) (argument_of (world_of self.old).tables (world_of self.old).texts value.now)) (world_of self.old) (world_of self.new) }
+        ensures sets { Sets result on (assign_result (entry_in (world_of self.old) on) (way_of by)
+            (subscript_in (world_of self.old) first.now)
+            (option_map (subscript_in (world_of self.old)) second.now)
+            (argument_in (world_of self.old) value.now))
+            (world_of self.old) (world_of self.new) }
     {
         let scalar = value.scalar();
         prove!(is_held(scalar));
@@ -229,7 +245,9 @@ impl Work {
         requires on { IsKnownValue (world_of self.old) on }
         requires label { IsKnownValue (world_of self.old) label }
         ensures names { names_in self.new ≡ names_in self.old }
-        ensures sets { Sets result on (removal_result (entry_in (world_of self.old) on) (entry_in (world_of self.old) label)) (world_of self.old) (world_of self.new) }
+        ensures sets { Sets result on (removal_result
+            (entry_in (world_of self.old) on) (entry_in (world_of self.old) label))
+            (world_of self.old) (world_of self.new) }
     {
         selections::remove(self.alloc, &mut self.store, &self.dict, on, label)
     }

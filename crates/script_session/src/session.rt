@@ -1,5 +1,6 @@
 // Sessions.
 ghost use Rattle.std.specs.Prelude.{◌≡◌, None, OnOk, OnErr, is_some};
+ghost use Rattle.meaning.specs.Cell.{IsLonger};
 ghost use Rattle.meaning.specs.Text.{Contents};
 ghost use Rattle.script_meaning.specs.State.{no_names, without_name};
 ghost use Rattle.script_meaning.specs.Statement.{statement_result};
@@ -82,6 +83,7 @@ impl Session {
         ensures serves { Serves (F.seen files.old) (F.seen files.new) }
         ensures same { OnErr result (state_of self.new ≡ state_of self.old) }
         ensures objects { OnErr result (live_of self.new ≡ live_of self.old) }
+        ensures longer { IsLonger (texts_of self.old) (texts_of self.new) }
         ensures live { LiveAreNamed self.new }
         ensures valid { AreValid (live_of self.new) }
         ensures apart { OnOk result (ChangesOneObject (form_of statement.now.form) (state_of self.old) (state_of self.new)) }
@@ -94,6 +96,7 @@ impl Session {
     pub fn forget(&mut self, name: &str) -> bool
         ensures there { result ≡ is_some ((state_of self.old).value name.now) }
         ensures state { state_of self.new ≡ without_name (state_of self.old) name.now }
+        ensures texts { texts_of self.new ≡ texts_of self.old }
         ensures live { LiveAreNamed self.new }
         ensures valid { AreValid (live_of self.new) }
     {
@@ -123,6 +126,7 @@ impl Session {
         ensures serves { Serves (F.seen files.old) (F.seen files.new) }
         ensures same { OnErr result (state_of self.new ≡ state_of self.old) }
         ensures objects { OnErr result (live_of self.new ≡ live_of self.old) }
+        ensures longer { IsLonger (texts_of self.old) (texts_of self.new) }
         ensures live { LiveAreNamed self.new }
         ensures valid { AreValid (live_of self.new) }
         ensures apart { OnOk result (ChangesOneObject (form_of form.now) (state_of self.old) (state_of self.new)) }

@@ -1,5 +1,6 @@
 // Statements. What they make is noted.
 ghost use Rattle.std.specs.Prelude.{◌≡◌, [], Some, IfOk, IfErr, IfSome, OnOk, OnErr, is_some, option_map, ◌<◌, vec_len, vec_capacity};
+ghost use Rattle.meaning.specs.Cell.{IsLonger};
 ghost use Rattle.meaning.specs.Text.{Contents};
 ghost use Rattle.language_meaning.specs.Tree as tree;
 ghost use Rattle.frame_store.specs.Arguments.{subscript_of};
@@ -8,7 +9,7 @@ ghost use Rattle.script_meaning.specs.State.{without_name};
 ghost use Rattle.script_meaning.specs.Expression.{named_by, target_of};
 ghost use Rattle.script_meaning.specs.Statement.{done, is_chained, statement_result};
 ghost use Rattle.script_syntax.specs.View.{expr_of, step_of, arg_of, form_of};
-ghost use Rattle.script_session.specs.Values.{Keeps, IsKnownValue};
+ghost use Rattle.frame_store.specs.World.{Keeps, IsKnownValue};
 ghost use Rattle.script_session.specs.Bindings.{bound, unbound, value_at, noted_old, AreNamed, KeepNamed};
 ghost use Rattle.script_meaning.specs.Reading.{Files as SomeFiles, at_once};
 ghost use Rattle.outside_io.specs.Files.{Serves};
@@ -49,6 +50,7 @@ impl Work {
         ensures serves { Serves (F.seen files.old) (F.seen files.new) }
         ensures names { OnErr result (names_in self.new ≡ names_in self.old) }
         ensures kept { OnErr result (Keeps (world_of self.old) (world_of self.new)) }
+        ensures longer { IsLonger (world_of self.old).texts (world_of self.new).texts }
         ensures apart { OnOk result (ChangesOneObject (form_of form.now) (state_in self.old) (state_in self.new)) }
     {
         match form {
@@ -74,6 +76,7 @@ impl Work {
     // Takes a name out, with its object if no other name stands for it. Answers whether it was there.
     pub(crate) fn forget(&mut self, name: &str) -> bool
         ensures there { result ≡ is_some (value_at (names_in self.old) name.now) }
+        ensures texts { (world_of self.new).texts ≡ (world_of self.old).texts }
         ensures state { state_in self.new ≡ without_name (state_in self.old) name.now }
         ensures named { AreNamed (names_in self.old) (tables_in self.old) → AreNamed (names_in self.new) (tables_in self.new) }
     {
@@ -103,6 +106,7 @@ impl Work {
         ensures serves { Serves (F.seen files.old) (F.seen files.new) }
         ensures names { OnErr result (names_in self.new ≡ names_in self.old) }
         ensures kept { OnErr result (Keeps (world_of self.old) (world_of self.new)) }
+        ensures longer { IsLonger (world_of self.old).texts (world_of self.new).texts }
     {
         let value = self.evaluate(files, names, expr)?;
         self.set_name(name.as_str(), value)?;
@@ -127,6 +131,7 @@ impl Work {
         ensures serves { Serves (F.seen files.old) (F.seen files.new) }
         ensures names { OnErr result (names_in self.new ≡ names_in self.old) }
         ensures kept { OnErr result (Keeps (world_of self.old) (world_of self.new)) }
+        ensures longer { IsLonger (world_of self.old).texts (world_of self.new).texts }
         ensures apart { OnOk result (IsSetApart (named_by (expr_of target.now)) (state_in self.old) (state_in self.new)) }
     {
         let value = self.given(files, names, arg)?;
@@ -172,6 +177,7 @@ impl Work {
         ensures refused { (files : SomeFiles) → IfErr result (λ f. IsRefusal (world_of self.new).texts f (statement_result files (state_in self.old) (tree.drop_name name.now))) }
         ensures names { OnErr result (names_in self.new ≡ names_in self.old) }
         ensures kept { OnErr result (Keeps (world_of self.old) (world_of self.new)) }
+        ensures longer { IsLonger (world_of self.old).texts (world_of self.new).texts }
     {
         self.named(name)?;
         self.forget(name.as_str());
@@ -195,6 +201,7 @@ impl Work {
         ensures serves { Serves (F.seen files.old) (F.seen files.new) }
         ensures names { OnErr result (names_in self.new ≡ names_in self.old) }
         ensures kept { OnErr result (Keeps (world_of self.old) (world_of self.new)) }
+        ensures longer { IsLonger (world_of self.old).texts (world_of self.new).texts }
         ensures apart { OnOk result (IsSetApart (Some name.now) (state_in self.old) (state_in self.new)) }
     {
         let on = self.named(name)?;
@@ -222,6 +229,7 @@ impl Work {
         ensures serves { Serves (F.seen files.old) (F.seen files.new) }
         ensures names { OnErr result (names_in self.new ≡ names_in self.old) }
         ensures kept { OnErr result (Keeps (world_of self.old) (world_of self.new)) }
+        ensures longer { IsLonger (world_of self.old).texts (world_of self.new).texts }
     {
         let value = self.evaluate(files, names, expr)?;
         let end = end.as_str();

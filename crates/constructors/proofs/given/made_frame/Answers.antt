@@ -22,12 +22,12 @@ pub frame_of-requires-clause-index : goal.frame_of-requires-clause-index
 frame_of-requires-clause-index c =
     list_settled (λ (b : Bor (List Item)). b.now) (tables c.args.store.now) c.args.dict.now c.function_parameters-parameters.result.now c.args.args.now 1 c.list_at-index.result c.list_at-index.ensures.value c.requires.given
 
-pub returns-in-Some-clause-answer : goal.returns-in-Some-clause-answer
-returns-in-Some-clause-answer c =
+pub returns-in-Some : goal.returns-in-Some
+returns-in-Some c =
     let live = tables c.args.store.now in
     let dict = c.args.dict.now in
     let levels : levels_among c.function_parameters-parameters.result.now 0 (arguments_of live dict c.args.args.now) ≡ false = sym (c.has_levels.ensures live dict) ∙ c.if-has_levels.false in
     subst (λ (m : Result Entry FaultValue). Makes dict c.frame_of.result m)
     (frame_given (λ (b : Bor (List Item)). b.now) live dict c.args.args.now c.function_parameters-parameters.result.now c.in-Some.pairs.now c.list_at-index.result
     c.function_parameters-parameters.ensures levels c.in_ok-bind.ensures (c.in-Some.ensures.value live dict) (c.list_at-index.ensures.value live dict))
-    (c.frame_of.ensures.answer live)
+    (c.frame_of.ensures live)

@@ -28,18 +28,14 @@ series_table-requires c =
     let count : c.len.result ≡ length c.in_ok-column.column.cells = c.len.ensures ∙ ap (λ (v : CellColumn). length v.cells) c.as_ref.ensures in
     sym count ∙ axis_count c.cast_to.new.dict c.len.result 1 (index c.cast_to.new.dict) c.in_ok-axis.axis (c.in_ok-axis.ensures.labels c.cast_to.new.dict)
 
-pub returns-clause-settled : goal.returns-clause-settled
-returns-clause-settled c =
-    let index : List Text → Option (List CellValue) = λ texts. option_map (λ items. scalars texts items.now) c.args.index in
-    let count : c.len.result ≡ length c.in_ok-column.column.cells = c.len.ensures ∙ ap (λ (v : CellColumn). length v.cells) c.as_ref.ensures in
-    series_settled c.args.dict.now c.cast_to.new.dict index c.args.name c.in_ok-column.column c.in_ok-axis.axis c.in_ok-series_table.field-0
-    c.in_ok-column.ensures.longer c.in_ok-column.ensures.given c.requires.index (λ texts. ap (λ n. index_labels n 1 (index texts)) (sym count) ∙ c.in_ok-axis.ensures.labels texts)
-    c.in_ok-axis.ensures.names c.requires.name c.in_ok-series_table.ensures
-
 pub returns-clause-answer : goal.returns-clause-answer
 returns-clause-answer c =
     let index : List Text → Option (List CellValue) = λ texts. option_map (λ items. scalars texts items.now) c.args.index in
-    let count : c.len.result ≡ length c.in_ok-column.column.cells = c.len.ensures ∙ ap (λ (v : CellColumn). length v.cells) c.as_ref.ensures in
-    series_answer c.args.dict.now c.cast_to.new.dict (scalars c.args.dict.now c.args.values.now) index c.args.name c.args.kind c.in_ok-listed.listed c.in_ok-column.column c.in_ok-axis.axis c.in_ok-series_table.field-0
-    c.in_ok-column.ensures.longer (c.in_ok-listed.ensures c.args.dict.now) c.in_ok-column.ensures.answer c.requires.index (λ texts. ap (λ n. index_labels n 1 (index texts)) (sym count) ∙ c.in_ok-axis.ensures.labels texts)
-    c.in_ok-axis.ensures.names c.requires.name c.in_ok-series_table.ensures
+    let count : c.len.result ≡ length c.in_ok-column.column.cells = c.len.ensures ∙ ap (λ (v : CellColumn). length v.cells) c.as_ref.ensures in (
+      series_answer c.args.dict.now c.cast_to.new.dict (scalars c.args.dict.now c.args.values.now) index c.args.name c.args.kind c.in_ok-listed.listed c.in_ok-column.column c.in_ok-axis.axis c.in_ok-series_table.field-0
+          c.in_ok-column.ensures.longer (c.in_ok-listed.ensures c.args.dict.now) c.in_ok-column.ensures.answer c.requires.index (λ texts. ap (λ n. index_labels n 1 (index texts)) (sym count) ∙ c.in_ok-axis.ensures.labels texts)
+          c.in_ok-axis.ensures.names c.requires.name c.in_ok-series_table.ensures,
+      series_settled c.args.dict.now c.cast_to.new.dict index c.args.name c.in_ok-column.column c.in_ok-axis.axis c.in_ok-series_table.field-0
+          c.in_ok-column.ensures.longer c.in_ok-column.ensures.given c.requires.index (λ texts. ap (λ n. index_labels n 1 (index texts)) (sym count) ∙ c.in_ok-axis.ensures.labels texts)
+          c.in_ok-axis.ensures.names c.requires.name c.in_ok-series_table.ensures,
+    )

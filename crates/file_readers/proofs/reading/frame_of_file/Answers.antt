@@ -9,8 +9,8 @@ frame_of-requires-clause-few c = rows_few c.read_csv.new.dict c.in-Ok.read c.arg
 pub frame_of-requires-clause-single : goal.frame_of-requires-clause-single
 frame_of-requires-clause-single c = labels_single c.read_csv.new.dict c.in-Ok.read c.args.bytes.now (entries_seen c.args.dict.now c.args.kinds.now) c.in-Ok.ensures.answer
 
-pub returns-in_ok-frame_of-in-Ok-clause-settled : goal.returns-in_ok-frame_of-in-Ok-clause-settled
-returns-in_ok-frame_of-in-Ok-clause-settled c = frame_settled c.read_csv.new.dict c.in-Ok.read c.in_ok-frame_of-in-Ok.field-0 c.in-Ok.ensures.settled c.in_ok-frame_of-in-Ok.ensures
-
 pub returns-in_ok-frame_of-in-Ok-clause-answer : goal.returns-in_ok-frame_of-in-Ok-clause-answer
-returns-in_ok-frame_of-in-Ok-clause-answer c = frame_made c.read_csv.new.dict c.in-Ok.read c.in_ok-frame_of-in-Ok.field-0 _ c.in-Ok.ensures.answer c.in_ok-frame_of-in-Ok.ensures
+returns-in_ok-frame_of-in-Ok-clause-answer c = (
+  frame_made c.read_csv.new.dict c.in-Ok.read c.in_ok-frame_of-in-Ok.field-0 _ c.in-Ok.ensures.answer c.in_ok-frame_of-in-Ok.ensures,
+  frame_settled c.read_csv.new.dict c.in-Ok.read c.in_ok-frame_of-in-Ok.field-0 c.in-Ok.ensures.settled c.in_ok-frame_of-in-Ok.ensures,
+)

@@ -5,12 +5,9 @@ use Rattle.frame_store.specs.Objects.{tables}
 use Rattle.frame_store.specs.Arguments.{arguments_of}
 use Rattle.file_readers.proofs.reading.make.Goals as goal
 
-pub returns-in-Some-clause-settled : goal.returns-in-Some-clause-settled
-returns-in-Some-clause-settled c = c.placed.ensures.settled c.args.dict.now c.read_frame-made.ensures.longer c.requires.settled
-
-pub returns-in-Some-clause-answers : goal.returns-in-Some-clause-answers
-returns-in-Some-clause-answers c =
+pub returns-in-Some : goal.returns-in-Some
+returns-in-Some c =
     let reads : readers.reads_file (function_named c.args.function.now) ≡ true = search rules in
     rw (c.in-Some.is, reads, ← c.as_slice.ensures)
-    (c.placed.ensures.answers c.args.dict.now (readers.read_result c.in-Some.bytes.now (arguments_of (tables c.args.store.now) c.args.dict.now c.as_slice.result.now))
+    (c.placed.ensures c.args.dict.now (readers.read_result c.in-Some.bytes.now (arguments_of (tables c.args.store.now) c.args.dict.now c.as_slice.result.now))
     c.read_frame-made.ensures.longer c.requires.settled c.read_frame-made.ensures.answer)

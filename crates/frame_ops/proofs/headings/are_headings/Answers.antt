@@ -3,6 +3,7 @@ use Rattle.meaning.specs.Cell.{label_datum}
 use Rattle.multi_index.specs.Axes.{AxisValue, HaveLevels}
 use Rattle.table_meaning.specs.Table.{heading_value}
 use Rattle.form_meaning.specs.Finish.{same_heading}
+use Rattle.frame_store.proofs.Settling.{headings_part, labels_part}
 use Rattle.frame_ops.proofs.HeadingLaws.{heading_settled, label_settled, other_rows, other_levels, one_more_heading}
 use Rattle.frame_ops.proofs.headings.are_headings.Goals as goal
 
@@ -20,12 +21,12 @@ same_heading-requires-clause-a c =
     let lt : c.loop-place.place < length c.args.series.now.labels = omega arith in
     let one : c.levels.result ≡ 1 = omega arith in
     let alike : HaveLevels c.levels.result c.args.series.now.labels = subst (λ (a : AxisValue). HaveLevels c.levels.result a.tuples) c.axis.ensures c.levels.ensures.alike in
-    label_settled c.args.dict.now c.args.series.now.labels c.label.result c.loop-place.place c.requires.labels (subst (λ n. HaveLevels n c.args.series.now.labels) one alike) lt c.label.ensures
+    label_settled c.args.dict.now c.args.series.now.labels c.label.result c.loop-place.place (labels_part c.args.dict.now c.args.series.now c.requires.series.given) (subst (λ n. HaveLevels n c.args.series.now.labels) one alike) lt c.label.ensures
 
 pub same_heading-requires-clause-b : goal.same_heading-requires-clause-b
 same_heading-requires-clause-b c =
     let lt : c.loop-place.place < length c.args.frame.now.headings = omega arith in
-    heading_settled c.args.dict.now c.args.frame.now.headings c.heading.result c.loop-place.place c.requires.headings lt c.heading.ensures.value
+    heading_settled c.args.dict.now c.args.frame.now.headings c.heading.result c.loop-place.place (headings_part c.args.dict.now c.args.frame.now c.requires.frame.given) lt c.heading.ensures.value
 
 pub loop-place-preserved : goal.loop-place-preserved
 loop-place-preserved c =

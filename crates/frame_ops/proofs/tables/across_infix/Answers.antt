@@ -6,14 +6,14 @@ use Rattle.frame_ops.proofs.tables.across_infix.Goals as goal
 pub table_met-requires-clause-opposite : goal.table_met-requires-clause-opposite
 table_met-requires-clause-opposite c =
     let same : c.are_headings.result ≡ true = search rules in
-    across_opposite c.args.dict.now c.args.frame.now c.args.series c.args.left c.requires.whole_frame c.requires.whole_series c.requires.series (sym c.are_headings.ensures ∙ same)
+    across_opposite c.args.dict.now c.args.frame.now c.args.series c.args.left c.requires.known_frame.whole c.requires.known_series.whole c.requires.series (sym c.are_headings.ensures ∙ same)
 
 pub table_met-requires-clause-other : goal.table_met-requires-clause-other
-table_met-requires-clause-other c = series_given c.args.dict.now c.args.series c.requires.whole_series c.requires.series c.requires.settled_series
+table_met-requires-clause-other c = series_given c.args.dict.now c.args.series c.requires.known_series.whole c.requires.series c.requires.known_series.given
 
 pub returns-clause-makes : goal.returns-clause-makes
 returns-clause-makes c =
     let same : c.are_headings.result ≡ true = search rules in
     makes_as _ _ _ _ c.table_met.ensures.makes
-    (across_is_meant (operator_of c.args.op) c.args.dict.now c.args.frame.now c.args.series c.args.left c.requires.whole_frame (sym c.are_headings.ensures ∙ same)
-    (across_opposite c.args.dict.now c.args.frame.now c.args.series c.args.left c.requires.whole_frame c.requires.whole_series c.requires.series (sym c.are_headings.ensures ∙ same)).1)
+    (across_is_meant (operator_of c.args.op) c.args.dict.now c.args.frame.now c.args.series c.args.left c.requires.known_frame.whole (sym c.are_headings.ensures ∙ same)
+    (across_opposite c.args.dict.now c.args.frame.now c.args.series c.args.left c.requires.known_frame.whole c.requires.known_series.whole c.requires.series (sym c.are_headings.ensures ∙ same)).1)

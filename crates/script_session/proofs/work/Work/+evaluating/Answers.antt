@@ -24,9 +24,9 @@ use Rattle.script_syntax.specs.View.{unary_of, expr_of, step_of, arg_of, accesso
 use Rattle.script_syntax.proofs.Rows.{expr_of-Make, step_of-Method, step_of-Group, step_of-Rolling, step_of-Expanding, arg_of-Many, arg_of-Row, arg_of-Table}
 use Rattle.selections.specs.Selected.{way_of}
 use Rattle.script_session.specs.Parts.{optional_sub, optional_expr}
-use Rattle.script_session.specs.Values.{entry_in, IsKnownSubscript, IsKnownArgument}
+use Rattle.frame_store.specs.World.{entry_in, IsKnownSubscript, IsKnownArgument, Forms}
 use Rattle.script_session.specs.Evaluates.{item_in, items_in, argument_in, pairs_in, arguments_in, subscript_in, subscripts_in}
-use Rattle.script_session.specs.Faults.{Forms, IsNoAttribute}
+use Rattle.script_session.specs.Faults.{IsNoAttribute}
 use Rattle.script_session.specs.Work.{names_in, world_of, state_in}
 use Rattle.script_session.proofs.Worlds.{keeps_both, value_seen, value_kept, subscript_seen, subscript_kept, items_seen, items_kept, pairs_seen, pairs_kept, arguments_seen, arguments_kept, argument_seen, argument_kept}
 use Rattle.script_session.proofs.Seconds.{seconds_stop, seconds, strides_stop, strides}
@@ -179,7 +179,7 @@ evaluate-returns-in_ok-value-in-Len g t c =
     let v = c.in_ok-value-in-Len.value in
     as_value c.args.expr.now None
     (goes_on (λ fs s v. at_once (length_result v)) v c.in_ok-value-in-Len.ensures
-    (forms w w (length_result (entry_in (world_of w) v)) (length_result_fault (entry_in (world_of w) v)) refl c.length.result c.evaluated-in-Len.result c.evaluated-in-Len.ensures (c.length.ensures, longer_self w.dict)))
+    (forms w w (length_result (entry_in (world_of w) v)) (length_result_fault (entry_in (world_of w) v)) refl c.length.result c.evaluated-in-Len.result c.evaluated-in-Len.ensures (c.length.ensures, longer_self w.dict, w.settled)))
     (ap (λ e. named_by (expr_of e)) c.in-Len.is)
     (λ fs. ap (λ e. value_of fs (state_in s) (expr_of e)) c.in-Len.is ∙ ap (λ e. then_read (value_of fs (state_in s) (expr_of e)) (λ v. at_once (length_result v))) (sym c.deref-in-Len.ensures))
 

@@ -5,7 +5,7 @@ use Rattle.script_meaning.specs.Expression.{parts_of as parts_given, named_of, p
 use Rattle.script_syntax.specs.View.{expr_of, step_of, sub_of, arg_of, optional_arg, parts_of, named_parts_of, pair_parts_of}
 use Rattle.script_session.specs.Parts.{optional_sub}
 use Rattle.script_session.specs.Evaluates.{moment, items_in, pairs_in, arguments_in}
-use Rattle.script_session.specs.Values.{AreKnownItems, AreKnownPairs, AreKnownArguments}
+use Rattle.frame_store.specs.World.{AreKnownItems, AreKnownPairs, AreKnownArguments}
 use Rattle.script_session.specs.Work.{world_of}
 use Rattle.script_session.proofs.Gathering.{Gathers}
 use Rattle.script_session.proofs.Parts.{join_parts, join_pairs}

@@ -3,8 +3,7 @@ use Rattle.std.specs.Prelude.{IfSome}
 use Rattle.table_laws.specs.Validity.{IsHeldCell}
 use Rattle.table_laws.proofs.SetLaws.{assign_result_keeps}
 use Rattle.frame_store.specs.Objects.{tables}
-use Rattle.script_session.specs.Values.{World}
-use Rattle.script_session.specs.Faults.{Sets}
+use Rattle.frame_store.specs.World.{World, Sets}
 use Rattle.script_session.specs.Work.{names_in, world_of}
 use Rattle.script_session.proofs.Worlds.{live_set, noted_set, given_after}
 use Rattle.script_session.proofs.Validity.{object_valid, argument_valid, set_valid}
@@ -15,7 +14,7 @@ invariant_of-self c =
     let s = c.args.self.now in
     let e = c.assign.ensures in
     let new : World = record { tables = tables c.assign.new.store; texts = c.assign.new.dict } in
-    let sets : Sets c.assign.result c.args.on _ (world_of s) new = (e.answers, e.longer) in
+    let sets : Sets c.assign.result c.args.on _ (world_of s) new = (e.answers, e.longer, e.settled) in
     let held = subst (λ o. IfSome o IsHeldCell) (c.scalar-scalar.ensures (tables s.store) s.dict) (c.is_held.ensures.held s.dict) in
     record {
       settled = e.settled;

@@ -6,9 +6,8 @@ use Rattle.script_meaning.specs.Reading.{at_once}
 use Rattle.script_meaning.specs.Expression.{value_of_name, value_of}
 use Rattle.script_meaning.specs.Statement.{done, then_answer, set_answer}
 use Rattle.script_syntax.specs.View.{expr_of}
-use Rattle.script_session.specs.Values.{entry_in}
+use Rattle.frame_store.specs.World.{entry_in, Sets}
 use Rattle.script_session.specs.Bindings.{value_at, state_over}
-use Rattle.script_session.specs.Faults.{Sets}
 use Rattle.script_session.specs.Reads.{files_in}
 use Rattle.script_session.specs.Work.{names_in, world_of, state_in}
 use Rattle.script_session.proofs.States.{state_kept}

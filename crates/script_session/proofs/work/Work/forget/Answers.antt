@@ -2,7 +2,7 @@ use Rattle.std.proofs.Common.{refl, sym, ◌∙◌, ap, subst}
 use Rattle.table_meaning.specs.Settled.{IsSettled}
 use Rattle.frame_store.specs.Objects.{Tables, tables}
 use Rattle.frame_store.specs.Shown.{shown}
-use Rattle.script_session.specs.Values.{World}
+use Rattle.frame_store.specs.World.{World}
 use Rattle.script_session.specs.Bindings.{Bindings, bindings_of, state_over, unbound, released, value_at, AreLive, AreGiven, AreNoted, AreNamed}
 use Rattle.script_session.specs.Work.{names_in, tables_in, world_of}
 use Rattle.script_session.proofs.States.{state_swept}

@@ -1,6 +1,5 @@
 use Rattle.frame_store.specs.Objects.{tables}
-use Rattle.script_session.specs.Values.{World}
-use Rattle.script_session.specs.Faults.{Forms}
+use Rattle.frame_store.specs.World.{World, Forms}
 use Rattle.script_session.specs.Work.{names_in, world_of}
 use Rattle.script_session.proofs.Worlds.{form_keeps, live_after, given_after, noted_made, noted_refused}
 use Rattle.table_laws.proofs.MethodLaws.{chain_result_keeps}
@@ -10,27 +9,25 @@ use Rattle.script_session.proofs.work.Work.method.Goals as goal
 pub invariant_of-self-in-Break-branch-2 : goal.invariant_of-self-in-Break-branch-2
 invariant_of-self-in-Break-branch-2 c =
     let s = c.args.self.now in
-    let e = c.method.ensures in
     let new : World = record { tables = tables c.method.new.store; texts = c.method.new.dict } in
-    let answers : Forms c.method.result _ (world_of s) new = (e.answers, e.longer) in
+    let answers : Forms c.method.result _ (world_of s) new = c.method.ensures in
     record {
-      settled = e.settled;
+      settled = answers.2;
       valid = form_valid c.method.result _ (world_of s) new answers (chain_result_keeps _ _ _ (object_valid (world_of s) c.args.on s.valid c.requires.on.live)) s.valid;
       live = live_after (names_in s) (world_of s) new (form_keeps c.method.result _ (world_of s) new answers) s.live;
-      given = given_after (names_in s) s.dict _ e.longer s.given;
+      given = given_after (names_in s) s.dict _ answers.1 s.given;
       noted = noted_refused (names_in s) s.temps.items _ c.method.result c.in_err-made.field-0.0 _ (world_of s) new c.in_err-made.was answers c.reserve.ensures.items s.noted;
     }
 
 pub invariant_of-self-2 : goal.invariant_of-self-2
 invariant_of-self-2 c =
     let s = c.args.self.now in
-    let e = c.method.ensures in
     let new : World = record { tables = tables c.method.new.store; texts = c.method.new.dict } in
-    let answers : Forms c.method.result _ (world_of s) new = (e.answers, e.longer) in
+    let answers : Forms c.method.result _ (world_of s) new = c.method.ensures in
     record {
-      settled = e.settled;
+      settled = answers.2;
       valid = form_valid c.method.result _ (world_of s) new answers (chain_result_keeps _ _ _ (object_valid (world_of s) c.args.on s.valid c.requires.on.live)) s.valid;
       live = live_after (names_in s) (world_of s) new (form_keeps c.method.result _ (world_of s) new answers) s.live;
-      given = given_after (names_in s) s.dict _ e.longer s.given;
+      given = given_after (names_in s) s.dict _ answers.1 s.given;
       noted = noted_made (names_in s) s.temps.items _ _ c.method.result c.in_ok-made.made _ (world_of s) new c.in_ok-made.was answers c.reserve.ensures.items c.note.ensures s.noted;
     }

@@ -2,7 +2,7 @@ use Rattle.std.proofs.Common.{refl, ◌++◌, ap, sym, ◌∙◌, false}
 use Rattle.std.proofs.lemmas.Result.{err_from_is_err_and}
 use Rattle.script_meaning.specs.Reading.{at_once}
 use Rattle.script_meaning.specs.Statement.{done, entry_text}
-use Rattle.script_session.specs.Values.{entry_in}
+use Rattle.frame_store.specs.World.{entry_in}
 use Rattle.script_session.specs.Work.{world_of, state_in}
 use Rattle.script_session.proofs.States.{state_kept}
 use Rattle.script_session.proofs.Rides.{goes_value, goes_spends, halts_first, spends_then}

@@ -8,10 +8,9 @@ use Rattle.script_meaning.specs.Expression.{named_by, value_of, target_of}
 use Rattle.script_meaning.specs.Statement.{done, then_answer, set_answer, assigned, is_chained}
 use Rattle.script_syntax.specs.View.{expr_of, step_of}
 use Rattle.script_session.specs.Bindings.{IsOf, state_over}
-use Rattle.script_session.specs.Faults.{Sets}
 use Rattle.script_session.specs.Parts.{target_seen}
 use Rattle.script_session.specs.Reads.{files_in}
-use Rattle.script_session.specs.Values.{entry_in}
+use Rattle.frame_store.specs.World.{entry_in, Sets}
 use Rattle.script_session.specs.Work.{names_in, world_of, state_in}
 use Rattle.script_session.proofs.States.{state_kept}
 use Rattle.script_session.proofs.Worlds.{keeps_both, value_seen, value_kept, argument_seen, argument_kept, set_failed}

@@ -1,8 +1,7 @@
 use Rattle.frame_store.specs.Objects.{tables}
 use Rattle.frame_store.proofs.Settling.{longer_self}
 use Rattle.form_meaning.specs.Set.{removal_result}
-use Rattle.script_session.specs.Values.{World, entry_in}
-use Rattle.script_session.specs.Faults.{Sets}
+use Rattle.frame_store.specs.World.{World, entry_in, Sets}
 use Rattle.script_session.specs.Work.{names_in, world_of}
 use Rattle.script_session.proofs.Worlds.{live_set, noted_set}
 use Rattle.table_laws.proofs.SetLaws.{removal_result_keeps}
@@ -14,7 +13,7 @@ invariant_of-self c =
     let s = c.args.self.now in
     let e = c.remove.ensures in
     let new : World = record { tables = tables c.remove.new.store; texts = s.dict } in
-    let sets : Sets c.remove.result c.args.on (removal_result (entry_in (world_of s) c.args.on) (entry_in (world_of s) c.args.label)) (world_of s) new = (e.answers, longer_self s.dict) in
+    let sets : Sets c.remove.result c.args.on (removal_result (entry_in (world_of s) c.args.on) (entry_in (world_of s) c.args.label)) (world_of s) new = (e.answers, longer_self s.dict, e.settled) in
     record {
       settled = e.settled;
       valid = set_valid c.remove.result c.args.on _ (world_of s) new sets (removal_result_keeps (entry_in (world_of s) c.args.on) (entry_in (world_of s) c.args.label) (object_valid (world_of s) c.args.on s.valid c.requires.on.live)) s.valid;

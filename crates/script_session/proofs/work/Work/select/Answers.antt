@@ -1,6 +1,5 @@
 use Rattle.frame_store.specs.Objects.{tables}
-use Rattle.script_session.specs.Values.{World}
-use Rattle.script_session.specs.Faults.{Forms}
+use Rattle.frame_store.specs.World.{World, Forms}
 use Rattle.script_session.specs.Work.{names_in, world_of}
 use Rattle.script_session.proofs.Worlds.{form_keeps, live_after, given_after, noted_made, noted_refused}
 use Rattle.table_laws.proofs.SelectLaws.{select_result_keeps}
@@ -12,7 +11,7 @@ invariant_of-self-in-Break-branch-2 c =
     let s = c.args.self.now in
     let e = c.select.ensures in
     let new : World = record { tables = tables c.select.new.store; texts = c.select.new.dict } in
-    let answers : Forms c.select.result _ (world_of s) new = (e.answers, e.longer) in
+    let answers : Forms c.select.result _ (world_of s) new = (e.answers, e.longer, e.settled) in
     record {
       settled = e.settled;
       valid = form_valid c.select.result _ (world_of s) new answers (select_result_keeps _ _ _ _ (object_valid (world_of s) c.args.on s.valid c.requires.on.live)) s.valid;
@@ -26,7 +25,7 @@ invariant_of-self-2 c =
     let s = c.args.self.now in
     let e = c.select.ensures in
     let new : World = record { tables = tables c.select.new.store; texts = c.select.new.dict } in
-    let answers : Forms c.select.result _ (world_of s) new = (e.answers, e.longer) in
+    let answers : Forms c.select.result _ (world_of s) new = (e.answers, e.longer, e.settled) in
     record {
       settled = e.settled;
       valid = form_valid c.select.result _ (world_of s) new answers (select_result_keeps _ _ _ _ (object_valid (world_of s) c.args.on s.valid c.requires.on.live)) s.valid;

@@ -1,30 +1,48 @@
--- Values in the midst of a statement, as the objects and the texts show them.
-use Rattle.std.specs.Prelude.{◌≡◌, ℕ, List, IsSome}
+-- Objects and texts together, and what forms know of what they are given and say of what they give.
+use Rattle.std.specs.Prelude.{◌≡◌, ℕ, List, IsSome, ⊤, Result}
+use Rattle.cell_core.specs.declared.cell.Label.{Label}
 use Rattle.meaning.specs.Text.{Text}
 use Rattle.meaning.specs.Cell.{IsLonger}
+use Rattle.meaning.specs.Fault.{FaultValue}
 use Rattle.table_meaning.specs.Settled.{IsSettled}
-use Rattle.table_meaning.specs.Value.{Entry}
-use Rattle.frame_store.specs.Objects.{Tables}
+use Rattle.table_meaning.specs.Table.{NumberedTable, Table, table_value}
+use Rattle.table_meaning.specs.Valid.{IsWhole}
+use Rattle.table_meaning.specs.Value.{Entry, Given, NamedGiven, GivenSub}
+use Rattle.frame_store.specs.Objects.{Tables, tables}
 use Rattle.frame_store.specs.Arguments.{entry_of, item_of, items_of, argument_of, entries_of, arguments_of, subscript_of, IsLive, IsLiveItem, AreLiveItems, IsLiveArgument, AreLivePairs, AreLive, IsLiveSubscript}
-use Rattle.frame_store.specs.Shown.{Shown, shown}
-use Rattle.frame_store.specs.declared.arguments.Value.{Value}
-use Rattle.frame_store.specs.declared.arguments.Item.{Item}
+use Rattle.frame_store.specs.Shown.{Shown, shown, FormAnswers, Changes}
 use Rattle.frame_store.specs.declared.arguments.Argument.{Argument}
+use Rattle.frame_store.specs.declared.arguments.Item.{Item}
 use Rattle.frame_store.specs.declared.arguments.Named.{Named}
 use Rattle.frame_store.specs.declared.arguments.Subscript.{Subscript}
-use Rattle.cell_core.specs.declared.cell.Label.{Label}
+use Rattle.frame_store.specs.declared.arguments.Value.{Value}
+use Rattle.frame_store.specs.declared.fault.OpFault.{OpFault}
+use Rattle.frame_store.specs.declared.store.Store.{Store}
 
 -- the table of each live object, and the texts by number
 pub record World : Type 0 where
   pub tables : Tables
   pub texts : List Text
 
+abbrev pub world : Store → List Text → World
+world store texts = record { tables = tables store; texts = texts }
+
 -- the tables with texts
 abbrev pub objects_of : World → Shown
 objects_of w = shown w.texts w.tables
 
+-- a value, an argument, the arguments of a call and a subscript, with their tables and texts
 abbrev pub entry_in : World → Value → Entry
 entry_in w v = entry_of w.tables w.texts v
+
+abbrev pub argument_in : World → Argument → Given
+argument_in w a = argument_of w.tables w.texts a
+
+abbrev pub arguments_in : World → List Named → List NamedGiven
+arguments_in w args = arguments_of w.tables w.texts args
+
+abbrev pub subscript_in : World → Subscript → GivenSub
+subscript_in w s = subscript_of w.tables w.texts s
 
 -- each text of a table was given its number
 abbrev pub IsSettledWorld : World → Type 0
@@ -60,3 +78,20 @@ AreKnownArguments w args = IsKnown AreLive arguments_of w args
 
 abbrev pub IsKnownSubscript : World → Subscript → Type 0
 IsKnownSubscript w s = IsKnown IsLiveSubscript subscript_of w s
+
+-- a table whose parts fit, and whose texts were given their numbers
+pub record IsKnownTable (texts : List Text) (t : NumberedTable) : Type 0 where
+  pub whole : IsWhole t
+  pub given : IsSettled table_value texts t
+
+-- what a form answers in a world, which may get more texts and stays settled
+abbrev pub Forms : Result Value OpFault → Result Entry FaultValue → World → World → Type 0
+Forms r meant old new =
+    FormAnswers new.texts r meant (objects_of old) (objects_of new)
+    × IsLonger old.texts new.texts × IsSettledWorld new
+
+-- what a form changes in a world, which may get more texts and stays settled
+abbrev pub Sets : Result ⊤ OpFault → Value → Result Table FaultValue → World → World → Type 0
+Sets r on meant old new =
+    Changes new.texts r on meant (objects_of old) (objects_of new)
+    × IsLonger old.texts new.texts × IsSettledWorld new
