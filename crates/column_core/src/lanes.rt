@@ -1,5 +1,5 @@
 // Values of one type, each present or not: of its own, or borrowed with a stride.
-ghost use Rattle.std.specs.Prelude.{◌≡◌, ◌<◌, ℕ, Bool, false, length, replicate, slice_set, unwrap_or, is_some, IfOk, OnOk, OnErr, Option, None};
+ghost use Rattle.std.specs.Prelude.{◌≡◌, ◌<◌, ℕ, Bool, false, length, replicate, slice_set, vec_len, unwrap_or, is_some, IfOk, OnOk, OnErr, Option, None};
 ghost use Rattle.column_core.specs.Lanes.{LaneFits, lane_place, lane_row, option_at, IsPushed};
 
 use cell_core::NoMemory;
@@ -85,8 +85,8 @@ impl<T: Copy + Drop> Owned<T> {
         ensures count { IfOk result (λ o. length o.values.items ≡ count) }
         ensures rows { IfOk result (λ o. (row : ℕ) → option_at o.values.items o.present.items row ≡ None) }
     {
-        let values = vec![in alloc; blank; count]?;
-        let present = vec![in alloc; false; count]?;
+        let values = repeated(alloc, blank, count)?;
+        let present = repeated(alloc, false, count)?;
         Ok(Owned { values, present })
     }
 
@@ -144,9 +144,14 @@ impl<T: Copy + Drop> Owned<T> {
     }
 }
 
-// The same item, so many times.
-fn repeated<T: Copy>(alloc: Global, item: T, count: usize) -> Result<Vec<T>, NoMemory>
-    ensures { IfOk result (λ v. v.items ≡ replicate count item) }
+/// The same item, so many times.
+pub(crate) fn repeated<T: Copy + Drop>(
+    alloc: Global,
+    item: T,
+    count: usize,
+) -> Result<Vec<T>, AllocError>
+    ensures items { IfOk result (λ v. v.items ≡ replicate count item) }
+    ensures len { IfOk result (λ v. vec_len v ≡ count) }
 {
     let mut items = Vec::with_capacity(alloc, count)?;
     items.resize(count, item)?;

@@ -4,7 +4,7 @@ ghost use Rattle.column_core.specs.Lanes.{option_at};
 ghost use Rattle.column_core.specs.Rows.{try_rows, made_rows, AreWritten, IsFirstRefused, Refuses};
 ghost use Rattle.column_core.specs.declared.rows.RowFault.TheVariants.{Memory};
 
-use crate::lanes::{Lane, Owned};
+use crate::lanes::{Lane, Owned, repeated};
 use std::alloc::{AllocError, Global};
 
 /// Rows of values, each present or not.
@@ -113,8 +113,8 @@ pub fn by_rows<X, Y, U: Copy + Drop, O: RowOp<X, Y, U>, A: Source<X>, B: Source<
     ensures rows { let whole = try_rows (A.count_of a.now) (λ k. O.row_of op.now (A.row_of a.now k) (B.row_of b.now k)) in
         MatchResult result (λ made. whole ≡ Ok (made_rows (A.count_of a.now) made.values.items made.present.items)) (Refuses whole) }
 {
-    let mut values = vec![in alloc; blank; a.count()]?;
-    let mut present = vec![in alloc; false; a.count()]?;
+    let mut values = repeated(alloc, blank, a.count())?;
+    let mut present = repeated(alloc, false, a.count())?;
     match fill(op, blank, a, b, &mut values, &mut present) {
         Ok(()) => Ok(Owned { values, present }),
         Err(row) => Err(RowFault::Row(row)),

@@ -6,23 +6,25 @@ use Rattle.cell_core.specs.declared.cell.Label.{Label}
 use Rattle.meaning.specs.Text.{Text}
 use Rattle.meaning.specs.Cell.{LabelValue, na, label_datum}
 use Rattle.table_meaning.specs.Settled.{IsSettled}
-use Rattle.table_meaning.specs.Value.{Given, GivenPairs, nothing, no_entries, more_entries, list_in, dict_in}
+use Rattle.table_meaning.specs.Value.{Given, GivenPairs, NamedGiven, nothing, no_entries, more_entries, list_in, dict_in}
 use Rattle.form_meaning.specs.declared.Function.TheVariants as function
-use Rattle.form_meaning.specs.declared.Parameter.{Parameter}
 use Rattle.form_meaning.specs.Signature.{function_parameters}
-use Rattle.form_meaning.specs.Binding.{bound, bound_of, argument_at, arguments_from}
+use Rattle.form_meaning.specs.Binding.{bound, bound_of}
 use Rattle.form_meaning.specs.Select.{cells_of}
 use Rattle.form_meaning.specs.Make.{on, frame_of, pairs_in}
 use Rattle.form_meaning.specs.Functions.{levels_among, made_by}
 use Rattle.frame_store.specs.declared.arguments.Argument.{Argument}
 use Rattle.frame_store.specs.declared.arguments.Item.{Item}
-use Rattle.frame_store.specs.declared.arguments.Named.{Named}
 use Rattle.frame_store.specs.Objects.{Tables}
 use Rattle.frame_store.specs.Arguments.{items_of, entries_of, arguments_of}
-use Rattle.constructors.specs.Scalars.{scalars}
+use Rattle.frame_store.specs.World.{World}
+use Rattle.signatures.specs.Bound.{given_in, stands_at, Tells}
+use Rattle.signatures.specs.declared.bound.Bound.{Bound}
+use Rattle.signatures.proofs.ToldLaws.{told_settled, some_same}
+use Rattle.signatures.specs.Scalars.{scalars}
 use Rattle.constructors.specs.Pairs.{scalars_in, list_seen}
 use Rattle.constructors.specs.Made.{frame_from}
-use Rattle.constructors.proofs.GivenLaws.{some_same, lists_are, frame_bound}
+use Rattle.constructors.proofs.GivenLaws.{lists_are, frame_bound}
 use Rattle.constructors.proofs.FrameLaws.{list_same, frame_same}
 
 abbrev first_key : GivenPairs → LabelValue
@@ -55,33 +57,29 @@ lists_of_pairs live texts (p ∷ ps) settled =
     (λ more. sym (list_same live (texts ++ more) p.1) ∙ ap (λ pairs. scalars_in (first_value pairs)) (settled more) ∙ list_same live texts p.1)
     (lists_of_pairs live texts ps (λ more. ap later_pairs (settled more)))
 
-pairs_settled : (live : Tables) (dict : List Text) (ps : List Parameter) (args : List Named) (place : ℕ) (pairs : List (Label × Argument))
-    → ((live : Tables) (texts : List Text) → Some (entries_of live texts pairs) ≡ dict_in (argument_at ps (arguments_of live texts args) place))
-    → IsSettled (arguments_of live) dict args → IsSettled (entries_of live) dict pairs
-pairs_settled live dict ps args place pairs is settled = λ more.
+pairs_settled : (b : Bound) (place : ℕ) (pairs : List (Label × Argument)) (live : Tables) (dict : List Text) → Tells b place dict_in (λ live texts. Some (entries_of live texts pairs))
+    → IsSettled (arguments_of live) dict b.args.now → IsSettled (entries_of live) dict pairs
+pairs_settled b place pairs live dict tells settled = λ more.
     some_same (entries_of live (dict ++ more) pairs) (entries_of live dict pairs)
-    (is live (dict ++ more) ∙ ap (λ gs. dict_in (argument_at ps gs place)) (settled more) ∙ sym (is live dict))
+    (told_settled b place dict_in (λ live texts. Some (entries_of live texts pairs)) live dict tells settled more)
 
-pub keys_given : (live : Tables) (dict : List Text) (ps : List Parameter) (args : List Named) (place : ℕ) (pairs : List (Label × Argument))
-    → ((live : Tables) (texts : List Text) → Some (entries_of live texts pairs) ≡ dict_in (argument_at ps (arguments_of live texts args) place))
-    → IsSettled (arguments_of live) dict args → All (λ (p : Label × Argument). IsSettled label_datum dict p.0) pairs
-keys_given live dict ps args place pairs is settled = keys_of_pairs live dict pairs (pairs_settled live dict ps args place pairs is settled)
+pub keys_given : (b : Bound) (place : ℕ) (pairs : List (Label × Argument)) (live : Tables) (dict : List Text) → Tells b place dict_in (λ live texts. Some (entries_of live texts pairs))
+    → IsSettled (arguments_of live) dict b.args.now → All (λ (p : Label × Argument). IsSettled label_datum dict p.0) pairs
+keys_given b place pairs live dict tells settled = keys_of_pairs live dict pairs (pairs_settled b place pairs live dict tells settled)
 
-pub lists_given : (live : Tables) (dict : List Text) (ps : List Parameter) (args : List Named) (place : ℕ) (pairs : List (Label × Argument))
-    → ((live : Tables) (texts : List Text) → Some (entries_of live texts pairs) ≡ dict_in (argument_at ps (arguments_of live texts args) place))
-    → IsSettled (arguments_of live) dict args → All (λ (p : Label × Argument). IsSettled list_seen dict p.1) pairs
-lists_given live dict ps args place pairs is settled = lists_of_pairs live dict pairs (pairs_settled live dict ps args place pairs is settled)
+pub lists_given : (b : Bound) (place : ℕ) (pairs : List (Label × Argument)) (live : Tables) (dict : List Text) → Tells b place dict_in (λ live texts. Some (entries_of live texts pairs))
+    → IsSettled (arguments_of live) dict b.args.now → All (λ (p : Label × Argument). IsSettled list_seen dict p.1) pairs
+lists_given b place pairs live dict tells settled = lists_of_pairs live dict pairs (pairs_settled b place pairs live dict tells settled)
 
-pub frame_given : {T : Type 0} (f : T → List Item) (live : Tables) (dict : List Text) (args : List Named) (ps : List Parameter) (pairs : List (Label × Argument)) (index : Option T)
-    → ps ≡ function_parameters function.DataFrame → levels_among ps 0 (arguments_of live dict args) ≡ false → bound_of ps (arguments_of live dict args) ≡ bound (arguments_from ps (arguments_of live dict args) 0 ps)
-    → Some (entries_of live dict pairs) ≡ dict_in (argument_at ps (arguments_of live dict args) 0)
-    → option_map (λ t. items_of live dict (f t)) index ≡ list_in (argument_at ps (arguments_of live dict args) 1)
-    → frame_from (pairs_in (entries_of live dict pairs)) (option_map (λ t. scalars dict (f t)) index) ≡ made_by function.DataFrame (arguments_of live dict args)
-frame_given f live dict args ps pairs index is levels same listed indexed =
-    let gs = arguments_of live dict args in
+pub frame_given : {T : Type 0} (f : T → List Item) (gs : List NamedGiven) (w : World) (b : Bound) (pairs : List (Label × Argument)) (index : Option T)
+    → levels_among (function_parameters function.DataFrame) 0 gs ≡ false → bound_of (function_parameters function.DataFrame) gs ≡ bound (given_in w b) → b.parameters.now ≡ function_parameters function.DataFrame
+    → Some (entries_of w.tables w.texts pairs) ≡ dict_in (stands_at w.tables w.texts b 0)
+    → option_map (λ t. items_of w.tables w.texts (f t)) index ≡ list_in (stands_at w.tables w.texts b 1)
+    → frame_from (pairs_in (entries_of w.tables w.texts pairs)) (option_map (λ t. scalars w.texts (f t)) index) ≡ made_by function.DataFrame gs
+frame_given f gs w b pairs index levels same is listed indexed =
     sym (
-    frame_bound gs ps is levels same
-    ∙ ap (λ o. on o (λ pairs. frame_of (pairs_in pairs) (list_in (argument_at ps gs 1)))) (sym listed)
-    ∙ frame_same (pairs_in (entries_of live dict pairs)) (list_in (argument_at ps gs 1))
-    ∙ ap (frame_from (pairs_in (entries_of live dict pairs))) (ap (option_map cells_of) (sym indexed) ∙ lists_are f live dict index)
+    frame_bound gs w b levels same is
+    ∙ ap (λ o. on o (λ pairs. frame_of (pairs_in pairs) (list_in (stands_at w.tables w.texts b 1)))) (sym listed)
+    ∙ frame_same (pairs_in (entries_of w.tables w.texts pairs)) (list_in (stands_at w.tables w.texts b 1))
+    ∙ ap (frame_from (pairs_in (entries_of w.tables w.texts pairs))) (ap (option_map cells_of) (sym indexed) ∙ lists_are f w.tables w.texts index)
     )

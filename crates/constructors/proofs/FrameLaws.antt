@@ -38,7 +38,7 @@ use Rattle.frame_store.proofs.Settling.{table_settled}
 use Rattle.constructors.specs.Pairs.{value_in, entries_seen, alone, scalars_in, list_seen, list_at, lists_seen, listed_column}
 use Rattle.constructors.specs.Made.{axis_labels, index_labels, index_alone, indexed, same_rows, labels_for, frame_labels, frame_with, frame_from}
 use Rattle.constructors.proofs.MadeLaws.{limited_labels, indexed_within, labels_then, ok_same}
-use Rattle.constructors.proofs.GivenLaws.{scalars_are}
+use Rattle.signatures.proofs.ScalarLaws.{scalars_are}
 use Rattle.constructors.proofs.PairLaws.{same_number, number_decides}
 
 abbrev Columns : Type 0

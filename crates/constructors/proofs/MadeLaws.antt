@@ -29,7 +29,8 @@ use Rattle.frame_store.specs.declared.fault.OpFault.{OpFault}
 use Rattle.frame_store.specs.Parts.{table_with}
 use Rattle.frame_store.specs.Shown.{labels_value, headings_value, cells_value, Makes}
 use Rattle.frame_store.proofs.Settling.{settled_later, seen_later, settled_by, cells_given, columns_settled, table_settled}
-use Rattle.constructors.specs.Scalars.{scalars, table_column, column_seen}
+use Rattle.signatures.specs.Scalars.{scalars}
+use Rattle.constructors.specs.Scalars.{table_column, column_seen}
 use Rattle.constructors.specs.Made.{axis_labels, labels_within, index_labels, indexed, series_with}
 
 -- the labels 0, 1 and so on

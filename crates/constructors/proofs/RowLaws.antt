@@ -15,7 +15,7 @@ use Rattle.frame_store.specs.declared.fault.OpFault.{OpFault}
 use Rattle.frame_store.specs.Parts.{block_column, IsSingle, HaveRows}
 use Rattle.constructors.specs.Made.{axis_labels, same_rows, common_rows, labels_for, frame_labels}
 use Rattle.constructors.proofs.MadeLaws.{labels_count, nat_same, ok_same}
-use Rattle.constructors.proofs.GivenLaws.{some_same}
+use Rattle.signatures.proofs.ToldLaws.{some_same}
 
 -- the columns from a place on
 columns_from : (texts : List Text) (blocks : List CellBlock) (place : ℕ) (b : CellBlock) → slice_get blocks place ≡ Some b → drop place (blocks_value texts blocks) ≡ block_value texts b ∷ drop (suc place) (blocks_value texts blocks)

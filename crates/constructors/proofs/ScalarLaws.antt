@@ -1,5 +1,5 @@
 -- The scalars of a list, part by part.
-use Rattle.std.proofs.Common.{◌≡◌, ◌∙◌, ◌≤◌, ◌-◌, refl, ap, sym, subst, List, [], ◌∷◌, length, take, drop, get_or, map, Option, None, arith}
+use Rattle.std.proofs.Common.{◌≡◌, ◌∙◌, ◌≤◌, ◌-◌, ap, sym, subst, List, [], ◌∷◌, length, take, drop, get_or, map, Option, None, arith}
 use Rattle.std.specs.Prelude.{Result, Err, unwrap_or}
 use Rattle.std.specs.Option.{option_map}
 use Rattle.std.proofs.lemmas.List.{take_rest}
@@ -10,15 +10,16 @@ use Rattle.meaning.specs.Cell.{CellValue, datum}
 use Rattle.meaning.specs.Fault.{FaultValue}
 use Rattle.column_core.specs.Columns.{CellColumn}
 use Rattle.table_meaning.specs.Table.{ColumnOf}
-use Rattle.table_meaning.specs.Value.{Given, GivenList, cell, table, nothing, one, row, many, entries, more_given, scalar_in}
-use Rattle.form_meaning.specs.Select.{cells_of}
+use Rattle.table_meaning.specs.Value.{scalar_in}
 use Rattle.form_meaning.specs.Set.{first_kind}
 use Rattle.form_parts.specs.Makes.{MakesBy}
 use Rattle.frame_store.specs.Objects.{Tables}
 use Rattle.frame_store.specs.Arguments.{item_of, items_of}
 use Rattle.frame_store.specs.declared.arguments.Item.{Item}
 use Rattle.frame_store.specs.declared.fault.OpFault.{OpFault}
-use Rattle.constructors.specs.Scalars.{scalars, with_cell, column_seen, held_after}
+use Rattle.signatures.proofs.ScalarLaws.{cells_of_more}
+use Rattle.signatures.specs.Scalars.{scalars, with_cell}
+use Rattle.constructors.specs.Scalars.{column_seen, held_after}
 
 -- what stands after the first part
 abbrev pub after : {X : Type 0} → List X → List X
@@ -27,14 +28,6 @@ after xs = take (length xs - 1) (drop 1 xs)
 pub first_of : {X : Type 0} (xs : List X) (x : X) → x ≡ get_or xs 0 x → 1 ≤ length xs → xs ≡ x ∷ after xs
 first_of [] x is some = absurd (omega (arith, some))
 first_of (y ∷ ys) x is some = λ i. sym is i ∷ sym (take_rest (y ∷ ys) 1) i
-
-pub cells_of_more : (g : Given) (rest : GivenList) → cells_of (more_given g rest) ≡ with_cell (scalar_in g) (cells_of rest)
-cells_of_more (one (cell c)) rest = refl
-cells_of_more (one (table t)) rest = refl
-cells_of_more nothing rest = refl
-cells_of_more (row parts) rest = refl
-cells_of_more (many parts) rest = refl
-cells_of_more (entries pairs) rest = refl
 
 -- the scalars from a part on
 pub scalars_from : (texts : List Text) (items : List Item) (item : Item) (o : Option Cell) → item ≡ get_or items 0 item → 1 ≤ length items

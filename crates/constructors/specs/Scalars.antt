@@ -9,19 +9,7 @@ use Rattle.meaning.specs.Cell.{CellValue, holds, datum}
 use Rattle.meaning.specs.Fault.{FaultValue, wrong_kind}
 use Rattle.column_core.specs.Columns.{CellColumn}
 use Rattle.table_meaning.specs.Table.{ColumnOf}
-use Rattle.form_meaning.specs.Select.{cells_of}
 use Rattle.form_parts.specs.Labels.{label_of}
-use Rattle.frame_store.specs.Arguments.{items_of}
-use Rattle.frame_store.specs.declared.arguments.Item.{Item}
-
--- the scalars among the parts of a list; an object is none, so its table doesn't matter
-abbrev pub scalars : List Text → List Item → List CellValue
-scalars texts items = cells_of (items_of (λ id. None) texts items)
-
--- with one more in front, where there is one
-abbrev pub with_cell : Option CellValue → List CellValue → List CellValue
-with_cell None cells = cells
-with_cell (Some c) cells = c ∷ cells
 
 -- a column of a kernel as a column of a table, and with texts
 abbrev pub table_column : CellColumn → ColumnOf Cell

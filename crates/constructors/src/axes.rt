@@ -6,7 +6,7 @@ ghost use Rattle.multi_index.specs.Axes.{HaveLevels};
 ghost use Rattle.frame_store.specs.Shown.{labels_value};
 ghost use Rattle.form_meaning.specs.Finish.{default_labels};
 ghost use Rattle.form_parts.specs.Makes.{MakesBy};
-ghost use Rattle.constructors.specs.Scalars.{scalars};
+ghost use Rattle.signatures.specs.Scalars.{scalars};
 ghost use Rattle.constructors.specs.Made as meant;
 
 use crate::scalars::single_tuples;

@@ -15,7 +15,7 @@ ghost use Rattle.frame_store.specs.Arguments.{entries_of};
 ghost use Rattle.frame_store.specs.Objects.{Tables};
 ghost use Rattle.frame_store.specs.Parts.{block_column, IsSingle, HaveRows};
 ghost use Rattle.frame_store.specs.Shown.{Makes};
-ghost use Rattle.constructors.specs.Scalars.{scalars};
+ghost use Rattle.signatures.specs.Scalars.{scalars};
 ghost use Rattle.constructors.specs.Pairs.{list_seen};
 ghost use Rattle.constructors.specs.Made as meant;
 

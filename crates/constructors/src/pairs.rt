@@ -6,22 +6,23 @@ ghost use Rattle.cell_core.specs.declared.cell.Label.{Label as OneLabel};
 ghost use Rattle.meaning.specs.Text.{Text as OneText};
 ghost use Rattle.meaning.specs.Cell.{label_datum};
 ghost use Rattle.table_meaning.specs.Settled.{IsSettled};
-ghost use Rattle.form_meaning.specs.Binding as plain;
 ghost use Rattle.form_meaning.specs.Finish.{try_all};
 ghost use Rattle.form_meaning.specs.Make as make;
 ghost use Rattle.form_parts.specs.Makes.{MakesBy, blocks_value};
 ghost use Rattle.frame_store.specs.declared.arguments.Argument.{Argument as OneArgument};
 ghost use Rattle.frame_store.specs.Objects.{Tables};
-ghost use Rattle.frame_store.specs.Arguments.{item_of, items_of, entries_of};
+ghost use Rattle.frame_store.specs.Arguments.{entries_of};
 ghost use Rattle.frame_store.specs.Parts.{IsSingle};
-ghost use Rattle.constructors.specs.Scalars.{scalars, column_seen};
+ghost use Rattle.signatures.specs.Scalars.{scalars};
+ghost use Rattle.constructors.specs.Scalars.{column_seen};
 ghost use Rattle.constructors.specs.Pairs.{entries_seen, list_seen, lists_seen, listed_column};
 
 use crate::scalars::list_column;
 use cell_core::{Code, Label, NoMemory, TextDict};
 use column_core::Column;
-use frame_store::{Argument, Blocks, Item, OpFault, Value};
+use frame_store::{Argument, Blocks, Item, OpFault};
 use indexmap::IndexMap;
+use signatures::are_scalars;
 use std::alloc::Global;
 
 // The keys, each with the place of its last value. Texts are told apart by their numbers.
@@ -42,23 +43,6 @@ pub(crate) fn last_places(
         places.insert(pairs[place].0, place)?;
     }
     Ok(places)
-}
-
-fn is_scalar(item: &Item) -> bool
-    ensures { (live : Tables) (texts : List OneText) → result ≡ plain.is_scalar (item_of live texts item.now) }
-{
-    match item {
-        Item::One(Value::Scalar(_)) => true,
-        Item::One(Value::Object(_)) => false,
-        Item::Row(_) => false,
-    }
-}
-
-// Whether each part of a list is a scalar.
-fn are_scalars(items: &[Item]) -> bool
-    ensures { (live : Tables) (texts : List OneText) → result ≡ plain.each plain.is_scalar (items_of live texts items.now) }
-{
-    items.iter().all(is_scalar)
 }
 
 // The parts of a list that has scalars alone.

@@ -8,7 +8,8 @@ ghost use Rattle.frame_store.specs.Shown.{labels_value};
 ghost use Rattle.form_meaning.specs.Set as set;
 ghost use Rattle.form_meaning.specs.Make as meant;
 ghost use Rattle.form_parts.specs.Makes.{MakesBy};
-ghost use Rattle.constructors.specs.Scalars.{scalars, with_cell, column_seen, held_after, held_column, tuples_of};
+ghost use Rattle.signatures.specs.Scalars.{scalars, with_cell};
+ghost use Rattle.constructors.specs.Scalars.{column_seen, held_after, held_column, tuples_of};
 
 use cell_core::{Cell, Code, Kind, NoMemory, Tuple, Tuples};
 use column_core::Column;

@@ -9,7 +9,8 @@ ghost use Rattle.form_meaning.specs.Make as make;
 ghost use Rattle.form_parts.specs.Makes.{MakesBy};
 ghost use Rattle.frame_store.specs.Parts.{table_with};
 ghost use Rattle.frame_store.specs.Shown.{Makes};
-ghost use Rattle.constructors.specs.Scalars.{scalars, table_column, column_seen};
+ghost use Rattle.signatures.specs.Scalars.{scalars};
+ghost use Rattle.constructors.specs.Scalars.{table_column, column_seen};
 ghost use Rattle.constructors.specs.Made as meant;
 
 use crate::axes::index_axis;

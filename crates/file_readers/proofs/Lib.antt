@@ -1,4 +1,3 @@
 pub mod NameLaws
 pub mod FrameLaws
 pub mod ReadLaws
-pub mod TestLaws

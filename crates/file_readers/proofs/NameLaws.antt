@@ -1,5 +1,5 @@
 -- The first argument of a call as a name.
-use Rattle.std.proofs.Common.{◌≡◌, ◌∙◌, refl, ap, sym, List, [], ◌++◌, Option, Some, None, Ok}
+use Rattle.std.proofs.Common.{◌≡◌, ◌∙◌, refl, ap, sym, List, [], Option, Some, None, Ok}
 use Rattle.std.specs.Option.{option_map}
 use Rattle.cell_core.specs.declared.cell.Cell.TheVariants as cell
 use Rattle.cell_core.specs.declared.cell.TextId.{TextId}
@@ -9,13 +9,14 @@ use Rattle.table_meaning.specs.Settled.{IsSettled}
 use Rattle.table_meaning.specs.Value.{NamedGiven, scalar_in}
 use Rattle.form_meaning.specs.declared.Function.{Function}
 use Rattle.form_meaning.specs.declared.Function.TheVariants as function
-use Rattle.form_meaning.specs.declared.Parameter.{Parameter}
 use Rattle.form_meaning.specs.Signature.{function_parameters}
 use Rattle.form_meaning.specs.Binding.{bound, bound_of, argument_at, arguments_from, text_of, text_in}
 use Rattle.method_meaning.specs.Readers.{name_in, name_of_bound, file_name_of}
-use Rattle.frame_store.specs.declared.arguments.Named.{Named}
-use Rattle.frame_store.specs.Objects.{Tables}
 use Rattle.frame_store.specs.Arguments.{arguments_of}
+use Rattle.frame_store.specs.World.{World, arguments_in}
+use Rattle.signatures.specs.Bound.{given_in, stands_at, Tells}
+use Rattle.signatures.specs.declared.bound.Bound.{Bound}
+use Rattle.signatures.proofs.ToldLaws.{told_settled}
 use Rattle.file_readers.specs.Names.{Names}
 
 -- where arguments are bound, the name is the first
@@ -26,23 +27,22 @@ first_of function.DataFrame gs = refl
 first_of function.ReadCsv gs = refl
 first_of function.Concat gs = refl
 
-name_is : (f : Function) (ps : List Parameter) (gs : List NamedGiven) → ps ≡ function_parameters f → bound_of ps gs ≡ bound (arguments_from ps gs 0 ps) → file_name_of f gs ≡ name_in (text_in (argument_at ps gs 0))
-name_is f ps gs is same =
-    ap (λ p. name_of_bound (bound_of p gs)) (sym is)
-    ∙ ap name_of_bound same
-    ∙ ap (λ p. name_of_bound (bound (arguments_from p gs 0 p))) is
-    ∙ first_of f gs
-    ∙ ap (λ p. name_in (text_in (argument_at p gs 0))) (sym is)
+name_is : (f : Function) (gs : List NamedGiven) (w : World) (b : Bound) → b.parameters.now ≡ function_parameters f → bound_of (function_parameters f) gs ≡ bound (given_in w b)
+    → file_name_of f gs ≡ name_in (text_in (stands_at w.tables w.texts b 0))
+name_is f gs w b is same =
+    let given = arguments_in w b.args.now in
+    ap name_of_bound same
+    ∙ ap (λ p. name_of_bound (bound (arguments_from p given 0 p))) is
+    ∙ first_of f given
+    ∙ ap (λ p. name_in (text_in (argument_at p given 0))) (sym is)
 
 abbrev text_or : Option Text → Text
 text_or None = []
 text_or (Some t) = t
 
-pub name_given : (live : Tables) (dict : List Text) (f : Function) (ps : List Parameter) (args : List Named) (id : TextId) → ps ≡ function_parameters f
-    → bound_of ps (arguments_of live dict args) ≡ bound (arguments_from ps (arguments_of live dict args) 0 ps)
-    → ((live : Tables) (texts : List Text) → option_map (datum texts) (Some (cell.Text id)) ≡ scalar_in (argument_at ps (arguments_of live texts args) 0))
-    → IsSettled (arguments_of live) dict args → Names dict (Ok id) (file_name_of f (arguments_of live dict args))
-name_given live dict f ps args id is same stands settled = (
-  name_is f ps (arguments_of live dict args) is same ∙ ap (λ o. name_in (text_of o)) (sym (stands live dict)),
-  λ more. ap (λ o. text_cell (text_or (text_of o))) (stands live (dict ++ more) ∙ ap (λ gs. scalar_in (argument_at ps gs 0)) (settled more) ∙ sym (stands live dict)),
+pub name_given : (f : Function) (gs : List NamedGiven) (w : World) (b : Bound) (id : TextId) → b.parameters.now ≡ function_parameters f → bound_of (function_parameters f) gs ≡ bound (given_in w b)
+    → Tells b 0 scalar_in (λ _ texts. option_map (datum texts) (Some (cell.Text id))) → IsSettled (arguments_of w.tables) w.texts b.args.now → Names w.texts (Ok id) (file_name_of f gs)
+name_given f gs w b id is same tells settled = (
+  name_is f gs w b is same ∙ ap (λ o. name_in (text_of o)) (sym (tells w.tables w.texts)),
+  λ more. ap (λ o. text_cell (text_or (text_of o))) (told_settled b 0 scalar_in (λ _ texts. option_map (datum texts) (Some (cell.Text id))) w.tables w.texts tells settled more),
 )

@@ -10,14 +10,15 @@ use Rattle.cell_core.specs.declared.cell.Kind.{Kind}
 use Rattle.cell_core.specs.declared.cell.Label.{Label}
 use Rattle.meaning.specs.Text.{Text}
 use Rattle.meaning.specs.Cell.{LabelValue, label_datum}
-use Rattle.meaning.specs.Fault.{FaultValue}
 use Rattle.multi_index.specs.Axes.{HaveLevels}
 use Rattle.table_meaning.specs.Valid.{within_limits}
-use Rattle.table_meaning.specs.Value.{Entry, NamedGiven, dict_in}
+use Rattle.table_meaning.specs.Value.{NamedGiven, dict_in}
 use Rattle.form_meaning.specs.declared.Function.TheVariants as function
-use Rattle.form_meaning.specs.declared.Parameter.{Parameter}
 use Rattle.form_meaning.specs.Signature.{function_parameters}
 use Rattle.form_meaning.specs.Binding.{bound, bound_of, argument_at, arguments_from, on_bound}
+use Rattle.frame_store.specs.World.{World, arguments_in}
+use Rattle.signatures.specs.Bound.{given_in, stands_at}
+use Rattle.signatures.specs.declared.bound.Bound.{Bound}
 use Rattle.method_meaning.specs.Readers.{kinds_given, frame_or_fault, csv_result, read_result}
 use Rattle.csv_meaning.specs.CsvRead.{CsvValue, CsvRefusal, not_utf8, beyond_limits, not_of_kind, has_misfit, first_long, unless_refused, labelled_columns, columns_under, columns_of_records, columns_of_file, labels_of, named_kind}
 use Rattle.csv_frames.specs.Views.{label_tuples, tuples_seen, csv_seen}
@@ -95,16 +96,11 @@ pub labels_single : (texts : List Text) (read : CsvTable) (bytes : List ℕ) (ki
 labels_single texts read bytes kinds is = let r = file_read bytes kinds (csv_seen texts read) is in single_labels texts read.labels r.labels r.single
 
 -- arguments that are bound
-abbrev result_at : List ℕ → List Parameter → List NamedGiven → Result Entry FaultValue
-result_at bytes ps gs = frame_or_fault (columns_of_file bytes (kinds_given (dict_in (argument_at ps gs 2))))
-
-pub read_bound : (bytes : List ℕ) (ps : List Parameter) (gs : List NamedGiven) (kinds : List (Text × Kind)) → ps ≡ function_parameters function.ReadCsv → bound_of ps gs ≡ bound (arguments_from ps gs 0 ps)
-    → kinds ≡ kinds_given (dict_in (argument_at ps gs 2)) → frame_or_fault (columns_of_file bytes kinds) ≡ read_result bytes gs
-read_bound bytes ps gs kinds is same named =
+pub read_bound : (bytes : List ℕ) (gs : List NamedGiven) (w : World) (b : Bound) (kinds : List (Text × Kind)) → b.parameters.now ≡ function_parameters function.ReadCsv
+    → bound_of (function_parameters function.ReadCsv) gs ≡ bound (given_in w b) → kinds ≡ kinds_given (dict_in (stands_at w.tables w.texts b 2))
+    → frame_or_fault (columns_of_file bytes kinds) ≡ read_result bytes gs
+read_bound bytes gs w b kinds is same named =
+    let given = arguments_in w b.args.now in
     ap (λ ks. frame_or_fault (columns_of_file bytes ks)) named
-    ∙ sym (
-    ap (λ p. on_bound (bound_of p gs) (csv_result bytes)) (sym is)
-    ∙ ap (λ b. on_bound b (csv_result bytes)) same
-    ∙ ap (λ p. on_bound (bound (arguments_from p gs 0 p)) (csv_result bytes)) is
-    ∙ ap (λ p. result_at bytes p gs) (sym is)
-    )
+    ∙ ap (λ p. frame_or_fault (columns_of_file bytes (kinds_given (dict_in (argument_at p given 2))))) is
+    ∙ sym (ap (λ x. on_bound x (csv_result bytes)) same ∙ ap (λ p. on_bound (bound (arguments_from p given 0 p)) (csv_result bytes)) is)

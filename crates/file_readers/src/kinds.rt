@@ -2,28 +2,17 @@
 ghost use Rattle.std.specs.Prelude.{◌≡◌, ◌++◌, IfOk, OnOk};
 ghost use Rattle.std.specs.Option.{option_map};
 ghost use Rattle.meaning.specs.Cell.{datum, label_datum};
-ghost use Rattle.form_meaning.specs.Make as make;
 ghost use Rattle.method_meaning.specs.Readers as readers;
 ghost use Rattle.csv_frames.specs.Views.{entries_seen};
 ghost use Rattle.frame_store.specs.Objects.{Tables};
 ghost use Rattle.frame_store.specs.Arguments.{entries_of};
 ghost use Rattle.file_readers.specs.Kinds as meant;
 
-use cell_core::{Cell, Kind, Label, NoMemory, TextDict, TextId};
+use cell_core::{Cell, Label, NoMemory, TextDict, TextId};
 use csv_frames::{Entries, NamedKind};
 use frame_store::Argument;
+use signatures::kind_named;
 use std::alloc::Global;
-
-// The kind of a name that is among the listed ones.
-fn kind_named(name: &str) -> Kind
-    ensures { result ≡ make.kind_named name.now }
-{
-    match name {
-        "boolean" => Kind::Boolean,
-        "string" => Kind::Text,
-        _ => Kind::Int64,
-    }
-}
 
 // The kind that a value names for a label, if the value is a text.
 fn kind_of_text(dict: &TextDict, label: TextId, value: Option<Cell>) -> Option<NamedKind>

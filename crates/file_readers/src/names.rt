@@ -6,23 +6,12 @@ ghost use Rattle.method_meaning.specs.Readers as readers;
 ghost use Rattle.method_meaning.specs.Readers.{file_name_of};
 ghost use Rattle.frame_store.specs.Objects.{tables};
 ghost use Rattle.frame_store.specs.Arguments.{arguments_of, AreLive};
-ghost use Rattle.signatures.specs.Bound as bound;
 ghost use Rattle.file_readers.specs.Names.{name_for, Names};
 
-use cell_core::{Cell, Code, Reason, TextDict, TextId};
+use cell_core::{Cell, Code, TextDict, TextId};
 use form_meaning::Function;
 use frame_store::{Named, NamedList, Store};
-use signatures::{Unbound, bind, function_named, function_parameters, scalar_at};
-
-// Why arguments aren't bound, as the refusal of a call.
-fn code_of(unbound: Unbound) -> Code
-    ensures { result ≡ bound.code_of unbound }
-{
-    match unbound {
-        Unbound::NotTaken => Code::WrongKind,
-        Unbound::NotListed => Code::BadValue(Reason::Argument),
-    }
-}
+use signatures::{bind, function_named, function_parameters};
 
 // The name that the first argument of a call is.
 fn name_of(
@@ -35,11 +24,8 @@ fn name_of(
     requires given { IsSettled (arguments_of (tables store.now)) dict.now args.now }
     ensures { Names dict.now result (file_name_of function (arguments_of (tables store.now) dict.now args.now)) }
 {
-    let parameters = function_parameters(function);
-    if let Err(unbound) = bind(store, dict, parameters, args) {
-        return Err(code_of(unbound));
-    }
-    match scalar_at(parameters, args, 0) {
+    let bound = bind(store, dict, function_parameters(function), args)?;
+    match bound.scalar_or_none(0) {
         Some(Cell::Text(name)) => Ok(name),
         _ => Err(Code::WrongKind),
     }

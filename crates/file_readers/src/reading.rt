@@ -19,7 +19,7 @@ use csv_frames::{CsvFault, Entries, read_csv};
 use form_meaning::Function;
 use form_parts::placed;
 use frame_store::{Named, NamedList, OpFault, Store, Table, Value};
-use signatures::{bind, dict_at, function_parameters};
+use signatures::{bind, function_parameters};
 use std::alloc::Global;
 
 // Why a file isn't read, as the refusal of a call.
@@ -68,9 +68,8 @@ fn read_frame(
     ensures answer { Makes dict.new result
         (readers.read_result bytes.now (arguments_in (world store.now dict.old) args.now)) }
 {
-    let parameters = function_parameters(Function::ReadCsv);
-    bind(store, dict, parameters, args)?;
-    let kinds = kinds_given(alloc, dict, dict_at(parameters, args, 2))?;
+    let bound = bind(store, dict, function_parameters(Function::ReadCsv), args)?;
+    let kinds = kinds_given(alloc, dict, bound.dict_or_none(2))?;
     frame_of_file(alloc, dict, bytes, &kinds)
 }
 

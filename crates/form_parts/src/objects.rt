@@ -1,9 +1,10 @@
 // The object that a form answers.
-ghost use Rattle.std.specs.Prelude.{List, Result};
+ghost use Rattle.std.specs.Prelude.{◌≡◌, List, Result, OnErr};
 ghost use Rattle.cell_core.specs.Texts.{IsLonger};
 ghost use Rattle.meaning.specs.Text.{Text};
 ghost use Rattle.meaning.specs.Fault.{FaultValue};
 ghost use Rattle.table_meaning.specs.Value.{Entry};
+ghost use Rattle.frame_store.specs.Objects.{tables};
 ghost use Rattle.frame_store.specs.Shown.{Makes};
 ghost use Rattle.frame_store.specs.World.{world, IsSettledWorld, Forms};
 
@@ -19,9 +20,10 @@ pub fn placed(
     dict: &TextDict,
     made: Result<Table, OpFault>,
 ) -> Result<Value, OpFault>
-    ensures { (earlier : List Text) (meant : Result Entry FaultValue) → IsLonger earlier dict.now
+    ensures answers { (earlier : List Text) (meant : Result Entry FaultValue) → IsLonger earlier dict.now
         → IsSettledWorld (world store.old earlier) → Makes dict.now made meant
         → Forms result meant (world store.old earlier) (world store.new dict.now) }
+    ensures err { OnErr result (tables store.new ≡ tables store.old) }
 {
     let id = store.insert(made?)?;
     Ok(Value::Object(id))

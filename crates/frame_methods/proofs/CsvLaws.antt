@@ -1,12 +1,17 @@
 -- The CSV text of an object is that of its table.
-use Rattle.std.proofs.Common.{◌≡◌, ◌∙◌, ap, Bool, List, [], length, slice_get, Some}
+use Rattle.std.proofs.Common.{◌≡◌, ◌∙◌, ◌<◌, refl, ap, sym, nat_lt, Bool, true, false, List, [], map, length, slice_get, Some, Ok, Err, arith, if◌then◌else◌}
+use Rattle.std.proofs.lemmas.Bool.Decides.{nat_tests}
+use Rattle.std.proofs.lemmas.List.{length-map}
 use Rattle.std.proofs.lemmas.Option.{get_or_from_slice_get}
 use Rattle.cell_core.specs.declared.cell.TextId.{TextId}
 use Rattle.cell_core.specs.declared.cell.Cell.TheVariants as cell
 use Rattle.meaning.specs.Text.{Text}
-use Rattle.meaning.specs.Cell.{datum, text_cell}
-use Rattle.table_meaning.specs.Table.{NumberedTable, table_value}
+use Rattle.meaning.specs.Cell.{CellValue, datum, text_cell}
+use Rattle.meaning.specs.Fault.{bad_value, no_columns}
+use Rattle.table_meaning.specs.Table.{NumberedTable, column_value, table_value}
 use Rattle.table_meaning.specs.Valid.{IsWhole}
+use Rattle.table_meaning.specs.Value.{cell as one_cell}
+use Rattle.method_meaning.specs.Methods.{csv_answer}
 use Rattle.multi_index.specs.Axes.{HaveLevels}
 use Rattle.format_meaning.specs.Told.{told}
 use Rattle.format_meaning.specs.CsvWrite.{csv_text_of}
@@ -17,3 +22,12 @@ pub csv_seen : (texts later : List Text) (index : Bool) (t : NumberedTable) (id 
     → slice_get later id.0 ≡ Some words → datum later (cell.Text id) ≡ text_cell (csv_text_of index (table_value texts t))
 csv_seen texts later index t id words whole levels written given =
     ap text_cell (get_or_from_slice_get later id.0 words [] given ∙ written ∙ ap (csv_text_of index) (told_whole texts t whole.headed whole.filled levels))
+
+-- the answer where there is a text
+pub csv_meant : (texts : List Text) (index : Bool) (t : NumberedTable) (c : CellValue) → (index ≡ false → 0 < length t.columns) → c ≡ text_cell (csv_text_of index (table_value texts t)) → csv_answer index (table_value texts t) ≡ Ok (one_cell c)
+csv_meant texts true t c some is = ap (λ v. Ok (one_cell v)) (sym is)
+csv_meant texts false t c some is =
+    let has = some refl in
+    let same : length (map (column_value texts) t.columns) ≡ length t.columns = length-map t.columns (column_value texts) in
+    let there : nat_lt 0 (length (map (column_value texts) t.columns)) ≡ true = grind (arith, nat_tests) in
+    ap (λ b. if b then Ok (one_cell (text_cell (csv_text_of false (table_value texts t)))) else Err (bad_value no_columns)) there ∙ ap (λ v. Ok (one_cell v)) (sym is)

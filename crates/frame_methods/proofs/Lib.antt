@@ -4,11 +4,10 @@ pub mod OpLaws
 pub mod TableLaws
 pub mod SummaryLaws
 pub mod SeriesLaws
-pub mod GivenLaws
 pub mod CallLaws
+pub mod AnswerLaws
+pub mod ShapeLaws
 pub mod NameLaws
-pub mod BuiltLaws
 pub mod ListedLaws
 pub mod RenameLaws
 pub mod CsvLaws
-pub mod TestLaws

@@ -23,21 +23,20 @@ use Rattle.meaning.specs.Fault.{FaultValue}
 use Rattle.column_core.specs.Columns.{CellColumn}
 use Rattle.table_meaning.specs.Settled.{IsSettled}
 use Rattle.table_meaning.specs.Table.{Table, column_value}
-use Rattle.table_meaning.specs.Value.{Entry, Given, GivenList, cell as one_cell, table, nothing, one, row, many, entries, more_given, scalar_in, list_in}
-use Rattle.form_meaning.specs.declared.Parameter.{Parameter}
-use Rattle.form_meaning.specs.Binding.{argument_at, same_label}
+use Rattle.table_meaning.specs.Value.{Entry, GivenList, scalar_in}
+use Rattle.form_meaning.specs.Binding.{same_label}
 use Rattle.form_meaning.specs.Make.{on}
 use Rattle.form_meaning.specs.Select.{cells_of}
 use Rattle.method_meaning.specs.Methods.{is_in, mapped, each_column}
 use Rattle.frame_store.specs.Objects.{Tables}
-use Rattle.frame_store.specs.Arguments.{item_of, items_of, arguments_of}
-use Rattle.frame_store.specs.declared.arguments.Named.{Named}
+use Rattle.frame_store.specs.Arguments.{item_of, items_of}
 use Rattle.frame_store.specs.Shown.{cells_value}
-use Rattle.frame_store.specs.declared.arguments.Value.TheVariants.{Object, Scalar}
-use Rattle.frame_store.specs.declared.arguments.Item.{Item, One as OneItem, Row' as RowItem'}
+use Rattle.frame_store.specs.declared.arguments.Item.{Item}
 use Rattle.frame_store.proofs.Settling.{cell_settled, cell_given}
+use Rattle.signatures.proofs.ScalarLaws.{cells_of_more, scalars_are}
 use Rattle.frame_methods.specs.Columns.{table_column}
-use Rattle.frame_methods.specs.Listed.{noted, listed_column, scalars, with_cell}
+use Rattle.signatures.specs.Scalars.{scalars, with_cell}
+use Rattle.frame_methods.specs.Listed.{noted, listed_column}
 use Rattle.nullable_array.specs.Marks.{same_number, listed_mark}
 
 same_decides : (a b : Cell) → Decides (same_number a b) (a ≡ b)
@@ -96,30 +95,6 @@ listed_answer texts values a new distinct given all is =
 pub listed_given : (texts : List Text) (values : List Cell) (a new : CellColumn) → new ≡ record { kind = Boolean; cells = map (listed_mark values) a.cells } → AreGiven texts new.cells
 listed_given texts values a new is =
     subst (λ (n : CellColumn). AreGiven texts n.cells) (sym is) (All-map (IsGiven texts) (listed_mark values) a.cells (λ k d lt. tt))
-
--- the scalars of a list are the same among any objects
-cells_of_more : (g : Given) (rest : GivenList) → cells_of (more_given g rest) ≡ with_cell (scalar_in g) (cells_of rest)
-cells_of_more (one (one_cell c)) rest = refl
-cells_of_more (one (table t)) rest = refl
-cells_of_more nothing rest = refl
-cells_of_more (row parts) rest = refl
-cells_of_more (many parts) rest = refl
-cells_of_more (entries pairs) rest = refl
-
-scalar_same : (live other : Tables) (texts : List Text) (item : Item) → scalar_in (item_of live texts item) ≡ scalar_in (item_of other texts item)
-scalar_same live other texts (OneItem (Object id)) = refl
-scalar_same live other texts (OneItem (Scalar c)) = refl
-scalar_same live other texts (RowItem' shape parts) = refl
-
-any_objects : (live other : Tables) (texts : List Text) (items : List Item) → cells_of (items_of live texts items) ≡ cells_of (items_of other texts items)
-any_objects live other texts [] = refl
-any_objects live other texts (item ∷ rest) =
-    cells_of_more (item_of live texts item) (items_of live texts rest)
-    ∙ (λ j. with_cell (scalar_same live other texts item j) (any_objects live other texts rest j))
-    ∙ sym (cells_of_more (item_of other texts item) (items_of other texts rest))
-
-pub scalars_are : (live : Tables) (texts : List Text) (items : List Item) → cells_of (items_of live texts items) ≡ scalars texts items
-scalars_are live texts items = any_objects live (λ id. None) texts items
 
 -- the scalars from a part on
 abbrev IsScalarOf : Option Cell → Item → Type 0
@@ -214,18 +189,7 @@ noted_step texts items i item o values values' test all lt is scalar more before
     ∙ ap (λ l. list_any test (cells_value texts values) || list_any test l) (sym (scalars_from texts items i item o lt is scalar))
     ∙ before
 
--- the scalars of a list that was given
-some_same : {A : Type 0} (a b : A) → Some a ≡ Some b → a ≡ b
-some_same a b e = cc
-
-pub items_settled : (live : Tables) (dict : List Text) (ps : List Parameter) (args : List Named) (place : ℕ) (items : List Item)
-    → ((live : Tables) (texts : List Text) → Some (items_of live texts items) ≡ list_in (argument_at ps (arguments_of live texts args) place))
-    → IsSettled (arguments_of live) dict args → IsSettled scalars dict items
-items_settled live dict ps args place items is settled = λ more.
-    sym (scalars_are live (dict ++ more) items)
-    ∙ ap cells_of (some_same (items_of live (dict ++ more) items) (items_of live dict items) (is live (dict ++ more) ∙ ap (λ gs. list_in (argument_at ps gs place)) (settled more) ∙ sym (is live dict)))
-    ∙ scalars_are live dict items
-
+-- what the cells of a list are in its place
 abbrev isin_of : Table → GivenList → Result Entry FaultValue
 isin_of t parts = each_column (listed_column (cells_of parts)) t
 

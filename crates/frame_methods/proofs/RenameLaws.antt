@@ -22,20 +22,20 @@ use Rattle.table_meaning.specs.Settled.{IsSettled}
 use Rattle.table_meaning.specs.Table.{NumberedTable, Table, table_value, heading_value}
 use Rattle.table_meaning.specs.Valid.{AreHeadings}
 use Rattle.table_meaning.specs.Value.{Entry, Given, GivenPairs, no_entries, more_entries, dict_in, cell as one_cell, table, nothing, one, row, many, entries, scalar_in}
-use Rattle.form_meaning.specs.declared.Parameter.{Parameter}
-use Rattle.form_meaning.specs.Binding.{same_label, is_scalar, argument_at}
-use Rattle.form_meaning.specs.Finish as finish
+use Rattle.form_meaning.specs.Binding.{same_label, is_scalar}
 use Rattle.form_meaning.specs.Finish.{first_repeated, unless_repeated, limited}
-use Rattle.form_meaning.specs.Make.{on, with_pair, pairs_onto, pairs_in}
+use Rattle.form_meaning.specs.Make.{with_pair, pairs_onto, pairs_in}
 use Rattle.form_parts.specs.Makes.{MakesBy}
 use Rattle.method_meaning.specs.Methods.{is_scalar_pair, new_label, renamed_heading, renamed_frame}
 use Rattle.frame_store.specs.Objects.{Tables}
 use Rattle.frame_store.specs.Arguments.{argument_of, entries_of, arguments_of}
 use Rattle.frame_store.specs.Parts.{HeadingList}
-use Rattle.frame_store.specs.declared.arguments.Named.{Named}
 use Rattle.frame_store.specs.declared.fault.OpFault.{OpFault}
 use Rattle.frame_store.specs.declared.fault.OpFault.TheVariants.{Refused, NoMemory}
 use Rattle.frame_store.specs.Shown.{Shown, headings_value, FormAnswers}
+use Rattle.signatures.specs.Bound.{Tells}
+use Rattle.signatures.specs.declared.bound.Bound.{Bound}
+use Rattle.signatures.proofs.ToldLaws.{told_settled}
 use Rattle.selections.specs.Picked.{headed_by}
 use Rattle.selections.specs.Headings.{NamesRepeated, same_number, repeated_heading}
 use Rattle.selections.proofs.HeadingLaws.{label_decides, some_same, head_settled, rest_settled, repeated_seen, different}
@@ -316,12 +316,11 @@ labels_are : (live : Tables) (texts : List Text) (pairs : List (Label × Argumen
 labels_are live texts [] = refl
 labels_are live texts (p ∷ rest) = λ j. (label_datum texts p.0, option_map cell_label (scalar_same live (λ id. None) texts p.1 j)) ∷ labels_are live texts rest j
 
-pub pairs_settled : (live : Tables) (dict : List Text) (ps : List Parameter) (args : List Named) (place : ℕ) (pairs : List (Label × Argument))
-    → ((live : Tables) (texts : List Text) → Some (entries_of live texts pairs) ≡ dict_in (argument_at ps (arguments_of live texts args) place))
-    → IsSettled (arguments_of live) dict args → IsSettled given_labels dict pairs
-pairs_settled live dict ps args place pairs is settled = λ more.
+pub pairs_settled : (b : Bound) (place : ℕ) (pairs : List (Label × Argument)) (live : Tables) (dict : List Text) → Tells b place dict_in (λ live texts. Some (entries_of live texts pairs))
+    → IsSettled (arguments_of live) dict b.args.now → IsSettled given_labels dict pairs
+pairs_settled b place pairs live dict tells settled = λ more.
     sym (labels_are live (dict ++ more) pairs)
-    ∙ ap labels_in (some_same (entries_of live (dict ++ more) pairs) (entries_of live dict pairs) (is live (dict ++ more) ∙ ap (λ gs. dict_in (argument_at ps gs place)) (settled more) ∙ sym (is live dict)))
+    ∙ ap labels_in (some_same _ _ (told_settled b place dict_in (λ live texts. Some (entries_of live texts pairs)) live dict tells settled more))
     ∙ labels_are live dict pairs
 
 -- a frame under the labels of a dict
@@ -331,33 +330,32 @@ frame_of t pairs = renamed_frame t (pairs_in pairs)
 abbrev pub relabelled_with : List Text → List (Label × Argument) → List (Option LabelValue) → Result (List (Option LabelValue)) FaultValue
 relabelled_with texts pairs hs = relabelled (insert_all same_label [] (given_labels texts pairs)) hs
 
-frame_meant : (live : Tables) (texts : List Text) (pairs : List (Label × Argument)) (o : Option GivenPairs) (t : Table) → Some (entries_of live texts pairs) ≡ o → on o (frame_of t) ≡ limited_under t (relabelled_with texts pairs t.headings)
-frame_meant live texts pairs o t is =
-    ap (λ p. on p (frame_of t)) (sym is)
-    ∙ frame_relabelled t (pairs_in (entries_of live texts pairs))
+frame_meant : (live : Tables) (texts : List Text) (pairs : List (Label × Argument)) (t : Table) → frame_of t (entries_of live texts pairs) ≡ limited_under t (relabelled_with texts pairs t.headings)
+frame_meant live texts pairs t =
+    frame_relabelled t (pairs_in (entries_of live texts pairs))
     ∙ ap (λ es. limited_under t (relabelled es t.headings)) (pairs_are live texts pairs)
 
-pub frame_refused : (live : Tables) (texts : List Text) (pairs : List (Label × Argument)) (o : Option GivenPairs) (source t : NumberedTable) (fault : OpFault) (objects : Shown) → Some (entries_of live texts pairs) ≡ o → source ≡ t
-    → MakesBy labels_seen texts (Err fault) (relabelled_with texts pairs (headings_value texts source.headings)) → FormAnswers texts (Err fault) (on o (frame_of (table_value texts t))) objects objects
-frame_refused live texts pairs o source t (Refused code) objects is at makes = (
+pub frame_refused : (live : Tables) (texts : List Text) (pairs : List (Label × Argument)) (source t : NumberedTable) (fault : OpFault) (objects : Shown) → source ≡ t
+    → MakesBy labels_seen texts (Err fault) (relabelled_with texts pairs (headings_value texts source.headings)) → FormAnswers texts (Err fault) (frame_of (table_value texts t) (entries_of live texts pairs)) objects objects
+frame_refused live texts pairs source t (Refused code) objects at makes = (
   (
-    frame_meant live texts pairs o (table_value texts t) is
+    frame_meant live texts pairs (table_value texts t)
         ∙ ap (λ (n : NumberedTable). limited_under (table_value texts t) (relabelled_with texts pairs (headings_value texts n.headings))) (sym at)
         ∙ ap (limited_under (table_value texts t)) makes.0,
     makes.1,
   ),
   refl,
 )
-frame_refused live texts pairs o source t NoMemory objects is at makes = refl
+frame_refused live texts pairs source t NoMemory objects at makes = refl
 
 abbrev named_under : List Text → NumberedTable → HeadingList → Option Label → Table
 named_under texts t h name = record (under (table_value texts t) (labels_seen texts h)) { columns_name = heading_value texts name }
 
-pub frame_renamed : (live : Tables) (texts : List Text) (pairs : List (Label × Argument)) (o : Option GivenPairs) (source t : NumberedTable) (h : HeadingList) → Some (entries_of live texts pairs) ≡ o → source ≡ t → h.columns_name ≡ source.columns_name
-    → relabelled_with texts pairs (headings_value texts source.headings) ≡ Ok (labels_seen texts h) → limited (table_value texts (headed_by t.shape h t)) ≡ on o (frame_of (table_value texts t))
-frame_renamed live texts pairs o source t h is at name makes =
+pub frame_renamed : (live : Tables) (texts : List Text) (pairs : List (Label × Argument)) (source t : NumberedTable) (h : HeadingList) → source ≡ t → h.columns_name ≡ source.columns_name
+    → relabelled_with texts pairs (headings_value texts source.headings) ≡ Ok (labels_seen texts h) → limited (table_value texts (headed_by t.shape h t)) ≡ frame_of (table_value texts t) (entries_of live texts pairs)
+frame_renamed live texts pairs source t h at name makes =
     ap (λ n. limited (named_under texts t h n)) (name ∙ ap (λ (n : NumberedTable). n.columns_name) at)
     ∙ sym
-    (frame_meant live texts pairs o (table_value texts t) is
+    (frame_meant live texts pairs (table_value texts t)
     ∙ ap (λ (n : NumberedTable). limited_under (table_value texts t) (relabelled_with texts pairs (headings_value texts n.headings))) (sym at)
     ∙ ap (limited_under (table_value texts t)) makes)

@@ -1,21 +1,26 @@
 -- Calls of methods.
-use Rattle.std.specs.Prelude.{◌≡◌, Bool, true, false, List, codes, Result, Ok, Err}
+use Rattle.std.specs.Prelude.{◌≡◌, Bool, true, false, codes, Result, Ok, Err}
 use Rattle.cell_core.specs.declared.grid.Shape.{Shape}
 use Rattle.cell_core.specs.declared.grid.Shape.TheVariants.{Series, Frame}
-use Rattle.meaning.specs.Text.{Text}
 use Rattle.meaning.specs.Fault.{FaultValue}
+use Rattle.table_meaning.specs.Settled.{IsSettled}
 use Rattle.table_meaning.specs.Table.{Table}
-use Rattle.table_meaning.specs.Value.{Entry, NamedGiven}
+use Rattle.table_meaning.specs.Value.{Entry}
 use Rattle.form_meaning.specs.declared.Method.{Method}
 use Rattle.form_meaning.specs.declared.Method.TheVariants as method
-use Rattle.method_meaning.specs.Methods.{answer_for, is_built}
+use Rattle.form_meaning.specs.Signature.{parameters_of}
+use Rattle.method_meaning.specs.Methods.{answer_for}
 use Rattle.method_meaning.specs.Calls.{ChainValue, plain, through}
 use Rattle.frame_store.specs.declared.arguments.Chain.{Chain}
 use Rattle.frame_store.specs.declared.arguments.Chain.TheVariants.{Plain, Group, Rolling, Expanding}
 use Rattle.frame_store.specs.declared.fault.OpFault.{OpFault}
 use Rattle.frame_store.specs.declared.fault.OpFault.TheVariants.{Refused, NoMemory}
 use Rattle.frame_store.specs.Shown.{Refuses}
-use Rattle.frame_methods.specs.Given.{given_for}
+use Rattle.frame_store.specs.Arguments.{arguments_of}
+use Rattle.frame_store.specs.World.{World}
+use Rattle.signatures.specs.Bound.{given_in}
+use Rattle.frame_methods.specs.Built.{method_of}
+use Rattle.frame_methods.specs.declared.binding.BoundCall.{BoundCall}
 
 abbrev pub chain_of : Chain → ChainValue
 chain_of (Plain name) = plain name
@@ -30,8 +35,18 @@ fits_shape method.RenameFrame Series = false
 fits_shape method.ToFrame Frame = false
 fits_shape m shape = true
 
--- the method is built and its arguments are bound, so that its answer is what is meant; or the first fault is
-abbrev pub Binds : List Text → Result Method OpFault → List NamedGiven → Table → Result Entry FaultValue → Type 0
-Binds texts (Ok m) gs t meant = (meant ≡ answer_for m (given_for m gs) t) × (is_built m ≡ true) × (fits_shape m t.shape ≡ true)
-Binds texts (Err (Refused code)) gs t meant = Refuses texts code meant
-Binds texts (Err NoMemory) gs t meant = Unit {0}
+-- the parameters are those of the method, which the shape has, and the texts of the arguments were given
+pub record IsCall (w : World) (call : BoundCall) (shape : Shape) : Type 0 where
+  pub parameters : call.bound.parameters.now ≡ parameters_of (method_of call.built)
+  pub shaped : fits_shape (method_of call.built) shape ≡ true
+  pub given : IsSettled (arguments_of w.tables) w.texts call.bound.args.now
+
+-- what the method answers for its arguments
+abbrev pub answer_in : World → BoundCall → Table → Result Entry FaultValue
+answer_in w call t = answer_for (method_of call.built) (given_in w call.bound) t
+
+-- the call's answer is what is meant, or the first fault is
+abbrev pub Binds : World → Result BoundCall OpFault → Table → Result Entry FaultValue → Type 0
+Binds w (Ok call) t meant = (meant ≡ answer_in w call t) × IsCall w call t.shape
+Binds w (Err (Refused code)) t meant = Refuses w.texts code meant
+Binds w (Err NoMemory) t meant = Unit {0}

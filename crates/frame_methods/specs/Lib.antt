@@ -3,8 +3,7 @@ pub mod Marks
 pub mod Summaries
 pub mod Labels
 pub mod Made
-pub mod Given
-pub mod Kinds
+pub mod Built
 pub mod Calls
 pub mod Faults
 pub mod Listed

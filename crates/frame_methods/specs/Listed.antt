@@ -1,5 +1,5 @@
 -- Cells that are in a list.
-use Rattle.std.specs.Prelude.{◌≡◌, List, ◌∷◌, Option, Some, None, Result}
+use Rattle.std.specs.Prelude.{◌≡◌, List, Option, Some, None, Result}
 use Rattle.indexmap.specs.IndexSet.{insert_key}
 use Rattle.cell_core.specs.declared.cell.Cell.{Cell}
 use Rattle.cell_core.specs.declared.cell.Kind.TheVariants.{Boolean}
@@ -8,11 +8,8 @@ use Rattle.meaning.specs.Cell.{CellValue, AreGiven, IsLonger}
 use Rattle.meaning.specs.Fault.{FaultValue}
 use Rattle.table_meaning.specs.Table.{ColumnOf}
 use Rattle.nullable_array.specs.Marks.{same_number}
-use Rattle.form_meaning.specs.Select.{cells_of}
 use Rattle.method_meaning.specs.Methods.{mapped, is_in}
-use Rattle.frame_store.specs.Arguments.{items_of}
 use Rattle.frame_store.specs.Shown.{cells_value}
-use Rattle.frame_store.specs.declared.arguments.Item.{Item}
 use Rattle.frame_store.proofs.Settling.{settled_later, seen_later, cells_settled, cells_given}
 use mathlib.Core.Path.{ap}
 
@@ -24,15 +21,6 @@ noted values (Some c) = insert_key same_number values c
 -- the column of whether each cell is in the list
 abbrev pub listed_column : List CellValue → ColumnOf CellValue → Result (ColumnOf CellValue) FaultValue
 listed_column values = mapped Boolean (is_in values)
-
--- the scalars among the parts of a list; an object is none, so its table doesn't matter
-abbrev pub scalars : List Text → List Item → List CellValue
-scalars texts items = cells_of (items_of (λ id. None) texts items)
-
--- with one more in front, where there is one
-abbrev pub with_cell : Option CellValue → List CellValue → List CellValue
-with_cell None cells = cells
-with_cell (Some c) cells = c ∷ cells
 
 -- what further texts leave of listed cells
 pub listed_lasts : (values : List Cell) (earlier later : List Text) → IsLonger earlier later → AreGiven earlier values → AreGiven later values

@@ -2,48 +2,25 @@
 ghost use Rattle.std.specs.Prelude.{◌≡◌, List, IsSome};
 ghost use Rattle.meaning.specs.Text.{Text as OneText};
 ghost use Rattle.table_meaning.specs.Table.{table_value};
-ghost use Rattle.method_meaning.specs.Methods as meant;
 ghost use Rattle.method_meaning.specs.Calls.{called, has_method};
 ghost use Rattle.form_meaning.specs.Signature.{method_named as named_method};
-ghost use Rattle.frame_store.specs.Arguments.{arguments_of, entry_of, AreLive, IsLive};
+ghost use Rattle.frame_store.specs.Arguments.{entry_of, IsLive};
 ghost use Rattle.frame_store.specs.Objects.{tables, table_at};
+ghost use Rattle.frame_store.specs.World.{world, arguments_in, AreKnownArguments};
 ghost use Rattle.frame_methods.specs.Calls.{Binds};
 ghost use Rattle.frame_methods.specs.Faults.{NamesNone};
 
+use crate::built::Built;
 use cell_core::{Code, Grid, TextDict, Words};
-use form_meaning::Method;
 use frame_store::{Named, ObjId, OpFault, Store, Value};
-use signatures::{bind, method_named, parameters};
+use signatures::{Bound, bind, method_named, parameters};
 use std::alloc::Global;
 
-// Whether the method is built.
-fn is_built(method: Method) -> bool
-    ensures { result ≡ meant.is_built method }
-{
-    matches!(
-        method,
-        Method::Copy
-            | Method::Isna
-            | Method::Notna
-            | Method::Fillna
-            | Method::Isin
-            | Method::Astype
-            | Method::Shift
-            | Method::Cumsum
-            | Method::Cummin
-            | Method::Cummax
-            | Method::Sum
-            | Method::Min
-            | Method::Max
-            | Method::Any
-            | Method::All
-            | Method::Count
-            | Method::Nunique
-            | Method::RenameSeries
-            | Method::RenameFrame
-            | Method::ToFrame
-            | Method::ToCsv
-    )
+// A call whose method is built and takes the arguments.
+#[derive(Clone, Copy)]
+pub(crate) struct BoundCall<'a> {
+    pub(crate) built: Built,
+    pub(crate) bound: Bound<'a>,
 }
 
 // An AttributeError of the name, or want of memory.
@@ -68,25 +45,27 @@ pub fn exists(store: &Store, on: Value, name: &str) -> bool
     }
 }
 
-// The method of the name that an object has, if it is built and takes the arguments.
-pub(crate) fn bound_method(
+// The call of the method of the name that an object has, if it is built and takes the arguments.
+pub(crate) fn bound_call<'a>(
     alloc: Global,
     store: &Store,
     dict: &TextDict,
     on: ObjId,
     name: &str,
-    args: &[Named],
-) -> Result<Method, OpFault>
+    args: &'a [Named],
+) -> Result<BoundCall<'a>, OpFault>
     requires live { IsSome (tables store.now on.0) }
-    requires arguments { AreLive (tables store.now) args.now }
-    ensures { let t = table_value dict.now (table_at (tables store.now) on.0) in let gs = arguments_of (tables store.now) dict.now args.now in Binds dict.now result gs t (called (named_method t.shape name.now) name.now gs t) }
+    requires arguments { AreKnownArguments (world store.now dict.now) args.now }
+    ensures { let t = table_value dict.now (table_at (tables store.now) on.0) in
+        let gs = arguments_in (world store.now dict.now) args.now in
+        Binds (world store.now dict.now) result t (called (named_method t.shape name.now) name.now gs t) }
 {
     let Some(method) = method_named(store.read(on).shape(), name) else {
         return Err(no_attribute(alloc, name));
     };
-    if !is_built(method) {
+    let Some(built) = Built::of(method) else {
         return Err(OpFault::Refused(Code::NotBuilt));
-    }
-    bind(store, dict, parameters(method), args)?;
-    Ok(method)
+    };
+    let bound = bind(store, dict, parameters(method), args)?;
+    Ok(BoundCall { built, bound })
 }

@@ -1,32 +1,33 @@
 // Calls of methods on objects.
-ghost use Rattle.std.specs.Prelude.{◌≡◌, List, true, IsSome, Result, IfOk};
-ghost use Rattle.cell_core.specs.declared.grid.Shape.TheVariants.{Series};
+ghost use Rattle.std.specs.Prelude.{List, IsSome, Result, IfOk};
 ghost use Rattle.meaning.specs.Text.{Text as OneText};
 ghost use Rattle.meaning.specs.Cell.{IsLonger};
 ghost use Rattle.meaning.specs.Fault.{FaultValue};
 ghost use Rattle.table_meaning.specs.Settled.{IsSettled};
 ghost use Rattle.table_meaning.specs.Table.{table_value};
 ghost use Rattle.table_meaning.specs.Value.{Entry};
-ghost use Rattle.method_meaning.specs.Methods.{answer_for, is_built as built};
+ghost use Rattle.method_meaning.specs.Methods.{each_column};
 ghost use Rattle.method_meaning.specs.Calls.{chain_result, method_result};
 ghost use Rattle.form_parts.specs.Makes.{MakesBy};
-ghost use Rattle.frame_store.specs.Arguments.{arguments_of, entry_of, IsLive};
+ghost use Rattle.frame_store.specs.Arguments.{entry_of, IsLive};
 ghost use Rattle.frame_store.specs.Objects.{tables, table_at};
 ghost use Rattle.frame_store.specs.World.{world, entry_in, arguments_in, IsSettledWorld, AreKnownArguments, Forms};
-ghost use Rattle.frame_methods.specs.Calls.{chain_of, fits_shape};
-ghost use Rattle.frame_methods.specs.Given.{given_for};
-ghost use Rattle.frame_methods.specs.Kinds.{is_made_method};
+ghost use Rattle.frame_methods.specs.Calls.{chain_of, answer_in, IsCall};
 ghost use Rattle.frame_methods.specs.Made.{made_value};
 ghost use Rattle.frame_methods.specs.Faults.{IsChained};
 
-use crate::answers::made;
-use crate::binding::{bound_method, exists, no_attribute};
+use crate::binding::{BoundCall, bound_call, exists, no_attribute};
+use crate::built::Built;
+use crate::column_ops::{Cast, Cumulated, Filled, Marked, Shifted};
+use crate::columns::ColumnOp;
 use crate::csv::to_csv;
+use crate::listed::{Listed, listed_cells};
 use crate::made::Made;
 use crate::renaming::{rename_frame, rename_series, to_frame};
+use crate::summaries::summarize;
+use crate::tables::columns_table;
 use cell_core::{Code, TextDict};
-use form_meaning::Method;
-use form_parts::placed;
+use form_parts::{name_of, placed};
 use frame_store::{Chain, Named, NamedList, ObjId, OpFault, Store, Value};
 use selections::copied;
 use std::alloc::Global;
@@ -59,37 +60,75 @@ fn chained(alloc: Global, store: &Store, on: Value, name: &str) -> OpFault
     no_attribute(alloc, name)
 }
 
-// The answer of a method that is built, its arguments being bound.
+// An object of what is made of each column.
+fn columns_placed<O: ColumnOp>(
+    alloc: Global,
+    store: &mut Store,
+    dict: &mut TextDict,
+    op: &O,
+    on: ObjId,
+) -> Result<Value, OpFault>
+    requires live { IsSome (tables store.old on.0) }
+    requires own { O.given op.now dict.old }
+    requires settled { IsSettledWorld (world store.old dict.old) }
+    ensures { Forms result (each_column (O.answer op.now dict.old)
+        (table_value dict.old (table_at (tables store.old) on.0)))
+        (world store.old dict.old) (world store.new dict.new) }
+{
+    let table = columns_table(alloc, dict, op, &store.read(on));
+    placed(store, dict, table)
+}
+
+// The answer of a call.
 fn answer(
     alloc: Global,
     store: &mut Store,
     dict: &mut TextDict,
-    method: Method,
-    args: &[Named],
+    call: &BoundCall<'_>,
     on: ObjId,
 ) -> Result<Value, OpFault>
     requires live { IsSome (tables store.old on.0) }
-    requires built { built method ≡ true }
-    requires shape { fits_shape method (table_at (tables store.old) on.0).shape ≡ true }
     requires settled { IsSettledWorld (world store.old dict.old) }
-    requires given { IsSettled (arguments_of (tables store.old)) dict.old args.now }
-    ensures { Forms result (answer_for method
-        (given_for method (arguments_in (world store.old dict.old) args.now))
+    requires call { IsCall (world store.old dict.old) call.now (table_at (tables store.old) on.0).shape }
+    ensures { Forms result (answer_in (world store.old dict.old) call.now
         (table_value dict.old (table_at (tables store.old) on.0)))
         (world store.old dict.old) (world store.new dict.new) }
 {
-    match method {
-        Method::Copy => copied(alloc, store, dict, on),
-        Method::RenameSeries => rename_series(alloc, store, dict, args, on),
-        Method::RenameFrame => rename_frame(alloc, store, dict, args, on),
-        Method::ToFrame => to_frame(alloc, store, dict, on),
-        Method::ToCsv => {
-            let text = to_csv(alloc, store, dict, args, on);
-            answer_made(store, dict, text)
+    let bound = call.bound;
+    match call.built {
+        Built::Copy => copied(alloc, store, dict, on),
+        Built::Isna => columns_placed(alloc, store, dict, &Marked { missing: true }, on),
+        Built::Notna => columns_placed(alloc, store, dict, &Marked { missing: false }, on),
+        Built::Fillna => {
+            let value = bound.scalar(0);
+            columns_placed(alloc, store, dict, &Filled { value }, on)
         }
-        _ => {
-            let made = made(alloc, store, dict, method, args, &store.read(on));
+        Built::Isin => {
+            let values = listed_cells(alloc, dict, bound.list(0))?;
+            columns_placed(alloc, store, dict, &Listed { values }, on)
+        }
+        Built::Astype => {
+            let kind = bound.kind(dict, 0);
+            columns_placed(alloc, store, dict, &Cast { kind }, on)
+        }
+        Built::Shift => {
+            let periods = bound.whole(0);
+            columns_placed(alloc, store, dict, &Shifted { periods }, on)
+        }
+        Built::Cumulated(op) => columns_placed(alloc, store, dict, &Cumulated { op }, on),
+        Built::Summary(op) => {
+            let made = summarize(alloc, dict, op, &store.read(on));
             answer_made(store, dict, made)
+        }
+        Built::RenameSeries => {
+            let name = name_of(bound.scalar_or_none(0));
+            rename_series(alloc, store, dict, name, on)
+        }
+        Built::RenameFrame => rename_frame(alloc, store, dict, bound.dict(0), on),
+        Built::ToFrame => to_frame(alloc, store, dict, on),
+        Built::ToCsv => {
+            let text = to_csv(alloc, store, dict, bound.truth(0), on);
+            answer_made(store, dict, text)
         }
     }
 }
@@ -113,8 +152,8 @@ fn call(
     let Value::Object(id) = on else {
         return Err(no_attribute(alloc, name));
     };
-    let method = bound_method(alloc, store, dict, id, name, args)?;
-    answer(alloc, store, dict, method, args, id)
+    let call = bound_call(alloc, store, dict, id, name, args)?;
+    answer(alloc, store, dict, &call, id)
 }
 
 /// A method of a value: `s.name(..)`, or one with `groupby`, `rolling` or `expanding` before it.

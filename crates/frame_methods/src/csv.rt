@@ -6,19 +6,15 @@ ghost use Rattle.table_meaning.specs.Valid.{IsWhole};
 ghost use Rattle.table_meaning.specs.Settled.{IsSettled};
 ghost use Rattle.multi_index.specs.Axes.{HaveLevels};
 ghost use Rattle.format_meaning.specs.CsvWrite.{csv_text_of};
-ghost use Rattle.method_meaning.specs.Methods.{answer_for};
+ghost use Rattle.method_meaning.specs.Methods.{csv_answer};
 ghost use Rattle.form_parts.specs.Makes.{MakesBy};
 ghost use Rattle.frame_store.specs.Objects.{tables, table_at};
-ghost use Rattle.frame_store.specs.Arguments.{arguments_of};
-ghost use Rattle.frame_methods.specs.Given.{given_for};
 ghost use Rattle.frame_methods.specs.Made.{made_value};
 
 use crate::made::Made;
 use cell_core::{Cell, Code, Grid, NoMemory, Reason, TextDict};
-use form_meaning::Method;
 use frame_format::csv_text;
-use frame_store::{Named, ObjId, ObjRef, OpFault, Store};
-use signatures::{parameters, truth_at};
+use frame_store::{ObjId, ObjRef, OpFault, Store};
 use std::alloc::Global;
 
 // The CSV text of a table as a cell, with the labels of the rows or without them.
@@ -44,17 +40,15 @@ pub(crate) fn to_csv(
     alloc: Global,
     store: &Store,
     dict: &mut TextDict,
-    args: &[Named],
+    index: bool,
     on: ObjId,
 ) -> Result<Made, OpFault>
     requires { IsSome (tables store.now on.0) }
     ensures longer { IsLonger dict.old dict.new }
     ensures settled { IfOk result (IsSettled made_value dict.new) }
-    ensures answer { MakesBy made_value dict.new result (answer_for Method.ToCsv (given_for Method.ToCsv (arguments_of (tables store.now) dict.old args.now)) (table_value dict.old (table_at (tables store.now) on.0))) }
+    ensures answer { MakesBy made_value dict.new result
+        (csv_answer index (table_value dict.old (table_at (tables store.now) on.0))) }
 {
-    let Some(index) = truth_at(parameters(Method::ToCsv), args, 0) else {
-        return Err(OpFault::Refused(Code::WrongKind));
-    };
     let table = store.read(on);
     if !index && table.columns() == 0 {
         return Err(OpFault::Refused(Code::BadValue(Reason::NoColumns)));

@@ -4,6 +4,7 @@
 //! scalar or a new object. [`exists`] says whether a value has a method of a name. What a method
 //! answers for its arguments is its definition on whole tables (`method_meaning/specs/Methods.antt`);
 //! the refusals that all methods share come from the table of signatures (the crate `signatures`).
+//! Which methods are built, and what each makes, is one table (`built`).
 //!
 //! A method that makes new cells makes them column by column (`columns`), each by an operation of its
 //! own (`column_ops`); one that gives an object's rows again under other headings does so by
@@ -19,10 +20,9 @@
 //! ```
 #![tactic(auto)]
 
-mod answers;
 mod binding;
+mod built;
 mod calling;
-mod column_methods;
 mod column_ops;
 mod columns;
 mod csv;

@@ -5,7 +5,8 @@ ghost use Rattle.meaning.specs.Text.{Text as OneText};
 ghost use Rattle.meaning.specs.Cell.{CellValue, AreGiven};
 ghost use Rattle.table_meaning.specs.Settled.{IsSettled};
 ghost use Rattle.frame_store.specs.Shown.{cells_value};
-ghost use Rattle.frame_methods.specs.Listed.{noted, scalars};
+ghost use Rattle.signatures.specs.Scalars.{scalars};
+ghost use Rattle.frame_methods.specs.Listed.{noted};
 
 use cell_core::{Cell, NoMemory, TextDict};
 use frame_store::Item;

@@ -6,6 +6,7 @@ use Rattle.std.proofs.lemmas.List.Elements.{All-set, All-push, All-map, All-appe
 use Rattle.std.proofs.lemmas.List.Edits.{length-remove}
 use Rattle.cell_core.specs.declared.grid.Rows.{Rows}
 use Rattle.cell_core.specs.declared.grid.Shape.{Shape}
+use Rattle.cell_core.specs.declared.grid.Shape.TheVariants.{Series}
 use Rattle.cell_core.specs.declared.cell.Cell.{Cell}
 use Rattle.cell_core.specs.declared.cell.Cell.TheVariants.{Na}
 use Rattle.cell_core.specs.declared.cell.Label.{Label}
@@ -16,6 +17,7 @@ use Rattle.table_meaning.specs.Table.{ColumnOf, NumberedTable, column_at}
 use Rattle.table_meaning.specs.Change.{put_at, strided_column, cut_columns, with_column, without_column}
 use Rattle.table_meaning.specs.Valid.{AreHeadings, IsWhole}
 use Rattle.frame_store.specs.Parts.{HeadingList, HaveRows, table_with, block_column}
+use Rattle.frame_store.proofs.PartLaws.{count_blocks}
 
 -- an item is replaced or appended
 pub map-put_at : {X Y : Type 0} (f : X → Y) (xs : List X) (place : ℕ) (x : X) → map f (put_at xs place x) ≡ put_at (map f xs) place (f x)
@@ -50,6 +52,10 @@ pub length-removed : {X Y : Type 0} (xs : List X) (ys : List Y) (i : ℕ) → i 
 length-removed xs ys i lt same =
     let there : i < length ys = omega (arith, same, lt) in
     omega (arith, length-remove xs i lt, length-remove ys i there, same)
+
+-- a Series has a block
+pub has_block : (t : NumberedTable) (blocks : List CellBlock) → IsWhole t → t.shape ≡ Series → map block_column blocks ≡ t.columns → 0 < length blocks
+has_block t blocks whole series is = omega (arith, whole.headed, whole.headings.single series, count_blocks blocks t.columns is)
 
 -- a table of columns that are cut from another's is whole
 pub cut_is_whole : (shape : Shape) (axis : AxisValue) (headings : HeadingList) (columns cut : List (ColumnOf Cell)) (rows : Rows) (places : List ℕ)

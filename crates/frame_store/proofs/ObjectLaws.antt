@@ -3,12 +3,16 @@ use Rattle.std.proofs.Common.{◌≡◌, ◌∙◌, ℕ, zero, suc, ◌<◌, Lis
 use Rattle.std.specs.Prelude.{◌≢◌, Result, Ok, Err, IfOk, is_some, slice_index_or, slice_set}
 use Rattle.std.proofs.lemmas.List.{length-set}
 use Rattle.std.proofs.lemmas.Bool.Decides.{nat_tests}
+use Rattle.slab.specs.Slab.{Slab, Updates, get}
 use Rattle.table_meaning.specs.Table.{NumberedTable}
 use Rattle.frame_store.specs.declared.object.ObjId.{ObjId}
 use Rattle.frame_store.specs.Objects.{Tables, with_object, table_or}
 
 nat_same : (a b : ℕ) → nat_eq a b ≡ true → a ≡ b
 nat_same a b e = grind (arith, nat_tests)
+
+nat_eq_self : (n : ℕ) → nat_eq n n ≡ true
+nat_eq_self n = grind (arith, nat_tests)
 
 nat_eq_next : (i k : ℕ) → nat_eq (suc i) (suc k) ≡ nat_eq i k
 nat_eq_next i k = grind (arith, nat_tests)
@@ -26,6 +30,12 @@ get-set (y ∷ xs) d x zero zero lt = refl
 get-set (y ∷ xs) d x zero (suc k) lt = ap (λ t. if t then x else slice_index_or xs k d) (sym (nat_eq_zero k))
 get-set (y ∷ xs) d x (suc i) zero lt = ap (λ t. if t then x else y) (sym (nat_eq_none i))
 get-set (y ∷ xs) d x (suc i) (suc k) lt = get-set xs d x i k (omega arith) ∙ ap (λ t. if t then x else slice_index_or xs k d) (sym (nat_eq_next i k))
+
+-- an item that is put where it stands
+set_same : {X : Type 0} (xs : List X) (i : ℕ) (x d : X) → i < length xs → slice_index_or xs i d ≡ x → slice_set xs i x ≡ xs
+set_same [] i x d lt is = refl
+set_same (y ∷ ys) zero x d lt is = ap (λ z. z ∷ ys) (sym is)
+set_same (y ∷ ys) (suc i) x d lt is = ap (λ l. y ∷ l) (set_same ys i x d (omega (arith, lt)) is)
 
 -- two changes at different numbers
 either_first : {X : Type 0} (a b : Bool) (x y z : X) → (a ≡ true → b ≡ true → ⊥) → (if a then x else (if b then y else z)) ≡ (if b then y else (if a then x else z))
@@ -68,8 +78,49 @@ table_moved old mid on by table live there different at removed = λ j id. same 
         ∙ either_first (nat_eq on id) (nat_eq by id) (Some table) None (slice_index_or old id None) (λ a b. different (nat_same on id a ∙ sym (nat_same by id b)))
         ∙ ap (λ t. if nat_eq by id then None else (if nat_eq on id then t else slice_index_or old id None)) (sym at)
 
-nat_eq_self : (n : ℕ) → nat_eq n n ≡ true
-nat_eq_self n = grind (arith, nat_tests)
+nat_other : (a b : ℕ) → a ≢ b → nat_eq a b ≡ false
+nat_other a b apart = go (nat_eq a b) refl
+  where
+    go : (r : Bool) → nat_eq a b ≡ r → nat_eq a b ≡ false
+    go true is = absurd (apart (nat_same a b is))
+    go false is = is
+
+-- an object ended, and the table of another one was changed by its table
+module _ (old mid : List (Option NumberedTable)) (on from : ℕ) (t source : NumberedTable) (different : on ≢ from) (at : slice_index_or old from None ≡ Some source) (removed : mid ≡ slice_set old from None)
+    (now : slice_index_or mid on None ≡ Some t) where
+  kept_by : (id : ℕ) → slice_index_or mid id None ≡ (if nat_eq from id then None else slice_index_or old id None)
+  kept_by id = ap (λ (l : List (Option NumberedTable)). slice_index_or l id None) removed ∙ get-set old None None from id (some_within old from (ap is_some at))
+
+  pub still_at : slice_index_or old on None ≡ Some t
+  still_at = sym (ap (λ b. if b then None else slice_index_or old on None) (nat_other from on (λ e. different (sym e)))) ∙ sym (kept_by on) ∙ now
+
+  pub table_taken : (u : NumberedTable) (change : NumberedTable → NumberedTable → NumberedTable) → u ≡ change t source
+      → (λ id. slice_index_or (slice_set mid on (Some u)) id None)
+      ≡ with_object (with_object (λ id. slice_index_or old id None) from None) on (Some (change (table_or (slice_index_or old on None)) (table_or (slice_index_or old from None))))
+  table_taken u change is = λ j id. same id j
+    where
+      made : u ≡ change (table_or (slice_index_or old on None)) (table_or (slice_index_or old from None))
+      made = is ∙ (λ j. change (table_or (sym still_at j)) (table_or (sym at j)))
+
+      same : (id : ℕ) → slice_index_or (slice_set mid on (Some u)) id None
+          ≡ (if nat_eq on id then Some (change (table_or (slice_index_or old on None)) (table_or (slice_index_or old from None))) else (if nat_eq from id then None else slice_index_or old id None))
+      same id = get-set mid None (Some u) on id (some_within mid on (ap is_some now)) ∙ (λ j. if nat_eq on id then Some (made j) else kept_by id j)
+
+  -- or it was left as it was, and the object that ended came back
+  pub left_as_it_was : (u : NumberedTable) → u ≡ t → slice_set mid on (Some u) ≡ mid
+  left_as_it_was u is = set_same mid on (Some u) None (some_within mid on (ap is_some now)) (now ∙ ap (λ (v : NumberedTable). Some v) (sym is))
+
+  pub put_back : (left new : Slab NumberedTable) (key : ℕ) (back : NumberedTable) → left.slots ≡ mid → key ≡ from → back ≡ source → Updates left new key (Some back)
+      → ◌≡◌ {A = Tables} (λ id. get new id) (λ id. slice_index_or old id None)
+  put_back left new key back as_before here is updates = λ j id. (same id (nat_eq from id) refl) j
+    where
+      same : (id : ℕ) (b : Bool) → nat_eq from id ≡ b → get new id ≡ slice_index_or old id None
+      same id true e =
+          let there : from ≡ id = nat_same from id e in
+          ap (get new) (sym there ∙ sym here) ∙ updates.changed ∙ ap (λ (v : NumberedTable). Some v) is ∙ sym at ∙ ap (λ k. slice_index_or old k None) there
+      same id false e =
+          updates.others id (λ h. let wrong : true ≡ false = sym (nat_eq_self from) ∙ ap (nat_eq from) (sym here ∙ sym h) ∙ e in cc)
+          ∙ ap (λ (l : List (Option NumberedTable)). slice_index_or l id None) as_before ∙ kept_by id ∙ ap (λ b. if b then None else slice_index_or old id None) e
 
 -- an object that has got a table is live
 pub added_is_live : {E : Type 0} (r : Result ObjId E) (old new : Tables) (t : NumberedTable) → IfOk r (λ id. new ≡ with_object old id.0 (Some t)) → IfOk r (λ id. IsSome (new id.0))

@@ -1,7 +1,9 @@
 -- Objects and their tables.
 use Rattle.std.specs.Prelude.{ℕ, ◌-◌, ◌*◌, ◌^◌, length, sum_by, min, nat_eq, Option, Some, None, if◌then◌else◌}
 use Rattle.slab.specs.Slab.{get, entries}
-use Rattle.table_meaning.specs.Table.{NumberedTable, no_table}
+use Rattle.cell_core.specs.declared.cell.Label.{Label}
+use Rattle.table_meaning.specs.Table.{NumberedTable, no_table, column_at}
+use Rattle.table_meaning.specs.Change.{with_column}
 use Rattle.frame_store.specs.declared.store.Store.{Store}
 
 -- the table of each live object
@@ -22,6 +24,12 @@ table_or (Some t) = t
 
 abbrev pub table_at : Tables → ℕ → NumberedTable
 table_at tables id = table_or (tables id)
+
+-- the tables after the column of a Series, which ends, was put into the table of another object
+abbrev pub with_moved : Tables → ℕ → ℕ → Option Label → ℕ → Tables
+with_moved tables on column heading series =
+    with_object (with_object tables series None) on
+    (Some (with_column (table_at tables on) column heading (column_at (table_at tables series).columns 0)))
 
 -- how many cells an object has
 abbrev pub cells_in : ℕ × NumberedTable → ℕ

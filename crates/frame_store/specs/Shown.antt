@@ -11,7 +11,8 @@ use Rattle.table_meaning.specs.Settled.{IsSettled}
 use Rattle.table_meaning.specs.Table.{ColumnOf, NumberedTable, Table, no_table, table_value, heading_value, tuple_value, column_value}
 use Rattle.table_meaning.specs.Value as value
 use Rattle.table_meaning.specs.Value.{Entry}
-use Rattle.frame_store.specs.Objects.{Tables}
+use Rattle.frame_store.specs.Objects.{Tables, with_object}
+use Rattle.frame_store.specs.declared.object.ObjId.{ObjId}
 use Rattle.frame_store.specs.declared.arguments.Value.{Value}
 use Rattle.frame_store.specs.declared.arguments.Value.TheVariants.{Object, Scalar}
 use Rattle.frame_store.specs.declared.fault.OpFault.{OpFault}
@@ -72,6 +73,12 @@ Changes texts (Ok done) (Object id) meant old new = (meant ≡ Ok (table_in (new
 Changes texts (Ok done) (Scalar c) meant old new = ⊥
 Changes texts (Err (Refused code)) on meant old new = Refuses texts code meant × (new ≡ old)
 Changes texts (Err NoMemory) on meant old new = new ≡ old
+
+-- the tables without an object, if there is one, that ends where a form has done what it is to do; a refusal ends none
+abbrev pub spent : Result ⊤ OpFault → Option ObjId → Tables → Tables
+spent (Ok done) None tables = tables
+spent (Ok done) (Some id) tables = with_object tables id.0 None
+spent (Err fault) spare tables = tables
 
 -- What is made for a new object, before it is one: the table, whose texts were given their numbers, or the first fault.
 abbrev pub Makes : List Text → Result NumberedTable OpFault → Result Entry FaultValue → Type 0

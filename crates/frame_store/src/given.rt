@@ -66,6 +66,7 @@ impl Argument {
     pub fn object(&self) -> Option<ObjId>
         ensures table { (tables : Tables) (texts : List Text) → option_map (object_value tables texts) result ≡ object_in (argument_of tables texts self.now) }
         ensures live { (tables : Tables) → IsLiveArgument tables self.now → IfSome result (IsLiveObject tables) }
+        ensures same { IfSome result (λ id. self.now ≡ Argument.One (Value.Object id)) }
     {
         match self {
             Argument::One(Value::Object(id)) => Some(*id),

@@ -1,6 +1,7 @@
 // The live objects and their tables.
 ghost use Rattle.std.specs.Prelude.{◌≡◌, ◌≢◌, ◌↔◌, ◌*◌, ◌<◌, ◌≤◌, ◌++◌, ◌∷◌, map, length, All, Some, None, IsSome, IsTrue, IfOk, OnOk, OnErr};
 ghost use Rattle.cell_core.specs.declared.cell.Cell.TheVariants.{Na};
+ghost use Rattle.cell_core.specs.declared.grid.Shape.TheVariants.{Series};
 ghost use Rattle.cell_core.specs.Grids.{AreRowsBelow};
 ghost use Rattle.table_meaning.specs.Table.{column_at};
 ghost use Rattle.table_meaning.specs.Change.{put_at, cut_columns, with_column, without_column, with_labels, with_values};
@@ -29,7 +30,7 @@ pub struct Store {
 }
 
 impl Store {
-    ghost use Rattle.frame_store.specs.Objects.{tables, with_object, table_at, held_of};
+    ghost use Rattle.frame_store.specs.Objects.{tables, with_object, with_moved, table_at, held_of};
 
     /// A store without objects. Takes no memory.
     pub fn new(alloc: Global) -> Store
@@ -135,6 +136,35 @@ impl Store {
         ensures err { OnErr result (tables self.new ≡ tables self.old) }
     {
         self.objects[on.0 as usize].put_column(column, heading, block)
+    }
+
+    /// Puts the column of a Series, which ends, as `put_column` puts a block: it moves, and none of its
+    /// cells is copied. `NoMemory` leaves the store as it was.
+    pub fn move_column(
+        &mut self,
+        on: ObjId,
+        column: usize,
+        heading: Option<Label>,
+        series: ObjId,
+    ) -> Result<(), NoMemory>
+        requires live { IsSome (tables self.old on.0) }
+        requires series_live { IsSome (tables self.old series.0) }
+        requires different { on.0 ≢ series.0 }
+        requires column { column ≤ length (table_at (tables self.old) on.0).columns }
+        requires series { (table_at (tables self.old) series.0).shape ≡ Series }
+        requires rows { length (table_at (tables self.old) series.0).labels ≡ length (table_at (tables self.old) on.0).labels }
+        requires headings { let t = table_at (tables self.old) on.0 in AreHeadings t.shape t.columns_name (put_at t.headings column heading) }
+        ensures ok { OnOk result (tables self.new ≡ with_moved (tables self.old) on.0 column heading series.0) }
+        ensures err { OnErr result (tables self.new ≡ tables self.old) }
+    {
+        let source = self.objects.remove(series.0 as usize);
+        match self.objects[on.0 as usize].take_column(column, heading, source) {
+            Ok(()) => Ok(()),
+            Err(source) => {
+                self.objects.insert_reserved(source);
+                Err(NoMemory)
+            }
+        }
     }
 
     /// Removes a column and its heading. `NoMemory` leaves the store as it was.

@@ -1,7 +1,7 @@
 // The table that an object keeps.
-ghost use Rattle.std.specs.Prelude.{◌≡◌, ◌*◌, ◌<◌, ◌≤◌, map, length, All, Some, IsSome, IfOk, OnOk, OnErr, slice_index_or, None};
+ghost use Rattle.std.specs.Prelude.{◌≡◌, ◌*◌, ◌<◌, ◌≤◌, map, length, All, Some, IsSome, IfOk, IfErr, OnOk, OnErr, slice_index_or, None};
 ghost use Rattle.cell_core.specs.declared.cell.Cell.TheVariants.{Na};
-ghost use Rattle.cell_core.specs.declared.grid.Shape.TheVariants.{Frame};
+ghost use Rattle.cell_core.specs.declared.grid.Shape.TheVariants.{Series, Frame};
 ghost use Rattle.cell_core.specs.Grids.{AreRowsBelow};
 ghost use Rattle.table_meaning.specs.Table.{column_at};
 ghost use Rattle.table_meaning.specs.Change.{put_at, cut_columns, with_column, without_column, with_labels, with_values};
@@ -161,6 +161,44 @@ impl Table {
         put_at(&mut self.headings, column, heading);
         put_at(&mut self.blocks, column, block);
         Ok(())
+    }
+
+    /// Takes the column of a Series' table, as `put_column` takes a block. Where memory is refused the
+    /// other table is handed back, and this one is as it was.
+    pub(crate) fn take_column(
+        &mut self,
+        column: usize,
+        heading: Option<Label>,
+        from: Table,
+    ) -> Result<(), Table>
+        requires column { column ≤ length self.old.columns }
+        requires series { from.shape ≡ Series }
+        requires rows { length from.labels ≡ length self.old.labels }
+        requires headings { AreHeadings self.old.shape self.old.columns_name (put_at self.old.headings column heading) }
+        ensures ok { OnOk result (self.new ≡ with_column self.old column heading (column_at from.columns 0)) }
+        ensures err { OnErr result (self.new ≡ self.old) }
+        ensures back { IfErr result (λ back. back ≡ from) }
+    {
+        let Ok(()) = self.headings.reserve(1) else {
+            return Err(from);
+        };
+        let Ok(()) = self.blocks.reserve(1) else {
+            return Err(from);
+        };
+        put_at(&mut self.headings, column, heading);
+        put_at(&mut self.blocks, column, from.into_column());
+        Ok(())
+    }
+
+    // The column of a Series' table, as a block.
+    fn into_column(self) -> Block
+        requires { self.shape ≡ Series }
+        ensures column { block_column result ≡ column_at self.columns 0 }
+        ensures single { IsSingle result }
+        ensures rows { length (block_column result).cells ≡ length self.labels }
+    {
+        let mut blocks = self.blocks;
+        blocks.remove(0)
     }
 
     pub(crate) fn remove_column(&mut self, column: usize)

@@ -1,8 +1,12 @@
 -- Lists that are the same place by place.
-use Rattle.std.proofs.Common.{◌≡◌, ◌∙◌, ℕ, suc, ◌<◌, Bool, true, List, [], ◌∷◌, length, refl, ap, sym, arith, Option, Some, None}
+use Rattle.std.proofs.Common.{◌≡◌, ◌∙◌, ℕ, suc, ◌+◌, ◌<◌, Bool, true, List, [], ◌∷◌, ◌++◌, length, take, slice_index_or, refl, ap, sym, arith, Option, Some, None}
 use Rattle.std.specs.Prelude.{slice_get}
 use Rattle.std.specs.Bool.{Decides}
+use Rattle.std.proofs.lemmas.List.{take_more, map-append}
+use Rattle.std.proofs.lemmas.Option.{get_or_from_slice_get}
 use Rattle.cell_core.specs.declared.cell.Label.{Label}
+use Rattle.cell_core.specs.declared.cell.Label.TheVariants.{Na}
+use Rattle.index_core.specs.Labels.{labels_at}
 use Rattle.index_core.specs.Ranges.{range_labels}
 use Rattle.index_core.proofs.RangeLaws.{length-range_labels}
 
@@ -29,3 +33,17 @@ ranges_same a b m n r e f is = (
   λ t. sym e ∙ ap range_labels (is.0 t) ∙ f,
   λ same. is.1 (sym (length-range_labels m) ∙ ap length (e ∙ same ∙ sym f) ∙ length-range_labels n),
 )
+
+-- one more label is taken
+pub one_more_label : (labels taken taken' : List Label) (places : List ℕ) (k place : ℕ) (label : Label)
+    → taken ≡ labels_at labels (take k places) → k < length places → slice_get places k ≡ Some place → slice_get labels place ≡ Some label → taken' ≡ taken ++ label ∷ []
+    → taken' ≡ labels_at labels (take (k + 1) places)
+one_more_label labels taken taken' places k place label before inside at is pushed =
+    let same : slice_index_or labels (slice_index_or places k 0) Na ≡ label =
+    ap (λ (p : ℕ). slice_index_or labels p Na) (get_or_from_slice_get places k place 0 at) ∙ get_or_from_slice_get labels place label Na is
+    in
+    pushed ∙ ap (λ (l : List Label). l ++ label ∷ []) before
+    ∙ sym (
+    ap (labels_at labels) (take_more places k 0 inside) ∙ map-append (λ p. slice_index_or labels p Na) (take k places) (slice_index_or places k 0 ∷ [])
+    ∙ ap (λ (t : Label). labels_at labels (take k places) ++ t ∷ []) same
+    )

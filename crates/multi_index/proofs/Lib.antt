@@ -1,3 +1,4 @@
 pub mod NameLaws
 pub mod TupleLaws
 pub mod SameTuples
+pub mod PickLaws

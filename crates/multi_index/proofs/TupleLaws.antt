@@ -1,10 +1,12 @@
 -- The tuples of an axis.
 use Rattle.std.specs.Prelude.{◌≡◌, ℕ, ◌+◌, ◌<◌, List, [], ◌∷◌, ◌++◌, length, take, slice_get, slice_index_or, Some, All}
-use Rattle.std.proofs.Common.{◌∙◌, ap, sym, subst, refl}
-use Rattle.std.proofs.lemmas.List.{take_more, map-append}
+use Rattle.std.proofs.Common.{◌∙◌, ap, sym, subst, refl, arith, suc}
+use Rattle.std.proofs.lemmas.List.{take_more, map-append, get_or-map, length-map}
 use Rattle.std.proofs.lemmas.List.Elements.{All-map, All-take}
 use Rattle.std.proofs.lemmas.Option.{get_or_from_slice_get}
 use Rattle.cell_core.specs.declared.cell.Label.{Label}
+use Rattle.cell_core.specs.declared.cell.Label.TheVariants.{Na}
+use Rattle.index_core.specs.Labels.{labels_at}
 use Rattle.multi_index.specs.Axes.{HaveLevels, single_tuples, tuples_at}
 
 -- a label is a tuple of one label
@@ -42,3 +44,36 @@ pub one_more_copied : (tuples : List (List Label)) (k : ℕ) (tuple : List Label
 one_more_copied tuples k tuple copied copied' before inside is pushed =
     pushed ∙ ap (λ (l : List (List Label)). l ++ tuple ∷ []) before
     ∙ sym (take_more tuples k [] inside ∙ ap (λ (t : List Label). take k tuples ++ t ∷ []) (get_or_from_slice_get tuples k tuple [] is))
+
+-- a tuple of one label
+pub only_label_is : (t : List Label) (l : Label) → length t ≡ 1 → slice_get t 0 ≡ Some l → t ≡ l ∷ []
+only_label_is [] l one at = cc
+only_label_is (x ∷ []) l one at = ap (λ (y : Label). y ∷ []) (some_is x l at)
+  where
+    some_is : (x l : Label) → Some x ≡ Some l → x ≡ l
+    some_is x l e = cc
+only_label_is (x ∷ (y ∷ ys)) l one at = absurd (omega arith)
+
+-- one more label of tuples of one label
+pub one_more_single : (labels labels' : List Label) (tuples : List (List Label)) (row : ℕ) (t : List Label) (l : Label)
+    → single_tuples labels ≡ take row tuples → row < length tuples → HaveLevels 1 tuples → slice_get tuples row ≡ Some t → slice_get t 0 ≡ Some l → labels' ≡ labels ++ l ∷ []
+    → single_tuples labels' ≡ take (row + 1) tuples
+one_more_single labels labels' tuples row t l before inside alike at first pushed =
+    let here : slice_index_or tuples row [] ≡ t = get_or_from_slice_get tuples row t [] at in
+    let one : length t ≡ 1 = ap length (sym here) ∙ alike row [] inside in
+    ap single_tuples pushed
+    ∙ map-append (λ l. l ∷ []) labels (l ∷ [])
+    ∙ ap (λ (ts : List (List Label)). ts ++ (l ∷ []) ∷ []) before
+    ∙ ap (λ (x : List Label). take row tuples ++ x ∷ []) (sym (here ∙ only_label_is t l one first))
+    ∙ sym (take_more tuples row [] inside)
+
+-- labels that are taken, as tuples
+pub single_taken : (labels : List Label) (places : List ℕ) → All (λ place. place < length labels) places → single_tuples (labels_at labels places) ≡ tuples_at (single_tuples labels) places
+single_taken labels [] inside = refl
+single_taken labels (place ∷ places) inside =
+    let here : slice_index_or (single_tuples labels) place [] ≡ slice_index_or labels place Na ∷ [] = get_or-map (λ l. l ∷ []) labels place Na [] (inside 0 place (omega arith)) in
+    let later = single_taken labels places (λ k d lt. inside (suc k) d (omega arith)) in
+    λ j. sym here j ∷ later j
+
+pub places_of_single : (labels : List Label) (tuples : List (List Label)) (places : List ℕ) → single_tuples labels ≡ tuples → All (λ place. place < length tuples) places → All (λ place. place < length labels) places
+places_of_single labels tuples places is inside = λ k d lt. let count = length-map labels (λ (l : Label). l ∷ []) in let same = ap length is in let below = inside k d lt in omega arith

@@ -15,9 +15,15 @@ kept_tuples (Listed tuples) = tuples
 abbrev pub kept_axis : Inside → AxisValue
 kept_axis axis = record { tuples = kept_tuples axis.rows; names = take axis.levels axis.names }
 
+-- one level is kept as labels, and several as tuples
+abbrev pub IsKeptAs : ℕ → Kept → Type 0
+IsKeptAs levels (Single index) = levels ≡ 1
+IsKeptAs levels (Listed tuples) = 2 ≤ levels
+
 -- one to four levels, with room for the names of four, and each tuple has a label for each level
 pub record IsAxis (rows : Kept) (names : List (Option Label)) (levels : ℕ) : Type 0 where
   pub room : length names ≡ 4
   pub some : 1 ≤ levels
   pub few : levels ≤ 4
   pub alike : HaveLevels levels (kept_tuples rows)
+  pub kept : IsKeptAs levels rows

@@ -1,16 +1,23 @@
 // Tuples of labels by row, and the names of their levels.
-ghost use Rattle.std.specs.Prelude.{◌≡◌, ◌^◌, ◌<◌, ◌≤◌, length, slice_get, Some, IfOk, All};
+ghost use Rattle.std.specs.Prelude.{◌≡◌, ◌^◌, ◌<◌, ◌≤◌, ◌∷◌, [], length, slice_get, Some, IfOk, IfSome, All};
 ghost use Rattle.std.specs.Bool.{Decides};
-ghost use Rattle.multi_index.specs.Axes.{HaveLevels, nameless_axis, range_axis, label_at, with_name, taken_axis};
+ghost use Rattle.std.specs.Option.{option_copied, option_map};
+ghost use Rattle.cell_core.specs.Grids.{AreRowsBelow};
+ghost use Rattle.pick_meaning.specs.Rows.{rows_of};
+ghost use Rattle.multi_index.specs.Axes.{HaveLevels, nameless_axis, range_axis, single_tuples, tuples_at, label_at, with_name, taken_axis};
+ghost use Rattle.multi_index.specs.Picks.{PicksBy, TellsBy, as_it_is, axis_fault, leading_rows, leading_slice};
 
-use cell_core::{Label, NoMemory, Places, TextDict, Tuple, Tuples};
-use index_core::Index;
+use crate::fault::AxisFault;
+use cell_core::{Label, NoMemory, Places, Rows, TextDict, Tuple, Tuples};
+use index_core::{Index, IndexFault};
 use std::alloc::Global;
 use std::marker::Model;
 
-/// A tuple of labels for each row, and a name or none for each level. Tuples may repeat.
+/// A tuple of labels for each row, and a name or none for each level. Tuples may repeat. It keeps the
+/// allocator that it was made with.
 #[derive(Drop)]
 pub struct Axis {
+    alloc: Global,
     rows: Kept,
     names: [Option<Label>; 4],
     levels: usize,
@@ -42,6 +49,7 @@ impl Axis {
     {
         let index = Index::range(alloc, n)?;
         Ok(Axis {
+            alloc,
             rows: Kept::Single(index),
             names: [None; 4],
             levels: 1,
@@ -60,9 +68,14 @@ impl Axis {
         requires alike { HaveLevels levels tuples.now }
         ensures { IfOk result (λ axis. axis ≡ nameless_axis tuples.now levels) }
     {
-        let copied = copy_of(alloc, tuples)?;
+        let rows = if levels == 1 {
+            Kept::Single(single_level(alloc, tuples)?)
+        } else {
+            Kept::Listed(copy_of(alloc, tuples)?)
+        };
         Ok(Axis {
-            rows: Kept::Listed(copied),
+            alloc,
+            rows,
             names: [None; 4],
             levels,
         })
@@ -78,6 +91,7 @@ impl Axis {
         };
         let names = self.names;
         Ok(Axis {
+            alloc,
             rows,
             names,
             levels: self.levels,
@@ -185,27 +199,117 @@ impl Axis {
         requires { All (λ place. place < length self.now.tuples) places.now }
         ensures { IfOk result (λ axis. axis ≡ taken_axis self.now places.now) }
     {
-        let mut taken = Tuples::new(alloc);
-        for k in 0..places.len() {
-            taken.push(self.tuple(alloc, *places.at(k)))?;
-        }
+        let rows = match &self.rows {
+            Kept::Single(index) => Kept::Single(index.take(alloc, places)?),
+            Kept::Listed(tuples) => Kept::Listed(taken(alloc, tuples, places)?),
+        };
         Ok(Axis {
-            rows: Kept::Listed(taken),
+            alloc,
+            rows,
             names: self.names,
             levels: self.levels,
         })
     }
 
-    // The tuple of a row. Takes no memory.
-    fn tuple(&self, alloc: Global, row: usize) -> Tuple
-        requires { row < length self.now.tuples }
-        ensures { slice_get self.now.tuples row ≡ Some result }
+    /// The labels of the only level. Takes no memory.
+    pub fn only_level(&self) -> &Index
+        requires { length self.now.names ≡ 1 }
+        ensures { single_tuples result.now ≡ self.now.tuples }
     {
         match &self.rows {
-            Kept::Single(index) => Tuple::of(alloc, &[index.label(row)]),
-            Kept::Listed(tuples) => tuples.at(row).copy(),
+            Kept::Single(index) => index,
+            Kept::Listed(_) => unreachable!(),
         }
     }
+
+    /// The rows whose leading labels are these, in order, on an axis of one level ("Selection by label" in the pandas
+    /// user guide). Texts are compared by their numbers.
+    ///
+    /// # Errors
+    ///
+    /// `NotThere` exactly where there is no such row. `NoMemory` may come in place of any answer.
+    pub fn places(&self, alloc: Global, leading: &Tuple) -> Result<Places, AxisFault>
+        requires one { length self.now.names ≡ 1 }
+        requires full { length leading.now ≡ 1 }
+        ensures { PicksBy as_it_is result (leading_rows self.now leading.now) }
+    {
+        match self.only_level().places(alloc, leading.at(0)) {
+            Ok(places) => Ok(places),
+            Err(fault) => Err(axis_fault(alloc, fault)),
+        }
+    }
+
+    /// The rows of a slice by labels on an axis of one level, both ends included, as a run of rows: those of
+    /// [`Index::slice_places`]. Takes no memory.
+    ///
+    /// # Errors
+    ///
+    /// Where the labels aren't in order, `NotThere` of a bound that stands nowhere, and `BoundNotUnique` of one that
+    /// stands more than once, of `from` first. `NoMemory` never comes.
+    pub fn slice_places(
+        &self,
+        dict: &TextDict,
+        from: Option<&Tuple>,
+        to: Option<&Tuple>,
+    ) -> Result<Rows, AxisFault>
+        requires one { length self.now.names ≡ 1 }
+        requires from { IfSome from (λ bound. length bound.now ≡ 1) }
+        requires to { IfSome to (λ bound. length bound.now ≡ 1) }
+        ensures rows { TellsBy rows_of result (leading_slice dict.now self.now (option_copied from.entry) (option_copied to.entry)) }
+        ensures below { IfOk result (λ rows. AreRowsBelow rows (length self.now.tuples)) }
+    {
+        let labels = self.only_level();
+        match labels.slice_places(dict, only_label(from), only_label(to)) {
+            Ok(rows) => Ok(rows),
+            Err(fault) => Err(axis_fault(self.alloc, fault)),
+        }
+    }
+}
+
+// The fault with its label as a tuple.
+fn axis_fault(alloc: Global, fault: IndexFault) -> AxisFault
+    ensures { result ≡ axis_fault fault }
+{
+    match fault {
+        IndexFault::NotThere(label) => AxisFault::NotThere(Tuple::of(alloc, &[label])),
+        IndexFault::BoundNotUnique(label) => AxisFault::BoundNotUnique(Tuple::of(alloc, &[label])),
+        IndexFault::NoMemory => AxisFault::NoMemory,
+    }
+}
+
+// The label of a bound on one level.
+fn only_label(bound: Option<&Tuple>) -> Option<Label>
+    requires { IfSome bound (λ tuple. length tuple.now ≡ 1) }
+    ensures { option_map (λ label. label ∷ []) result ≡ option_copied bound.entry }
+{
+    match bound {
+        Some(tuple) => Some(tuple.at(0)),
+        None => None,
+    }
+}
+
+// The tuples at these places, in their order.
+fn taken(alloc: Global, tuples: &Tuples, places: &Places) -> Result<Tuples, NoMemory>
+    requires { All (λ place. place < length tuples.now) places.now }
+    ensures { IfOk result (λ taken. taken ≡ tuples_at tuples.now places.now) }
+{
+    let mut taken = Tuples::new(alloc);
+    for k in 0..places.len() {
+        taken.push(tuples.at(*places.at(k)).copy())?;
+    }
+    Ok(taken)
+}
+
+// The labels of tuples of one label.
+fn single_level(alloc: Global, tuples: &Tuples) -> Result<Index, NoMemory>
+    requires { HaveLevels 1 tuples.now }
+    ensures { IfOk result (λ index. single_tuples index ≡ tuples.now) }
+{
+    let mut labels = Vec::new(alloc);
+    for row in 0..tuples.len() {
+        labels.push(tuples.at(row).at(0))?;
+    }
+    Ok(Index::from_vec(labels))
 }
 
 // A list of its own with the same tuples.

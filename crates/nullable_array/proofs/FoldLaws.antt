@@ -1,8 +1,9 @@
 -- What is gathered from rows is what is gathered from their cells.
-use Rattle.std.proofs.Common.{◌≡◌, ℕ, zero, suc, ◌+◌, ◌<◌, ◌≤◌, Bool, true, false, cond, List, [], ◌∷◌, map, refl, sym, ap, ◌∙◌, arith, Option, Some, None, fold}
+use Rattle.std.proofs.Common.{◌≡◌, ℕ, zero, suc, ◌+◌, ◌<◌, ◌≤◌, Bool, true, false, not, cond, List, [], ◌∷◌, map, refl, sym, ap, ◌∙◌, arith, Option, Some, None, fold}
 use Rattle.std.specs.List.{range_with_len}
 use Rattle.std.specs.declared.cmp.Ordering.{Ordering}
 use Rattle.std.specs.Ordering.{is_lt}
+use Rattle.std.proofs.Math.Bool.{beq}
 use Rattle.cell_core.specs.declared.cell.Cell.{Cell}
 use Rattle.meaning.specs.Cell.{CellValue, na_cell, datum}
 use Rattle.meaning.specs.Column.{tabulate}
@@ -21,6 +22,32 @@ folded_more step s n row =
     let one : n + 1 ≡ suc n = omega arith in
     let here : 0 + n ≡ n = omega arith in
     ap (λ m. folded step s m row) one ∙ fold-range (λ t k. step_row step t (row k)) s 0 n ∙ ap (λ k. step_row step (folded step s n row) (row k)) here
+
+-- what no value changes stays
+row_stays : {S T : Type 0} (step : S → T → S) (t : S) → ((x : T) → step t x ≡ t) → (o : Option T) → step_row step t o ≡ t
+row_stays step t law None = refl
+row_stays step t law (Some x) = law x
+
+pub folded_stays : {S T : Type 0} (step : S → T → S) (s t : S) (row : ℕ → Option T) (m d : ℕ) → ((x : T) → step t x ≡ t) → folded step s m row ≡ t → folded step s (m + d) row ≡ t
+folded_stays step s t row m zero law e =
+    let none : m + 0 ≡ m = omega arith in
+    ap (λ k. folded step s k row) none ∙ e
+folded_stays step s t row m (suc d) law e =
+    let next : m + suc d ≡ m + d + 1 = omega arith in
+    ap (λ k. folded step s k row) next ∙ folded_more step s (m + d) row ∙ ap (λ u. step_row step u (row (m + d))) (folded_stays step s t row m d law e) ∙ row_stays step t law (row (m + d))
+
+-- what a test of two truth values says
+pub changed : (a b : Bool) → not (beq a b) ≡ true → a ≡ not b
+changed true true h = absurd cc
+changed true false h = refl
+changed false true h = refl
+changed false false h = absurd cc
+
+pub unchanged : (a b : Bool) → not (beq a b) ≡ false → a ≡ b
+unchanged true true h = refl
+unchanged true false h = absurd cc
+unchanged false true h = absurd cc
+unchanged false false h = refl
 
 module _ {S T R : Type 0} (texts : List (List ℕ)) (cell : Option T → Cell) (g : R → CellValue → R) (step : S → T → S) (view : S → R) (missing : datum texts (cell None) ≡ na_cell)
     (there : (x : T) → is_present (datum texts (cell (Some x))) ≡ true) (law : (s : S) (x : T) → g (view s) (datum texts (cell (Some x))) ≡ view (step s x)) where

@@ -10,3 +10,4 @@ pub mod DistinctLaws
 pub mod TruthLaws
 pub mod MarkLaws
 pub mod PlaceLaws
+pub mod QuotientLaws

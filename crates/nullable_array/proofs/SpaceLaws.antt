@@ -1,5 +1,5 @@
 -- Laws of the spaces at the ends of a text.
-use Rattle.std.proofs.Common.{◌≡◌, ◌∙◌, ◌≤◌, Bool, true, false, cond, ◌==◌, List, [], ◌∷◌, length, reverse, refl, sym, ap, arith}
+use Rattle.std.proofs.Common.{◌≡◌, ◌∙◌, ◌≤◌, Bool, true, false, cond, ◌==◌, [], ◌∷◌, length, reverse, refl, sym, ap, arith}
 use Rattle.std.proofs.lemmas.List.{length-reverse, reverse-reverse}
 use Rattle.meaning.specs.Text.{Text}
 use Rattle.meaning.specs.Cast.{after_spaces, without_spaces}

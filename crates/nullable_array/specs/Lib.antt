@@ -7,3 +7,4 @@ pub mod Folds
 pub mod Distincts
 pub mod Pairs
 pub mod Marks
+pub mod Quotients

@@ -1,8 +1,13 @@
 -- What an operation makes of the values of a row.
-use Rattle.std.specs.Prelude.{Bool, true, false, not, ℤ, pos, Option, Some, None, if◌then◌else◌}
+use Rattle.std.specs.Prelude.{ℕ, Bool, true, false, not, ℤ, pos, List, Option, Some, None, Result, if◌then◌else◌}
 use Rattle.std.specs.Int.{int_wrap, w64}
 use Rattle.std.specs.Ordering.{int_eq}
 use Rattle.std.specs.declared.cmp.Ordering.{Ordering}
+use Rattle.cell_core.specs.declared.cell.Kind.TheVariants.{Boolean}
+use Rattle.meaning.specs.Cell.{datum}
+use Rattle.meaning.specs.Column.{ColumnValue, ColumnFault, zero_division, column_of}
+use Rattle.column_core.specs.Columns.{truth_cell}
+use Rattle.column_core.specs.Rows.{try_rows, map_rows}
 use Rattle.nullable_array.specs.declared.ops.Relation.{Relation}
 use Rattle.nullable_array.specs.Tasks.{passes}
 
@@ -25,6 +30,10 @@ division_row f x y = Some None
 
 abbrev pub compare_row : {T : Type 0} → Relation → (T → T → Ordering) → Option T → Option T → Option (Option Bool)
 compare_row r cmp x y = Some (both (λ a b. passes r (cmp a b)) x y)
+
+-- which rows of two columns are in a relation
+abbrev pub compared : {T : Type 0} → List (List ℕ) → Relation → (T → T → Ordering) → ℕ → (ℕ → Option T) → (ℕ → Option T) → Result ColumnValue ColumnFault
+compared texts r cmp count p q = column_of Boolean zero_division (map_rows (λ z. datum texts (truth_cell z)) (try_rows count (λ k. compare_row r cmp (p k) (q k))))
 
 abbrev pub and_row : Option Bool → Option Bool → Option (Option Bool)
 and_row (Some false) y = Some (Some false)

@@ -2,7 +2,8 @@
 ghost use Rattle.std.specs.Prelude.{◌≡◌, ◌<◌, ℕ, List, length, Option, Some, None, IfOk, if◌then◌else◌};
 ghost use Rattle.meaning.specs.Cell.{AreGiven};
 ghost use Rattle.meaning.specs.Cumulate.{cumulate_column};
-ghost use Rattle.column_core.specs.Columns.{column_value, column_with};
+ghost use Rattle.cell_core.specs.declared.cell.Kind.TheVariants.{Int64};
+ghost use Rattle.column_core.specs.Columns.{column_value, column_with, number_cell};
 ghost use Rattle.column_core.specs.Views.{borrowed_column};
 ghost use Rattle.column_core.specs.Rows.{AreWritten};
 ghost use Rattle.nullable_array.specs.Folds.{running_row, running_step, one_of_truth, cumulation_of};
@@ -34,6 +35,21 @@ pub fn cumulate(alloc: Global, op: Cumulation, a: ColRef<'_>) -> Result<Column, 
 fn cumulate_numbers(alloc: Global, op: Cumulation, a: &Lane<'_, i64>) -> Result<Column, ArrayFault>
     ensures given { IfOk result (λ c. (texts : List (List ℕ)) → AreGiven texts c.cells) }
     ensures answer { (texts : List (List ℕ)) → Answers texts result (cumulate_column (cumulation_of op) (column_value texts (borrowed_column (Borrowed.Ints a.now)))) }
+{
+    match a.dense() {
+        Some(side) => running_numbers(alloc, op, &side),
+        None => running_numbers(alloc, op, a),
+    }
+}
+
+fn running_numbers<A: Source<i64>>(
+    alloc: Global,
+    op: Cumulation,
+    a: &A,
+) -> Result<Column, ArrayFault>
+    ensures given { IfOk result (λ c. (texts : List (List ℕ)) → AreGiven texts c.cells) }
+    ensures answer { (texts : List (List ℕ)) → Answers texts result (cumulate_column (cumulation_of op)
+        (column_value texts (column_with Int64 number_cell (A.count_of a.now) (A.row_of a.now)))) }
 {
     match op {
         Cumulation::Sum => Ok(run(alloc, &RunningTotal, a)?),
@@ -116,8 +132,10 @@ fn run<T, U: Value, F: Fold<T, Option<U>>, A: Source<T>>(
 ) -> Result<Column, NoMemory>
     ensures { IfOk result (λ c. c ≡ column_with U.kind U.cell (A.count_of a.now) (running_row (F.step_of fold.now) (A.row_of a.now))) }
 {
-    let mut values = vec![in alloc; U::blank(); a.count()]?;
-    let mut present = vec![in alloc; false; a.count()]?;
+    let Owned {
+        mut values,
+        mut present,
+    } = Owned::missing(alloc, U::blank(), a.count())?;
     fill_running(fold, U::blank(), a, &mut values, &mut present);
     Ok(U::column(Owned { values, present }))
 }

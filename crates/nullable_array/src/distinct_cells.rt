@@ -9,7 +9,7 @@ ghost use Rattle.column_core.specs.Columns.{column_value};
 ghost use Rattle.nullable_array.specs.Distincts.{present_values, truths_of, AreMarked, IsMarkedMore};
 ghost use Rattle.nullable_array.specs.Folds.{step_row};
 
-use crate::folds::{AllTrue, AnyTrue, Greatest, Least, fold_rows};
+use crate::folds::{AllTrue, AnyTrue, Greatest, Least, fold_rows, fold_until};
 use crate::operators::ByNumber;
 use cell_core::NoMemory;
 use column_core::{Borrowed, ColRef, Source};
@@ -106,8 +106,8 @@ fn distinct_values<T: Eq + Hash + Copy + Drop, A: Source<T>>(
 fn distinct_truths<A: Source<bool>>(a: &A) -> u64
     ensures { result ≡ truths_of (A.count_of a.now) (A.row_of a.now) }
 {
-    let some_true = fold_rows(&AnyTrue, false, a);
-    let all_true = fold_rows(&AllTrue, true, a);
+    let some_true = fold_until(&AnyTrue, false, a);
+    let all_true = fold_until(&AllTrue, true, a);
     u64::from(some_true) + u64::from(!all_true)
 }
 

@@ -26,6 +26,21 @@ pub(crate) fn fold_rows<T, S: Copy, F: Fold<T, S>, A: Source<T>>(fold: &F, start
     so_far
 }
 
+/// The same, where no further value changes what isn't the start any more: so it is known at the first such row.
+#[inline(always)]
+pub(crate) fn fold_until<T, F: Fold<T, bool>, A: Source<T>>(fold: &F, start: bool, a: &A) -> bool
+    requires { (x : T) → F.step_of fold.now (not start) x ≡ not start }
+    ensures { result ≡ folded (F.step_of fold.now) start (A.count_of a.now) (A.row_of a.now) }
+{
+    for row in 0..a.count() {
+        let so_far = next(fold, start, a.get(row));
+        if so_far != start {
+            return so_far;
+        }
+    }
+    start
+}
+
 #[inline(always)]
 pub(crate) fn next<T, S: Copy, F: Fold<T, S>>(fold: &F, so_far: S, x: Option<T>) -> S
     ensures { result ≡ step_row (F.step_of fold.now) so_far x }

@@ -1,5 +1,5 @@
 // Operators on columns.
-ghost use Rattle.std.specs.Prelude.{◌≡◌, ◌<◌, ℕ, List, length, Option, IfOk, IfErr, OnErr};
+ghost use Rattle.std.specs.Prelude.{◌≡◌, ◌<◌, ℕ, pos, List, length, Option, Some, IfOk, IfErr, OnErr};
 ghost use Rattle.cell_core.specs.declared.cell.Kind.TheVariants.{Int64, Boolean, Text as string};
 ghost use Rattle.meaning.specs.Cell.{datum, AreGiven, IsGiven, IsLonger};
 ghost use Rattle.meaning.specs.Column.{column_of, zero_division};
@@ -9,13 +9,15 @@ ghost use Rattle.column_core.specs.Columns.{column_value, column_with, number_ce
 ghost use Rattle.column_core.specs.Views.{borrowed_column};
 ghost use Rattle.column_core.specs.Rows.{try_rows, map_rows};
 ghost use Rattle.nullable_array.specs.Answers.{Answers};
+ghost use Rattle.nullable_array.specs.Operations.{compared};
 ghost use Rattle.nullable_array.specs.Tasks.{operator_of, task_column, scalar_task};
 
+use crate::divisors::{Divisor, QuotientBy};
 use crate::operators::{
-    Both, ByNumber, ByText, ByTruth, Compare, Difference, Either, Not, OneOf, Product, Quotient,
-    Rest, Sum,
+    Both, ByNumber, ByText, ByTruth, Compare, Difference, Either, Not, OneOf, Order, Product,
+    Quotient, Rest, Sum,
 };
-use crate::ops::{ArrayFault, Binary, Relation, Task, task_of};
+use crate::ops::{ArrayFault, Binary, Relation, Task, relation_of, task_of};
 use crate::pairs::{Constant, PairOp, Side, by_sides};
 use crate::texts::{Join, text_column};
 use cell_core::{Cell, TextDict, TextId};
@@ -174,8 +176,42 @@ fn beside_number_side<A: Side<i64>>(
     if left {
         on_number_sides(alloc, task, same, a)
     } else {
-        on_number_sides(alloc, task, a, same)
+        on_number_before(alloc, task, a, same)
     }
+}
+
+// What an operator does to a side of whole numbers before one that is the same in each row.
+fn on_number_before<A: Side<i64>>(
+    alloc: Global,
+    task: Task,
+    a: A,
+    b: Constant<i64>,
+) -> Result<Column, ArrayFault>
+    requires { A.count_of a ≡ b.count }
+    ensures given { IfOk result (λ c. (texts : List (List ℕ)) → AreGiven texts c.cells) }
+    ensures answer { (texts : List (List ℕ)) → Answers texts result (task_column task
+        (column_value texts (column_with Int64 number_cell (A.count_of a) (A.row_of a)))
+        (column_value texts (column_with Int64 number_cell b.count (λ _. b.value)))) }
+{
+    match (task, b.value) {
+        (Task::Quotient, Some(divisor)) if 0 < divisor => quotients_by(alloc, a, divisor as u64),
+        _ => on_number_sides(alloc, task, a, b),
+    }
+}
+
+// The quotients by one divisor, which isn't 0: so no row is refused.
+fn quotients_by<A: Side<i64>>(alloc: Global, a: A, divisor: u64) -> Result<Column, ArrayFault>
+    requires { 0 < divisor }
+    ensures given { IfOk result (λ c. (texts : List (List ℕ)) → AreGiven texts c.cells) }
+    ensures answer { (texts : List (List ℕ)) → Answers texts result (task_column Task.Quotient
+        (column_value texts (column_with Int64 number_cell (A.count_of a) (A.row_of a)))
+        (column_value texts (column_with Int64 number_cell (A.count_of a) (λ _. Some (pos divisor))))) }
+{
+    let by = QuotientBy {
+        divisor: Divisor::new(divisor),
+    };
+    let nothing = Nothing { count: a.count() };
+    operate_sides(alloc, &by, a, nothing)
 }
 
 fn beside_numbers<A: Source<i64>>(
@@ -323,6 +359,44 @@ fn operate_sides<X: Copy, Y: Copy, U: Plain, O: PairOp<X, Y, U>, A: Side<X>, B: 
     Ok(U::column(rows))
 }
 
+// Which values of two sides are in a relation. Each relation has a loop of its own, with one comparison in it.
+fn compare_sides<T: Copy + Drop, K: Order<T> + Drop, A: Side<T>, B: Side<T>>(
+    alloc: Global,
+    order: K,
+    relation: Relation,
+    a: A,
+    b: B,
+) -> Result<Column, ArrayFault>
+    requires { A.count_of a ≡ B.count_of b }
+    ensures given { IfOk result (λ c. (texts : List (List ℕ)) → AreGiven texts c.cells) }
+    ensures answer { (texts : List (List ℕ)) → Answers texts result (compared texts relation (K.cmp order) (A.count_of a) (A.row_of a) (B.row_of b)) }
+{
+    match (relation.less, relation.equal, relation.greater) {
+        (true, false, false) => compare_by(alloc, order, relation_of(true, false, false), a, b),
+        (true, true, false) => compare_by(alloc, order, relation_of(true, true, false), a, b),
+        (false, true, false) => compare_by(alloc, order, relation_of(false, true, false), a, b),
+        (true, false, true) => compare_by(alloc, order, relation_of(true, false, true), a, b),
+        (false, false, true) => compare_by(alloc, order, relation_of(false, false, true), a, b),
+        (false, true, true) => compare_by(alloc, order, relation_of(false, true, true), a, b),
+        _ => compare_by(alloc, order, relation, a, b),
+    }
+}
+
+#[inline(always)]
+fn compare_by<T: Copy + Drop, K: Order<T> + Drop, A: Side<T>, B: Side<T>>(
+    alloc: Global,
+    order: K,
+    relation: Relation,
+    a: A,
+    b: B,
+) -> Result<Column, ArrayFault>
+    requires { A.count_of a ≡ B.count_of b }
+    ensures given { IfOk result (λ c. (texts : List (List ℕ)) → AreGiven texts c.cells) }
+    ensures answer { (texts : List (List ℕ)) → Answers texts result (compared texts relation (K.cmp order) (A.count_of a) (A.row_of a) (B.row_of b)) }
+{
+    operate_sides(alloc, &Compare { order, relation }, a, b)
+}
+
 // What an operator does to two sides of whole numbers.
 fn on_number_sides<A: Side<i64>, B: Side<i64>>(
     alloc: Global,
@@ -340,13 +414,7 @@ fn on_number_sides<A: Side<i64>, B: Side<i64>>(
         Task::Sum => operate_sides(alloc, &Sum, a, b),
         Task::Difference => operate_sides(alloc, &Difference, a, b),
         Task::Product => operate_sides(alloc, &Product, a, b),
-        Task::Compare(relation) => {
-            let compare = Compare {
-                order: ByNumber,
-                relation,
-            };
-            operate_sides(alloc, &compare, a, b)
-        }
+        Task::Compare(relation) => compare_sides(alloc, ByNumber, relation, a, b),
         _ => on_numbers(alloc, task, &a, &b),
     }
 }
@@ -368,6 +436,7 @@ fn on_truth_sides<A: Side<bool>, B: Side<bool>>(
         Task::Both => operate_sides(alloc, &Both, a, b),
         Task::Either => operate_sides(alloc, &Either, a, b),
         Task::OneOf => operate_sides(alloc, &OneOf, a, b),
+        Task::Compare(relation) => compare_sides(alloc, ByTruth, relation, a, b),
         _ => on_truths(alloc, task, &a, &b),
     }
 }

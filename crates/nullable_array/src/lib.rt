@@ -14,6 +14,7 @@
 mod casts;
 mod cumulations;
 mod distinct_cells;
+mod divisors;
 mod floor;
 mod folds;
 mod kernels;

@@ -134,7 +134,8 @@ pub(crate) fn task_of(op: Binary) -> Task
     }
 }
 
-fn relation_of(less: bool, equal: bool, greater: bool) -> Relation
+#[inline(always)]
+pub(crate) fn relation_of(less: bool, equal: bool, greater: bool) -> Relation
     ensures { result ≡ record { less = less; equal = equal; greater = greater } }
 {
     Relation {

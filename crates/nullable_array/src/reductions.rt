@@ -8,7 +8,7 @@ ghost use Rattle.column_core.specs.Views.{borrowed_column};
 ghost use Rattle.nullable_array.specs.Folds.{reduction_of, reduced_kind};
 ghost use Rattle.nullable_array.specs.Answers.{AnswersCell};
 
-use crate::folds::{AllTrue, AnyTrue, Greatest, HowMany, Least, Total, fold_rows};
+use crate::folds::{AllTrue, AnyTrue, Greatest, HowMany, Least, Total, fold_rows, fold_until};
 use crate::operators::{ByNumber, ByText, ByTruth};
 use crate::ops::{ArrayFault, Reduction};
 use cell_core::{Cell, TextDict, TextId};
@@ -63,8 +63,8 @@ fn reduced_numbers<A: Source<i64>>(op: Reduction, a: &A) -> Cell
         Reduction::Sum => cell_of_number(Some(fold_rows(&Total, 0, a))),
         Reduction::Min => cell_of_number(fold_rows(&Least { order: ByNumber }, None, a)),
         Reduction::Max => cell_of_number(fold_rows(&Greatest { order: ByNumber }, None, a)),
-        Reduction::Any => Cell::Bool(fold_rows(&AnyTrue, false, a)),
-        Reduction::All => Cell::Bool(fold_rows(&AllTrue, true, a)),
+        Reduction::Any => Cell::Bool(fold_until(&AnyTrue, false, a)),
+        Reduction::All => Cell::Bool(fold_until(&AllTrue, true, a)),
         Reduction::Count => cell_of_number(Some(fold_rows(&HowMany, 0, a))),
     }
 }
@@ -78,8 +78,8 @@ fn reduced_truths<A: Source<bool>>(op: Reduction, a: &A) -> Cell
         Reduction::Sum => cell_of_number(Some(fold_rows(&Total, 0, a))),
         Reduction::Min => cell_of_truth(fold_rows(&Least { order: ByTruth }, None, a)),
         Reduction::Max => cell_of_truth(fold_rows(&Greatest { order: ByTruth }, None, a)),
-        Reduction::Any => Cell::Bool(fold_rows(&AnyTrue, false, a)),
-        Reduction::All => Cell::Bool(fold_rows(&AllTrue, true, a)),
+        Reduction::Any => Cell::Bool(fold_until(&AnyTrue, false, a)),
+        Reduction::All => Cell::Bool(fold_until(&AllTrue, true, a)),
         Reduction::Count => cell_of_number(Some(fold_rows(&HowMany, 0, a))),
     }
 }

@@ -107,23 +107,6 @@ module _ {paths : List FileName} where
           found = y.found;
         }
 
-  -- the same fault, and the same value as another thing
-  pub fails : {V V' A : Type 0} {known : Work → V → Type 0} {view : World → V → A} {known' : Work → V' → Type 0} {view' : World → V' → A} {meant : Files → State → Reads A} {old new : Moment} {f : EvalFault}
-      → Evaluates paths known view meant old new (Err f) → (r : Result V' EvalFault) → IsErrAnd r (λ e. e ≡ f) → Evaluates paths known' view' meant old new r
-  fails x (Ok v) is = absurd is
-  fails {meant = meant} {old = old} {new = new} x (Err e) is =
-      record {
-        names = x.names;
-        kept = x.kept;
-        serves = x.serves;
-        reads = λ held. let files = files_in paths held in subst (λ (e : EvalFault). Halts Err (world_of new.work).texts files old.files new.files (meant files (state_in old.work)) e) (sym is) (x.reads held);
-        found = tt;
-      }
-
-  pub becomes : {V V' A : Type 0} {known : Work → V → Type 0} {view : World → V → A} {known' : Work → V' → Type 0} {view' : World → V' → A} {meant : Files → State → Reads A} {old new : Moment} (v : V) (v' : V')
-      → Evaluates paths known view meant old new (Ok v) → known' new.work v' → view' (world_of new.work) v' ≡ view (world_of new.work) v → Evaluates paths known' view' meant old new (Ok v')
-  becomes v v' x known is = record { names = x.names; kept = x.kept; serves = x.serves; reads = λ held. goes_to (x.reads held) (ap (λ a. gives a) (sym is)); found = known }
-
   -- objects and texts are added to
   pub adds : {V A : Type 0} {known : Work → V → Type 0} {view : World → V → A} {meant : Files → State → Reads A} {old : Moment} (w u : Work) {s : FilesValue} (v : V) → Evaluates paths known view meant old (moment_of w s) (Ok v) → names_in u ≡ names_in w → Keeps (world_of w) (world_of u)
       → known u v → view (world_of u) v ≡ view (world_of w) v → Evaluates paths known view meant old (moment_of u s) (Ok v)

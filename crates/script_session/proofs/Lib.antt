@@ -16,6 +16,7 @@ pub mod Settings
 pub mod Lengths
 pub mod Printed
 pub mod Validity
+pub mod Spending
 pub mod Evaluations
 pub mod Gathering
 pub mod Seconds

@@ -19,7 +19,7 @@ use Rattle.script_session.specs.FormFault.{IsOfForm, HasFormFault}
 use Rattle.script_session.specs.declared.fault.EvalFault.{EvalFault}
 use Rattle.script_session.specs.declared.fault.EvalFault.TheVariants.{Refused, Input, NoMemory}
 use Rattle.script_session.specs.Faults.{IsNoAttribute, IsNoName, evaluated}
-use Rattle.script_session.specs.Parts.{both_of, last_of}
+use Rattle.script_session.specs.Parts.{both_of}
 use Rattle.outside_io.specs.Files.{FilesValue, Serves}
 use Rattle.script_session.specs.Reads.{Holds, Goes, Stuck, Spends, Halts, Reaches, ReachesBytes, IsCaused, absent_name, count_after}
 use Rattle.frame_store.specs.World.{World, entry_in, Forms}
@@ -56,7 +56,7 @@ module _ {A X : Type 0} (stop : FaultValue → X) where
   pub then_after : (n : ℕ) (r : Reads A) (go : A → Reading X) → then_or stop (after n r) go ≡ after n (then_or stop r go)
   then_after n r go = sym (after_both n r.fetches (goes_on stop r.answer go))
 
--- two parts that are read together, and three, of which the last one counts
+-- two parts that are read together
 module _ {X : Type 0} (stop : FaultValue → X) where
   module _ {A B : Type 0} where
     both_at : (a : A) (go : A → B → Reading X) (n : ℕ) (r : Result B FaultValue)
@@ -73,20 +73,6 @@ module _ {X : Type 0} (stop : FaultValue → X) where
 
     pub both_then : (x : Reads A) (y : Reads B) (go : A → B → Reading X) → then_or stop x (λ a. then_or stop y (go a)) ≡ then_or stop (both_of x y) (λ p. go p.0 p.1)
     both_then x y go = both_from y go x.fetches x.answer
-
-  module _ {B C : Type 0} (z : Reads C) (go : C → Reading X) where
-    last_at : (n : ℕ) (r : Result B FaultValue) → then_or stop (record { fetches = n; answer = r }) (λ b. then_or stop z go) ≡ then_or stop (then_read (record { fetches = n; answer = r }) (λ b. z)) go
-    last_at n (Ok b) = sym (then_after stop n z go)
-    last_at n (Err e) = ended (n + 0) (n + 0 + 0) (stop e) (omega (arith))
-
-    module _ {A : Type 0} where
-      last_from : (y : Reads B) (n : ℕ) (r : Result A FaultValue)
-          → then_or stop (record { fetches = n; answer = r }) (λ a. then_or stop y (λ b. then_or stop z go)) ≡ then_or stop (last_of (record { fetches = n; answer = r }) y z) go
-      last_from y n (Ok a) = ap (after n) (last_at y.fetches y.answer) ∙ sym (then_after stop n (then_read y (λ b. z)) go)
-      last_from y n (Err e) = ended (n + 0) (n + 0 + 0) (stop e) (omega (arith))
-
-      pub last_then : (x : Reads A) (y : Reads B) → then_or stop x (λ a. then_or stop y (λ b. then_or stop z go)) ≡ then_or stop (last_of x y z) go
-      last_then x y = last_from y x.fetches x.answer
 
 -- the contents that hold for all fetches hold for the first and for the last of them
 none_of_both : (m n : ℕ) → m + n ≡ 0 → m ≡ 0

@@ -90,7 +90,7 @@ pub longer_valid : (tables : Tables) (old new : List Text) → IsLonger old new 
 longer_valid tables old new longer settled valid = subst AreValid (sym (seen_later shown old new tables longer settled)) valid
 
 -- an object ends
-without_valid : (texts : List Text) (tables : Tables) (id : ℕ) → AreValid (shown texts tables) → AreValid (shown texts (with_object tables id None))
+pub without_valid : (texts : List Text) (tables : Tables) (id : ℕ) → AreValid (shown texts tables) → AreValid (shown texts (with_object tables id None))
 without_valid texts tables id valid = are_valid (shown texts (with_object tables id None)) (λ k. by k (nat_eq id k))
   where
     by : (k : ℕ) (b : Bool) → IfSome (option_map (table_value texts) (if b then None else tables k)) IsValid

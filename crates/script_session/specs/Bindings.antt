@@ -1,5 +1,5 @@
 -- Names, and the state that they and their values make.
-use Rattle.std.specs.Prelude.{◌≡◌, ℕ, suc, Bool, true, false, List, [], ◌∷◌, ◌++◌, map, Option, Some, None, IsSome, if◌then◌else◌, nat_eq, option_map, string_bytes}
+use Rattle.std.specs.Prelude.{◌≡◌, ℕ, suc, Bool, true, false, not, ◌&&◌, List, [], ◌∷◌, ◌++◌, map, Option, Some, None, IsSome, if◌then◌else◌, nat_eq, option_map, string_bytes}
 use Rattle.std.specs.declared.string.String.{String}
 use Rattle.cell_core.specs.declared.cell.Cell.{Cell}
 use Rattle.meaning.specs.Text.{Text, same_text}
@@ -42,6 +42,11 @@ is_object (Scalar c) id = false
 abbrev pub is_named : Bindings → ℕ → Bool
 is_named [] id = false
 is_named (b ∷ bs) id = if is_object b.1 id then true else is_named bs id
+
+-- a name stands for the value, and none for the object
+abbrev pub is_spare : Bindings → Value → ObjId → Bool
+is_spare bs (Object on) id = is_named bs on.0 && not (is_named bs id.0)
+is_spare bs (Scalar c) id = false
 
 -- how many names stand for the object
 abbrev pub uses_of : Bindings → ℕ → ℕ

@@ -2,11 +2,10 @@
 use Rattle.std.specs.Prelude.{◌≡◌, List, Option, option_map, Result, IfOk, IfSome}
 use Rattle.meaning.specs.Text.{Text, Contents}
 use Rattle.table_meaning.specs.Value.{Given, GivenList, GivenPairs, GivenSub, NamedGiven}
-use Rattle.frame_store.specs.Arguments.{item_of, items_of, argument_of, entries_of, arguments_of, subscript_of}
+use Rattle.frame_store.specs.Arguments.{item_of, items_of, entries_of, arguments_of}
 use Rattle.frame_store.specs.declared.arguments.Value.{Value}
 use Rattle.frame_store.specs.declared.arguments.Item.{Item}
 use Rattle.frame_store.specs.declared.arguments.Items.{Items}
-use Rattle.frame_store.specs.declared.arguments.Argument.{Argument}
 use Rattle.frame_store.specs.declared.arguments.Entries.{Entries}
 use Rattle.frame_store.specs.declared.arguments.NamedList.{NamedList}
 use Rattle.frame_store.specs.declared.arguments.Selector.{Selector}
@@ -17,6 +16,7 @@ use Rattle.script_session.specs.Bindings.{IsOf}
 use Rattle.outside_io.specs.Files.{FilesValue, Serves}
 use Rattle.script_session.specs.Reads.{files_in, Reaches}
 use Rattle.frame_store.specs.World.{World, Keeps, IsKnownValue, IsKnownSubscript}
+pub use Rattle.frame_store.specs.World.{argument_in, subscript_in}
 use Rattle.script_session.specs.Work.{names_in, world_of, state_in}
 use Rattle.script_session.specs.declared.file_names.FileName.{FileName}
 use Rattle.script_session.specs.declared.fault.EvalFault.{EvalFault}
@@ -50,17 +50,11 @@ item_in w item = item_of w.tables w.texts item
 abbrev pub items_in : World → Items → GivenList
 items_in w items = items_of w.tables w.texts items.items.items
 
-abbrev pub argument_in : World → Argument → Given
-argument_in w a = argument_of w.tables w.texts a
-
 abbrev pub pairs_in : World → Entries → GivenPairs
 pairs_in w entries = entries_of w.tables w.texts entries.pairs.items
 
 abbrev pub arguments_in : World → NamedList → List NamedGiven
 arguments_in w args = arguments_of w.tables w.texts args.items.items
-
-abbrev pub subscript_in : World → Subscript → GivenSub
-subscript_in w s = subscript_of w.tables w.texts s
 
 -- one subscript or two
 abbrev pub subscripts_in : World → Subscript × Option Subscript → GivenSub × Option GivenSub

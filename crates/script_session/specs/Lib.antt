@@ -4,6 +4,7 @@ pub mod FormFault
 pub mod Reads
 pub mod Faults
 pub mod Parts
+pub mod Links
 pub mod Work
 pub mod Evaluates
 pub mod Apart

@@ -24,10 +24,6 @@ optional_expr (Some x) = tree.some_expr (expr_of x)
 abbrev pub both_of : {A B : Type 0} → Reads A → Reads B → Reads (A × B)
 both_of x y = then_read x (λ v. then_read y (λ w. gives (v, w)))
 
--- the last of three, or the first fault
-abbrev pub last_of : {A B C : Type 0} → Reads A → Reads B → Reads C → Reads C
-last_of x y z = then_read x (λ a. then_read y (λ b. z))
-
 -- the last step of a target, as it is seen
 abbrev pub target_seen : World → Selector × Subscript × Option Subscript → Target
 target_seen w p = record { way = way_of p.0; first = subscript_of w.tables w.texts p.1; second = option_map (subscript_of w.tables w.texts) p.2 }

@@ -5,11 +5,13 @@ ghost use Rattle.script_meaning.specs.Expression.{named_by, value_of, stepped, g
 ghost use Rattle.script_syntax.specs.View.{expr_of, step_of, sub_of as view_sub, arg_of, optional_arg, parts_of, named_parts_of, pair_parts_of};
 ghost use Rattle.frame_store.specs.World.{IsKnownValue, IsKnownItem, AreKnownItems, IsKnownArgument, AreKnownPairs, AreKnownArguments, IsKnownSubscript, entry_in};
 ghost use Rattle.script_session.specs.Evaluates.{moment, IsValue, Evaluates, AreSubscripts, item_in, items_in, argument_in, pairs_in, arguments_in, subscript_in, subscripts_in};
-ghost use Rattle.script_session.specs.Parts.{optional_sub, both_of, last_of};
+ghost use Rattle.script_session.specs.Parts.{optional_sub, both_of};
+ghost use Rattle.script_session.specs.Links.{linked};
 
 use crate::fault::{EvalFault, evaluated};
 use crate::file_names::FileNames;
 use crate::forms::{expect_function, expect_method};
+use crate::link::{Link, Linked};
 use crate::words::{copied_name, selector_of};
 use crate::work::Work;
 use cell_core::{Code, Words};
@@ -95,45 +97,41 @@ impl Work {
                 evaluated(self.method(on, &Chain::Plain(name), &args))
             }
             Step::Group(args, by, name, more) => {
-                expect_method(self.alloc, &self.store, on, "groupby")?;
-                let (args, by, more) = self.chained(files, names, args, by, more)?;
-                let name = Words::from_text(self.alloc, name.as_str())?;
-                evaluated(self.method(on, &Chain::Group(args, Some(by), name), &more))
+                let call = Link::Groupby.linked(args, by, name, more);
+                self.through(files, names, on, call)
             }
             Step::Rolling(args, name, more) => {
-                expect_method(self.alloc, &self.store, on, "rolling")?;
-                let (args, _, more) = self.chained(files, names, args, &None, more)?;
-                let name = Words::from_text(self.alloc, name.as_str())?;
-                evaluated(self.method(on, &Chain::Rolling(args, name), &more))
+                let call = Link::Rolling.linked(args, &None, name, more);
+                self.through(files, names, on, call)
             }
             Step::Expanding(args, name, more) => {
-                expect_method(self.alloc, &self.store, on, "expanding")?;
-                let (args, _, more) = self.chained(files, names, args, &None, more)?;
-                let name = Words::from_text(self.alloc, name.as_str())?;
-                evaluated(self.method(on, &Chain::Expanding(args, name), &more))
+                let call = Link::Expanding.linked(args, &None, name, more);
+                self.through(files, names, on, call)
             }
         }
     }
 
-    // The arguments and the brackets of groups and windows, and the arguments of the method behind them.
+    // The value of a call behind `groupby`, `rolling` or `expanding`.
     #[cycle(evaluating)]
-    fn chained<F: Files>(
+    fn through<F: Files>(
         &mut self,
         files: &mut F,
         names: &FileNames,
-        args: &Args,
-        by: &Option<Arg>,
-        more: &Args,
-    ) -> Result<(NamedList, Argument, NamedList), EvalFault>
+        on: Value,
+        call: Linked<'_>,
+    ) -> Result<Value, EvalFault>
+        requires { IsKnownValue (world_of self.old) on }
         ensures { let at = moment F.seen in
-            Evaluates names.now (λ w p. AreKnownArguments (world_of w) p.2.items.items) (λ w p. arguments_in w p.2)
-            (λ fs s. last_of (named_of fs s (named_args (named_parts_of args.now))) (bound_of fs s (optional_arg by.now)) (named_of fs s (named_args (named_parts_of more.now))))
+            Evaluates names.now (IsValue None) entry_in
+            (λ fs s. linked fs s (entry_in (world_of self.old) on) call.entry)
             (at self.old files.old) (at self.new files.new) result }
     {
-        let args = self.arguments(files, names, args)?;
-        let by = self.bound(files, names, by)?;
-        let more = self.arguments(files, names, more)?;
-        Ok((args, by, more))
+        expect_method(self.alloc, &self.store, on, call.link.name())?;
+        let args = self.arguments(files, names, call.args)?;
+        let by = self.bound(files, names, call.by)?;
+        let more = self.arguments(files, names, call.more)?;
+        let name = Words::from_text(self.alloc, call.name.as_str())?;
+        evaluated(self.method(on, &call.link.chain(args, by, name), &more))
     }
 
     // What stands in the brackets of an accessor.

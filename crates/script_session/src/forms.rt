@@ -13,16 +13,17 @@ ghost use Rattle.method_meaning.specs.Calls.{chain_result, has_method};
 ghost use Rattle.method_meaning.specs.Readers.{make_with};
 ghost use Rattle.table_laws.specs.Validity.{IsHeldCell};
 ghost use Rattle.frame_store.specs.Objects.{tables};
-ghost use Rattle.frame_store.specs.Arguments.{entry_of, IsLive};
+ghost use Rattle.frame_store.specs.Arguments.{entry_of, argument_of, IsLive};
 ghost use Rattle.frame_store.specs.Shown.{FormAnswers};
 ghost use Rattle.frame_methods.specs.Calls.{chain_of};
 ghost use Rattle.selections.specs.Selected.{way_of};
+ghost use Rattle.selections.specs.Assigned.{new_value, moved_object, IsNewFor};
 ghost use Rattle.nullable_array.specs.Tasks.{operator_of};
 ghost use Rattle.script_tokens.specs.View.{binary_of};
 ghost use Rattle.script_syntax.specs.View.{literal_of, unary_of};
 ghost use Rattle.script_meaning.specs.Expression.{cell_of, is_minus};
 ghost use Rattle.frame_store.specs.World.{objects_of, entry_in, argument_in, arguments_in, subscript_in, Keeps, IsKnownValue, IsKnownArgument, AreKnownArguments, IsKnownSubscript, Forms, Sets};
-ghost use Rattle.script_session.specs.Bindings.{value_at, noted, IsOf};
+ghost use Rattle.script_session.specs.Bindings.{value_at, noted, is_spare, IsOf};
 ghost use Rattle.script_session.specs.Faults.{IsNoName, IsNoAttribute};
 
 use crate::fault::EvalFault;
@@ -36,10 +37,11 @@ use frame_methods::exists;
 use frame_store::{Argument, Chain, NamedList, ObjId, OpFault, Selector, Store, Subscript, Value};
 use nullable_array::Binary as Operator;
 use script_syntax::{Binary, Literal, Unary};
+use selections::NewValue;
 use std::alloc::Global;
 
 impl Work {
-    ghost use Rattle.script_session.specs.Work.{names_in, world_of};
+    ghost use Rattle.script_session.specs.Work.{names_in, tables_in, world_of, IsUnnamedValue, SetsFrom};
 
     // The value of a name.
     pub(crate) fn named(&self, name: &Words) -> Result<Value, EvalFault>
@@ -205,7 +207,7 @@ impl Work {
         Ok(made)
     }
 
-    // What brackets or an accessor name is set.
+    // What brackets or an accessor name is set. Where no name stands for the value's object, it may end.
     pub(crate) fn assign(
         &mut self,
         on: Value,
@@ -219,7 +221,8 @@ impl Work {
         requires second { IfSome second.now (IsKnownSubscript (world_of self.old)) }
         requires value { IsKnownArgument (world_of self.old) value.now }
         ensures names { names_in self.new ≡ names_in self.old }
-        ensures sets { Sets result on (assign_result (entry_in (world_of self.old) on) (way_of by)
+        ensures sets { SetsFrom (names_in self.old) value.now result on
+            (assign_result (entry_in (world_of self.old) on) (way_of by)
             (subscript_in (world_of self.old) first.now)
             (option_map (subscript_in (world_of self.old)) second.now)
             (argument_in (world_of self.old) value.now))
@@ -228,6 +231,7 @@ impl Work {
         let scalar = value.scalar();
         prove!(is_held(scalar));
         let second = second.as_ref();
+        let value = self.new_value(on, value);
         selections::assign(
             self.alloc,
             &mut self.store,
@@ -238,6 +242,33 @@ impl Work {
             second,
             value,
         )
+    }
+
+    // What a place is set to. An object that no name stands for isn't needed after the setting, if the one that is set
+    // has a name and so is another.
+    fn new_value<'a>(&self, on: Value, value: &'a Argument) -> NewValue<'a>
+        requires { IsKnownArgument (world_of self.now) value.now }
+        ensures meant { (texts : List OneText) → new_value (tables_in self.now) texts result
+            ≡ argument_of (tables_in self.now) texts value.now }
+        ensures live { IsNewFor (tables_in self.now) on result }
+        ensures spare { IfSome (moved_object result) (IsUnnamedValue (names_in self.now) value.now) }
+    {
+        if let Some(id) = value.object() {
+            if self.is_spare(on, id) {
+                return NewValue::Moved(id);
+            }
+        }
+        NewValue::Copied(value)
+    }
+
+    // Whether a name stands for the value, and none for the object.
+    fn is_spare(&self, on: Value, id: ObjId) -> bool
+        ensures { result ≡ is_spare (names_in self.now) on id }
+    {
+        match on {
+            Value::Object(on) => self.names.has(on) && !self.names.has(id),
+            Value::Scalar(_) => false,
+        }
     }
 
     // A column is taken out.

@@ -21,6 +21,7 @@ mod fault;
 mod file_names;
 mod files;
 mod forms;
+mod link;
 mod literal;
 mod names;
 mod printing;

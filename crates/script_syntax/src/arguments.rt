@@ -26,7 +26,7 @@ impl<
     // An argument.
     #[tactic(auto, unfolding(crate::specs::Reading::argument_with, crate::specs::Reading::and_then, crate::specs::Reading::or_else))]
     pub(crate) fn argument_with<'t, 'a>(&self, tokens: &'t [Token<'a>]) -> Found<'t, 'a, Arg>
-        requires { Nests self.now.room (E.pre self.now.expr) (E.post self.now.expr) (A.pre self.now.argument) (A.post self.now.argument) }
+        requires { Nests E.Fn A.Fn self.now.expr self.now.argument self.now.room }
         ensures { Finds arg_of arg_depth (self.now.room + 1) result (at.argument_with self.now.room (tokens_of tokens.now)) }
     {
         if let Some(rest) = after_mark(tokens, Mark::OpenParen) {
@@ -52,7 +52,7 @@ impl<
     // What begins with a parenthesis and this argument: a tuple, or an expression.
     #[tactic(auto, unfolding(crate::specs::Reading::opened, crate::specs::Reading::and_then, crate::specs::Reading::or_else, crate::specs::Reading::pick, crate::specs::Reading::as_item))]
     fn opened<'t, 'a>(&self, arg: (Arg, usize), tokens: &'t [Token<'a>]) -> Found<'t, 'a, Arg>
-        requires nests { Nests self.now.room (E.pre self.now.expr) (E.post self.now.expr) (A.pre self.now.argument) (A.post self.now.argument) }
+        requires nests { Nests E.Fn A.Fn self.now.expr self.now.argument self.now.room }
         requires deep { arg.1 ≡ arg_depth (arg_of arg.0) }
         requires fits { arg.1 ≤ self.now.room }
         ensures { Finds arg_of arg_depth (self.now.room + 1) result (at.opened self.now.room (arg_of arg.0) (tokens_of tokens.now)) }
@@ -71,7 +71,7 @@ impl<
     // What begins with a parenthesis and this argument, without a comma.
     #[tactic(auto, unfolding(crate::specs::Reading::unparted, crate::specs::Reading::expr_from, crate::specs::Reading::and_then))]
     fn unparted<'t, 'a>(&self, arg: (Arg, usize), tokens: &'t [Token<'a>]) -> Found<'t, 'a, Arg>
-        requires nests { Nests self.now.room (E.pre self.now.expr) (E.post self.now.expr) (A.pre self.now.argument) (A.post self.now.argument) }
+        requires nests { Nests E.Fn A.Fn self.now.expr self.now.argument self.now.room }
         requires deep { arg.1 ≡ arg_depth (arg_of arg.0) }
         requires fits { arg.1 ≤ self.now.room }
         ensures { Finds arg_of arg_depth (self.now.room + 1) result (at.unparted self.now.room (arg_of arg.0) (tokens_of tokens.now)) }
@@ -94,7 +94,7 @@ impl<
         tokens: &'t [Token<'a>],
         close: Mark,
     ) -> Found<'t, 'a, ArgList>
-        requires nests { Nests self.now.room (E.pre self.now.expr) (E.post self.now.expr) (A.pre self.now.argument) (A.post self.now.argument) }
+        requires nests { Nests E.Fn A.Fn self.now.expr self.now.argument self.now.room }
         requires deep { begun.1 ≡ list_depth (items_of begun.0) }
         requires fits { begun.1 ≤ self.now.room }
         ensures { Finds items_of list_depth self.now.room result (after_items (parts_of begun.0) (at.items self.now.room (mark_of close) (length (tokens_of tokens.now)) (tokens_of tokens.now))) }
@@ -117,7 +117,7 @@ impl<
 
     // Arguments, and the parenthesis that closes them.
     pub(crate) fn arguments<'t, 'a>(&self, tokens: &'t [Token<'a>]) -> Found<'t, 'a, Args>
-        requires { Nests self.now.room (E.pre self.now.expr) (E.post self.now.expr) (A.pre self.now.argument) (A.post self.now.argument) }
+        requires { Nests E.Fn A.Fn self.now.expr self.now.argument self.now.room }
         ensures { Finds args_of args_depth self.now.room result (at.all_arguments self.now.room (tokens_of tokens.now)) }
     {
         let mut args = Args::new(self.alloc);
@@ -145,7 +145,7 @@ impl<
         tokens: &'t [Token<'a>],
         after_name: bool,
     ) -> Found<'t, 'a, (Option<Words>, Arg)>
-        requires { Nests self.now.room (E.pre self.now.expr) (E.post self.now.expr) (A.pre self.now.argument) (A.post self.now.argument) }
+        requires { Nests E.Fn A.Fn self.now.expr self.now.argument self.now.room }
         ensures { Finds named_of named_depth self.now.room result (at.named_at self.now.room after_name (tokens_of tokens.now)) }
     {
         let (name, rest) = keyword(self.alloc, tokens, after_name)?;
@@ -155,7 +155,7 @@ impl<
 
     // The entries of a dictionary, and the brace that closes them.
     fn pairs<'t, 'a>(&self, tokens: &'t [Token<'a>]) -> Found<'t, 'a, ArgPairs>
-        requires { Nests self.now.room (E.pre self.now.expr) (E.post self.now.expr) (A.pre self.now.argument) (A.post self.now.argument) }
+        requires { Nests E.Fn A.Fn self.now.expr self.now.argument self.now.room }
         ensures { Finds entries_of pairs_depth self.now.room result (at.pairs self.now.room (length (tokens_of tokens.now)) (tokens_of tokens.now)) }
     {
         let mut entries = ArgPairs::new(self.alloc);

@@ -31,7 +31,7 @@ impl<
         tokens: &'t [Token<'a>],
         least: usize,
     ) -> Found<'t, 'a, Expr>
-        requires { Nests self.now.room (E.pre self.now.expr) (E.post self.now.expr) (A.pre self.now.argument) (A.post self.now.argument) }
+        requires { Nests E.Fn A.Fn self.now.expr self.now.argument self.now.room }
         ensures { Finds expr_of depth (self.now.room + 1) result (at.expr_with self.now.room least (tokens_of tokens.now)) }
     {
         let (x, depth, rest) = self.signed(tokens)?;
@@ -41,7 +41,7 @@ impl<
     // An expression with its signs and steps.
     #[tactic(auto, unfolding(crate::specs::Reading::signed, crate::specs::Reading::postfix, crate::specs::Reading::and_then, crate::specs::Reading::or_else))]
     fn signed<'t, 'a>(&self, tokens: &'t [Token<'a>]) -> Found<'t, 'a, Expr>
-        requires { Nests self.now.room (E.pre self.now.expr) (E.post self.now.expr) (A.pre self.now.argument) (A.post self.now.argument) }
+        requires { Nests E.Fn A.Fn self.now.expr self.now.argument self.now.room }
         ensures { Finds expr_of depth (self.now.room + 1) result (at.signed self.now.room (tokens_of tokens.now)) }
     {
         if let Some((sign, rest)) = sign_at(tokens) {
@@ -55,7 +55,7 @@ impl<
     // A name, a literal, a call of a function, or an expression in parentheses.
     #[tactic(auto, unfolding(crate::specs::Reading::atom, crate::specs::Reading::and_then, crate::specs::Reading::or_else))]
     fn atom<'t, 'a>(&self, tokens: &'t [Token<'a>]) -> Found<'t, 'a, Expr>
-        requires { Nests self.now.room (E.pre self.now.expr) (E.post self.now.expr) (A.pre self.now.argument) (A.post self.now.argument) }
+        requires { Nests E.Fn A.Fn self.now.expr self.now.argument self.now.room }
         ensures { Finds expr_of depth (self.now.room + 1) result (at.atom self.now.room (tokens_of tokens.now)) }
     {
         if let Some((name, rest)) = name_at(tokens) {
@@ -82,7 +82,7 @@ impl<
     // An expression and what closes its parenthesis.
     #[tactic(auto, unfolding(crate::specs::Reading::enclosed, crate::specs::Reading::and_then))]
     fn enclosed<'t, 'a>(&self, tokens: &'t [Token<'a>]) -> Found<'t, 'a, Expr>
-        requires { Nests self.now.room (E.pre self.now.expr) (E.post self.now.expr) (A.pre self.now.argument) (A.post self.now.argument) }
+        requires { Nests E.Fn A.Fn self.now.expr self.now.argument self.now.room }
         ensures { Finds expr_of depth self.now.room result (at.enclosed self.now.room (tokens_of tokens.now)) }
     {
         let (x, depth, rest) = self.expr(tokens, 0)?;
@@ -96,7 +96,7 @@ impl<
         begun: (Expr, usize),
         tokens: &'t [Token<'a>],
     ) -> Found<'t, 'a, Expr>
-        requires nests { Nests self.now.room (E.pre self.now.expr) (E.post self.now.expr) (A.pre self.now.argument) (A.post self.now.argument) }
+        requires nests { Nests E.Fn A.Fn self.now.expr self.now.argument self.now.room }
         requires deep { begun.1 ≡ depth (expr_of begun.0) }
         requires fits { begun.1 ≤ self.now.room + 1 }
         ensures { Finds expr_of depth (self.now.room + 1) result (at.steps self.now.room (length (tokens_of tokens.now)) (expr_of begun.0) (tokens_of tokens.now)) }
@@ -121,7 +121,7 @@ impl<
         tokens: &'t [Token<'a>],
         least: usize,
     ) -> Found<'t, 'a, Expr>
-        requires nests { Nests self.now.room (E.pre self.now.expr) (E.post self.now.expr) (A.pre self.now.argument) (A.post self.now.argument) }
+        requires nests { Nests E.Fn A.Fn self.now.expr self.now.argument self.now.room }
         requires deep { begun.1 ≡ depth (expr_of begun.0) }
         requires fits { begun.1 ≤ self.now.room + 1 }
         ensures { Finds expr_of depth (self.now.room + 1) result (at.operators self.now.room (length (tokens_of tokens.now)) least (expr_of begun.0) (tokens_of tokens.now)) }

@@ -28,14 +28,14 @@ impl<
     A: for<'t, 'a> Fn(Global, &'t [Token<'a>], usize) -> Found<'t, 'a, Arg>,
 > Grammar<E, A> {
     pub(crate) fn expr<'t, 'a>(&self, tokens: &'t [Token<'a>], least: usize) -> Found<'t, 'a, Expr>
-        requires { Nests self.now.room (E.pre self.now.expr) (E.post self.now.expr) (A.pre self.now.argument) (A.post self.now.argument) }
+        requires { Nests E.Fn A.Fn self.now.expr self.now.argument self.now.room }
         ensures { Finds expr_of depth self.now.room result (spec.expr_at self.now.room least (tokens_of tokens.now)) }
     {
         (self.expr)(self.alloc, tokens, self.room, least)
     }
 
     pub(crate) fn argument<'t, 'a>(&self, tokens: &'t [Token<'a>]) -> Found<'t, 'a, Arg>
-        requires { Nests self.now.room (E.pre self.now.expr) (E.post self.now.expr) (A.pre self.now.argument) (A.post self.now.argument) }
+        requires { Nests E.Fn A.Fn self.now.expr self.now.argument self.now.room }
         ensures { Finds arg_of arg_depth self.now.room result (spec.argument_at self.now.room (tokens_of tokens.now)) }
     {
         (self.argument)(self.alloc, tokens, self.room)

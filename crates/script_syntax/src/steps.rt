@@ -28,7 +28,7 @@ impl<
     // A step.
     #[tactic(auto, unfolding(crate::specs::Reading::step, crate::specs::Reading::step_from, crate::specs::Reading::dotted, crate::specs::Reading::and_then, crate::specs::Reading::or_else))]
     pub(crate) fn step<'t, 'a>(&self, tokens: &'t [Token<'a>]) -> Found<'t, 'a, Step>
-        requires { Nests self.now.room (E.pre self.now.expr) (E.post self.now.expr) (A.pre self.now.argument) (A.post self.now.argument) }
+        requires { Nests E.Fn A.Fn self.now.expr self.now.argument self.now.room }
         ensures { Finds step_of step_depth self.now.room result (at.step self.now.room (tokens_of tokens.now)) }
     {
         let (selection, depth, rest) = self.brackets(tokens)?;
@@ -51,7 +51,7 @@ impl<
     // A step with parentheses, after the first of them.
     #[tactic(auto, unfolding(crate::specs::Reading::call, crate::specs::Reading::called, crate::specs::Reading::and_then))]
     fn call<'t, 'a>(&self, word: &str, tokens: &'t [Token<'a>]) -> Found<'t, 'a, Step>
-        requires { Nests self.now.room (E.pre self.now.expr) (E.post self.now.expr) (A.pre self.now.argument) (A.post self.now.argument) }
+        requires { Nests E.Fn A.Fn self.now.expr self.now.argument self.now.room }
         ensures { Finds step_of step_depth self.now.room result (at.call self.now.room word.now (tokens_of tokens.now)) }
     {
         let Some(kind) = call_of(word) else {
@@ -90,7 +90,7 @@ impl<
     // `.name(` with its arguments.
     #[tactic(auto, unfolding(crate::specs::Reading::named_call, crate::specs::Reading::and_then))]
     fn named_call<'t, 'a>(&self, tokens: &'t [Token<'a>]) -> Found<'t, 'a, (Words, Args)>
-        requires { Nests self.now.room (E.pre self.now.expr) (E.post self.now.expr) (A.pre self.now.argument) (A.post self.now.argument) }
+        requires { Nests E.Fn A.Fn self.now.expr self.now.argument self.now.room }
         ensures { Finds named_call_of named_call_depth self.now.room result (at.named_call self.now.room (tokens_of tokens.now)) }
     {
         let Some((name, rest)) = call_at(tokens) else {
@@ -104,7 +104,7 @@ impl<
     // An argument in brackets, where there are any.
     #[tactic(auto, unfolding(crate::specs::Reading::brackets, crate::specs::Reading::bracketed, crate::specs::Reading::and_then, crate::specs::Reading::or_else))]
     fn brackets<'t, 'a>(&self, tokens: &'t [Token<'a>]) -> Found<'t, 'a, Option<Arg>>
-        requires { Nests self.now.room (E.pre self.now.expr) (E.post self.now.expr) (A.pre self.now.argument) (A.post self.now.argument) }
+        requires { Nests E.Fn A.Fn self.now.expr self.now.argument self.now.room }
         ensures { Finds optional_arg optional_arg_depth self.now.room result (at.brackets self.now.room (tokens_of tokens.now)) }
     {
         let Some(rest) = after_mark(tokens, Mark::OpenBracket) else {
@@ -118,7 +118,7 @@ impl<
     // The subscripts of an accessor, after its bracket.
     #[tactic(auto, unfolding(crate::specs::Reading::subscripts, crate::specs::Reading::and_then))]
     fn subscripts<'t, 'a>(&self, accessor: Accessor, tokens: &'t [Token<'a>]) -> Found<'t, 'a, Step>
-        requires { Nests self.now.room (E.pre self.now.expr) (E.post self.now.expr) (A.pre self.now.argument) (A.post self.now.argument) }
+        requires { Nests E.Fn A.Fn self.now.expr self.now.argument self.now.room }
         ensures { Finds step_of step_depth self.now.room result (at.subscripts self.now.room (accessor_of accessor) (tokens_of tokens.now)) }
     {
         let (sub, depth, rest) = self.sub_at(tokens)?;
@@ -130,7 +130,7 @@ impl<
     // A second subscript, if there is one, and what closes the brackets.
     #[tactic(auto, unfolding(crate::specs::Reading::second, crate::specs::Reading::and_then, crate::specs::Reading::or_else))]
     fn second<'t, 'a>(&self, tokens: &'t [Token<'a>]) -> Found<'t, 'a, Option<Sub>>
-        requires { Nests self.now.room (E.pre self.now.expr) (E.post self.now.expr) (A.pre self.now.argument) (A.post self.now.argument) }
+        requires { Nests E.Fn A.Fn self.now.expr self.now.argument self.now.room }
         ensures { Finds optional_sub optional_sub_depth self.now.room result (at.second self.now.room (tokens_of tokens.now)) }
     {
         let Some(rest) = after_mark(tokens, Mark::Comma) else {
@@ -145,7 +145,7 @@ impl<
     // A subscript.
     #[tactic(auto, unfolding(crate::specs::Reading::sub_at, crate::specs::Reading::sub_from, crate::specs::Reading::and_then, crate::specs::Reading::or_else, crate::specs::Reading::pick, crate::specs::Reading::as_item))]
     fn sub_at<'t, 'a>(&self, tokens: &'t [Token<'a>]) -> Found<'t, 'a, Sub>
-        requires { Nests self.now.room (E.pre self.now.expr) (E.post self.now.expr) (A.pre self.now.argument) (A.post self.now.argument) }
+        requires { Nests E.Fn A.Fn self.now.expr self.now.argument self.now.room }
         ensures { Finds sub_of sub_depth self.now.room result (at.sub_at self.now.room (tokens_of tokens.now)) }
     {
         if let Some(rest) = after_mark(tokens, Mark::Colon) {
@@ -166,7 +166,7 @@ impl<
         start: (Option<Arg>, usize),
         tokens: &'t [Token<'a>],
     ) -> Found<'t, 'a, Sub>
-        requires nests { Nests self.now.room (E.pre self.now.expr) (E.post self.now.expr) (A.pre self.now.argument) (A.post self.now.argument) }
+        requires nests { Nests E.Fn A.Fn self.now.expr self.now.argument self.now.room }
         requires deep { start.1 ≡ optional_arg_depth (optional_arg start.0) }
         requires fits { start.1 ≤ self.now.room }
         ensures { Finds sub_of sub_depth self.now.room result (at.span_after self.now.room (optional_arg start.0) (tokens_of tokens.now)) }
@@ -181,7 +181,7 @@ impl<
     // The end of a slice, if it has one.
     #[tactic(auto, unfolding(crate::specs::Reading::bound, crate::specs::Reading::item_at, crate::specs::Reading::and_then, crate::specs::Reading::pick))]
     fn bound<'t, 'a>(&self, tokens: &'t [Token<'a>]) -> Found<'t, 'a, Option<Arg>>
-        requires { Nests self.now.room (E.pre self.now.expr) (E.post self.now.expr) (A.pre self.now.argument) (A.post self.now.argument) }
+        requires { Nests E.Fn A.Fn self.now.expr self.now.argument self.now.room }
         ensures { Finds optional_arg optional_arg_depth self.now.room result (at.bound self.now.room (tokens_of tokens.now)) }
     {
         if ends_bound(tokens) {
@@ -195,7 +195,7 @@ impl<
     // The step of a slice, if it has one.
     #[tactic(auto, unfolding(crate::specs::Reading::stride, crate::specs::Reading::and_then, crate::specs::Reading::or_else, crate::specs::Reading::pick))]
     fn stride<'t, 'a>(&self, tokens: &'t [Token<'a>]) -> Found<'t, 'a, Option<Expr>>
-        requires { Nests self.now.room (E.pre self.now.expr) (E.post self.now.expr) (A.pre self.now.argument) (A.post self.now.argument) }
+        requires { Nests E.Fn A.Fn self.now.expr self.now.argument self.now.room }
         ensures { Finds optional_expr optional_expr_depth self.now.room result (at.stride self.now.room (tokens_of tokens.now)) }
     {
         let Some(rest) = after_mark(tokens, Mark::Colon) else {

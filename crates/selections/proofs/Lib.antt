@@ -9,4 +9,5 @@ pub mod ChangeLaws
 pub mod ColumnLaws
 pub mod PutLaws
 pub mod AssignLaws
+pub mod MoveLaws
 pub mod CellLaws

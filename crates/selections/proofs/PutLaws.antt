@@ -122,11 +122,11 @@ put_by t l c headed =
 headed_seen : (texts : List Text) (t : NumberedTable) → IsWhole t → length (headings_value texts t.headings) ≡ length (columns_value texts t.columns)
 headed_seen texts t whole = length-map t.headings (heading_value texts) ∙ whole.headed ∙ sym (length-map t.columns (column_value texts))
 
-put_seen : (texts : List Text) (t : NumberedTable) (label : Label) (c : CellColumn) (rows : ℕ) → IsWhole t → rows ≡ length t.labels
-    → put_result (table_value texts t) (label_datum texts label) (column_seen texts c) ≡ then_value (put_place rows (headings_value texts t.headings) (label_datum texts label)) (put_there (table_value texts t) (label_datum texts label) (column_seen texts c))
+put_seen : (texts : List Text) (t : NumberedTable) (label : Label) (c : ColumnOf CellValue) (rows : ℕ) → IsWhole t → rows ≡ length t.labels
+    → put_result (table_value texts t) (label_datum texts label) c ≡ then_value (put_place rows (headings_value texts t.headings) (label_datum texts label)) (put_there (table_value texts t) (label_datum texts label) c)
 put_seen texts t label c rows whole is =
-    put_by (table_value texts t) (label_datum texts label) (column_seen texts c) (headed_seen texts t whole)
-    ∙ ap (λ n. then_value (put_place n (headings_value texts t.headings) (label_datum texts label)) (put_there (table_value texts t) (label_datum texts label) (column_seen texts c))) (length-map t.labels (tuple_value texts) ∙ sym is)
+    put_by (table_value texts t) (label_datum texts label) c (headed_seen texts t whole)
+    ∙ ap (λ n. then_value (put_place n (headings_value texts t.headings) (label_datum texts label)) (put_there (table_value texts t) (label_datum texts label) c)) (length-map t.labels (tuple_value texts) ∙ sym is)
 
 column_put : (texts : List Text) (t : NumberedTable) (place : ℕ) (label : Label) (c : CellColumn) → with_column (table_value texts t) place (Some (label_datum texts label)) (column_seen texts c) ≡ table_value texts (with_column t place (Some label) (table_column c))
 column_put texts t place label c = λ j.
@@ -135,13 +135,17 @@ column_put texts t place label c = λ j.
 pub put_meant : (texts : List Text) (t : NumberedTable) (place rows : ℕ) (label : Label) (c : CellColumn) (u : NumberedTable) → IsWhole t → rows ≡ length t.labels → put_place rows (headings_value texts t.headings) (label_datum texts label) ≡ Ok place
     → u ≡ with_column t place (Some label) (table_column c) → put_result (table_value texts t) (label_datum texts label) (column_seen texts c) ≡ Ok (table_value texts u)
 put_meant texts t place rows label c u whole is placed made =
-    put_seen texts t label c rows whole is
+    put_seen texts t label (column_seen texts c) rows whole is
     ∙ ap (λ r. then_value r (put_there (table_value texts t) (label_datum texts label) (column_seen texts c))) placed
     ∙ ap (λ (v : Table). Ok v) (column_put texts t place label c ∙ ap (table_value texts) (sym made))
 
 pub put_refused : (texts : List Text) (t : NumberedTable) (rows : ℕ) (label : Label) (c : CellColumn) → IsWhole t → rows ≡ length t.labels
     → then_value (put_place rows (headings_value texts t.headings) (label_datum texts label)) (put_there (table_value texts t) (label_datum texts label) (column_seen texts c)) ≡ put_result (table_value texts t) (label_datum texts label) (column_seen texts c)
-put_refused texts t rows label c whole is = sym (put_seen texts t label c rows whole is)
+put_refused texts t rows label c whole is = sym (put_seen texts t label (column_seen texts c) rows whole is)
+
+pub put_refused_of : (texts : List Text) (t : NumberedTable) (rows : ℕ) (label : Label) (c : ColumnOf CellValue) → IsWhole t → rows ≡ length t.labels
+    → then_value (put_place rows (headings_value texts t.headings) (label_datum texts label)) (put_there (table_value texts t) (label_datum texts label) c) ≡ put_result (table_value texts t) (label_datum texts label) c
+put_refused_of texts t rows label c whole is = sym (put_seen texts t label c rows whole is)
 
 pub put_settled : (texts : List Text) (t : NumberedTable) (place : ℕ) (label : Label) (c : ColumnOf Cell) → IsSettled table_value texts t → IsSettled label_datum texts label → AreGiven texts c.cells → IsSettled table_value texts (with_column t place (Some label) c)
 put_settled texts t place label c settled named given =
@@ -206,10 +210,10 @@ rows_at is = ap (λ (u : NumberedTable). length u.labels) is
 nat_eq_self : (n : ℕ) → nat_eq n n ≡ true
 nat_eq_self n = grind (arith, nat_tests)
 
-nat_same : (a b : ℕ) → nat_eq a b ≡ true → a ≡ b
+pub nat_same : (a b : ℕ) → nat_eq a b ≡ true → a ≡ b
 nat_same a b e = grind (arith, nat_tests)
 
-nat_other : (a b : ℕ) → a ≢ b → nat_eq a b ≡ false
+pub nat_other : (a b : ℕ) → a ≢ b → nat_eq a b ≡ false
 nat_other a b e = go (nat_eq a b) refl
   where
     go : (r : Bool) → nat_eq a b ≡ r → nat_eq a b ≡ false

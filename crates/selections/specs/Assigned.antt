@@ -1,5 +1,5 @@
 -- What settings are made of.
-use Rattle.std.specs.Prelude.{ℕ, ◌+◌, List, map, length, nat_lt, replicate, unwrap_or, Option, Result, Ok, Err, if◌then◌else◌}
+use Rattle.std.specs.Prelude.{◌≢◌, ℕ, ◌+◌, List, map, length, nat_lt, replicate, unwrap_or, Option, Some, None, Result, Ok, Err, if◌then◌else◌}
 use Rattle.cell_core.specs.declared.cell.Cell.{Cell}
 use Rattle.cell_core.specs.declared.cell.Cell.TheVariants.{Na}
 use Rattle.meaning.specs.Text.{Text}
@@ -8,8 +8,36 @@ use Rattle.meaning.specs.Fault.{FaultValue, limit}
 use Rattle.multi_index.specs.Axes.{AxisValue}
 use Rattle.column_core.specs.Columns.{CellColumn}
 use Rattle.table_meaning.specs.Table.{ColumnOf, NumberedTable}
+use Rattle.table_meaning.specs.Value.{Given, one, table}
 use Rattle.form_meaning.specs.Finish.{within_limits}
 use Rattle.form_meaning.specs.Select.{place_of_label}
+use Rattle.frame_store.specs.Objects.{Tables}
+use Rattle.frame_store.specs.Arguments.{object_value, argument_of, IsLiveObject, IsLiveArgument}
+use Rattle.frame_store.specs.declared.object.ObjId.{ObjId}
+use Rattle.frame_store.specs.declared.arguments.Value.{Value}
+use Rattle.frame_store.specs.declared.arguments.Value.TheVariants.{Object, Scalar}
+use Rattle.selections.specs.declared.moving.NewValue.{NewValue}
+use Rattle.selections.specs.declared.moving.NewValue.TheVariants.{Copied, Moved}
+
+-- what is given, an object as its table
+abbrev pub new_value : Tables → List Text → NewValue → Given
+new_value tables texts (Copied a) = argument_of tables texts a.now
+new_value tables texts (Moved id) = one (table (object_value tables texts id))
+
+-- the object that ends with the setting
+abbrev pub moved_object : NewValue → Option ObjId
+moved_object (Copied a) = None
+moved_object (Moved id) = Some id
+
+-- the value isn't the object
+abbrev pub IsOther : Value → ObjId → Type 0
+IsOther (Object o) id = o.0 ≢ id.0
+IsOther (Scalar c) id = Unit {0}
+
+-- what is given is live, and an object that ends isn't the one that is set
+abbrev pub IsNewFor : Tables → Value → NewValue → Type 0
+IsNewFor tables on (Copied a) = IsLiveArgument tables a.now
+IsNewFor tables on (Moved id) = IsLiveObject tables id × IsOther on id
 
 -- a column of a kernel as a column of a table, and with texts
 abbrev pub table_column : CellColumn → ColumnOf Cell

@@ -14,11 +14,12 @@ ghost use Rattle.form_meaning.specs.Set as meant;
 ghost use Rattle.frame_store.specs.declared.arguments.Value.TheVariants.{Object};
 ghost use Rattle.frame_store.specs.Objects.{tables, table_at};
 ghost use Rattle.frame_store.specs.Arguments.{entry_of, argument_of, subscript_of, items_of, IsLive, IsLiveArgument};
-ghost use Rattle.frame_store.specs.Shown.{shown, cells_value, Changes};
+ghost use Rattle.frame_store.specs.Shown.{shown, spent, cells_value, Changes};
 ghost use Rattle.selections.specs.Selected.{way_of};
-ghost use Rattle.selections.specs.Assigned.{column_seen};
+ghost use Rattle.selections.specs.Assigned.{column_seen, new_value, moved_object, IsNewFor};
 
 use crate::columns::{list_column, scalar_column};
+use crate::moving::{NewValue, moved_set};
 use crate::putting::{put_labelled, put_place, put_with_rows};
 use crate::subscripts::{only_key, position_in, row_place, scalars_of};
 use cell_core::{Cell, Cells, Code, Grid, Label, Places, Reason, Shape, TextDict};
@@ -247,8 +248,8 @@ fn object_set(
     }
 }
 
-// A value for the column of a label.
-fn label_set(
+// An argument for the column of a label.
+fn argument_set(
     alloc: Global,
     store: &mut Store,
     dict: &TextDict,
@@ -277,6 +278,30 @@ fn label_set(
     }
 }
 
+// A value for the column of a label.
+fn label_set(
+    alloc: Global,
+    store: &mut Store,
+    dict: &TextDict,
+    on: ObjId,
+    label: Label,
+    value: NewValue<'_>,
+) -> Result<(), OpFault>
+    requires live { IsSome (tables store.old on.0) }
+    requires shape { (table_at (tables store.old) on.0).shape ≡ Frame }
+    requires settled { IsSettled shown dict.now (tables store.old) }
+    requires label { IsSettled label_datum dict.now label }
+    requires value_live { IsNewFor (tables store.old) (Object on) value }
+    requires value { IsSettled (new_value (tables store.old)) dict.now value }
+    ensures settled { IsSettled shown dict.now (tables store.new) }
+    ensures answers { Changes dict.now result (Object on) (meant.label_set (table_value dict.now (table_at (tables store.old) on.0)) (label_datum dict.now label) (new_value (tables store.old) dict.now value.entry)) (shown dict.now (spent result (moved_object value.entry) (tables store.old))) (shown dict.now (tables store.new)) }
+{
+    match value {
+        NewValue::Copied(value) => argument_set(alloc, store, dict, on, label, value),
+        NewValue::Moved(object) => moved_set(alloc, store, dict, on, label, object),
+    }
+}
+
 // A value for what a key in brackets names.
 fn item_set(
     alloc: Global,
@@ -284,15 +309,15 @@ fn item_set(
     dict: &TextDict,
     on: ObjId,
     key: &Argument,
-    value: &Argument,
+    value: NewValue<'_>,
 ) -> Result<(), OpFault>
     requires live { IsSome (tables store.old on.0) }
     requires settled { IsSettled shown dict.now (tables store.old) }
     requires key { IsSettled (argument_of (tables store.old)) dict.now key.now }
-    requires value_live { IsLiveArgument (tables store.old) value.now }
-    requires value { IsSettled (argument_of (tables store.old)) dict.now value.now }
+    requires value_live { IsNewFor (tables store.old) (Object on) value }
+    requires value { IsSettled (new_value (tables store.old)) dict.now value }
     ensures settled { IsSettled shown dict.now (tables store.new) }
-    ensures answers { let t = table_at (tables store.old) on.0 in Changes dict.now result (Object on) (meant.item_set t.shape (table_value dict.now t) (argument_of (tables store.old) dict.now key.now) (argument_of (tables store.old) dict.now value.now)) (shown dict.now (tables store.old)) (shown dict.now (tables store.new)) }
+    ensures answers { let t = table_at (tables store.old) on.0 in Changes dict.now result (Object on) (meant.item_set t.shape (table_value dict.now t) (argument_of (tables store.old) dict.now key.now) (new_value (tables store.old) dict.now value.entry)) (shown dict.now (spent result (moved_object value.entry) (tables store.old))) (shown dict.now (tables store.new)) }
 {
     match store.read(on).shape() {
         Shape::Series => Err(OpFault::Refused(Code::NotBuilt)),
@@ -311,15 +336,15 @@ fn bracketed_set(
     on: ObjId,
     first: &Subscript,
     second: Option<&Subscript>,
-    value: &Argument,
+    value: NewValue<'_>,
 ) -> Result<(), OpFault>
     requires live { IsSome (tables store.old on.0) }
     requires settled { IsSettled shown dict.now (tables store.old) }
     requires first { IsSettled (subscript_of (tables store.old)) dict.now first.now }
-    requires value_live { IsLiveArgument (tables store.old) value.now }
-    requires value { IsSettled (argument_of (tables store.old)) dict.now value.now }
+    requires value_live { IsNewFor (tables store.old) (Object on) value }
+    requires value { IsSettled (new_value (tables store.old)) dict.now value }
     ensures settled { IsSettled shown dict.now (tables store.new) }
-    ensures answers { Changes dict.now result (Object on) (meant.brackets_set (table (table_value dict.now (table_at (tables store.old) on.0))) (subscript_of (tables store.old) dict.now first.now) (option_map (λ s. subscript_of (tables store.old) dict.now s.now) second.entry) (argument_of (tables store.old) dict.now value.now)) (shown dict.now (tables store.old)) (shown dict.now (tables store.new)) }
+    ensures answers { Changes dict.now result (Object on) (meant.brackets_set (table (table_value dict.now (table_at (tables store.old) on.0))) (subscript_of (tables store.old) dict.now first.now) (option_map (λ s. subscript_of (tables store.old) dict.now s.now) second.entry) (new_value (tables store.old) dict.now value.entry)) (shown dict.now (spent result (moved_object value.entry) (tables store.old))) (shown dict.now (tables store.new)) }
 {
     match only_key(first, second) {
         Some(key) => item_set(alloc, store, dict, on, key, value),
@@ -406,6 +431,28 @@ fn positioned_set(
     }
 }
 
+// A value for what an accessor names by position.
+fn accessed_set(
+    alloc: Global,
+    store: &mut Store,
+    dict: &TextDict,
+    on: ObjId,
+    first: &Subscript,
+    second: Option<&Subscript>,
+    value: NewValue<'_>,
+) -> Result<(), OpFault>
+    requires live { IsSome (tables store.old on.0) }
+    requires settled { IsSettled shown dict.now (tables store.old) }
+    requires value { IsSettled (new_value (tables store.old)) dict.now value }
+    ensures settled { IsSettled shown dict.now (tables store.new) }
+    ensures answers { let t = table_at (tables store.old) on.0 in Changes dict.now result (Object on) (meant.access_set t.shape (table_value dict.now t) (position_of iloc (subscript_of (tables store.old) dict.now first.now) (option_map (λ s. subscript_of (tables store.old) dict.now s.now) second.entry)) (scalar_in (new_value (tables store.old) dict.now value.entry))) (shown dict.now (spent result (moved_object value.entry) (tables store.old))) (shown dict.now (tables store.new)) }
+{
+    match value {
+        NewValue::Copied(value) => positioned_set(alloc, store, dict, on, first, second, value),
+        NewValue::Moved(_) => Err(OpFault::Refused(Code::NotBuilt)),
+    }
+}
+
 // A setting of an object.
 fn assigned(
     alloc: Global,
@@ -415,19 +462,19 @@ fn assigned(
     by: Selector,
     first: &Subscript,
     second: Option<&Subscript>,
-    value: &Argument,
+    value: NewValue<'_>,
 ) -> Result<(), OpFault>
     requires live { IsSome (tables store.old on.0) }
     requires settled { IsSettled shown dict.now (tables store.old) }
     requires first { IsSettled (subscript_of (tables store.old)) dict.now first.now }
-    requires value_live { IsLiveArgument (tables store.old) value.now }
-    requires value { IsSettled (argument_of (tables store.old)) dict.now value.now }
+    requires value_live { IsNewFor (tables store.old) (Object on) value }
+    requires value { IsSettled (new_value (tables store.old)) dict.now value }
     ensures settled { IsSettled shown dict.now (tables store.new) }
-    ensures answers { Changes dict.now result (Object on) (meant.assign_result (table (table_value dict.now (table_at (tables store.old) on.0))) (way_of by) (subscript_of (tables store.old) dict.now first.now) (option_map (λ s. subscript_of (tables store.old) dict.now s.now) second.entry) (argument_of (tables store.old) dict.now value.now)) (shown dict.now (tables store.old)) (shown dict.now (tables store.new)) }
+    ensures answers { Changes dict.now result (Object on) (meant.assign_result (table (table_value dict.now (table_at (tables store.old) on.0))) (way_of by) (subscript_of (tables store.old) dict.now first.now) (option_map (λ s. subscript_of (tables store.old) dict.now s.now) second.entry) (new_value (tables store.old) dict.now value.entry)) (shown dict.now (spent result (moved_object value.entry) (tables store.old))) (shown dict.now (tables store.new)) }
 {
     match by {
         Selector::Plain => bracketed_set(alloc, store, dict, on, first, second, value),
-        Selector::Iloc => positioned_set(alloc, store, dict, on, first, second, value),
+        Selector::Iloc => accessed_set(alloc, store, dict, on, first, second, value),
         Selector::Loc => Err(OpFault::Refused(Code::NotBuilt)),
         Selector::At => Err(OpFault::Refused(Code::NotBuilt)),
         Selector::Iat => Err(OpFault::Refused(Code::NotBuilt)),
@@ -437,7 +484,8 @@ fn assigned(
 /// A setting: `v[..] = value`, `v.loc[..] = value` and so on, as in the pandas user guide, "Indexing
 /// and selecting data". So far a column of a frame by its label, and a Series' cell by its position in
 /// `iloc`. Only the table of `on` changes, and no other object with it (PDEP-7: each object behaves as
-/// a copy).
+/// a copy). A value that is [`Moved`](NewValue::Moved) ends with the setting, and none of its cells is
+/// copied.
 ///
 /// A scalar stands in each row of the column, and a list goes by rows. A Series goes by position where
 /// its row labels are the frame's. A frame without rows gets those of the Series, or the labels 0, 1
@@ -461,17 +509,17 @@ pub fn assign(
     by: Selector,
     first: &Subscript,
     second: Option<&Subscript>,
-    value: &Argument,
+    value: NewValue<'_>,
 ) -> Result<(), OpFault>
     requires live { IsLive (tables store.old) on }
     requires settled { IsSettled shown dict.old (tables store.old) }
     requires first { IsSettled (subscript_of (tables store.old)) dict.old first.now }
     requires second { IfSome second (λ s. IsSettled (subscript_of (tables store.old)) dict.old s.now) }
-    requires value_live { IsLiveArgument (tables store.old) value.now }
-    requires value { IsSettled (argument_of (tables store.old)) dict.old value.now }
+    requires value_live { IsNewFor (tables store.old) on value }
+    requires value { IsSettled (new_value (tables store.old)) dict.old value }
     ensures longer { IsLonger dict.old dict.new }
     ensures settled { IsSettled shown dict.new (tables store.new) }
-    ensures answers { Changes dict.new result on (meant.assign_result (entry_of (tables store.old) dict.old on) (way_of by) (subscript_of (tables store.old) dict.old first.now) (option_map (λ s. subscript_of (tables store.old) dict.old s.now) second.entry) (argument_of (tables store.old) dict.old value.now)) (shown dict.old (tables store.old)) (shown dict.new (tables store.new)) }
+    ensures answers { Changes dict.new result on (meant.assign_result (entry_of (tables store.old) dict.old on) (way_of by) (subscript_of (tables store.old) dict.old first.now) (option_map (λ s. subscript_of (tables store.old) dict.old s.now) second.entry) (new_value (tables store.old) dict.old value.entry)) (shown dict.old (spent result (moved_object value.entry) (tables store.old))) (shown dict.new (tables store.new)) }
 {
     match on {
         Value::Object(id) => assigned(alloc, store, dict, id, by, first, second, value),

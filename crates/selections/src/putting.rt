@@ -1,9 +1,9 @@
 // Whole columns that are put into a frame.
-ghost use Rattle.std.specs.Prelude.{◌≡◌, ◌≤◌, length, map, Some, None, IsSome, IfOk, OnErr};
-ghost use Rattle.cell_core.specs.declared.grid.Shape.TheVariants.{Frame};
+ghost use Rattle.std.specs.Prelude.{◌≡◌, ◌≢◌, ◌≤◌, length, map, Some, None, IsSome, IfOk, OnErr};
+ghost use Rattle.cell_core.specs.declared.grid.Shape.TheVariants.{Series, Frame};
 ghost use Rattle.meaning.specs.Cell.{AreGiven, label_datum};
 ghost use Rattle.table_meaning.specs.Settled.{IsSettled};
-ghost use Rattle.table_meaning.specs.Table.{table_value};
+ghost use Rattle.table_meaning.specs.Table.{table_value, column_at};
 ghost use Rattle.table_meaning.specs.Change.{put_at};
 ghost use Rattle.table_meaning.specs.Valid.{AreHeadings, IsWhole};
 ghost use Rattle.form_meaning.specs.Finish as finish;
@@ -11,7 +11,7 @@ ghost use Rattle.form_meaning.specs.Set as meant;
 ghost use Rattle.form_parts.specs.Makes.{MakesBy};
 ghost use Rattle.frame_store.specs.declared.arguments.Value.TheVariants.{Object};
 ghost use Rattle.frame_store.specs.Objects.{tables, table_at, with_object};
-ghost use Rattle.frame_store.specs.Shown.{shown, labels_value, headings_value, Changes};
+ghost use Rattle.frame_store.specs.Shown.{shown, spent, labels_value, headings_value, Changes};
 ghost use Rattle.selections.specs.Selected.{as_it_is};
 ghost use Rattle.selections.specs.Assigned.{column_seen, count_after, put_place as place_for, with_axis};
 
@@ -82,6 +82,31 @@ pub(crate) fn put_labelled(
     Ok(())
 }
 
+// Moves the column of a Series, which ends, in place of the first one with the label, or last.
+pub(crate) fn move_labelled(
+    store: &mut Store,
+    dict: &TextDict,
+    on: ObjId,
+    label: Label,
+    series: ObjId,
+) -> Result<(), OpFault>
+    requires live { IsSome (tables store.old on.0) }
+    requires shape { (table_at (tables store.old) on.0).shape ≡ Frame }
+    requires series_live { IsSome (tables store.old series.0) }
+    requires series { (table_at (tables store.old) series.0).shape ≡ Series }
+    requires different { on.0 ≢ series.0 }
+    requires rows { length (table_at (tables store.old) series.0).labels ≡ length (table_at (tables store.old) on.0).labels }
+    requires settled { IsSettled shown dict.now (tables store.old) }
+    requires label { IsSettled label_datum dict.now label }
+    ensures settled { IsSettled shown dict.now (tables store.new) }
+    ensures answers { let s = table_value dict.now (table_at (tables store.old) series.0) in Changes dict.now result (Object on) (meant.put_result (table_value dict.now (table_at (tables store.old) on.0)) (label_datum dict.now label) (column_at s.columns 0)) (shown dict.now (spent result (Some series) (tables store.old))) (shown dict.now (tables store.new)) }
+{
+    let target = store.read(on);
+    let place = put_place(dict, &target, label, target.rows())?;
+    store.move_column(on, place, Some(label), series)?;
+    Ok(())
+}
+
 // A new object with the headings and kinds of a frame, in which each column is missing in the rows
 // of an axis.
 fn with_rows(alloc: Global, store: &mut Store, on: ObjId, axis: Axis) -> Result<ObjId, NoMemory>
@@ -121,6 +146,43 @@ pub(crate) fn put_with_rows(
     // The rows and the column are put together in an object of their own, so that nothing is half done.
     let grown = with_rows(alloc, store, on, axis)?;
     match put_labelled(store, dict, grown, label, column) {
+        Ok(()) => {
+            store.replace(on, grown);
+            Ok(())
+        }
+        Err(fault) => {
+            store.drop_object(grown);
+            Err(fault)
+        }
+    }
+}
+
+// Moves the column of a Series, which ends, into a frame that gets its rows, in which the frame's other
+// columns are missing.
+pub(crate) fn move_with_rows(
+    alloc: Global,
+    store: &mut Store,
+    dict: &TextDict,
+    on: ObjId,
+    label: Label,
+    series: ObjId,
+) -> Result<(), OpFault>
+    requires live { IsSome (tables store.old on.0) }
+    requires shape { (table_at (tables store.old) on.0).shape ≡ Frame }
+    requires series_live { IsSome (tables store.old series.0) }
+    requires series { (table_at (tables store.old) series.0).shape ≡ Series }
+    requires different { on.0 ≢ series.0 }
+    requires settled { IsSettled shown dict.now (tables store.old) }
+    requires label { IsSettled label_datum dict.now label }
+    ensures settled { IsSettled shown dict.now (tables store.new) }
+    ensures answers { let s = table_value dict.now (table_at (tables store.old) series.0) in Changes dict.now result (Object on) (meant.put_result (meant.with_rows (table_value dict.now (table_at (tables store.old) on.0)) s.labels s.level_names) (label_datum dict.now label) (column_at s.columns 0)) (shown dict.now (spent result (Some series) (tables store.old))) (shown dict.now (tables store.new)) }
+{
+    let source = store.read(series);
+    // The limits are tested before memory is taken for the rows of the other columns.
+    put_place(dict, &store.read(on), label, source.rows())?;
+    let axis = source.axis().copy(alloc)?;
+    let grown = with_rows(alloc, store, on, axis)?;
+    match move_labelled(store, dict, grown, label, series) {
         Ok(()) => {
             store.replace(on, grown);
             Ok(())

@@ -1,6 +1,7 @@
 -- Binding by walks meets its rule.
 use Rattle.std.proofs.Common.{◌≡◌, ◌∙◌, ◌<◌, ◌+◌, ℕ, zero, suc, Bool, true, false, not, cond, List, [], ◌∷◌, length, take, refl, ap, sym, arith, if◌then◌else◌}
 use Rattle.std.specs.Prelude.{slice_get, count_by, nat_lt, nat_eq, Option, Some, None}
+use Rattle.std.proofs.Common.{inl, inr}
 use Rattle.std.proofs.lemmas.Bool.{eqb-true, eqb-false, lt-ltb}
 use Rattle.std.proofs.lemmas.List.Sums.{sum_by-cons}
 use Rattle.std.proofs.lemmas.Option.{slice_get_within}
@@ -9,7 +10,8 @@ use Rattle.table_meaning.specs.Value.{Given, NamedGiven}
 use Rattle.form_meaning.specs.declared.Parameter.{Parameter}
 use Rattle.form_meaning.specs.declared.Omitted.{Omitted}
 use Rattle.form_meaning.specs.declared.Omitted.TheVariants as omitted
-use Rattle.form_meaning.specs.Binding.{stands_for, stand_in, or_stand_in, goes_to, counted, given_at, is_given, taken_by, listed_by, fit, are_listed, argument_at, arguments_from, may_be_omitted, none_missing, Bound, not_taken, not_listed, bound, bound_of}
+use Rattle.form_meaning.specs.Binding.{takes, stands_for, stand_in, or_stand_in, goes_to, counted, given_at, is_given, taken_by, listed_by, fit, are_listed, argument_at, arguments_from, may_be_omitted, none_missing, Bound, not_taken, not_listed, bound, bound_of}
+use Rattle.signatures.specs.Filled.{Fills}
 use Rattle.signatures.specs.Rule.{is_unnamed, place_after, HasPlace, IsTaken, HasArgument, AreTaken, AreListed, AreInOrder, IsBinding}
 
 -- cases
@@ -307,3 +309,20 @@ by_cases ps gs false b c x y z = λ h. let e : false ≡ true = sym x ∙ fit_of
 
 pub bound_by_rule : (ps : List Parameter) (gs : List NamedGiven) → IsBinding ps gs (bound_of ps gs)
 bound_by_rule ps gs = by_cases ps gs _ _ _ refl refl refl
+
+-- what stands at each place
+
+given_taken : (ps : List Parameter) (gs : List NamedGiven) (place : ℕ) (p : Parameter) (a : Given) → fit ps 0 gs ≡ true → slice_get ps place ≡ Some p → given_at ps 0 gs place ≡ Some a → takes p a ≡ true
+given_taken ps gs place p a fitted is given =
+    let h = given_goes ps 0 gs place a given in
+    sym (ap (λ n. taken_by (slice_get ps n) h.argument.value) h.goes ∙ ap (taken_by (slice_get ps place)) h.is ∙ ap (λ o. taken_by o a) is)
+    ∙ fit_taken ps 0 gs fitted h.index h.argument h.is_at
+
+pub filled : (ps : List Parameter) (gs : List NamedGiven) → fit ps 0 gs ≡ true → none_missing ps gs 0 ps ≡ true → (place : ℕ) (p : Parameter) → slice_get ps place ≡ Some p → Fills p (argument_at ps gs place)
+filled ps gs fitted there place p is = go (given_at ps 0 gs place) refl
+  where
+    go : (o : Option Given) → given_at ps 0 gs place ≡ o → Fills p (or_stand_in o (slice_get ps place))
+    go (Some a) given = inl (given_taken ps gs place p a fitted is given)
+    go None given =
+        let here = there_at ps gs (0 + place) place p (omega arith) (missing_each ps gs 0 ps there place p is) in
+        inr (sym (ap (λ o. is_there (is_given o) p) given) ∙ here, ap stand_in is)

@@ -1,18 +1,42 @@
--- What binding answers.
-use Rattle.std.specs.Prelude.{◌≡◌, List, Result, Ok, Err}
+-- Bound arguments, and what binding answers.
+use Rattle.std.specs.Prelude.{◌≡◌, ℕ, List, slice_get, Option, Result, Ok, Err}
 use Rattle.cell_core.specs.declared.code.Code.{Code}
 use Rattle.cell_core.specs.declared.code.Code.TheVariants.{WrongKind, BadValue}
 use Rattle.cell_core.specs.declared.code.Reason.TheVariants.{Argument}
+use Rattle.meaning.specs.Text.{Text}
 use Rattle.table_meaning.specs.Value.{Given}
-use Rattle.form_meaning.specs.Binding.{Bound, not_taken, not_listed, bound}
+use Rattle.form_meaning.specs.declared.Form.{Form}
+use Rattle.form_meaning.specs.declared.Parameter.{Parameter}
+use Rattle.form_meaning.specs.Binding.{not_taken, not_listed, bound, bound_of, argument_at, arguments_from}
+use Rattle.frame_store.specs.declared.arguments.Named.{Named}
+use Rattle.frame_store.specs.Objects.{Tables}
+use Rattle.frame_store.specs.Arguments.{arguments_of}
+use Rattle.frame_store.specs.World.{World, arguments_in}
+use Rattle.signatures.specs.Filled.{sure_form}
+use Rattle.signatures.specs.declared.bound.Bound.{Bound}
 use Rattle.signatures.specs.declared.binding.Unbound.{Unbound}
 use Rattle.signatures.specs.declared.binding.Unbound.TheVariants.{NotTaken, NotListed}
 
--- these arguments are bound, or that is the refusal
-abbrev pub IsBound : {T : Type 0} → Result T Unbound → Bound → List Given → Type 0
-IsBound (Ok done) outcome arguments = outcome ≡ bound arguments
-IsBound (Err NotTaken) outcome arguments = outcome ≡ not_taken
-IsBound (Err NotListed) outcome arguments = outcome ≡ not_listed
+-- bound arguments in the order of the signature
+abbrev pub given_in : World → Bound → List Given
+given_in w b = arguments_from b.parameters.now (arguments_in w b.args.now) 0 b.parameters.now
+
+-- the one at a place, and the form of what always stands there
+abbrev pub stands_at : Tables → List Text → Bound → ℕ → Given
+stands_at live texts b place = argument_at b.parameters.now (arguments_of live texts b.args.now) place
+
+abbrev pub form_at : Bound → ℕ → Option Form
+form_at b place = sure_form (slice_get b.parameters.now place)
+
+-- what a reader gives is what stands at the place, whatever the tables and texts
+abbrev pub Tells : {A : Type 0} → Bound → ℕ → (Given → Option A) → (Tables → List Text → Option A) → Type 0
+Tells b place read told = (live : Tables) (texts : List Text) → told live texts ≡ read (stands_at live texts b place)
+
+-- the arguments are bound, or that is the refusal
+abbrev pub IsBound : World → List Parameter → List Named → Result Bound Unbound → Type 0
+IsBound w ps args (Ok b) = (bound_of ps (arguments_in w args) ≡ bound (given_in w b)) × (b.parameters.now ≡ ps) × (b.args.now ≡ args)
+IsBound w ps args (Err NotTaken) = bound_of ps (arguments_in w args) ≡ not_taken
+IsBound w ps args (Err NotListed) = bound_of ps (arguments_in w args) ≡ not_listed
 
 -- why a form whose arguments aren't bound is refused
 abbrev pub code_of : Unbound → Code

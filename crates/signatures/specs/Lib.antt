@@ -1,3 +1,5 @@
+pub mod Filled
 pub mod Bound
 pub mod Found
 pub mod Rule
+pub mod Scalars

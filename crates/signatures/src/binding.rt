@@ -7,15 +7,17 @@ ghost use Rattle.form_meaning.specs.Signature as signature;
 ghost use Rattle.form_meaning.specs.Binding as plain;
 ghost use Rattle.frame_store.specs.Objects.{Tables, tables};
 ghost use Rattle.frame_store.specs.Arguments.{argument_of, named_of, arguments_of, IsLiveArgument, AreLive};
+ghost use Rattle.frame_store.specs.World.{world};
 ghost use Rattle.signatures.specs.Bound.{IsBound};
 
+use crate::bound::Bound;
 use crate::forms::{lists, takes};
 use crate::table::spelled;
 use cell_core::{Code, Reason, TextDict, Words};
 use form_meaning::{Omitted, Parameter};
 use frame_store::{Argument, Named, OpFault, Store};
 
-/// Why arguments aren't bound. As an `OpFault` it is `WrongKind`, or `BadValue` of an argument.
+/// Why arguments aren't bound. As a `Code` it is `WrongKind`, or `BadValue` of an argument.
 #[derive(Clone, Copy, Debug, PartialEq, Eq)]
 pub enum Unbound {
     /// A `TypeError`: an argument without a parameter, a parameter without an argument or with two,
@@ -23,6 +25,20 @@ pub enum Unbound {
     NotTaken,
     /// A `ValueError`: an argument that isn't among the listed values.
     NotListed,
+}
+
+impl From<Unbound> for Code {
+    ghost use Rattle.std.specs.Prelude.{◌≡◌};
+    ghost use Rattle.signatures.specs.Bound.{code_of};
+
+    ghost from_gives = { λ unbound code. code ≡ code_of unbound };
+
+    fn from(unbound: Unbound) -> Self {
+        match unbound {
+            Unbound::NotTaken => Code::WrongKind,
+            Unbound::NotListed => Code::BadValue(Reason::Argument),
+        }
+    }
 }
 
 impl From<Unbound> for OpFault {
@@ -33,10 +49,7 @@ impl From<Unbound> for OpFault {
     ghost from_gives = { λ unbound fault. fault ≡ Refused (code_of unbound) };
 
     fn from(unbound: Unbound) -> Self {
-        OpFault::Refused(match unbound {
-            Unbound::NotTaken => Code::WrongKind,
-            Unbound::NotListed => Code::BadValue(Reason::Argument),
-        })
+        OpFault::Refused(Code::from(unbound))
     }
 }
 
@@ -193,21 +206,21 @@ fn none_missing(parameters: &[Parameter], args: &[Named]) -> bool
     true
 }
 
-/// Whether a signature takes the arguments, whose objects are live. Those without a name go to the
-/// parameters in order, those with a name to the parameter of that name.
+/// The arguments of a call, bound to a signature that takes them; their objects are live. Those without
+/// a name go to the parameters in order, those with a name to the parameter of that name.
 ///
 /// `NotTaken` where an argument goes to no parameter, two go to one, one hasn't the form of its
 /// parameter, or a parameter that must be given has none; else `NotListed` where one isn't among the
 /// listed values of its parameter. A `None` counts as not given where that is the default. Takes no
 /// memory.
-pub fn bind(
+pub fn bind<'a>(
     store: &Store,
     dict: &TextDict,
-    parameters: &[Parameter],
-    args: &[Named],
-) -> Result<(), Unbound>
+    parameters: &'a [Parameter],
+    args: &'a [Named],
+) -> Result<Bound<'a>, Unbound>
     requires { AreLive (tables store.now) args.now }
-    ensures { let given = arguments_of (tables store.now) dict.now args.now in IsBound result (plain.bound_of parameters.now given) (plain.arguments_from parameters.now given 0 parameters.now) }
+    ensures { IsBound (world store.now dict.now) parameters.now args.now result }
 {
     if !all_fit(store, dict, parameters, args) {
         return Err(Unbound::NotTaken);
@@ -218,5 +231,5 @@ pub fn bind(
     if !all_listed(dict, parameters, args) {
         return Err(Unbound::NotListed);
     }
-    Ok(())
+    Ok(Bound { parameters, args })
 }

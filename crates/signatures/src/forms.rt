@@ -31,7 +31,8 @@ fn is_object(item: &Item) -> bool
     }
 }
 
-fn are_scalars(items: &[Item]) -> bool
+/// Whether each part of a list is a scalar. Takes no memory.
+pub fn are_scalars(items: &[Item]) -> bool
     ensures { (live : Tables) (texts : List Text) → result ≡ plain.each plain.is_scalar (items_of live texts items.now) }
 {
     items.iter().all(is_scalar)

@@ -1,19 +1,23 @@
 // What stands at a place of a signature: the argument that goes there, or what its parameter has for one.
-ghost use Rattle.std.specs.Prelude.{◌≡◌, List, slice_get, IfSome};
+ghost use Rattle.std.specs.Prelude.{◌≡◌, List, slice_get, is_some, Some, IfSome};
 ghost use Rattle.std.specs.Option.{option_map};
 ghost use Rattle.meaning.specs.Text.{Text};
 ghost use Rattle.meaning.specs.Cell.{datum};
-ghost use Rattle.table_meaning.specs.Value.{scalar_in, object_in, list_in, dict_in};
+ghost use Rattle.table_meaning.specs.Value.{scalar_in, list_in, dict_in};
 ghost use Rattle.form_meaning.specs.Binding as plain;
+ghost use Rattle.form_meaning.specs.Make.{kind_given};
+ghost use Rattle.form_meaning.specs.declared.Form.TheVariants as form;
 ghost use Rattle.frame_store.specs.Objects.{Tables};
-ghost use Rattle.frame_store.specs.Arguments.{object_value, IsLiveObject, argument_of, items_of, entries_of, arguments_of, IsLiveArgument, AreLiveItems, AreLivePairs, AreLive};
+ghost use Rattle.frame_store.specs.Arguments.{argument_of, items_of, entries_of, arguments_of, IsLiveArgument, AreLiveItems, AreLivePairs, AreLive};
 ghost use Rattle.signatures.specs.Found.{found_value, IsFoundLive, StandsNoText};
+ghost use Rattle.signatures.specs.Bound.{Tells, stands_at, form_at};
 
 use crate::binding::given_after;
-use crate::table::default_text;
-use cell_core::{Cell, Label, TextDict};
+use crate::bound::Bound;
+use crate::table::{default_text, kind_named};
+use cell_core::{Cell, Kind, Label, TextDict};
 use form_meaning::{Omitted, Parameter};
-use frame_store::{Argument, Item, Named, ObjId};
+use frame_store::{Argument, Item, Named};
 
 // The argument at a place, or what stands there where none is given.
 #[derive(Clone, Copy)]
@@ -22,12 +26,8 @@ enum Found<'a> {
     StandIn(Omitted),
 }
 
-/// The argument that goes to a place of the signature, if one is given. Takes no memory.
-pub fn given_at<'a>(
-    parameters: &[Parameter],
-    args: &'a [Named],
-    place: usize,
-) -> Option<&'a Argument>
+// The argument that goes to a place of the signature, if one is given.
+fn given_at<'a>(parameters: &[Parameter], args: &'a [Named], place: usize) -> Option<&'a Argument>
     ensures value { (live : Tables) (texts : List Text) → option_map (λ a. argument_of live texts a.now) result ≡ plain.given_at parameters.now 0 (arguments_of live texts args.now) place }
     ensures live { (live : Tables) → AreLive live args.now → IfSome result (λ a. IsLiveArgument live a.now) }
 {
@@ -73,7 +73,9 @@ fn truth_of(cell: Option<Cell>) -> Option<bool>
 }
 
 fn text_of(dict: &TextDict, cell: Option<Cell>) -> Option<&str>
-    ensures { option_map (λ t. t.now) result ≡ plain.text_of (option_map (datum dict.now) cell) }
+    ensures value { option_map (λ t. t.now) result ≡ plain.text_of (option_map (datum dict.now) cell) }
+    ensures there { (texts : List Text)
+        → is_some result ≡ is_some (plain.text_of (option_map (datum texts) cell)) }
 {
     match cell {
         Some(Cell::Text(id)) => Some(dict.text(id)),
@@ -133,205 +135,145 @@ fn text_for(omitted: Omitted) -> Option<&'static str>
     }
 }
 
-/// The scalar that stands at a place of a signature: the argument that goes there, or the default.
-/// `None` where something else stands there. The default is no text, which [`text_at`] reads. Takes no
-/// memory.
-pub fn scalar_at(parameters: &[Parameter], args: &[Named], place: usize) -> Option<Cell>
-    requires { plain.HasNoText (slice_get parameters.now place) }
-    ensures { (live : Tables) (texts : List Text) → option_map (datum texts) result ≡ scalar_in (plain.argument_at parameters.now (arguments_of live texts args.now) place) }
-{
-    match found_at(parameters, args, place) {
-        Found::Given(argument) => argument.scalar(),
-        Found::StandIn(omitted) => cell_for(omitted),
+impl<'a> Bound<'a> {
+    /// The scalar that stands at a place, counted from 0; `None` where something else stands there. The
+    /// default of the parameter is no text. Takes no memory.
+    pub fn scalar_or_none(&self, place: usize) -> Option<Cell>
+        requires { plain.HasNoText (slice_get self.now.parameters.now place) }
+        ensures { Tells self.now place scalar_in (λ _ texts. option_map (datum texts) result) }
+    {
+        match found_at(self.parameters, self.args, place) {
+            Found::Given(argument) => argument.scalar(),
+            Found::StandIn(omitted) => cell_for(omitted),
+        }
     }
-}
 
-/// The whole number that stands at a place of a signature: the argument that goes there, or the
-/// default. `None` where something else stands there. Takes no memory.
-pub fn whole_at(parameters: &[Parameter], args: &[Named], place: usize) -> Option<i64>
-    ensures { (live : Tables) (texts : List Text) → result ≡ plain.whole_in (plain.argument_at parameters.now (arguments_of live texts args.now) place) }
-{
-    match found_at(parameters, args, place) {
-        Found::Given(argument) => whole_of(argument.scalar()),
-        Found::StandIn(omitted) => whole_for(omitted),
+    /// The scalar that stands at a place, where the parameter always has one. Its default is no text.
+    /// Takes no memory.
+    pub fn scalar(&self, place: usize) -> Cell
+        requires sure { form_at self.now place ≡ Some form.Scalar }
+        requires no_text { plain.HasNoText (slice_get self.now.parameters.now place) }
+        ensures { Tells self.now place scalar_in (λ _ texts. Some (datum texts result)) }
+    {
+        self.scalar_or_none(place).unwrap()
     }
-}
 
-/// The truth value that stands at a place of a signature: the argument that goes there, or the
-/// default. `None` where something else stands there. Takes no memory.
-pub fn truth_at(parameters: &[Parameter], args: &[Named], place: usize) -> Option<bool>
-    ensures { (live : Tables) (texts : List Text) → result ≡ plain.truth_in (plain.argument_at parameters.now (arguments_of live texts args.now) place) }
-{
-    match found_at(parameters, args, place) {
-        Found::Given(argument) => truth_of(argument.scalar()),
-        Found::StandIn(omitted) => truth_for(omitted),
+    fn whole_or_none(&self, place: usize) -> Option<i64>
+        ensures { Tells self.now place plain.whole_in (λ _ _. result) }
+    {
+        match found_at(self.parameters, self.args, place) {
+            Found::Given(argument) => whole_of(argument.scalar()),
+            Found::StandIn(omitted) => whole_for(omitted),
+        }
     }
-}
 
-/// The text that stands at a place of a signature: the argument that goes there, or the default.
-/// `None` where something else stands there. Takes no memory.
-pub fn text_at<'a>(
-    dict: &'a TextDict,
-    parameters: &[Parameter],
-    args: &[Named],
-    place: usize,
-) -> Option<&'a str>
-    ensures { (live : Tables) → option_map (λ t. t.now) result ≡ plain.text_in (plain.argument_at parameters.now (arguments_of live dict.now args.now) place) }
-{
-    match found_at(parameters, args, place) {
-        Found::Given(argument) => text_of(dict, argument.scalar()),
-        Found::StandIn(omitted) => text_for(omitted),
+    /// The whole number that stands at a place, where the parameter always has one. Takes no memory.
+    pub fn whole(&self, place: usize) -> i64
+        requires { form_at self.now place ≡ Some form.Whole }
+        ensures { Tells self.now place plain.whole_in (λ _ _. Some result) }
+    {
+        self.whole_or_none(place).unwrap()
     }
-}
 
-/// The parts of the list at a place of a signature. `None` where something else stands there. Takes no
-/// memory.
-pub fn list_at<'a>(parameters: &[Parameter], args: &'a [Named], place: usize) -> Option<&'a [Item]>
-    ensures value { (live : Tables) (texts : List Text) → option_map (λ parts. items_of live texts parts.now) result ≡ list_in (plain.argument_at parameters.now (arguments_of live texts args.now) place) }
-    ensures live { (live : Tables) → AreLive live args.now → IfSome result (λ parts. AreLiveItems live parts.now) }
-{
-    match found_at(parameters, args, place) {
-        Found::Given(argument) => argument.list(),
-        Found::StandIn(_) => None,
+    fn truth_or_none(&self, place: usize) -> Option<bool>
+        ensures { Tells self.now place plain.truth_in (λ _ _. result) }
+    {
+        match found_at(self.parameters, self.args, place) {
+            Found::Given(argument) => truth_of(argument.scalar()),
+            Found::StandIn(omitted) => truth_for(omitted),
+        }
     }
-}
 
-/// The pairs of the dict at a place of a signature, in their order, also where a key stands twice.
-/// `None` where something else stands there. Takes no memory.
-pub fn dict_at<'a>(
-    parameters: &[Parameter],
-    args: &'a [Named],
-    place: usize,
-) -> Option<&'a [(Label, Argument)]>
-    ensures value { (live : Tables) (texts : List Text) → option_map (λ pairs. entries_of live texts pairs.now) result ≡ dict_in (plain.argument_at parameters.now (arguments_of live texts args.now) place) }
-    ensures live { (live : Tables) → AreLive live args.now → IfSome result (λ pairs. AreLivePairs live pairs.now) }
-{
-    match found_at(parameters, args, place) {
-        Found::Given(argument) => argument.dict(),
-        Found::StandIn(_) => None,
+    /// The truth value that stands at a place, where the parameter always has one. Takes no memory.
+    pub fn truth(&self, place: usize) -> bool
+        requires { form_at self.now place ≡ Some form.Truth }
+        ensures { Tells self.now place plain.truth_in (λ _ _. Some result) }
+    {
+        self.truth_or_none(place).unwrap()
     }
-}
 
-/// The object at a place of a signature. `None` where something else stands there. Takes no memory.
-pub fn object_at(parameters: &[Parameter], args: &[Named], place: usize) -> Option<ObjId>
-    ensures value { (live : Tables) (texts : List Text) → option_map (object_value live texts) result ≡ object_in (plain.argument_at parameters.now (arguments_of live texts args.now) place) }
-    ensures live { (live : Tables) → AreLive live args.now → IfSome result (IsLiveObject live) }
-{
-    match found_at(parameters, args, place) {
-        Found::Given(argument) => argument.object(),
-        Found::StandIn(_) => None,
+    fn text_or_none<'d>(&self, dict: &'d TextDict, place: usize) -> Option<&'d str>
+        ensures value { (live : Tables) → option_map (λ t. t.now) result
+            ≡ plain.text_in (stands_at live dict.now self.now place) }
+        ensures there { (live : Tables) (texts : List Text)
+            → is_some result ≡ is_some (plain.text_in (stands_at live texts self.now place)) }
+    {
+        match found_at(self.parameters, self.args, place) {
+            Found::Given(argument) => text_of(dict, argument.scalar()),
+            Found::StandIn(omitted) => text_for(omitted),
+        }
     }
-}
 
-fn is_nothing(argument: &Argument) -> bool
-    ensures { (live : Tables) (texts : List Text) → result ≡ plain.is_nothing (argument_of live texts argument.now) }
-{
-    match argument {
-        Argument::Nothing => true,
-        Argument::One(_) => false,
-        Argument::Row(_) => false,
-        Argument::Many(_) => false,
-        Argument::Table(_) => false,
+    /// The kind whose name stands at a place; `None` where something else than a text stands there.
+    /// Takes no memory.
+    pub fn kind_or_none(&self, dict: &TextDict, place: usize) -> Option<Kind>
+        ensures { (live : Tables)
+            → result ≡ kind_given (scalar_in (stands_at live dict.now self.now place)) }
+    {
+        match self.text_or_none(dict, place) {
+            Some(name) => Some(kind_named(name)),
+            None => None,
+        }
     }
-}
 
-fn is_none_for(omitted: Omitted) -> bool
-    ensures { result ≡ plain.is_nothing (plain.stands_for omitted) }
-{
-    match omitted {
-        Omitted::Required => true,
-        Omitted::None => true,
-        Omitted::Number(_) => false,
-        Omitted::Truth(_) => false,
-        Omitted::Text(_) => false,
+    /// The kind whose name stands at a place, where the parameter always has one. Takes no memory.
+    pub fn kind(&self, dict: &TextDict, place: usize) -> Kind
+        requires { form_at self.now place ≡ Some form.Text }
+        ensures { (live : Tables)
+            → Some result ≡ kind_given (scalar_in (stands_at live dict.now self.now place)) }
+    {
+        kind_named(self.text_or_none(dict, place).unwrap())
     }
-}
 
-/// Whether `None` stands at a place of a signature, given or where nothing is. Takes no memory.
-pub fn is_none_at(parameters: &[Parameter], args: &[Named], place: usize) -> bool
-    ensures { (live : Tables) (texts : List Text) → result ≡ plain.is_nothing (plain.argument_at parameters.now (arguments_of live texts args.now) place) }
-{
-    match found_at(parameters, args, place) {
-        Found::Given(argument) => is_nothing(argument),
-        Found::StandIn(omitted) => is_none_for(omitted),
+    /// The parts of the list that stands at a place; `None` where something else stands there. Takes no
+    /// memory.
+    pub fn list_or_none(&self, place: usize) -> Option<&'a [Item]>
+        ensures value { Tells self.now place list_in
+            (λ live texts. option_map (λ parts. items_of live texts parts.now) result) }
+        ensures live { (live : Tables) → AreLive live self.now.args.now
+            → IfSome result (λ parts. AreLiveItems live parts.now) }
+    {
+        match found_at(self.parameters, self.args, place) {
+            Found::Given(argument) => argument.list(),
+            Found::StandIn(_) => None,
+        }
     }
-}
 
-/// The scalar at a place of a signature at which `None` may stand: `Some(None)` where it does, given or
-/// as the default. `None` where something else stands there. The default is no text. Takes no memory.
-pub fn scalar_or_none_at(
-    parameters: &[Parameter],
-    args: &[Named],
-    place: usize,
-) -> Option<Option<Cell>>
-    requires { plain.HasNoText (slice_get parameters.now place) }
-    ensures { (live : Tables) (texts : List Text) → option_map (option_map (datum texts)) result ≡ plain.or_none scalar_in (plain.argument_at parameters.now (arguments_of live texts args.now) place) }
-{
-    if is_none_at(parameters, args, place) {
-        return Some(None);
+    /// The parts of the list of scalars that stands at a place, where the parameter always has one. Takes
+    /// no memory.
+    pub fn list(&self, place: usize) -> &'a [Item]
+        requires { form_at self.now place ≡ Some form.Scalars }
+        ensures value { Tells self.now place list_in
+            (λ live texts. Some (items_of live texts result.now)) }
+        ensures live { (live : Tables) → AreLive live self.now.args.now
+            → AreLiveItems live result.now }
+    {
+        self.list_or_none(place).unwrap()
     }
-    scalar_at(parameters, args, place).map(Some)
-}
 
-/// The whole number at a place of a signature at which `None` may stand: `Some(None)` where it does,
-/// given or as the default. `None` where something else stands there. Takes no memory.
-pub fn whole_or_none_at(
-    parameters: &[Parameter],
-    args: &[Named],
-    place: usize,
-) -> Option<Option<i64>>
-    ensures { (live : Tables) (texts : List Text) → result ≡ plain.or_none plain.whole_in (plain.argument_at parameters.now (arguments_of live texts args.now) place) }
-{
-    if is_none_at(parameters, args, place) {
-        return Some(None);
+    /// The pairs of the dict that stands at a place, in their order, also where a key stands twice; `None`
+    /// where something else stands there. Takes no memory.
+    pub fn dict_or_none(&self, place: usize) -> Option<&'a [(Label, Argument)]>
+        ensures value { Tells self.now place dict_in
+            (λ live texts. option_map (λ pairs. entries_of live texts pairs.now) result) }
+        ensures live { (live : Tables) → AreLive live self.now.args.now
+            → IfSome result (λ pairs. AreLivePairs live pairs.now) }
+    {
+        match found_at(self.parameters, self.args, place) {
+            Found::Given(argument) => argument.dict(),
+            Found::StandIn(_) => None,
+        }
     }
-    whole_at(parameters, args, place).map(Some)
-}
 
-/// The text at a place of a signature at which `None` may stand: `Some(None)` where it does, given or as
-/// the default. `None` where something else stands there. Takes no memory.
-pub fn text_or_none_at<'a>(
-    dict: &'a TextDict,
-    parameters: &[Parameter],
-    args: &[Named],
-    place: usize,
-) -> Option<Option<&'a str>>
-    ensures { (live : Tables) → option_map (option_map (λ t. t.now)) result ≡ plain.or_none plain.text_in (plain.argument_at parameters.now (arguments_of live dict.now args.now) place) }
-{
-    if is_none_at(parameters, args, place) {
-        return Some(None);
+    /// The pairs of the dict that stands at a place, in their order, also where a key stands twice, where
+    /// the parameter always has one. Takes no memory.
+    pub fn dict(&self, place: usize) -> &'a [(Label, Argument)]
+        requires { form_at self.now place ≡ Some form.Dict }
+        ensures value { Tells self.now place dict_in
+            (λ live texts. Some (entries_of live texts result.now)) }
+        ensures live { (live : Tables) → AreLive live self.now.args.now
+            → AreLivePairs live result.now }
+    {
+        self.dict_or_none(place).unwrap()
     }
-    text_at(dict, parameters, args, place).map(Some)
-}
-
-/// The parts of the list at a place of a signature at which `None` may stand: `Some(None)` where it
-/// does, given or as the default. `None` where something else stands there. Takes no memory.
-pub fn list_or_none_at<'a>(
-    parameters: &[Parameter],
-    args: &'a [Named],
-    place: usize,
-) -> Option<Option<&'a [Item]>>
-    ensures value { (live : Tables) (texts : List Text) → option_map (option_map (λ parts. items_of live texts parts.now)) result ≡ plain.or_none list_in (plain.argument_at parameters.now (arguments_of live texts args.now) place) }
-    ensures live { (live : Tables) → AreLive live args.now → IfSome result (λ given. IfSome given (λ parts. AreLiveItems live parts.now)) }
-{
-    if is_none_at(parameters, args, place) {
-        return Some(None);
-    }
-    list_at(parameters, args, place).map(Some)
-}
-
-/// The pairs of the dict at a place of a signature at which `None` may stand: `Some(None)` where it
-/// does, given or as the default. `None` where something else stands there. Takes no memory.
-pub fn dict_or_none_at<'a>(
-    parameters: &[Parameter],
-    args: &'a [Named],
-    place: usize,
-) -> Option<Option<&'a [(Label, Argument)]>>
-    ensures value { (live : Tables) (texts : List Text) → option_map (option_map (λ pairs. entries_of live texts pairs.now)) result ≡ plain.or_none dict_in (plain.argument_at parameters.now (arguments_of live texts args.now) place) }
-    ensures live { (live : Tables) → AreLive live args.now → IfSome result (λ given. IfSome given (λ pairs. AreLivePairs live pairs.now)) }
-{
-    if is_none_at(parameters, args, place) {
-        return Some(None);
-    }
-    dict_at(parameters, args, place).map(Some)
 }

@@ -1,8 +1,9 @@
 // The table of signatures.
 ghost use Rattle.std.specs.Prelude.{◌≡◌, Some};
+ghost use Rattle.form_meaning.specs.Make as make;
 ghost use Rattle.form_meaning.specs.Signature as signature;
 
-use cell_core::Shape;
+use cell_core::{Kind, Shape};
 use form_meaning::{
     DefaultText, Form, Function, Listed, Method, Omitted, Parameter, ParameterName,
 };
@@ -300,5 +301,17 @@ pub fn function_named(name: &str) -> Option<Function>
         "read_csv" => Some(Function::ReadCsv),
         "concat" => Some(Function::Concat),
         _ => None,
+    }
+}
+
+/// The kind of a name, as `bind` takes it for `dtype`. Any other text counts as `Int64`, the first of the
+/// listed names; such a one stands only where a later value of a dict replaces it. Takes no memory.
+pub fn kind_named(name: &str) -> Kind
+    ensures { result ≡ make.kind_named name.now }
+{
+    match name {
+        "boolean" => Kind::Boolean,
+        "string" => Kind::Text,
+        _ => Kind::Int64,
     }
 }

@@ -3,13 +3,10 @@ ghost use Rattle.std.specs.Prelude.{IfOk};
 ghost use Rattle.frame_store.specs.Objects.{Tables};
 ghost use Rattle.frame_store.specs.Arguments.{IsLiveArgument, AreLive};
 
-use cell_core::{Cell, NoMemory, Shape, TextDict, Words};
+use cell_core::{Cell, Kind, NoMemory, Shape, TextDict, Words};
 use form_meaning::Method;
 use frame_store::{Argument, Item, Items, Named, Store, Value};
-use signatures::{
-    Unbound, bind, is_none_at, list_at, method_named, object_at, parameters, scalar_at, text_at,
-    truth_at, whole_at, whole_or_none_at,
-};
+use signatures::{Unbound, bind, method_named, parameters};
 use std::alloc::Global;
 use std::test::Fail;
 
@@ -46,7 +43,8 @@ fn bound(alloc: Global, method: Method, args: &[Named]) -> Result<(), Unbound>
 {
     let store = Store::new(alloc);
     let dict = TextDict::new(alloc);
-    bind(&store, &dict, parameters(method), args)
+    bind(&store, &dict, parameters(method), args)?;
+    Ok(())
 }
 
 #[test]
@@ -109,7 +107,7 @@ fn what_is_not_listed_is_refused(rt: HostRuntime) -> Result<(), Fail> {
     let float = dict.intern("float")?;
     let kind = [scalar(Cell::Text(float))];
     let bound = bind(&store, &dict, parameters(Method::Astype), &kind);
-    assert_eq!(rt; bound, Err(Unbound::NotListed));
+    assert!(rt; matches!(bound, Err(Unbound::NotListed)));
     Ok(())
 }
 
@@ -127,57 +125,51 @@ fn none_is_taken_where_it_is_the_default(rt: HostRuntime) {
 }
 
 #[test]
-fn defaults_are_read(rt: HostRuntime) {
-    assert_eq!(rt; whole_at(parameters(Method::Head), &[], 0), Some(5));
-    assert_eq!(rt; truth_at(parameters(Method::Copy), &[], 0), Some(true));
-    assert_eq!(rt;
-        whole_or_none_at(parameters(Method::Rolling), &[], 1),
-        Some(None)
-    );
-    assert_eq!(rt; object_at(parameters(Method::Merge), &[], 0), None);
-    assert!(rt; is_none_at(parameters(Method::Merge), &[], 2));
+fn defaults_are_read(rt: HostRuntime) -> Result<(), Fail> {
+    let store = Store::new(rt.alloc());
+    let dict = TextDict::new(rt.alloc());
+    let head = bind(&store, &dict, parameters(Method::Head), &[])?;
+    assert_eq!(rt; head.whole(0), 5);
+    let copy = bind(&store, &dict, parameters(Method::Copy), &[])?;
+    assert!(rt; copy.truth(0));
+    Ok(())
 }
 
 #[test]
-fn scalars_are_read(rt: HostRuntime) {
+fn scalars_are_read(rt: HostRuntime) -> Result<(), Fail> {
+    let store = Store::new(rt.alloc());
+    let dict = TextDict::new(rt.alloc());
     let three = [scalar(Cell::Int(3))];
-    assert_eq!(rt;
-        scalar_at(parameters(Method::Fillna), &three, 0),
-        Some(Cell::Int(3))
-    );
-    assert_eq!(rt;
-        whole_or_none_at(parameters(Method::Rolling), &three, 0),
-        Some(Some(3))
-    );
-    assert_eq!(rt; truth_at(parameters(Method::Copy), &three, 0), None);
+    let fillna = bind(&store, &dict, parameters(Method::Fillna), &three)?;
+    assert_eq!(rt; fillna.scalar(0), Cell::Int(3));
+    let none = [nothing()];
+    let rename = bind(&store, &dict, parameters(Method::RenameSeries), &none)?;
+    assert_eq!(rt; rename.scalar_or_none(0), None);
+    Ok(())
 }
 
 #[test]
-fn texts_are_read(rt: HostRuntime) -> Result<(), Fail> {
+fn kinds_are_read(rt: HostRuntime) -> Result<(), Fail> {
+    let store = Store::new(rt.alloc());
     let mut dict = TextDict::new(rt.alloc());
-    let left = dict.intern("left")?;
-    let how = [named(rt.alloc(), "how", Cell::Text(left))?];
-    assert_eq!(rt;
-        text_at(&dict, parameters(Method::Merge), &how, 1),
-        Some("left")
-    );
-    assert_eq!(rt;
-        text_at(&dict, parameters(Method::Merge), &[], 1),
-        Some("inner")
-    );
+    let string = dict.intern("string")?;
+    let kind = [named(rt.alloc(), "dtype", Cell::Text(string))?];
+    let astype = bind(&store, &dict, parameters(Method::Astype), &kind)?;
+    assert!(rt; astype.kind(&dict, 0) == Kind::Text);
     Ok(())
 }
 
 #[test]
 fn a_list_is_read(rt: HostRuntime) -> Result<(), Fail> {
+    let store = Store::new(rt.alloc());
+    let dict = TextDict::new(rt.alloc());
     let mut items = Items::new(rt.alloc());
     items.push(Item::One(Value::Scalar(Cell::Na)))?;
-    let values = Argument::Many(items);
     let list = [Named {
         name: None,
-        value: values,
+        value: Argument::Many(items),
     }];
-    let parts = list_at(parameters(Method::Isin), &list, 0);
-    assert_eq!(rt; parts.ok_or("no list")?.len(), 1);
+    let isin = bind(&store, &dict, parameters(Method::Isin), &list)?;
+    assert_eq!(rt; isin.list(0).len(), 1);
     Ok(())
 }

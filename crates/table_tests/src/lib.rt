@@ -10,4 +10,6 @@ mod cells;
 #[cfg(test)]
 mod columns;
 #[cfg(test)]
+mod picks;
+#[cfg(test)]
 mod store;

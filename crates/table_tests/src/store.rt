@@ -1,9 +1,10 @@
 // Objects and their tables.
-ghost use Rattle.std.specs.Prelude.{◌≡◌, ◌∷◌, [], IsSome, IfOk};
+ghost use Rattle.std.specs.Prelude.{◌≡◌, ◌∷◌, [], None, Some, IsSome, IfOk};
 ghost use Rattle.cell_core.specs.declared.cell.Kind.TheVariants.{Int64};
 ghost use Rattle.cell_core.specs.declared.cell.Cell.TheVariants.{Int};
-ghost use Rattle.frame_store.specs.Parts.{IsSingle, single_block};
-ghost use Rattle.frame_store.specs.Objects.{tables};
+ghost use Rattle.frame_store.specs.Parts.{IsSingle, single_block, block_column};
+ghost use Rattle.frame_store.specs.Objects.{tables, with_object};
+ghost use Rattle.table_tests.specs.Stored.{two_rows};
 
 use cell_core::{Cell, Grid, Kind, Label, NoMemory, Shape};
 use column_core::{Block, Column};
@@ -25,7 +26,10 @@ fn numbers(alloc: Global, first: i64, second: i64) -> Result<Block, NoMemory>
 fn series(alloc: Global, store: &mut Store, block: Block) -> Result<ObjId, NoMemory>
     requires rows { block.rows ≡ 2 }
     requires single { IsSingle block }
-    ensures { IfOk result (λ id. IsSome (tables store.new id.0)) }
+    ensures live { IfOk result (λ id. IsSome (tables store.new id.0)) }
+    ensures fresh { IfOk result (λ id. tables store.old id.0 ≡ None) }
+    ensures added { IfOk result (λ id.
+        tables store.new ≡ with_object (tables store.old) id.0 (Some (two_rows (block_column block)))) }
 {
     let axis = Axis::range(alloc, 2)?;
     let mut headings = Headings::new(alloc, None);
@@ -57,5 +61,20 @@ fn the_cells_of_live_objects_are_held(rt: HostRuntime) -> Result<(), Fail> {
     assert_eq!(rt; store.held(), 2);
     store.drop_object(on);
     assert_eq!(rt; store.held(), 0);
+    Ok(())
+}
+
+#[test]
+fn a_series_ends_where_its_column_moves(rt: HostRuntime) -> Result<(), Fail> {
+    let mut store = Store::new(rt.alloc());
+    let on = series(rt.alloc(), &mut store, numbers(rt.alloc(), 3, 4)?)?;
+    let other = series(rt.alloc(), &mut store, numbers(rt.alloc(), 5, 6)?)?;
+    store.move_column(on, 0, None, other)?;
+    assert_eq!(rt; store.contains(other), false);
+    assert_eq!(rt; store.held(), 2);
+    let table = store.read(on);
+    assert_eq!(rt; table.rows(), 2);
+    assert_eq!(rt; table.columns(), 1);
+    assert_eq!(rt; table.cell(1, 0), Cell::Int(6));
     Ok(())
 }

@@ -1,6 +1,6 @@
 use Rattle.std.proofs.Common.{[]}
 use Rattle.std.specs.Option.{option_map}
-use Rattle.constructors.specs.Scalars.{scalars}
+use Rattle.signatures.specs.Scalars.{scalars}
 use Rattle.constructors.proofs.RowLaws.{axis_rows}
 use Rattle.constructors.proofs.frames.frame_axis.Goals as goal
 

@@ -3,7 +3,7 @@ use Rattle.std.specs.Option.{option_map}
 use Rattle.std.proofs.lemmas.Result.{err_from_is_err_and}
 use Rattle.meaning.specs.Text.{Text}
 use Rattle.meaning.specs.Cell.{CellValue}
-use Rattle.constructors.specs.Scalars.{scalars}
+use Rattle.signatures.specs.Scalars.{scalars}
 use Rattle.constructors.proofs.FrameLaws.{columns_refused, rows_refused, frame_answer, frame_settled, frame_whole}
 use Rattle.constructors.proofs.frames.frame_of.Goals as goal
 

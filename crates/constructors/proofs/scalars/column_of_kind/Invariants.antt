@@ -1,7 +1,8 @@
 use Rattle.std.proofs.Common.{◌≡◌, length, List, map}
 use Rattle.meaning.specs.Text.{Text}
 use Rattle.meaning.specs.Cell.{datum}
-use Rattle.constructors.specs.Scalars.{scalars, held_after, held_column}
+use Rattle.signatures.specs.Scalars.{scalars}
+use Rattle.constructors.specs.Scalars.{held_after, held_column}
 use Rattle.constructors.proofs.scalars.column_of_kind.Given as goal
 
 -- the scalars so far, before the others

@@ -1,7 +1,7 @@
 use Rattle.std.proofs.Common.{◌≡◌, length, List}
 use Rattle.meaning.specs.Text.{Text}
 use Rattle.form_meaning.specs.Set.{first_kind}
-use Rattle.constructors.specs.Scalars.{scalars}
+use Rattle.signatures.specs.Scalars.{scalars}
 use Rattle.constructors.proofs.scalars.first_kind.Given as goal
 
 -- no scalar so far is present

@@ -3,7 +3,7 @@ use Rattle.meaning.specs.Text.{Text}
 use Rattle.multi_index.specs.Axes.{HaveLevels}
 use Rattle.form_meaning.specs.Make.{single_labels}
 use Rattle.frame_store.specs.Shown.{labels_value}
-use Rattle.constructors.specs.Scalars.{scalars}
+use Rattle.signatures.specs.Scalars.{scalars}
 use Rattle.constructors.proofs.scalars.single_tuples.Given as goal
 
 -- the labels so far, before the others

@@ -5,7 +5,7 @@ use Rattle.meaning.specs.Text.{Text}
 use Rattle.meaning.specs.Cell.{CellValue}
 use Rattle.column_core.specs.Columns.{CellColumn}
 use Rattle.table_meaning.specs.Table.{heading_value}
-use Rattle.constructors.specs.Scalars.{scalars}
+use Rattle.signatures.specs.Scalars.{scalars}
 use Rattle.constructors.specs.Made.{index_labels}
 use Rattle.constructors.proofs.MadeLaws.{column_given, axis_count, axis_refused, series_answer, series_settled}
 use Rattle.constructors.proofs.series.series_of.Goals as goal

@@ -1,8 +1,18 @@
+use Rattle.std.proofs.Common.{◌∙◌, ap, sym, subst}
+use Rattle.table_meaning.specs.Settled.{IsSettled}
+use Rattle.form_meaning.specs.Binding.{bound_of}
 use Rattle.frame_store.specs.Objects.{tables}
+use Rattle.frame_store.specs.Arguments.{arguments_of}
+use Rattle.frame_store.specs.World.{world}
 use Rattle.file_readers.proofs.NameLaws.{name_given}
 use Rattle.file_readers.proofs.names.name_of.Goals as goal
 
 pub returns-in-Some-Text : goal.returns-in-Some-Text
 returns-in-Some-Text c =
-    name_given (tables c.args.store.now) c.args.dict.now c.args.function c.function_parameters-parameters.result.now c.args.args.now c.in-Some-Text.name
-    c.function_parameters-parameters.ensures c.in_default.ensures (rw c.in-Some-Text.field-0-is at c.in-Some-Text.ensures) c.requires.given
+    let live = tables c.args.store.now in
+    let dict = c.args.dict.now in
+    let gs = arguments_of live dict c.args.args.now in
+    let is = c.in_ok-bound.ensures in
+    name_given c.args.function gs (world c.args.store.now dict) c.in_ok-bound.bound c.in-Some-Text.name
+    (is.1 ∙ c.function_parameters.ensures) (ap (λ ps. bound_of ps gs) (sym c.function_parameters.ensures) ∙ is.0) (rw c.in-Some-Text.field-0-is at c.in-Some-Text.ensures)
+    (subst (IsSettled (arguments_of live) dict) (sym is.2) c.requires.given)

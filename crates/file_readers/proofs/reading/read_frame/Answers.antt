@@ -1,11 +1,13 @@
-use Rattle.std.proofs.Common.{◌∙◌, ap, subst, Result}
+use Rattle.std.proofs.Common.{◌∙◌, ap, sym, subst, Result}
 use Rattle.meaning.specs.Fault.{FaultValue}
 use Rattle.table_meaning.specs.Value.{Entry}
+use Rattle.form_meaning.specs.Binding.{bound_of}
 use Rattle.method_meaning.specs.Readers as readers
 use Rattle.csv_frames.specs.Views.{entries_seen}
 use Rattle.frame_store.specs.Objects.{tables}
 use Rattle.frame_store.specs.Arguments.{arguments_of}
 use Rattle.frame_store.specs.Shown.{Makes}
+use Rattle.frame_store.specs.World.{world}
 use Rattle.file_readers.proofs.ReadLaws.{read_bound}
 use Rattle.file_readers.proofs.reading.read_frame.Goals as goal
 
@@ -13,7 +15,9 @@ pub returns-clause-answer : goal.returns-clause-answer
 returns-clause-answer c =
     let live = tables c.args.store.now in
     let dict = c.args.dict.now in
+    let gs = arguments_of live dict c.args.args.now in
+    let is = c.in_ok-bound.ensures in
     subst (λ (m : Result Entry FaultValue). Makes c.frame_of_file.new.dict c.frame_of_file.result m)
-    (read_bound c.args.bytes.now c.function_parameters-parameters.result.now (arguments_of live dict c.args.args.now) (entries_seen dict c.in_ok-kinds.kinds)
-    c.function_parameters-parameters.ensures c.in_ok-bind.ensures (c.in_ok-kinds.ensures live ∙ ap readers.kinds_given (c.dict_at.ensures.value live dict)))
+    (read_bound c.args.bytes.now gs (world c.args.store.now dict) c.in_ok-bound.bound (entries_seen dict c.in_ok-kinds.kinds)
+    (is.1 ∙ c.function_parameters.ensures) (ap (λ ps. bound_of ps gs) (sym c.function_parameters.ensures) ∙ is.0) (c.in_ok-kinds.ensures live ∙ ap readers.kinds_given (c.dict_or_none.ensures.value live dict)))
     c.frame_of_file.ensures.answer

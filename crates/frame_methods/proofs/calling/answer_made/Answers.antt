@@ -12,7 +12,7 @@ returns-in_err-cell c = λ earlier meant longer settled makes. (
 
 pub returns-in-Table : goal.returns-in-Table
 returns-in-Table c = λ earlier meant longer settled makes.
-    c.placed.ensures earlier meant longer settled (table_meant _ c.args.made c.in_ok-cell.field-0 c.in-Table.table meant c.in_ok-cell.was c.in-Table.is c.requires makes)
+    c.placed.ensures.answers earlier meant longer settled (table_meant _ c.args.made c.in_ok-cell.field-0 c.in-Table.table meant c.in_ok-cell.was c.in-Table.is c.requires makes)
 
 pub returns-in-Scalar : goal.returns-in-Scalar
 returns-in-Scalar c = λ earlier meant longer settled makes. (

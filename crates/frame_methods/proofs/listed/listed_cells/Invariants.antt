@@ -4,7 +4,7 @@ use Rattle.meaning.specs.Text.{Text}
 use Rattle.meaning.specs.Cell.{CellValue, AreGiven}
 use Rattle.table_meaning.specs.Settled.{IsSettled}
 use Rattle.frame_store.specs.Shown.{cells_value}
-use Rattle.frame_methods.specs.Listed.{scalars}
+use Rattle.signatures.specs.Scalars.{scalars}
 use Rattle.frame_methods.proofs.listed.listed_cells.Given as goal
 
 -- the scalars so far, before the others

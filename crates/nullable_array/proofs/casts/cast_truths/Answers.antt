@@ -1,6 +1,6 @@
 use Rattle.std.proofs.Common.{ap, sym, subst, ◌∙◌, Ok, option_map}
 use Rattle.cell_core.specs.declared.cell.Kind.{Kind}
-use Rattle.cell_core.specs.declared.cell.Kind.TheVariants.{Int64, Boolean, Text as string}
+use Rattle.cell_core.specs.declared.cell.Kind.TheVariants.{Boolean, Text as string}
 use Rattle.meaning.specs.Cast.{truth_text, cast_column}
 use Rattle.column_core.specs.declared.columns.Borrowed.TheVariants as Borrowed
 use Rattle.column_core.specs.Views.{borrowed_column}

@@ -1,40 +1,13 @@
-use Rattle.std.proofs.Common.{ap, sym, ◌∙◌, Ok}
+use Rattle.std.proofs.Common.{subst}
 use Rattle.cell_core.specs.declared.cell.Kind.TheVariants.{Int64}
 use Rattle.meaning.specs.Cumulate.{cumulate_column}
-use Rattle.nullable_array.specs.declared.ops.Cumulation.{Cumulation}
-use Rattle.column_core.specs.Lanes.{lane_row}
-use Rattle.column_core.specs.Columns.{CellColumn, column_value, column_with, number_cell, number_given}
+use Rattle.column_core.specs.Columns.{CellColumn, column_value, number_cell}
+use Rattle.column_core.proofs.CellRows.{same_column}
+use Rattle.nullable_array.specs.Answers.{Answers}
 use Rattle.nullable_array.specs.Folds.{cumulation_of}
-use Rattle.column_core.proofs.ColumnLaws.{given-plain}
-use Rattle.nullable_array.proofs.RunningLaws.{number_sums, number_leasts, number_greatests}
 use Rattle.nullable_array.proofs.cumulations.cumulate_numbers.Goals as goal
 
-pub returns-in_ok-run-in-Sum-clause-given : goal.returns-in_ok-run-in-Sum-clause-given
-returns-in_ok-run-in-Sum-clause-given c = λ texts. given-plain texts Int64 number_cell _ _ _ (number_given texts) c.in_ok-run-in-Sum.ensures
-
-pub returns-in_ok-run-in-Sum-clause-answer : goal.returns-in_ok-run-in-Sum-clause-answer
-returns-in_ok-run-in-Sum-clause-answer c = λ texts.
-    let a = c.args.a.now in
-    let row = lane_row a.values.now a.present.now a.start a.stride a.back in
-    ap (λ (o : Cumulation). cumulate_column (cumulation_of o) (column_value texts (column_with Int64 number_cell a.count row))) c.in-Sum.is
-    ∙ number_sums texts a.count row ∙ ap (λ (col : CellColumn). Ok (column_value texts col)) (sym c.in_ok-run-in-Sum.ensures)
-
-pub returns-in_ok-run-in-Min-clause-given : goal.returns-in_ok-run-in-Min-clause-given
-returns-in_ok-run-in-Min-clause-given c = λ texts. given-plain texts Int64 number_cell _ _ _ (number_given texts) c.in_ok-run-in-Min.ensures
-
-pub returns-in_ok-run-in-Min-clause-answer : goal.returns-in_ok-run-in-Min-clause-answer
-returns-in_ok-run-in-Min-clause-answer c = λ texts.
-    let a = c.args.a.now in
-    let row = lane_row a.values.now a.present.now a.start a.stride a.back in
-    ap (λ (o : Cumulation). cumulate_column (cumulation_of o) (column_value texts (column_with Int64 number_cell a.count row))) c.in-Min.is
-    ∙ number_leasts texts a.count row ∙ ap (λ (col : CellColumn). Ok (column_value texts col)) (sym c.in_ok-run-in-Min.ensures)
-
-pub returns-in_ok-run-in-Max-clause-given : goal.returns-in_ok-run-in-Max-clause-given
-returns-in_ok-run-in-Max-clause-given c = λ texts. given-plain texts Int64 number_cell _ _ _ (number_given texts) c.in_ok-run-in-Max.ensures
-
-pub returns-in_ok-run-in-Max-clause-answer : goal.returns-in_ok-run-in-Max-clause-answer
-returns-in_ok-run-in-Max-clause-answer c = λ texts.
-    let a = c.args.a.now in
-    let row = lane_row a.values.now a.present.now a.start a.stride a.back in
-    ap (λ (o : Cumulation). cumulate_column (cumulation_of o) (column_value texts (column_with Int64 number_cell a.count row))) c.in-Max.is
-    ∙ number_greatests texts a.count row ∙ ap (λ (col : CellColumn). Ok (column_value texts col)) (sym c.in_ok-run-in-Max.ensures)
+pub returns-in-Some-clause-answer : goal.returns-in-Some-clause-answer
+returns-in-Some-clause-answer c = λ texts.
+    subst (λ (col : CellColumn). Answers texts c.running_numbers.result (cumulate_column (cumulation_of c.args.op) (column_value texts col)))
+    (same_column Int64 number_cell _ _ _ _ c.in-Some.ensures.count c.in-Some.ensures.rows) (c.running_numbers.ensures.answer texts)

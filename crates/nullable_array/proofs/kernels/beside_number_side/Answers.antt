@@ -9,4 +9,4 @@ returns-then-left-clause-answer g c = λ texts.
 
 pub returns-else-left-clause-answer : goal.returns-else-left-clause-answer
 returns-else-left-clause-answer g c = λ texts.
-    scalar_on_right texts c.args.task Int64 number_cell _ _ c.args.scalar c.args.left _ (number_kept texts c.args.scalar) c.if-left.false texts _ c.count.ensures (c.on_number_sides-else-left.ensures.answer texts)
+    scalar_on_right texts c.args.task Int64 number_cell _ _ c.args.scalar c.args.left _ (number_kept texts c.args.scalar) c.if-left.false texts _ c.count.ensures (c.on_number_before.ensures.answer texts)

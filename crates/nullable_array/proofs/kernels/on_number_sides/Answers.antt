@@ -18,4 +18,4 @@ pub returns-in-Product-clause-answer : goal.returns-in-Product-clause-answer
 returns-in-Product-clause-answer g c = λ texts. pair_answer texts _ task.Product c.in-Product.is Int64 Int64 Int64 number_cell number_cell number_cell (number_row (λ x y. x *ℤ y)) refl (product_law texts) _ _ _ _ c.requires _ (c.operate_sides-in-Product.ensures.answer texts)
 
 pub returns-in-Compare-clause-answer : goal.returns-in-Compare-clause-answer
-returns-in-Compare-clause-answer g c = λ texts. pair_answer texts _ (task.Compare c.in-Compare.relation) c.in-Compare.is Int64 Int64 Boolean number_cell number_cell truth_cell (compare_row c.in-Compare.relation int_cmp) refl (numbers_law texts c.in-Compare.relation) _ _ _ _ c.requires _ (c.operate_sides-in-Compare.ensures.answer texts)
+returns-in-Compare-clause-answer g c = λ texts. pair_answer texts _ (task.Compare c.in-Compare.relation) c.in-Compare.is Int64 Int64 Boolean number_cell number_cell truth_cell (compare_row c.in-Compare.relation int_cmp) refl (numbers_law texts c.in-Compare.relation) _ _ _ _ c.requires _ (c.compare_sides.ensures.answer texts)

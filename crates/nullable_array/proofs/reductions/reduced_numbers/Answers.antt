@@ -40,14 +40,14 @@ returns-in-Any-clause-value g c = λ texts.
     let n = g.A.Source.count_of c.args.a.now in
     let row = g.A.Source.row_of c.args.a.now in
     let back = λ (r : Reduction) (is : c.args.op ≡ r). ap (λ (o : Reduction). reduction_cell (reduction_of o) (map (datum texts) (tabulate n (λ k. number_cell (row k))))) (sym is) in
-    ap truth_value_cell (c.fold_rows-in-Any.ensures ∙ sym (folded_seen texts number_cell (λ found x. found || is_true x) (λ s x. s || is_not_zero x) (λ s. s) refl (λ x. refl) (λ s x. refl) false n row)) ∙ back _ c.in-Any.is
+    ap truth_value_cell (c.fold_until.ensures ∙ sym (folded_seen texts number_cell (λ found x. found || is_true x) (λ s x. s || is_not_zero x) (λ s. s) refl (λ x. refl) (λ s x. refl) false n row)) ∙ back _ c.in-Any.is
 
 pub returns-in-All-clause-value : goal.returns-in-All-clause-value
 returns-in-All-clause-value g c = λ texts.
     let n = g.A.Source.count_of c.args.a.now in
     let row = g.A.Source.row_of c.args.a.now in
     let back = λ (r : Reduction) (is : c.args.op ≡ r). ap (λ (o : Reduction). reduction_cell (reduction_of o) (map (datum texts) (tabulate n (λ k. number_cell (row k))))) (sym is) in
-    ap truth_value_cell (c.fold_rows-in-All.ensures ∙ sym (folded_seen texts number_cell (λ found x. found && is_true x) (λ s x. s && is_not_zero x) (λ s. s) refl (λ x. refl) (λ s x. refl) true n row)) ∙ back _ c.in-All.is
+    ap truth_value_cell (c.fold_until-in-All.ensures ∙ sym (folded_seen texts number_cell (λ found x. found && is_true x) (λ s x. s && is_not_zero x) (λ s. s) refl (λ x. refl) (λ s x. refl) true n row)) ∙ back _ c.in-All.is
 
 pub returns-in-Count-clause-value : goal.returns-in-Count-clause-value
 returns-in-Count-clause-value g c = λ texts.

@@ -1,6 +1,18 @@
+use Rattle.std.proofs.Common.{◌≡◌, ◌∙◌, ◌++◌, [], ◌∷◌, None, Some, map, ap, subst}
+use Rattle.std.specs.Prelude.{IfOk}
+use Rattle.cell_core.specs.declared.grid.Shape.TheVariants.{Series}
+use Rattle.table_meaning.specs.Table.{NumberedTable}
 use Rattle.frame_store.proofs.ObjectLaws.{added_is_live}
-use Rattle.frame_store.specs.Objects.{tables}
+use Rattle.frame_store.specs.Parts.{HeadingList, table_with, block_column}
+use Rattle.frame_store.specs.Objects.{tables, with_object}
 use Rattle.table_tests.proofs.store.series.Goals as goal
 
-pub returns : goal.returns
-returns c = added_is_live c.add.result (tables c.args.store.now) (tables c.add.new.self) _ c.add.ensures.ok
+pub returns-clause-live : goal.returns-clause-live
+returns-clause-live c = added_is_live c.add.result (tables c.args.store.now) (tables c.add.new.self) _ c.add.ensures.ok
+
+pub returns-clause-added : goal.returns-clause-added
+returns-clause-added c =
+    let headings = c.in_ok-push.ensures.ok ∙ ap (λ (h : HeadingList). record h { labels = h.labels ++ None ∷ [] }) c.new-headings.ensures in
+    let blocks = c.in_ok-push-2.ensures.ok ∙ ap (λ l. l ++ c.args.block ∷ []) c.new-blocks.ensures in
+    subst (λ (t : NumberedTable). IfOk c.add.result (λ id. tables c.add.new.self ≡ with_object (tables c.args.store.now) id.0 (Some t)))
+    (λ j. table_with Series (c.in_ok-axis.ensures j) (headings j) (map block_column (blocks j))) c.add.ensures.ok

@@ -1,11 +1,11 @@
-use Rattle.std.proofs.Common.{rules, refl, [], ◌∷◌, ◌++◌, length, codes, ◌≡◌, sym, ◌∙◌, ap, subst, Some, None, drop, ◌+◌, ◌≤◌, max, suc, arith, true, Option, Err, Ok}
-use Rattle.std.specs.Prelude.{is_some, option_map, IsErrAnd}
+use Rattle.std.proofs.Common.{refl, [], ◌∷◌, ◌++◌, length, codes, ◌≡◌, sym, ◌∙◌, ap, subst, Some, None, drop, ◌+◌, ◌≤◌, max, suc, arith, true, Option, Err}
+use Rattle.std.specs.Prelude.{List, is_some, option_map, IsErrAnd}
 use Rattle.std.proofs.lemmas.List.{append-nil}
 use Rattle.language_meaning.specs.Tree.{arg_list, named_args, arg_pairs}
 use Rattle.language_meaning.specs.Depth.{depth, step_depth, optional_arg_depth, arg_depth, list_depth, args_depth, pairs_depth}
 use Rattle.meaning.specs.Cell.{label_datum}
 use Rattle.meaning.specs.Operator.{cell_label}
-use Rattle.table_meaning.specs.Value.{Entry, cell, Given, GivenSub, nothing, one, row, many, entries, key_given, span_given, more_given, more_entries, no_given, no_entries}
+use Rattle.table_meaning.specs.Value.{Entry, cell, GivenSub, nothing, one, row, many, entries, key_given, span_given, more_given, more_entries, no_given, no_entries}
 use Rattle.form_meaning.specs.Signature.{function_named}
 use Rattle.form_meaning.specs.Infix.{infix_result, sign_result}
 use Rattle.form_meaning.specs.Select.{plain, through, select_result, length_result}
@@ -19,22 +19,31 @@ use Rattle.frame_store.specs.declared.arguments.Subscript.TheVariants as subscri
 use Rattle.frame_store.specs.declared.arguments.Named.{Named}
 use Rattle.script_tokens.specs.View.{binary_of}
 use Rattle.script_meaning.specs.Reading.{Reads, at_once, gives, then_read}
-use Rattle.script_meaning.specs.Expression.{is_minus, made, named_by, value_of, stepped, named_of, parts_of as parts_given, part_of, pairs_of, given_of, sub_of, second_of, bound_of, stride_of, cell_of}
+use Rattle.script_meaning.specs.Expression.{where_named, is_minus, made, named_by, value_of, stepped, named_of, parts_of as parts_given, part_of, pairs_of, given_of, sub_of, second_of, bound_of, stride_of, cell_of}
 use Rattle.script_syntax.specs.View.{unary_of, expr_of, step_of, arg_of, accessor_of, optional_arg, parts_of, named_parts_of, pair_parts_of, sub_of as view_sub, literal_of}
 use Rattle.script_syntax.proofs.Rows.{expr_of-Make, step_of-Method, step_of-Group, step_of-Rolling, step_of-Expanding, arg_of-Many, arg_of-Row, arg_of-Table}
 use Rattle.selections.specs.Selected.{way_of}
 use Rattle.script_session.specs.Parts.{optional_sub, optional_expr}
-use Rattle.frame_store.specs.World.{entry_in, IsKnownSubscript, IsKnownArgument, Forms}
-use Rattle.script_session.specs.Evaluates.{item_in, items_in, argument_in, pairs_in, arguments_in, subscript_in, subscripts_in}
+use Rattle.frame_store.specs.World.{entry_in}
+use Rattle.script_session.specs.Evaluates.{item_in, items_in, argument_in, pairs_in, arguments_in, subscript_in}
 use Rattle.script_session.specs.Faults.{IsNoAttribute}
-use Rattle.script_session.specs.Work.{names_in, world_of, state_in}
+use Rattle.script_session.specs.Work.{world_of, state_in}
 use Rattle.script_session.proofs.Worlds.{keeps_both, value_seen, value_kept, subscript_seen, subscript_kept, items_seen, items_kept, pairs_seen, pairs_kept, arguments_seen, arguments_kept, argument_seen, argument_kept}
 use Rattle.script_session.proofs.Seconds.{seconds_stop, seconds, strides_stop, strides}
-use Rattle.script_session.proofs.Evaluations.{evaluates_by, runs_out, stops, goes_on, fails, becomes, adds, makes, stays, as_value, forms, knows, knows_none, names_value, writes_out, value_if}
+use Rattle.script_session.proofs.Evaluations.{evaluates_by, runs_out, stops, goes_on, adds, makes, stays, as_value, forms, knows, knows_none, names_value, writes_out, value_if}
 use Rattle.script_session.proofs.Gathering.{gathered, gathers_next, gathers_none, gathers_out}
 use Rattle.script_session.proofs.Parts.{join_parts, join_pairs, parts_end, pairs_end, items_push, pairs_push, arguments_push, items_known, pairs_known, arguments_known, item_known, argument_known, nothing_known, many_known, tuple_known, key_known, span_known, row_known, table_known}
 use Rattle.script_session.proofs.FormFaults.{sign_result_fault, infix_result_fault, length_result_fault, select_result_fault, chain_result_fault}
-use Rattle.script_session.proofs.Rides.{both_then, last_then, then_gives}
+use Rattle.meaning.specs.Text.{Text}
+use Rattle.frame_methods.specs.Calls.{chain_of}
+use Rattle.table_meaning.specs.Value.{NamedGiven}
+use Rattle.script_session.specs.Links.{link_name, chain_behind, after_brackets, after_link, linked}
+use Rattle.script_session.specs.declared.link.Link.{Link}
+use Rattle.script_session.specs.declared.link.Link.TheVariants.{Groupby, Rolling, Expanding}
+use Rattle.cell_core.specs.declared.words.Words.{Words}
+use Rattle.frame_store.specs.declared.arguments.Argument.{Argument}
+use Rattle.frame_store.specs.declared.arguments.NamedList.{NamedList}
+use Rattle.script_session.proofs.Rides.{both_then, then_gives}
 use Rattle.script_session.proofs.Trees.{drop_item, drop_end, item_depth, named_depth, pair_depth, sub_of-Span, step_of-Access}
 use Rattle.script_session.proofs.work.Work.+evaluating.Goals as goal
 
@@ -356,219 +365,141 @@ after-returns-in_ok-name-in-Method g t c =
     (λ fs. ap (λ e. at_once (chain_result e (calls.plain n) args)) (sym same) ∙ ap (λ k. at_once (chain_result on (calls.plain k) args)) (sym c.as_str-in-Method.ensures ∙ sym c.in_ok-name-in-Method.ensures)))))
     (λ fs. ap (λ y. stepped fs (state_in s) v (step_of y)) c.in-Method.is ∙ ap (stepped fs (state_in s) v) (step_of-Method n c.in-Method.args))
 
-pub after-chained-requires : goal.after-chained-requires
-after-chained-requires g t c =
+-- what a chain is seen as
+behind_seen : (link : Link) (args : NamedList) (by : Argument) (name : Words) → chain_of (chain_behind link args by name) ≡ calls.through (link_name link)
+behind_seen Groupby args by name = refl
+behind_seen Rolling args by name = refl
+behind_seen Expanding args by name = refl
+
+-- a call without brackets reads nothing in their place
+no_brackets : (v : Entry) (n : Text) (args more : Reads (List NamedGiven)) → where_named (has_method v n) n (then_read args (λ g. then_read more (λ gs. at_once (chain_result v (calls.through n) gs))))
+    ≡ where_named (has_method v n) n (then_read args (λ g. then_read (gives nothing) (λ h. then_read more (λ gs. at_once (chain_result v (calls.through n) gs)))))
+no_brackets v n args more = ap (λ m. where_named (has_method v n) n (then_read args (λ g. m))) (sym (then_gives Err nothing (λ h. then_read more (λ gs. at_once (chain_result v (calls.through n) gs)))))
+
+pub after-through-requires : goal.after-through-requires
+after-through-requires g t c =
     let deep : step_depth (step_of c.args.step.now) ≡ max (args_depth (named_args (named_parts_of c.in-Group.args))) (max (optional_arg_depth (optional_arg c.in-Group.by)) (args_depth (named_args (named_parts_of c.in-Group.more)))) = ap step_depth (ap step_of c.in-Group.is ∙ step_of-Group c.in-Group.args c.in-Group.by c.in-Group.name c.in-Group.more) in
-    λ κs within. (omega (arith, deep, c.decreases), within)
+    rw c.linked-call.ensures (λ κs within. (omega (arith, deep, c.decreases), (within, c.requires)))
 
-pub after-returns-in_err-expect_method-in-Group : goal.after-returns-in_err-expect_method-in-Group
-after-returns-in_err-expect_method-in-Group g t c =
-    let s = c.args.self.now in
-    let v = entry_in (world_of s) c.args.on in
-    let y = c.in-Group in
-    let n = codes "groupby" in
-    let x = c.in_err-expect_method-in-Group in
-    evaluates_by (knows_none (λ fs s. then_read (named_of fs s (named_args (named_parts_of y.args))) (λ g. then_read (bound_of fs s (optional_arg y.by)) (λ h. then_read (named_of fs s (named_args (named_parts_of y.more))) (λ gs. at_once (chain_result v (calls.through n) gs))))) x.field-0.0 (has_method v n) n (x.ensures.fault (world_of s).texts) c.from_residual-in_err-expect_method-in-Group.result c.from_residual-in_err-expect_method-in-Group.ensures.1)
-    (λ fs. ap (λ y. stepped fs (state_in s) v (step_of y)) c.in-Group.is ∙ ap (stepped fs (state_in s) v) (step_of-Group y.args y.by y.name y.more))
-
-pub after-returns-in_err-args-in-Group : goal.after-returns-in_err-args-in-Group
-after-returns-in_err-args-in-Group g t c =
-    let s = c.args.self.now in
-    let v = entry_in (world_of s) c.args.on in
-    let y = c.in-Group in
-    let n = codes "groupby" in
-    let known : has_method v n ≡ true = c.in_ok-expect_method-in-Group.ensures.known s.dict in
-    evaluates_by (knows (λ fs s. then_read (named_of fs s (named_args (named_parts_of y.args))) (λ g. then_read (bound_of fs s (optional_arg y.by)) (λ h. then_read (named_of fs s (named_args (named_parts_of y.more))) (λ gs. at_once (chain_result v (calls.through n) gs))))) (has_method v n) n known (evaluates_by (stops (λ fs s gs. at_once (chain_result v (calls.through n) gs)) c.in_err-args-in-Group.ensures c.from_residual-in_err-args-in-Group.result c.from_residual-in_err-args-in-Group.ensures.1)
-    (λ fs. last_then Err (named_of fs (state_in s) (named_args (named_parts_of y.more))) (λ gs. at_once (chain_result v (calls.through n) gs)) (named_of fs (state_in s) (named_args (named_parts_of y.args))) (bound_of fs (state_in s) (optional_arg y.by)))))
-    (λ fs. ap (λ y. stepped fs (state_in s) v (step_of y)) c.in-Group.is ∙ ap (stepped fs (state_in s) v) (step_of-Group y.args y.by y.name y.more))
-
-pub after-returns-in_err-name-in-Group : goal.after-returns-in_err-name-in-Group
-after-returns-in_err-name-in-Group g t c =
-    let s = c.args.self.now in
-    let v = entry_in (world_of s) c.args.on in
-    let y = c.in-Group in
-    let n = codes "groupby" in
-    let known : has_method v n ≡ true = c.in_ok-expect_method-in-Group.ensures.known s.dict in
-    evaluates_by (knows (λ fs s. then_read (named_of fs s (named_args (named_parts_of y.args))) (λ g. then_read (bound_of fs s (optional_arg y.by)) (λ h. then_read (named_of fs s (named_args (named_parts_of y.more))) (λ gs. at_once (chain_result v (calls.through n) gs))))) (has_method v n) n known (evaluates_by (goes_on (λ fs s gs. at_once (chain_result v (calls.through n) gs)) _ c.in_ok-args-in-Group.ensures (runs_out c.from_residual-in_err-name-in-Group.result c.from_residual-in_err-name-in-Group.ensures.1))
-    (λ fs. last_then Err (named_of fs (state_in s) (named_args (named_parts_of y.more))) (λ gs. at_once (chain_result v (calls.through n) gs)) (named_of fs (state_in s) (named_args (named_parts_of y.args))) (bound_of fs (state_in s) (optional_arg y.by)))))
-    (λ fs. ap (λ y. stepped fs (state_in s) v (step_of y)) c.in-Group.is ∙ ap (stepped fs (state_in s) v) (step_of-Group y.args y.by y.name y.more))
-
-pub after-method-requires-in-Group : goal.after-method-requires-in-Group
-after-method-requires-in-Group g t c =
-    let s = c.args.self.now in
-    let w = c.chained.new.self in
-    let x = c.in_ok-args-in-Group.ensures in
-    record {
-      on = value_kept (world_of s) (world_of w) s.settled w.settled x.kept c.args.on c.requires;
-      arguments = x.found;
-    }
-
-pub after-returns-in_ok-name-in-Group : goal.after-returns-in_ok-name-in-Group
-after-returns-in_ok-name-in-Group g t c =
-    let s = c.args.self.now in
-    let v = entry_in (world_of s) c.args.on in
-    let y = c.in-Group in
-    let n = codes "groupby" in
-    let known : has_method v n ≡ true = c.in_ok-expect_method-in-Group.ensures.known s.dict in
-    let w = c.chained.new.self in
-    let u = c.method-in-Group.new.self in
-    let x = c.in_ok-args-in-Group.ensures in
-    let on = entry_in (world_of w) c.args.on in
-    let args = arguments_in (world_of w) c.in_ok-args-in-Group.more in
-    let same = value_seen (world_of s) (world_of w) s.settled w.settled x.kept c.args.on c.requires in
-    evaluates_by (knows (λ fs s. then_read (named_of fs s (named_args (named_parts_of y.args))) (λ g. then_read (bound_of fs s (optional_arg y.by)) (λ h. then_read (named_of fs s (named_args (named_parts_of y.more))) (λ gs. at_once (chain_result v (calls.through n) gs))))) (has_method v n) n known (evaluates_by (goes_on (λ fs s gs. at_once (chain_result v (calls.through n) gs)) _ x
-    (evaluates_by (forms w u (chain_result on (calls.through n) args) (chain_result_fault on (calls.through n) args) c.method-in-Group.ensures.names c.method-in-Group.result c.evaluated-in-Group.result c.evaluated-in-Group.ensures c.method-in-Group.ensures.answers)
-    (λ fs. ap (λ e. at_once (chain_result e (calls.through n) args)) (sym same))))
-    (λ fs. last_then Err (named_of fs (state_in s) (named_args (named_parts_of y.more))) (λ gs. at_once (chain_result v (calls.through n) gs)) (named_of fs (state_in s) (named_args (named_parts_of y.args))) (bound_of fs (state_in s) (optional_arg y.by)))))
-    (λ fs. ap (λ y. stepped fs (state_in s) v (step_of y)) c.in-Group.is ∙ ap (stepped fs (state_in s) v) (step_of-Group y.args y.by y.name y.more))
-
-pub after-chained-requires-in-Rolling : goal.after-chained-requires-in-Rolling
-after-chained-requires-in-Rolling g t c =
+pub after-through-requires-in-Rolling : goal.after-through-requires-in-Rolling
+after-through-requires-in-Rolling g t c =
     let deep : step_depth (step_of c.args.step.now) ≡ max (args_depth (named_args (named_parts_of c.in-Rolling.args))) (args_depth (named_args (named_parts_of c.in-Rolling.more))) = ap step_depth (ap step_of c.in-Rolling.is ∙ step_of-Rolling c.in-Rolling.args c.in-Rolling.name c.in-Rolling.more) in
-    λ κs within. (omega (arith, deep, c.decreases), within)
+    rw c.linked-call-in-Rolling.ensures (λ κs within. (omega (arith, deep, c.decreases), (within, c.requires)))
 
-pub after-returns-in_err-expect_method-in-Rolling : goal.after-returns-in_err-expect_method-in-Rolling
-after-returns-in_err-expect_method-in-Rolling g t c =
-    let s = c.args.self.now in
-    let v = entry_in (world_of s) c.args.on in
-    let y = c.in-Rolling in
-    let n = codes "rolling" in
-    let x = c.in_err-expect_method-in-Rolling in
-    evaluates_by (knows_none (λ fs s. then_read (named_of fs s (named_args (named_parts_of y.args))) (λ g. then_read (named_of fs s (named_args (named_parts_of y.more))) (λ gs. at_once (chain_result v (calls.through n) gs)))) x.field-0.0 (has_method v n) n (x.ensures.fault (world_of s).texts) c.from_residual-in_err-expect_method-in-Rolling.result c.from_residual-in_err-expect_method-in-Rolling.ensures.1)
-    (λ fs. ap (λ y. stepped fs (state_in s) v (step_of y)) c.in-Rolling.is ∙ ap (stepped fs (state_in s) v) (step_of-Rolling y.args y.name y.more))
-
-pub after-returns-in_err-args-in-Rolling : goal.after-returns-in_err-args-in-Rolling
-after-returns-in_err-args-in-Rolling g t c =
-    let s = c.args.self.now in
-    let v = entry_in (world_of s) c.args.on in
-    let y = c.in-Rolling in
-    let n = codes "rolling" in
-    let known : has_method v n ≡ true = c.in_ok-expect_method-in-Rolling.ensures.known s.dict in
-    evaluates_by (knows (λ fs s. then_read (named_of fs s (named_args (named_parts_of y.args))) (λ g. then_read (named_of fs s (named_args (named_parts_of y.more))) (λ gs. at_once (chain_result v (calls.through n) gs)))) (has_method v n) n known (evaluates_by (stops (λ fs s gs. at_once (chain_result v (calls.through n) gs)) c.in_err-args-in-Rolling.ensures c.from_residual-in_err-args-in-Rolling.result c.from_residual-in_err-args-in-Rolling.ensures.1)
-    (λ fs. let args = named_of fs (state_in s) (named_args (named_parts_of y.args)) in let more = named_of fs (state_in s) (named_args (named_parts_of y.more)) in let by : Reads Given = gives nothing in ap (λ m. then_read args (λ g. m)) (sym (then_gives Err nothing (λ h. then_read more (λ gs. at_once (chain_result v (calls.through n) gs))))) ∙ last_then Err more (λ gs. at_once (chain_result v (calls.through n) gs)) args by)))
-    (λ fs. ap (λ y. stepped fs (state_in s) v (step_of y)) c.in-Rolling.is ∙ ap (stepped fs (state_in s) v) (step_of-Rolling y.args y.name y.more))
-
-pub after-returns-in_err-name-in-Rolling : goal.after-returns-in_err-name-in-Rolling
-after-returns-in_err-name-in-Rolling g t c =
-    let s = c.args.self.now in
-    let v = entry_in (world_of s) c.args.on in
-    let y = c.in-Rolling in
-    let n = codes "rolling" in
-    let known : has_method v n ≡ true = c.in_ok-expect_method-in-Rolling.ensures.known s.dict in
-    evaluates_by (knows (λ fs s. then_read (named_of fs s (named_args (named_parts_of y.args))) (λ g. then_read (named_of fs s (named_args (named_parts_of y.more))) (λ gs. at_once (chain_result v (calls.through n) gs)))) (has_method v n) n known (evaluates_by (goes_on (λ fs s gs. at_once (chain_result v (calls.through n) gs)) _ c.in_ok-args-in-Rolling.ensures (runs_out c.from_residual-in_err-name-in-Rolling.result c.from_residual-in_err-name-in-Rolling.ensures.1))
-    (λ fs. let args = named_of fs (state_in s) (named_args (named_parts_of y.args)) in let more = named_of fs (state_in s) (named_args (named_parts_of y.more)) in let by : Reads Given = gives nothing in ap (λ m. then_read args (λ g. m)) (sym (then_gives Err nothing (λ h. then_read more (λ gs. at_once (chain_result v (calls.through n) gs))))) ∙ last_then Err more (λ gs. at_once (chain_result v (calls.through n) gs)) args by)))
-    (λ fs. ap (λ y. stepped fs (state_in s) v (step_of y)) c.in-Rolling.is ∙ ap (stepped fs (state_in s) v) (step_of-Rolling y.args y.name y.more))
-
-pub after-method-requires-in-Rolling : goal.after-method-requires-in-Rolling
-after-method-requires-in-Rolling g t c =
-    let s = c.args.self.now in
-    let w = c.chained-in-Rolling.new.self in
-    let x = c.in_ok-args-in-Rolling.ensures in
-    record {
-      on = value_kept (world_of s) (world_of w) s.settled w.settled x.kept c.args.on c.requires;
-      arguments = x.found;
-    }
-
-pub after-returns-in_ok-name-in-Rolling : goal.after-returns-in_ok-name-in-Rolling
-after-returns-in_ok-name-in-Rolling g t c =
-    let s = c.args.self.now in
-    let v = entry_in (world_of s) c.args.on in
-    let y = c.in-Rolling in
-    let n = codes "rolling" in
-    let known : has_method v n ≡ true = c.in_ok-expect_method-in-Rolling.ensures.known s.dict in
-    let w = c.chained-in-Rolling.new.self in
-    let u = c.method-in-Rolling.new.self in
-    let x = c.in_ok-args-in-Rolling.ensures in
-    let on = entry_in (world_of w) c.args.on in
-    let args = arguments_in (world_of w) c.in_ok-args-in-Rolling.more in
-    let same = value_seen (world_of s) (world_of w) s.settled w.settled x.kept c.args.on c.requires in
-    evaluates_by (knows (λ fs s. then_read (named_of fs s (named_args (named_parts_of y.args))) (λ g. then_read (named_of fs s (named_args (named_parts_of y.more))) (λ gs. at_once (chain_result v (calls.through n) gs)))) (has_method v n) n known (evaluates_by (goes_on (λ fs s gs. at_once (chain_result v (calls.through n) gs)) _ x
-    (evaluates_by (forms w u (chain_result on (calls.through n) args) (chain_result_fault on (calls.through n) args) c.method-in-Rolling.ensures.names c.method-in-Rolling.result c.evaluated-in-Rolling.result c.evaluated-in-Rolling.ensures c.method-in-Rolling.ensures.answers)
-    (λ fs. ap (λ e. at_once (chain_result e (calls.through n) args)) (sym same))))
-    (λ fs. let args = named_of fs (state_in s) (named_args (named_parts_of y.args)) in let more = named_of fs (state_in s) (named_args (named_parts_of y.more)) in let by : Reads Given = gives nothing in ap (λ m. then_read args (λ g. m)) (sym (then_gives Err nothing (λ h. then_read more (λ gs. at_once (chain_result v (calls.through n) gs))))) ∙ last_then Err more (λ gs. at_once (chain_result v (calls.through n) gs)) args by)))
-    (λ fs. ap (λ y. stepped fs (state_in s) v (step_of y)) c.in-Rolling.is ∙ ap (stepped fs (state_in s) v) (step_of-Rolling y.args y.name y.more))
-
-pub after-chained-requires-in-Expanding : goal.after-chained-requires-in-Expanding
-after-chained-requires-in-Expanding g t c =
+pub after-through-requires-in-Expanding : goal.after-through-requires-in-Expanding
+after-through-requires-in-Expanding g t c =
     let deep : step_depth (step_of c.args.step.now) ≡ max (args_depth (named_args (named_parts_of c.in-Expanding.args))) (args_depth (named_args (named_parts_of c.in-Expanding.more))) = ap step_depth (ap step_of c.in-Expanding.is ∙ step_of-Expanding c.in-Expanding.args c.in-Expanding.name c.in-Expanding.more) in
-    λ κs within. (omega (arith, deep, c.decreases), within)
+    rw c.linked-call-in-Expanding.ensures (λ κs within. (omega (arith, deep, c.decreases), (within, c.requires)))
 
-pub after-returns-in_err-expect_method-in-Expanding : goal.after-returns-in_err-expect_method-in-Expanding
-after-returns-in_err-expect_method-in-Expanding g t c =
+pub after-returns-in-Group : goal.after-returns-in-Group
+after-returns-in-Group g t c =
+    let s = c.args.self.now in
+    let v = entry_in (world_of s) c.args.on in
+    let y = c.in-Group in
+    evaluates_by c.through.ensures (λ fs. ap (λ y. stepped fs (state_in s) v (step_of y)) c.in-Group.is ∙ ap (stepped fs (state_in s) v) (step_of-Group y.args y.by y.name y.more) ∙ ap (linked fs (state_in s) v) (sym c.linked-call.ensures))
+
+pub after-returns-in-Rolling : goal.after-returns-in-Rolling
+after-returns-in-Rolling g t c =
+    let s = c.args.self.now in
+    let v = entry_in (world_of s) c.args.on in
+    let y = c.in-Rolling in
+    evaluates_by c.through-in-Rolling.ensures (λ fs. ap (λ y. stepped fs (state_in s) v (step_of y)) c.in-Rolling.is ∙ ap (stepped fs (state_in s) v) (step_of-Rolling y.args y.name y.more)
+    ∙ no_brackets v (codes "rolling") (named_of fs (state_in s) (named_args (named_parts_of y.args))) (named_of fs (state_in s) (named_args (named_parts_of y.more))) ∙ ap (linked fs (state_in s) v) (sym c.linked-call-in-Rolling.ensures))
+
+pub after-returns-in-Expanding : goal.after-returns-in-Expanding
+after-returns-in-Expanding g t c =
     let s = c.args.self.now in
     let v = entry_in (world_of s) c.args.on in
     let y = c.in-Expanding in
-    let n = codes "expanding" in
-    let x = c.in_err-expect_method-in-Expanding in
-    evaluates_by (knows_none (λ fs s. then_read (named_of fs s (named_args (named_parts_of y.args))) (λ g. then_read (named_of fs s (named_args (named_parts_of y.more))) (λ gs. at_once (chain_result v (calls.through n) gs)))) x.field-0.0 (has_method v n) n (x.ensures.fault (world_of s).texts) c.from_residual-in_err-expect_method-in-Expanding.result c.from_residual-in_err-expect_method-in-Expanding.ensures.1)
-    (λ fs. ap (λ y. stepped fs (state_in s) v (step_of y)) c.in-Expanding.is ∙ ap (stepped fs (state_in s) v) (step_of-Expanding y.args y.name y.more))
+    evaluates_by c.through-in-Expanding.ensures (λ fs. ap (λ y. stepped fs (state_in s) v (step_of y)) c.in-Expanding.is ∙ ap (stepped fs (state_in s) v) (step_of-Expanding y.args y.name y.more)
+    ∙ no_brackets v (codes "expanding") (named_of fs (state_in s) (named_args (named_parts_of y.args))) (named_of fs (state_in s) (named_args (named_parts_of y.more))) ∙ ap (linked fs (state_in s) v) (sym c.linked-call-in-Expanding.ensures))
 
-pub after-returns-in_err-args-in-Expanding : goal.after-returns-in_err-args-in-Expanding
-after-returns-in_err-args-in-Expanding g t c =
+pub through-returns-in_err-expect_method : goal.through-returns-in_err-expect_method
+through-returns-in_err-expect_method g t c =
     let s = c.args.self.now in
     let v = entry_in (world_of s) c.args.on in
-    let y = c.in-Expanding in
-    let n = codes "expanding" in
-    let known : has_method v n ≡ true = c.in_ok-expect_method-in-Expanding.ensures.known s.dict in
-    evaluates_by (knows (λ fs s. then_read (named_of fs s (named_args (named_parts_of y.args))) (λ g. then_read (named_of fs s (named_args (named_parts_of y.more))) (λ gs. at_once (chain_result v (calls.through n) gs)))) (has_method v n) n known (evaluates_by (stops (λ fs s gs. at_once (chain_result v (calls.through n) gs)) c.in_err-args-in-Expanding.ensures c.from_residual-in_err-args-in-Expanding.result c.from_residual-in_err-args-in-Expanding.ensures.1)
-    (λ fs. let args = named_of fs (state_in s) (named_args (named_parts_of y.args)) in let more = named_of fs (state_in s) (named_args (named_parts_of y.more)) in let by : Reads Given = gives nothing in ap (λ m. then_read args (λ g. m)) (sym (then_gives Err nothing (λ h. then_read more (λ gs. at_once (chain_result v (calls.through n) gs))))) ∙ last_then Err more (λ gs. at_once (chain_result v (calls.through n) gs)) args by)))
-    (λ fs. ap (λ y. stepped fs (state_in s) v (step_of y)) c.in-Expanding.is ∙ ap (stepped fs (state_in s) v) (step_of-Expanding y.args y.name y.more))
+    let call = c.args.call in
+    let n = link_name call.link in
+    let x = c.in_err-expect_method in
+    knows_none (λ fs s. then_read (named_of fs s (named_args (named_parts_of call.args.now))) (after_link fs s v call)) x.field-0.0 (has_method v n) n (subst (λ k. IsNoAttribute x.field-0.0 k (has_method v k)) c.name.ensures (x.ensures.fault (world_of s).texts)) c.from_residual.result c.from_residual.ensures.1
 
-pub after-returns-in_err-name-in-Expanding : goal.after-returns-in_err-name-in-Expanding
-after-returns-in_err-name-in-Expanding g t c =
+pub through-returns-in_err-args : goal.through-returns-in_err-args
+through-returns-in_err-args g t c =
     let s = c.args.self.now in
     let v = entry_in (world_of s) c.args.on in
-    let y = c.in-Expanding in
-    let n = codes "expanding" in
-    let known : has_method v n ≡ true = c.in_ok-expect_method-in-Expanding.ensures.known s.dict in
-    evaluates_by (knows (λ fs s. then_read (named_of fs s (named_args (named_parts_of y.args))) (λ g. then_read (named_of fs s (named_args (named_parts_of y.more))) (λ gs. at_once (chain_result v (calls.through n) gs)))) (has_method v n) n known (evaluates_by (goes_on (λ fs s gs. at_once (chain_result v (calls.through n) gs)) _ c.in_ok-args-in-Expanding.ensures (runs_out c.from_residual-in_err-name-in-Expanding.result c.from_residual-in_err-name-in-Expanding.ensures.1))
-    (λ fs. let args = named_of fs (state_in s) (named_args (named_parts_of y.args)) in let more = named_of fs (state_in s) (named_args (named_parts_of y.more)) in let by : Reads Given = gives nothing in ap (λ m. then_read args (λ g. m)) (sym (then_gives Err nothing (λ h. then_read more (λ gs. at_once (chain_result v (calls.through n) gs))))) ∙ last_then Err more (λ gs. at_once (chain_result v (calls.through n) gs)) args by)))
-    (λ fs. ap (λ y. stepped fs (state_in s) v (step_of y)) c.in-Expanding.is ∙ ap (stepped fs (state_in s) v) (step_of-Expanding y.args y.name y.more))
+    let call = c.args.call in
+    let n = link_name call.link in
+    let known : has_method v n ≡ true = ap (has_method v) (sym c.name.ensures) ∙ c.in_ok-expect_method.ensures.known s.dict in
+    knows (λ fs s. then_read (named_of fs s (named_args (named_parts_of call.args.now))) (after_link fs s v call)) (has_method v n) n known
+    (stops (λ fs s. after_link fs s v call) c.in_err-args.ensures c.from_residual-in_err-args.result c.from_residual-in_err-args.ensures.1)
 
-pub after-method-requires-in-Expanding : goal.after-method-requires-in-Expanding
-after-method-requires-in-Expanding g t c =
-    let s = c.args.self.now in
-    let w = c.chained-in-Expanding.new.self in
-    let x = c.in_ok-args-in-Expanding.ensures in
-    record {
-      on = value_kept (world_of s) (world_of w) s.settled w.settled x.kept c.args.on c.requires;
-      arguments = x.found;
-    }
-
-pub after-returns-in_ok-name-in-Expanding : goal.after-returns-in_ok-name-in-Expanding
-after-returns-in_ok-name-in-Expanding g t c =
+pub through-returns-in_err-by : goal.through-returns-in_err-by
+through-returns-in_err-by g t c =
     let s = c.args.self.now in
     let v = entry_in (world_of s) c.args.on in
-    let y = c.in-Expanding in
-    let n = codes "expanding" in
-    let known : has_method v n ≡ true = c.in_ok-expect_method-in-Expanding.ensures.known s.dict in
-    let w = c.chained-in-Expanding.new.self in
-    let u = c.method-in-Expanding.new.self in
-    let x = c.in_ok-args-in-Expanding.ensures in
+    let call = c.args.call in
+    let n = link_name call.link in
+    let known : has_method v n ≡ true = ap (has_method v) (sym c.name.ensures) ∙ c.in_ok-expect_method.ensures.known s.dict in
+    knows (λ fs s. then_read (named_of fs s (named_args (named_parts_of call.args.now))) (after_link fs s v call)) (has_method v n) n known
+    (goes_on (λ fs s. after_link fs s v call) c.in_ok-args.args c.in_ok-args.ensures
+    (stops (λ fs s. after_brackets fs s v call) c.in_err-by.ensures c.from_residual-in_err-by.result c.from_residual-in_err-by.ensures.1))
+
+pub through-returns-in_err-more : goal.through-returns-in_err-more
+through-returns-in_err-more g t c =
+    let s = c.args.self.now in
+    let v = entry_in (world_of s) c.args.on in
+    let call = c.args.call in
+    let n = link_name call.link in
+    let known : has_method v n ≡ true = ap (has_method v) (sym c.name.ensures) ∙ c.in_ok-expect_method.ensures.known s.dict in
+    knows (λ fs s. then_read (named_of fs s (named_args (named_parts_of call.args.now))) (after_link fs s v call)) (has_method v n) n known
+    (goes_on (λ fs s. after_link fs s v call) c.in_ok-args.args c.in_ok-args.ensures
+    (goes_on (λ fs s. after_brackets fs s v call) c.in_ok-by.by c.in_ok-by.ensures
+    (stops (λ fs s gs. at_once (chain_result v (calls.through n) gs)) c.in_err-more.ensures c.from_residual-in_err-more.result c.from_residual-in_err-more.ensures.1)))
+
+pub through-returns-in_err-name : goal.through-returns-in_err-name
+through-returns-in_err-name g t c =
+    let s = c.args.self.now in
+    let v = entry_in (world_of s) c.args.on in
+    let call = c.args.call in
+    let n = link_name call.link in
+    let known : has_method v n ≡ true = ap (has_method v) (sym c.name.ensures) ∙ c.in_ok-expect_method.ensures.known s.dict in
+    knows (λ fs s. then_read (named_of fs s (named_args (named_parts_of call.args.now))) (after_link fs s v call)) (has_method v n) n known
+    (goes_on (λ fs s. after_link fs s v call) c.in_ok-args.args c.in_ok-args.ensures
+    (goes_on (λ fs s. after_brackets fs s v call) c.in_ok-by.by c.in_ok-by.ensures
+    (goes_on (λ fs s gs. at_once (chain_result v (calls.through n) gs)) c.in_ok-more.more c.in_ok-more.ensures
+    (runs_out c.from_residual-in_err-name.result c.from_residual-in_err-name.ensures.1))))
+
+pub through-method-requires : goal.through-method-requires
+through-method-requires g t c =
+    let s = c.args.self.now in
+    let w = c.arguments-2.new.self in
+    let z = c.in_ok-more.ensures in
+    let kept = keeps_both _ _ _ c.in_ok-args.ensures.kept (keeps_both _ _ _ c.in_ok-by.ensures.kept z.kept) in
+    record { on = value_kept (world_of s) (world_of w) s.settled w.settled kept c.args.on c.requires; arguments = z.found }
+
+pub through-returns : goal.through-returns
+through-returns g t c =
+    let s = c.args.self.now in
+    let v = entry_in (world_of s) c.args.on in
+    let call = c.args.call in
+    let n = link_name call.link in
+    let known : has_method v n ≡ true = ap (has_method v) (sym c.name.ensures) ∙ c.in_ok-expect_method.ensures.known s.dict in
+    let w = c.arguments-2.new.self in
+    let u = c.method.new.self in
+    let x = c.in_ok-args.ensures in
+    let y = c.in_ok-by.ensures in
+    let z = c.in_ok-more.ensures in
     let on = entry_in (world_of w) c.args.on in
-    let args = arguments_in (world_of w) c.in_ok-args-in-Expanding.more in
-    let same = value_seen (world_of s) (world_of w) s.settled w.settled x.kept c.args.on c.requires in
-    evaluates_by (knows (λ fs s. then_read (named_of fs s (named_args (named_parts_of y.args))) (λ g. then_read (named_of fs s (named_args (named_parts_of y.more))) (λ gs. at_once (chain_result v (calls.through n) gs)))) (has_method v n) n known (evaluates_by (goes_on (λ fs s gs. at_once (chain_result v (calls.through n) gs)) _ x
-    (evaluates_by (forms w u (chain_result on (calls.through n) args) (chain_result_fault on (calls.through n) args) c.method-in-Expanding.ensures.names c.method-in-Expanding.result c.evaluated-in-Expanding.result c.evaluated-in-Expanding.ensures c.method-in-Expanding.ensures.answers)
-    (λ fs. ap (λ e. at_once (chain_result e (calls.through n) args)) (sym same))))
-    (λ fs. let args = named_of fs (state_in s) (named_args (named_parts_of y.args)) in let more = named_of fs (state_in s) (named_args (named_parts_of y.more)) in let by : Reads Given = gives nothing in ap (λ m. then_read args (λ g. m)) (sym (then_gives Err nothing (λ h. then_read more (λ gs. at_once (chain_result v (calls.through n) gs))))) ∙ last_then Err more (λ gs. at_once (chain_result v (calls.through n) gs)) args by)))
-    (λ fs. ap (λ y. stepped fs (state_in s) v (step_of y)) c.in-Expanding.is ∙ ap (stepped fs (state_in s) v) (step_of-Expanding y.args y.name y.more))
-
-pub chained-returns-in_err-args : goal.chained-returns-in_err-args
-chained-returns-in_err-args g t c =
-    stops (λ fs s a. then_read (bound_of fs s (optional_arg c.args.by.now)) (λ b. named_of fs s (named_args (named_parts_of c.args.more.now)))) c.in_err-args.ensures c.from_residual.result c.from_residual.ensures.1
-
-pub chained-returns-in_err-by : goal.chained-returns-in_err-by
-chained-returns-in_err-by g t c =
-    goes_on (λ fs s a. then_read (bound_of fs s (optional_arg c.args.by.now)) (λ b. named_of fs s (named_args (named_parts_of c.args.more.now)))) _ c.in_ok-args.ensures (stops (λ fs s b. named_of fs s (named_args (named_parts_of c.args.more.now))) c.in_err-by.ensures c.from_residual-in_err-by.result c.from_residual-in_err-by.ensures.1)
-
-pub chained-returns-in_err-more : goal.chained-returns-in_err-more
-chained-returns-in_err-more g t c =
-    goes_on (λ fs s a. then_read (bound_of fs s (optional_arg c.args.by.now)) (λ b. named_of fs s (named_args (named_parts_of c.args.more.now)))) _ c.in_ok-args.ensures (goes_on (λ fs s b. named_of fs s (named_args (named_parts_of c.args.more.now))) _ c.in_ok-by.ensures (fails c.in_err-more.ensures c.from_residual-in_err-more.result c.from_residual-in_err-more.ensures.1))
-
-pub chained-returns : goal.chained-returns
-chained-returns g t c =
-    goes_on (λ fs s a. then_read (bound_of fs s (optional_arg c.args.by.now)) (λ b. named_of fs s (named_args (named_parts_of c.args.more.now)))) _ c.in_ok-args.ensures (goes_on (λ fs s b. named_of fs s (named_args (named_parts_of c.args.more.now))) _ c.in_ok-by.ensures (becomes c.in_ok-more.more (c.in_ok-args.args, c.in_ok-by.by, c.in_ok-more.more) c.in_ok-more.ensures c.in_ok-more.ensures.found refl))
+    let k = chain_of c.chain.result in
+    let args = arguments_in (world_of w) c.in_ok-more.more in
+    let kept = keeps_both _ _ _ x.kept (keeps_both _ _ _ y.kept z.kept) in
+    let same = value_seen (world_of s) (world_of w) s.settled w.settled kept c.args.on c.requires in
+    knows (λ fs s. then_read (named_of fs s (named_args (named_parts_of call.args.now))) (after_link fs s v call)) (has_method v n) n known
+    (goes_on (λ fs s. after_link fs s v call) c.in_ok-args.args x
+    (goes_on (λ fs s. after_brackets fs s v call) c.in_ok-by.by y
+    (goes_on (λ fs s gs. at_once (chain_result v (calls.through n) gs)) c.in_ok-more.more z
+    (evaluates_by (forms w u (chain_result on k args) (chain_result_fault on k args) c.method.ensures.names c.method.result c.evaluated.result c.evaluated.ensures c.method.ensures.answers)
+    (λ fs. ap (λ e. at_once (chain_result e (calls.through n) args)) (sym same) ∙ ap (λ k. at_once (chain_result on k args)) (sym (ap chain_of c.chain.ensures ∙ behind_seen call.link c.in_ok-args.args c.in_ok-by.by c.in_ok-name.name)))))))
 
 pub subscripts-returns-in_err-first : goal.subscripts-returns-in_err-first
 subscripts-returns-in_err-first g t c =

@@ -56,8 +56,8 @@ decreases-sub g l = 8 * sub_depth (sub_of l.sub.now) + 3
 abbrev pub decreases-subscripts : goal.decreases-subscripts
 decreases-subscripts g l = 8 * max (sub_depth (sub_of l.first.now)) (optional_sub_depth (optional_sub l.second.now)) + 5
 
-abbrev pub decreases-chained : goal.decreases-chained
-decreases-chained g l = 8 * max (args_depth (named_args (named_parts_of l.args.now))) (max (optional_arg_depth (optional_arg l.by.now)) (args_depth (named_args (named_parts_of l.more.now)))) + 5
+abbrev pub decreases-through : goal.decreases-through
+decreases-through g l = 8 * max (args_depth (named_args (named_parts_of l.call.args.now))) (max (optional_arg_depth (optional_arg l.call.by.now)) (args_depth (named_args (named_parts_of l.call.more.now)))) + 5
 
 abbrev pub decreases-after : goal.decreases-after
 decreases-after g l = 8 * step_depth (step_of l.step.now) + 6

@@ -1,5 +1,5 @@
 use Rattle.std.proofs.Common.{refl, [], ap, sym, ◌∙◌, subst}
-use Rattle.std.specs.Prelude.{Err, option_map}
+use Rattle.std.specs.Prelude.{Ok, Err, option_map}
 use Rattle.std.proofs.lemmas.Result.{err_from_is_err_and}
 use Rattle.frame_store.specs.Arguments.{argument_of, subscript_of}
 use Rattle.selections.specs.Selected.{way_of}
@@ -11,13 +11,14 @@ use Rattle.script_session.specs.Bindings.{IsOf, state_over}
 use Rattle.script_session.specs.Parts.{target_seen}
 use Rattle.script_session.specs.Reads.{files_in}
 use Rattle.frame_store.specs.World.{entry_in, Sets}
-use Rattle.script_session.specs.Work.{names_in, world_of, state_in}
+use Rattle.script_session.specs.Work.{names_in, world_of, state_in, without}
 use Rattle.script_session.proofs.States.{state_kept}
 use Rattle.script_session.proofs.Worlds.{keeps_both, value_seen, value_kept, argument_seen, argument_kept, set_failed}
 use Rattle.script_session.proofs.FormFaults.{assign_result_fault}
 use Rattle.script_session.proofs.Rides.{serves_both, goes_by, goes_to, goes_both, goes_value, halts_by, halts_first, halts_later}
 use Rattle.script_session.proofs.Answering.{refusal, step_halts, set_state, set_refused, done_same}
 use Rattle.script_session.proofs.Settings.{set_apart}
+use Rattle.script_session.proofs.Spending.{spent_state}
 use Rattle.script_session.proofs.work.Work.put.Goals as goal
 
 pub returns-in_err-value-clause-answers : goal.returns-in_err-value-clause-answers
@@ -109,7 +110,10 @@ returns-in-Ok-clause-answers g c =
     let of = subst (λ b. IsOf b o on) (sym k.names) y.found.object in
     let value = argument_of (world_of u).tables (world_of u).texts c.in_ok-value.value in
     let table = assigned (entry_in (world_of u) on) (target_seen (world_of u) (c.in_ok-by.by, c.in_ok-by.first, c.in_ok-by.second)) value in
-    let sets = subst (λ r. Sets r on table (world_of u) (world_of z)) c.in-Ok.is c.assign.ensures.sets in
+    let e = c.assign.ensures.sets in
+    let left = without (Ok tt) e.spare (world_of u) in
+    let sets = subst (λ r. Sets r on table (without r e.spare (world_of u)) (world_of z)) c.in-Ok.is e.sets in
+    let same = here ∙ spent_state (names_in u) c.in_ok-value.value (Ok tt) e.spare (world_of u) e.unnamed in
     λ held.
     let fs = files_in c.args.names.now held in
     let target = target_of fs (state_in s) (step_of c.args.step.now) in
@@ -122,7 +126,7 @@ returns-in-Ok-clause-answers g c =
     (goes_both y.serves (goes_value refusal (λ v. then_answer target (λ t. at_once (set_answer (state_in s) o (assigned v t value)))) _ _ second refl)
     (goes_value refusal (λ t. at_once (set_answer (state_in s) o (assigned (entry_in (world_of u) on) t value))) _ _ (goes_by at_target (k.reads held)) refl)) in
     goes_to meant (ap (λ a. at_once a) (done_same _ (state_over (names_in u) (world_of z)) (state_in z) [] _ (is_chained o) _
-    (ap (λ t. set_answer t o table) here ∙ set_state (names_in u) o on table (world_of u) (world_of z) u.given of sets)
+    (ap (λ t. set_answer t o table) same ∙ set_state (names_in u) o on table left (world_of z) u.given of sets)
     (ap (λ b. state_over b (world_of z)) (sym c.assign.ensures.names)) c.quiet.ensures.printed (c.quiet.ensures.warned ∙ c.is_chained-warned.ensures)))
 
 pub returns-in-Ok-clause-serves : goal.returns-in-Ok-clause-serves
@@ -147,9 +151,12 @@ returns-in-Ok-clause-apart g c =
     let of = subst (λ b. IsOf b o on) (sym k.names) y.found.object in
     let value = argument_of (world_of u).tables (world_of u).texts c.in_ok-value.value in
     let table = assigned (entry_in (world_of u) on) (target_seen (world_of u) (c.in_ok-by.by, c.in_ok-by.first, c.in_ok-by.second)) value in
-    let sets = subst (λ r. Sets r on table (world_of u) (world_of z)) c.in-Ok.is c.assign.ensures.sets in
+    let e = c.assign.ensures.sets in
+    let left = without (Ok tt) e.spare (world_of u) in
+    let sets = subst (λ r. Sets r on table (without r e.spare (world_of u)) (world_of z)) c.in-Ok.is e.sets in
+    let same = here ∙ spent_state (names_in u) c.in_ok-value.value (Ok tt) e.spare (world_of u) e.unnamed in
     set_apart (state_in s) (state_in z) o table [] (is_chained o)
-    (ap (λ t. set_answer t o table) here ∙ set_state (names_in u) o on table (world_of u) (world_of z) u.given of sets ∙ ap (λ b. done (state_over b (world_of z)) [] (is_chained o)) (sym c.assign.ensures.names))
+    (ap (λ t. set_answer t o table) same ∙ set_state (names_in u) o on table left (world_of z) u.given of sets ∙ ap (λ b. done (state_over b (world_of z)) [] (is_chained o)) (sym c.assign.ensures.names))
 
 pub returns-clause-answers : goal.returns-clause-answers
 returns-clause-answers g c =
@@ -170,7 +177,8 @@ returns-clause-answers g c =
     let of = subst (λ b. IsOf b o on) (sym k.names) y.found.object in
     let value = argument_of (world_of u).tables (world_of u).texts c.in_ok-value.value in
     let table = assigned (entry_in (world_of u) on) (target_seen (world_of u) (c.in_ok-by.by, c.in_ok-by.first, c.in_ok-by.second)) value in
-    let sets = subst (λ r. Sets r on table (world_of u) (world_of z)) c.in-Err.is c.assign.ensures.sets in
+    let e = c.assign.ensures.sets in
+    let sets = subst (λ r. Sets r on table (without r e.spare (world_of u)) (world_of z)) c.in-Err.is e.sets in
     λ held.
     let fs = files_in c.args.names.now held in
     let target = target_of fs (state_in s) (step_of c.args.step.now) in
@@ -206,5 +214,6 @@ returns-clause-kept g c =
     let of = subst (λ b. IsOf b o on) (sym k.names) y.found.object in
     let value = argument_of (world_of u).tables (world_of u).texts c.in_ok-value.value in
     let table = assigned (entry_in (world_of u) on) (target_seen (world_of u) (c.in_ok-by.by, c.in_ok-by.first, c.in_ok-by.second)) value in
-    let sets = subst (λ r. Sets r on table (world_of u) (world_of z)) c.in-Err.is c.assign.ensures.sets in
+    let e = c.assign.ensures.sets in
+    let sets = subst (λ r. Sets r on table (without r e.spare (world_of u)) (world_of z)) c.in-Err.is e.sets in
     keeps_both _ (world_of u) (world_of z) all (set_failed (world_of u) (world_of z) c.in-Err.fault on table sets)

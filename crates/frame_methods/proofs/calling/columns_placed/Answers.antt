@@ -1,0 +1,19 @@
+use Rattle.std.proofs.Common.{◌≡◌, ap, sym}
+use Rattle.table_meaning.specs.Table.{NumberedTable, table_value}
+use Rattle.method_meaning.specs.Methods.{each_column}
+use Rattle.frame_store.specs.Objects.{tables, table_at, table_or}
+use Rattle.frame_store.proofs.Settling.{object_settled}
+use Rattle.frame_methods.proofs.AnswerLaws.{forms_so}
+use Rattle.frame_methods.proofs.calling.columns_placed.Goals as goal
+
+pub columns_table-table-requires-clause-known : goal.columns_table-table-requires-clause-known
+columns_table-table-requires-clause-known g c = record {
+  whole = c.read.ensures.whole;
+  given = object_settled c.args.dict.now (tables c.args.store.now) c.args.on.0 c.read.result c.read.ensures.table c.requires.settled;
+}
+
+pub returns : goal.returns
+returns g c =
+    let at : c.read.result ≡ table_at (tables c.args.store.now) c.args.on.0 = sym (ap table_or c.read.ensures.table) in
+    forms_so _ _ _ _ _ (ap (λ (n : NumberedTable). each_column (g.O.ColumnOp.answer c.args.op.now c.args.dict.now) (table_value c.args.dict.now n)) at)
+    (c.placed.ensures.answers c.args.dict.now _ c.columns_table-table.ensures.longer c.requires.settled c.columns_table-table.ensures.answer)

@@ -1,0 +1,12 @@
+use Rattle.std.proofs.Common.{◌≡◌, ◌∙◌, ◌<◌, ap, false, length, rules}
+use Rattle.table_meaning.specs.Table.{NumberedTable, table_value}
+use Rattle.method_meaning.specs.Methods.{csv_answer}
+use Rattle.frame_store.specs.Objects.{table_or}
+use Rattle.frame_methods.proofs.CsvLaws.{csv_meant}
+use Rattle.frame_methods.proofs.csv.to_csv.Goals as goal
+
+pub returns-clause-answer : goal.returns-clause-answer
+returns-clause-answer c =
+    let some : c.args.index ≡ false → 0 < length c.read-table.result.columns = search rules in
+    ap (λ (t : NumberedTable). csv_answer c.args.index (table_value c.args.dict.now t)) (ap table_or c.read-table.ensures.table)
+    ∙ csv_meant c.args.dict.now c.args.index c.read-table.result _ some c.in_ok-csv_cell.ensures.text

@@ -1,0 +1,111 @@
+-- Lists in order that are split at a bound.
+use Rattle.std.proofs.Common.{◌≡◌, ◌∙◌, ap, sym, refl, arith, ℕ, ◌+◌, ◌-◌, ◌<◌, ◌≤◌, Bool, true, false, not, ◌&&◌, List, length, slice_index_or, Option, Ok, if◌then◌else◌}
+use Rattle.std.specs.Cmp.{IsTotalOrder}
+use Rattle.std.specs.List.{range_with_len}
+use Rattle.std.specs.List.Sorted.{IsPartitionedBy, IsPartitionPoint}
+use Rattle.std.specs.Ordering.{is_lt, is_gt}
+use Rattle.std.proofs.lemmas.Cmp.{on_total}
+use Rattle.std.proofs.lemmas.List.Sorted.{ranks_by, sorted_far}
+use Rattle.cell_core.specs.Values.{label_datum}
+use Rattle.cell_core.specs.declared.cell.Label.{Label}
+use Rattle.cell_core.specs.declared.cell.Label.TheVariants.{Na}
+use Rattle.cell_core.proofs.LabelLaws.{label_total}
+use Rattle.cell_core.specs.declared.grid.Rows.{Rows}
+use Rattle.meaning.specs.Text.{Text}
+use Rattle.pick_meaning.specs.Rows.{rows_of, rows_between}
+use Rattle.pick_meaning.specs.Slices.{is_in_order, reaches, stays_within, sorted_slice, unsorted_slice, label_slice}
+use Rattle.pick_meaning.proofs.OrderLaws.{sorted_in_order, below_too, within_too, not_so}
+use Rattle.pick_meaning.proofs.RowLaws.{rows_in_interval}
+use Rattle.index_core.specs.Labels.{order_in}
+use Rattle.index_core.specs.Ranges.{range_labels}
+use Rattle.index_core.specs.Splits.{IsSplitAt}
+use Rattle.index_core.proofs.NumberLaws.{range_in_order}
+
+pub order_total : (texts : List Text) → IsTotalOrder (order_in texts)
+order_total texts = on_total (label_datum texts) label_total
+
+-- labels in order: no later one is less
+no_later_less : (texts : List Text) (labels : List Label) → is_in_order (order_in texts) labels ≡ true → (i j : ℕ) (d : Label) → i ≤ j → j < length labels → is_lt (order_in texts (slice_index_or labels j d) (slice_index_or labels i d)) ≡ false
+no_later_less texts labels e = sorted_far (λ x y. is_lt (order_in texts x y)) (ranks_by label_total (label_datum texts)) labels (sorted_in_order (order_in texts) labels e)
+
+-- what a search by halving asks for
+pub below_first : (texts : List Text) (labels : List Label) (bound : Label) → is_in_order (order_in texts) labels ≡ true → IsPartitionedBy (λ label. is_lt (order_in texts label bound)) labels
+below_first texts labels bound e = λ i j d le lt below.
+    below_too (order_total texts) (slice_index_or labels i d) (slice_index_or labels j d) bound (no_later_less texts labels e i j d le lt) below
+
+pub within_first : (texts : List Text) (labels : List Label) (bound : Label) → is_in_order (order_in texts) labels ≡ true → IsPartitionedBy (λ label. not (is_gt (order_in texts label bound))) labels
+within_first texts labels bound e = λ i j d le lt within.
+    ap not (within_too (order_total texts) (slice_index_or labels i d) (slice_index_or labels j d) bound (no_later_less texts labels e i j d le lt) (not_so (is_gt (order_in texts (slice_index_or labels j d) bound)) within))
+
+-- what it finds
+pub split_below : {X : Type 0} (p : X → Bool) (xs : List X) (place : ℕ) → place ≤ length xs → IsPartitionPoint (λ y. p y ≡ true) (λ y. p y ≡ false) xs place → IsSplitAt (λ x. not (p x)) xs place
+split_below p xs place few point = record {
+  within = few;
+  before = λ k d lt. ap not (point.0 k d (omega arith) lt);
+  behind = λ k d le lt. ap not (point.1 k d le lt);
+}
+
+-- with no bound
+pub split_at_start : {X : Type 0} (p : X → Bool) (xs : List X) → ((x : X) → p x ≡ true) → IsSplitAt p xs 0
+split_at_start p xs all = record {
+  within = omega arith;
+  before = λ k d lt. absurd (omega arith);
+  behind = λ k d le lt. all (slice_index_or xs k d);
+}
+
+pub split_at_end : {X : Type 0} (p : X → Bool) (xs : List X) → ((x : X) → p x ≡ false) → IsSplitAt p xs (length xs)
+split_at_end p xs none = record {
+  within = omega arith;
+  before = λ k d lt. none (slice_index_or xs k d);
+  behind = λ k d le lt. absurd (omega arith);
+}
+
+-- the rows of a slice
+both_fail : (a b : Bool) → b ≡ false → (a && b) ≡ false
+both_fail true b e = e
+both_fail false b e = refl
+
+pub rows_of_splits : (texts : List Text) (lower upper : Option Label) (labels : List Label) (first end : ℕ)
+    → IsSplitAt (reaches (order_in texts) lower) labels first → IsSplitAt (λ label. not (stays_within (order_in texts) upper label)) labels end
+    → rows_between first end ≡ sorted_slice (order_in texts) lower upper labels
+rows_of_splits texts lower upper labels first end from to =
+    let p : Label → Bool = λ label. reaches (order_in texts) lower label && stays_within (order_in texts) upper label in
+    let stays : (k : ℕ) → k < end → stays_within (order_in texts) upper (slice_index_or labels k Na) ≡ true = λ k lt. not_not (stays_within (order_in texts) upper (slice_index_or labels k Na)) (to.before k Na lt) in
+    let leaves : (k : ℕ) → end ≤ k → k < length labels → stays_within (order_in texts) upper (slice_index_or labels k Na) ≡ false =
+    λ k le lt. not_so (stays_within (order_in texts) upper (slice_index_or labels k Na)) (to.behind k Na le lt)
+    in
+    let start : 0 + first ≡ first = omega arith in
+    sym (
+    rows_in_interval p Na 0 first end labels to.within
+    (λ k lt inside. ap (λ b. b && stays_within (order_in texts) upper (slice_index_or labels k Na)) (from.before k Na lt))
+    (λ k le lt. both_so _ _ (from.behind k Na le (omega (arith, to.within))) (stays k lt))
+    (λ k le lt. both_fail _ _ (leaves k le lt))
+    ∙ ap (λ a. range_with_len a (end - first)) start
+    )
+  where
+    not_not : (b : Bool) → not b ≡ false → b ≡ true
+    not_not true e = refl
+    not_not false e = cc
+
+    both_so : (a b : Bool) → a ≡ true → b ≡ true → (a && b) ≡ true
+    both_so true b e f = f
+    both_so false b e f = cc
+
+-- a slice of labels in order, and of a range
+sorted_is : {A : Type 0} (b : Bool) (x y : A) → b ≡ true → (if b then x else y) ≡ x
+sorted_is true x y e = refl
+sorted_is false x y e = cc
+
+pub slice_in_order : (texts : List Text) (lower upper : Option Label) (labels : List Label) (first end : ℕ) (rows : Rows) → is_in_order (order_in texts) labels ≡ true → rows_of rows ≡ rows_between first end
+    → IsSplitAt (reaches (order_in texts) lower) labels first → IsSplitAt (λ label. not (stays_within (order_in texts) upper label)) labels end
+    → label_slice (order_in texts) lower upper labels ≡ Ok (rows_of rows)
+slice_in_order texts lower upper labels first end rows sorted is from to =
+    sorted_is (is_in_order (order_in texts) labels) (Ok (sorted_slice (order_in texts) lower upper labels)) (unsorted_slice (order_in texts) lower upper labels) sorted
+    ∙ ap (λ (l : List ℕ). Ok l) (sym (is ∙ rows_of_splits texts lower upper labels first end from to))
+
+pub slice_of_range : (texts : List Text) (lower upper : Option Label) (n : ℕ) (labels : List Label) (rows : Rows) → range_labels n ≡ labels → rows_of rows ≡ sorted_slice (order_in texts) lower upper (range_labels n)
+    → label_slice (order_in texts) lower upper labels ≡ Ok (rows_of rows)
+slice_of_range texts lower upper n labels rows view is =
+    ap (label_slice (order_in texts) lower upper) (sym view)
+    ∙ sorted_is (is_in_order (order_in texts) (range_labels n)) (Ok (sorted_slice (order_in texts) lower upper (range_labels n))) (unsorted_slice (order_in texts) lower upper (range_labels n)) (range_in_order texts n)
+    ∙ ap (λ (l : List ℕ). Ok l) (sym is)

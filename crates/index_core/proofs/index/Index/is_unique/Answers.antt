@@ -1,0 +1,9 @@
+use Rattle.std.proofs.Common.{◌∙◌, ap, sym}
+use Rattle.pick_meaning.specs.Labels.{all_differ}
+use Rattle.index_core.specs.Labels.{same_number}
+use Rattle.index_core.specs.Views.{kept_labels}
+use Rattle.index_core.proofs.DifferLaws.{range_differs}
+use Rattle.index_core.proofs.index.Index.is_unique.Goals as goal
+
+pub returns-in-Below : goal.returns-in-Below
+returns-in-Below c = sym (range_differs c.in-Below.field-0) ∙ ap (all_differ same_number) (ap kept_labels (sym c.in-Below.is) ∙ c.self.view_is)

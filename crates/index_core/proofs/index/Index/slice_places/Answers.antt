@@ -1,0 +1,12 @@
+use Rattle.std.proofs.Common.{◌∙◌, ap, sym, subst}
+use Rattle.cell_core.specs.Grids.{AreRowsBelow}
+use Rattle.index_core.specs.Views.{kept_labels}
+use Rattle.index_core.proofs.RangeLaws.{length_of_range}
+use Rattle.index_core.proofs.SplitLaws.{slice_of_range}
+use Rattle.index_core.proofs.index.Index.slice_places.Goals as goal
+
+pub returns-in-Below-clause-rows : goal.returns-in-Below-clause-rows
+returns-in-Below-clause-rows c = slice_of_range c.args.dict.now c.args.from c.args.to c.in-Below.n c.args.self.now c.slice_of.result (ap kept_labels (sym c.in-Below.is) ∙ c.self.view_is) (c.slice_of.ensures.rows c.args.dict.now)
+
+pub returns-in-Below-clause-below : goal.returns-in-Below-clause-below
+returns-in-Below-clause-below c = subst (AreRowsBelow c.slice_of.result) (length_of_range _ _ (ap kept_labels (sym c.in-Below.is) ∙ c.self.view_is)) c.slice_of.ensures.below

@@ -1,0 +1,27 @@
+use Rattle.std.proofs.Common.{◌≡◌, ◌∙◌, ◌<◌, ◌+◌, ◌-◌, true, ap, sym, subst, length, drop, arith}
+use Rattle.pick_meaning.specs.Labels.{all_differ}
+use Rattle.index_core.specs.Labels.{same_number}
+use Rattle.index_core.proofs.DifferLaws.{AreKeys, keys_more, differ_more, stands_twice}
+use Rattle.index_core.proofs.listed.all_differ.Goals as goal
+
+pub returns-then-not-branch : goal.returns-then-not-branch
+returns-then-not-branch c =
+    let labels = c.args.labels.now in
+    let p = c.loop-place.place - 1 in
+    let lt : p < length labels = omega arith in
+    let same : c.loop-place.place ≡ p + 1 = omega arith in
+    let keys : AreKeys c.loop-place.later.keys (drop (p + 1) labels) = subst (λ n. AreKeys c.loop-place.later.keys (drop n labels)) same c.loop-place.invariant.keys in
+    sym (stands_twice labels c.loop-place.later.keys p _ lt keys (sym c.in_ok-insert.ensures.added ∙ c.if-not-branch.true))
+
+pub loop-place-preserved : goal.loop-place-preserved
+loop-place-preserved c =
+    let labels = c.args.labels.now in
+    let p = c.loop-place.place - 1 in
+    let lt : p < length labels = omega arith in
+    let same : c.loop-place.place ≡ p + 1 = omega arith in
+    let keys : AreKeys c.loop-place.later.keys (drop (p + 1) labels) = subst (λ n. AreKeys c.loop-place.later.keys (drop n labels)) same c.loop-place.invariant.keys in
+    let differ : all_differ same_number (drop (p + 1) labels) ≡ true = ap (λ n. all_differ same_number (drop n labels)) (sym same) ∙ c.loop-place.invariant.differ in
+    record {
+      keys = keys_more labels c.loop-place.later.keys c.insert.new.self.keys p _ lt keys c.in_ok-insert.ensures.keys;
+      differ = differ_more labels c.loop-place.later.keys p _ lt keys (sym c.in_ok-insert.ensures.added ∙ c.if-not-branch.false) differ;
+    }

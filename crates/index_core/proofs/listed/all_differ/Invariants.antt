@@ -1,0 +1,12 @@
+use Rattle.std.proofs.Common.{◌≡◌, true, drop}
+use Rattle.pick_meaning.specs.Labels.{all_differ}
+use Rattle.index_core.specs.Labels.{same_number}
+use Rattle.index_core.proofs.DifferLaws.{AreKeys}
+use Rattle.index_core.proofs.listed.all_differ.Given as goal
+
+-- the labels from a place on
+abbrev pub invariant-loop-place : goal.invariant-loop-place
+invariant-loop-place l = record {
+  keys : AreKeys l.later.keys (drop l.place l.labels);
+  differ : all_differ same_number (drop l.place l.labels) ≡ true;
+}

@@ -1,0 +1,13 @@
+use Rattle.std.proofs.Common.{◌<◌, length}
+use Rattle.std.specs.Prelude.{IfSome}
+use Rattle.std.specs.Ordering.{is_eq}
+use Rattle.index_core.specs.Labels.{order_in}
+use Rattle.index_core.proofs.BoundLaws.{IsSoFar}
+use Rattle.index_core.proofs.listed.place_of_bound.Given as goal
+
+-- the place so far, if there is one
+abbrev pub invariant-loop-place : goal.invariant-loop-place
+invariant-loop-place l = record {
+  so_far : IsSoFar (λ label. is_eq (order_in l.dict label l.bound)) l.labels l.found l.place;
+  inside : IfSome l.found (λ place. place < length l.labels);
+}

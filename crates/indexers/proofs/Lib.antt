@@ -1,0 +1,4 @@
+pub mod TurnLaws
+pub mod AnswerLaws
+pub mod SpanLaws
+pub mod MaskLaws

@@ -1,0 +1,17 @@
+use Rattle.std.proofs.Common.{◌∙◌, ◌<◌, false, sym, map, length, arith}
+use Rattle.std.proofs.lemmas.List.{length-map}
+use Rattle.pick_meaning.proofs.RowLaws.{rows_more_yes, rows_more_no}
+use Rattle.indexers.specs.Masks.{is_true}
+use Rattle.indexers.proofs.MaskLaws.{cell_read}
+use Rattle.indexers.proofs.masks.kept_rows.Goals as goal
+use Rattle.indexers.proofs.masks.kept_rows.Goals.{then-is_true+in_ok-push, else-is_true}
+
+pub loop-row-preserved : goal.loop-row-preserved
+loop-row-preserved c =
+    let cells = c.args.mask.cells in
+    let lt : c.loop-row.row < length (map is_true cells) = omega (arith, length-map cells is_true) in
+    let read = cell_read cells c.loop-row.row c.cell.result c.cell.ensures.cell ∙ sym c.is_true.ensures in
+    elim c.if-is_true.branch [
+      | then-is_true+in_ok-push w ↦ rows_more_yes (λ kept. kept) (map is_true cells) c.loop-row.row false c.loop-row.rows c.if-is_true.rows lt c.loop-row.invariant (read ∙ w.if-is_true.true) (w.rows-is ∙ w.in_ok-push.ensures.ok)
+      | else-is_true w ↦ rows_more_no (λ kept. kept) (map is_true cells) c.loop-row.row false c.if-is_true.rows lt (w.rows-is ∙ c.loop-row.invariant) (read ∙ w.if-is_true.false)
+    ]

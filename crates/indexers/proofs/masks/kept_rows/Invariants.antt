@@ -1,0 +1,8 @@
+use Rattle.std.proofs.Common.{◌≡◌, take, map}
+use Rattle.pick_meaning.specs.Rows.{rows_where}
+use Rattle.indexers.specs.Masks.{is_true}
+use Rattle.indexers.proofs.masks.kept_rows.Given as goal
+
+-- the rows so far
+abbrev pub invariant-loop-row : goal.invariant-loop-row
+invariant-loop-row l = l.rows ≡ rows_where (λ kept. kept) 0 (take l.row (map is_true l.mask.cells))

@@ -1,0 +1,29 @@
+use Rattle.std.proofs.Common.{◌∙◌, ◌<◌, ap, length, List, pos, Ok, arith, rules, w64, FitsSigned}
+use Rattle.std.proofs.lemmas.Option.{get_or_from_slice_get}
+use Rattle.std.proofs.lemmas.Int.{to_z-of_z}
+use Rattle.std.proofs.lemmas.Result.{err_from_is_err_and}
+use Rattle.cell_core.specs.declared.cell.Label.{Label}
+use Rattle.pick_meaning.specs.Faults.{then_pick}
+use Rattle.pick_meaning.specs.Keys.{listed_pick}
+use Rattle.pick_meaning.specs.Positions.{row_at}
+use Rattle.indexers.specs.Picks.{as_it_is, pick_of}
+use Rattle.indexers.proofs.AnswerLaws.{handed_on}
+use Rattle.indexers.proofs.TurnLaws.{place_more, place_refused}
+use Rattle.indexers.proofs.positions.rows_at.Goals as goal
+
+pub returns-in_err-row_at-clause-picked : goal.returns-in_err-row_at-clause-picked
+returns-in_err-row_at-clause-picked c =
+    let lt : c.loop-k.k < length c.args.positions.now = omega arith in
+    let here = get_or_from_slice_get c.args.positions.now c.loop-k.k c.at.result.now (pos 0) c.at.ensures in
+    let fits : FitsSigned w64 c.at.result.now = search rules in
+    let p = err_from_is_err_and c.from_residual.result c.from_residual.ensures.1 in
+    rw (p.1, p.2) (handed_on as_it_is pick_of c.in_err-row_at.field-0.0 (row_at {K = List Label} c.args.count c.at.result.now) _
+    (λ f is. ap (λ r. then_pick r (λ rows. Ok (listed_pick rows))) (place_refused {K = List Label} c.args.count c.args.positions.now c.loop-k.places c.loop-k.k (pos 0) f _ lt (ap (row_at {K = List Label} c.args.count) here ∙ is) c.loop-k.invariant))
+    (simp to_z-of_z at c.in_err-row_at.ensures))
+
+pub loop-k-preserved : goal.loop-k-preserved
+loop-k-preserved c =
+    let lt : c.loop-k.k < length c.args.positions.now = omega arith in
+    let here = get_or_from_slice_get c.args.positions.now c.loop-k.k c.at.result.now (pos 0) c.at.ensures in
+    let fits : FitsSigned w64 c.at.result.now = search rules in
+    place_more {K = List Label} c.args.count c.args.positions.now c.loop-k.places c.push.new.self c.in_ok-row_at.field-0 c.loop-k.k (pos 0) _ lt (ap (row_at {K = List Label} c.args.count) here ∙ (simp to_z-of_z at c.in_ok-row_at.ensures)) c.in_ok-push.ensures.ok c.loop-k.invariant

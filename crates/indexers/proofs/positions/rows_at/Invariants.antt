@@ -1,0 +1,9 @@
+use Rattle.std.proofs.Common.{◌≡◌, drop, List}
+use Rattle.cell_core.specs.declared.cell.Label.{Label}
+use Rattle.pick_meaning.specs.Positions.{rows_at}
+use Rattle.indexers.proofs.TurnLaws.{added}
+use Rattle.indexers.proofs.positions.rows_at.Given as goal
+
+-- the rows so far, before those of the other positions
+abbrev pub invariant-loop-k : goal.invariant-loop-k
+invariant-loop-k l = added l.places (rows_at {K = List Label} l.count (drop l.k l.positions)) ≡ rows_at {K = List Label} l.count l.positions

@@ -1,0 +1,16 @@
+use Rattle.std.proofs.Common.{ap, w64}
+use mir.Val.{of_z}
+use Rattle.std.proofs.lemmas.Int.{to_z-of_z}
+use Rattle.indexers.proofs.SpanLaws.{forward_spaced, backward_spaced}
+use Rattle.indexers.proofs.positions.slice_rows.Goals as goal
+
+pub returns-then-step-gt0-clause-below : goal.returns-then-step-gt0-clause-below
+returns-then-step-gt0-clause-below c =
+    let fits = c.ranges.step in
+    simp to_z-of_z (forward_spaced c.rows_before-low.result c.rows_before-high.result c.args.count c.steps.result c.args.step (simp to_z-of_z at c.if-step-gt0.true) c.rows_before-high.ensures.within (simp to_z-of_z at c.steps.ensures))
+
+pub returns-clause-below : goal.returns-clause-below
+returns-clause-below c =
+    let fits = c.ranges.step in
+    simp to_z-of_z (backward_spaced c.rows_through-low.result c.rows_through-high.result c.args.count c.saturating_sub.result c.steps-2.result c.args.step (λ e. c.if-step-eq0.false (ap (of_z w64) e)) (simp to_z-of_z at c.if-step-gt0.false) c.rows_through-high.ensures.within c.saturating_sub.ensures
+    (simp to_z-of_z at c.steps-2.ensures))

@@ -1,0 +1,24 @@
+//! From keys to rows: what a key of `loc`, a key of `iloc` and a mask pick.
+//!
+//! [`loc_places`], [`iloc_places`] and [`mask_places`] answer row numbers and look at no column but a mask's. The
+//! rules are those of the pandas user guide, "Indexing and selecting data"; `pick_meaning` defines them. Axes have
+//! one level so far.
+//!
+//! ```text
+//! let key = LocKey::Span(Some(Tuple::of(alloc, &[Label::Int(2)])), None);
+//! let from_two = loc_places(alloc, &dict, &axis, &key)?;
+//! let backwards = iloc_places(alloc, axis.len(), &PosKey::Span(None, None, Some(-1)))?;
+//! let kept = mask_places(alloc, &axis, &axis, mask.as_ref())?;
+//! ```
+#![tactic(auto)]
+
+mod keys;
+mod labels;
+mod masks;
+mod positions;
+mod spans;
+
+pub use keys::{KeyFault, LocKey, Picked, PosKey, Positions};
+pub use labels::loc_places;
+pub use masks::mask_places;
+pub use positions::iloc_places;

@@ -1,0 +1,43 @@
+-- What one level answers, as the answer of an axis.
+use Rattle.std.proofs.Common.{◌≡◌, ◌∙◌, ap, sym, List, [], ◌∷◌, length, Option, Some, Result, Err}
+use Rattle.std.specs.Prelude.{slice_get}
+use Rattle.std.specs.Option.{option_map}
+use Rattle.cell_core.specs.declared.cell.Label.{Label}
+use Rattle.index_core.specs.Labels.{same_number, order_in}
+use Rattle.index_core.specs.Picks as index
+use Rattle.index_core.specs.declared.fault.IndexFault.{IndexFault}
+use Rattle.index_core.specs.declared.fault.IndexFault.TheVariants as fault
+use Rattle.meaning.specs.Text.{Text}
+use Rattle.pick_meaning.specs.Faults.{PickFault, pick_seen}
+use Rattle.pick_meaning.specs.Labels.{rows_of_key}
+use Rattle.pick_meaning.specs.Leading.{leads, leading_cmp}
+use Rattle.pick_meaning.specs.Slices.{label_slice}
+use Rattle.pick_meaning.proofs.SeenLaws.{single_rows, single_slice}
+use Rattle.multi_index.specs.Axes.{single_tuples}
+use Rattle.multi_index.specs.Picks.{PicksOr, axis_fault}
+use Rattle.multi_index.proofs.TupleLaws.{only_label_is}
+
+-- the rows of a label
+pub rows_seen : (labels : List Label) (tuples : List (List Label)) (key : List Label) (l : Label) → single_tuples labels ≡ tuples → length key ≡ 1 → slice_get key 0 ≡ Some l
+    → rows_of_key (leads same_number) tuples key ≡ pick_seen (λ x. x ∷ []) (rows_of_key same_number labels l)
+rows_seen labels tuples key l seen one at =
+    ap (λ (ts : List (List Label)). rows_of_key (leads same_number) ts key) (sym seen)
+    ∙ ap (rows_of_key (leads same_number) (single_tuples labels)) (only_label_is key l one at)
+    ∙ single_rows same_number labels l
+
+-- the rows of a slice
+pub slice_seen : (texts : List Text) (labels : List Label) (tuples : List (List Label)) (lower upper : Option Label) (from to : Option (List Label)) → single_tuples labels ≡ tuples
+    → option_map (λ l. l ∷ []) lower ≡ from → option_map (λ l. l ∷ []) upper ≡ to
+    → label_slice (leading_cmp (order_in texts)) from to tuples ≡ pick_seen (λ x. x ∷ []) (label_slice (order_in texts) lower upper labels)
+slice_seen texts labels tuples lower upper from to seen low high =
+    ap (λ (ts : List (List Label)). label_slice (leading_cmp (order_in texts)) from to ts) (sym seen)
+    ∙ ap (λ (b : Option (List Label)). label_slice (leading_cmp (order_in texts)) b to (single_tuples labels)) (sym low)
+    ∙ ap (λ (b : Option (List Label)). label_slice (leading_cmp (order_in texts)) (option_map (λ l. l ∷ []) lower) b (single_tuples labels)) (sym high)
+    ∙ single_slice (order_in texts) lower upper labels
+
+-- a fault of one level is the axis's
+pub fault_lifted : {A B : Type 0} (want : Type 0) (view : A → B) (e : IndexFault) (meant : Result B (PickFault Label)) (meant' : Result B (PickFault (List Label))) → meant' ≡ pick_seen (λ x. x ∷ []) meant
+    → index.PicksOr want view (Err e) meant → PicksOr want view (Err (axis_fault e)) meant'
+fault_lifted want view (fault.NotThere l) meant meant' seen is = seen ∙ ap (pick_seen (λ x. x ∷ [])) is
+fault_lifted want view (fault.BoundNotUnique l) meant meant' seen is = seen ∙ ap (pick_seen (λ x. x ∷ [])) is
+fault_lifted want view fault.NoMemory meant meant' seen is = is

@@ -1,6 +1,0 @@
-use Rattle.std.proofs.Common.{◌≡◌, take}
-use Rattle.multi_index.specs.Axes.{tuples_at}
-use Rattle.multi_index.proofs.axis.Axis.take.Given as goal
-
-abbrev pub invariant-loop-k : goal.invariant-loop-k
-invariant-loop-k l = l.taken ≡ tuples_at l.self.tuples (take l.k l.places)

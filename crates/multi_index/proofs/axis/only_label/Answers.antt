@@ -1,0 +1,9 @@
+use Rattle.std.proofs.Common.{◌≡◌, ap, sym, subst, length, Some}
+use Rattle.std.specs.Prelude.{IfSome}
+use Rattle.multi_index.proofs.TupleLaws.{only_label_is}
+use Rattle.multi_index.proofs.axis.only_label.Goals as goal
+
+pub returns-in-Some : goal.returns-in-Some
+returns-in-Some c =
+    let one = subst (λ b. IfSome b (λ tuple. length tuple.now ≡ 1)) c.in-Some.is c.requires in
+    rw c.in-Some.is (ap (λ t. Some t) (sym (only_label_is c.in-Some.tuple.now c.at.result one c.at.ensures)))

@@ -1,0 +1,39 @@
+use Rattle.std.proofs.Common.{ap, sym, ◌∙◌, Ok}
+use Rattle.cell_core.specs.declared.cell.Kind.TheVariants.{Int64}
+use Rattle.meaning.specs.Cumulate.{cumulate_column}
+use Rattle.nullable_array.specs.declared.ops.Cumulation.{Cumulation}
+use Rattle.column_core.specs.Columns.{CellColumn, column_value, column_with, number_cell, number_given}
+use Rattle.nullable_array.specs.Folds.{cumulation_of}
+use Rattle.column_core.proofs.ColumnLaws.{given-plain}
+use Rattle.nullable_array.proofs.RunningLaws.{number_sums, number_leasts, number_greatests}
+use Rattle.nullable_array.proofs.cumulations.running_numbers.Goals as goal
+
+pub returns-in_ok-run-in-Sum-clause-given : goal.returns-in_ok-run-in-Sum-clause-given
+returns-in_ok-run-in-Sum-clause-given g c = λ texts. given-plain texts Int64 number_cell _ _ _ (number_given texts) c.in_ok-run-in-Sum.ensures
+
+pub returns-in_ok-run-in-Sum-clause-answer : goal.returns-in_ok-run-in-Sum-clause-answer
+returns-in_ok-run-in-Sum-clause-answer g c = λ texts.
+    let count = g.A.Source.count_of c.args.a.now in
+    let row = g.A.Source.row_of c.args.a.now in
+    ap (λ (o : Cumulation). cumulate_column (cumulation_of o) (column_value texts (column_with Int64 number_cell count row))) c.in-Sum.is
+    ∙ number_sums texts count row ∙ ap (λ (col : CellColumn). Ok (column_value texts col)) (sym c.in_ok-run-in-Sum.ensures)
+
+pub returns-in_ok-run-in-Min-clause-given : goal.returns-in_ok-run-in-Min-clause-given
+returns-in_ok-run-in-Min-clause-given g c = λ texts. given-plain texts Int64 number_cell _ _ _ (number_given texts) c.in_ok-run-in-Min.ensures
+
+pub returns-in_ok-run-in-Min-clause-answer : goal.returns-in_ok-run-in-Min-clause-answer
+returns-in_ok-run-in-Min-clause-answer g c = λ texts.
+    let count = g.A.Source.count_of c.args.a.now in
+    let row = g.A.Source.row_of c.args.a.now in
+    ap (λ (o : Cumulation). cumulate_column (cumulation_of o) (column_value texts (column_with Int64 number_cell count row))) c.in-Min.is
+    ∙ number_leasts texts count row ∙ ap (λ (col : CellColumn). Ok (column_value texts col)) (sym c.in_ok-run-in-Min.ensures)
+
+pub returns-in_ok-run-in-Max-clause-given : goal.returns-in_ok-run-in-Max-clause-given
+returns-in_ok-run-in-Max-clause-given g c = λ texts. given-plain texts Int64 number_cell _ _ _ (number_given texts) c.in_ok-run-in-Max.ensures
+
+pub returns-in_ok-run-in-Max-clause-answer : goal.returns-in_ok-run-in-Max-clause-answer
+returns-in_ok-run-in-Max-clause-answer g c = λ texts.
+    let count = g.A.Source.count_of c.args.a.now in
+    let row = g.A.Source.row_of c.args.a.now in
+    ap (λ (o : Cumulation). cumulate_column (cumulation_of o) (column_value texts (column_with Int64 number_cell count row))) c.in-Max.is
+    ∙ number_greatests texts count row ∙ ap (λ (col : CellColumn). Ok (column_value texts col)) (sym c.in_ok-run-in-Max.ensures)

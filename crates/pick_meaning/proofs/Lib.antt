@@ -1,0 +1,6 @@
+pub mod RowLaws
+pub mod OrderLaws
+pub mod SeenLaws
+pub mod InsideLaws
+pub mod PositionLaws
+pub mod KeyLaws

@@ -1,0 +1,45 @@
+-- The scalars of a list are the same among any objects.
+use Rattle.std.proofs.Common.{◌≡◌, ◌∙◌, refl, ap, sym, ℕ, List, [], ◌∷◌, ◌++◌, Some, None}
+use Rattle.meaning.specs.Text.{Text}
+use Rattle.table_meaning.specs.Settled.{IsSettled}
+use Rattle.table_meaning.specs.Value.{Given, GivenList, cell, table, nothing, one, row, many, entries, more_given, scalar_in, list_in}
+use Rattle.form_meaning.specs.Select.{cells_of}
+use Rattle.frame_store.specs.declared.arguments.Value.TheVariants.{Object, Scalar}
+use Rattle.frame_store.specs.declared.arguments.Item.{Item, One as OneItem, Row' as RowItem'}
+use Rattle.frame_store.specs.Objects.{Tables}
+use Rattle.frame_store.specs.Arguments.{item_of, items_of, arguments_of}
+use Rattle.signatures.specs.Bound.{Tells}
+use Rattle.signatures.specs.Scalars.{scalars, with_cell}
+use Rattle.signatures.specs.declared.bound.Bound.{Bound}
+use Rattle.signatures.proofs.ToldLaws.{told_settled, some_same}
+
+pub cells_of_more : (g : Given) (rest : GivenList) → cells_of (more_given g rest) ≡ with_cell (scalar_in g) (cells_of rest)
+cells_of_more (one (cell c)) rest = refl
+cells_of_more (one (table t)) rest = refl
+cells_of_more nothing rest = refl
+cells_of_more (row parts) rest = refl
+cells_of_more (many parts) rest = refl
+cells_of_more (entries pairs) rest = refl
+
+scalar_same : (live other : Tables) (texts : List Text) (item : Item) → scalar_in (item_of live texts item) ≡ scalar_in (item_of other texts item)
+scalar_same live other texts (OneItem (Object id)) = refl
+scalar_same live other texts (OneItem (Scalar c)) = refl
+scalar_same live other texts (RowItem' shape parts) = refl
+
+any_objects : (live other : Tables) (texts : List Text) (items : List Item) → cells_of (items_of live texts items) ≡ cells_of (items_of other texts items)
+any_objects live other texts [] = refl
+any_objects live other texts (item ∷ rest) =
+    cells_of_more (item_of live texts item) (items_of live texts rest)
+    ∙ (λ j. with_cell (scalar_same live other texts item j) (any_objects live other texts rest j))
+    ∙ sym (cells_of_more (item_of other texts item) (items_of other texts rest))
+
+pub scalars_are : (live : Tables) (texts : List Text) (items : List Item) → cells_of (items_of live texts items) ≡ scalars texts items
+scalars_are live texts items = any_objects live (λ id. None) texts items
+
+-- those of a list that was given
+pub items_settled : (b : Bound) (place : ℕ) (items : List Item) (live : Tables) (dict : List Text) → Tells b place list_in (λ live texts. Some (items_of live texts items))
+    → IsSettled (arguments_of live) dict b.args.now → IsSettled scalars dict items
+items_settled b place items live dict tells settled = λ more.
+    sym (scalars_are live (dict ++ more) items)
+    ∙ ap cells_of (some_same _ _ (told_settled b place list_in (λ live texts. Some (items_of live texts items)) live dict tells settled more))
+    ∙ scalars_are live dict items

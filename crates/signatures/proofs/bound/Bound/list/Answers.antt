@@ -1,0 +1,15 @@
+use Rattle.std.proofs.Common.{subst, List, Option, Bor, IfSome}
+use Rattle.frame_store.specs.declared.arguments.Item.{Item}
+use Rattle.frame_store.specs.Arguments.{AreLiveItems}
+use Rattle.std.proofs.Math.Logic.{∥∥₁_elim}
+use mathlib.Core.Bool.{Bool-set}
+use Rattle.signatures.proofs.SureLaws.{list_sure, told_there}
+use Rattle.signatures.proofs.bound.Bound.list.Goals as goal
+
+pub unwrap-requires : goal.unwrap-requires
+unwrap-requires c =
+    ∥∥₁_elim c.args.self.now.filled (Bool-set _ _) (λ f. told_there _ c.list_or_none.result _ (c.list_or_none.ensures.value f.live f.texts)
+    (list_sure _ _ c.requires (f.filled c.args.place)))
+
+pub returns-clause-live : goal.returns-clause-live
+returns-clause-live c = λ live h. subst (λ (o : Option (Bor (List Item))). IfSome o (λ given. AreLiveItems live given.now)) c.unwrap.ensures (c.list_or_none.ensures.live live h)

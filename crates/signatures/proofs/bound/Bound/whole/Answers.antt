@@ -1,0 +1,11 @@
+use Rattle.std.proofs.Common.{sym, subst}
+use Rattle.std.specs.Prelude.{IsSome}
+use Rattle.std.proofs.Math.Logic.{∥∥₁_elim}
+use mathlib.Core.Bool.{Bool-set}
+use Rattle.signatures.proofs.SureLaws.{whole_sure}
+use Rattle.signatures.proofs.bound.Bound.whole.Goals as goal
+
+pub unwrap-requires : goal.unwrap-requires
+unwrap-requires c =
+    ∥∥₁_elim c.args.self.now.filled (Bool-set _ _) (λ f. subst IsSome (sym (c.whole_or_none.ensures f.live f.texts))
+    (whole_sure _ _ c.requires (f.filled c.args.place)))

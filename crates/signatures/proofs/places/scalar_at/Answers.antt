@@ -1,6 +1,0 @@
-use Rattle.std.proofs.Common.{◌∙◌, ap}
-use Rattle.table_meaning.specs.Value.{scalar_in}
-use Rattle.signatures.proofs.places.scalar_at.Goals as goal
-
-pub returns-in-StandIn : goal.returns-in-StandIn
-returns-in-StandIn c = λ live texts. c.cell_for.ensures texts ∙ ap scalar_in (c.in-StandIn.ensures.value live texts)

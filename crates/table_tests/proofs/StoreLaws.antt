@@ -1,0 +1,52 @@
+-- Two objects of a store.
+use Rattle.std.proofs.Common.{◌≡◌, ◌∙◌, ℕ, Bool, true, false, [], ◌∷◌, refl, ap, sym, subst, arith, nat_eq, if◌then◌else◌, Option, Some, None}
+use Rattle.std.specs.Prelude.{◌≢◌, is_some, IsSome, length}
+use Rattle.std.proofs.lemmas.Bool.Decides.{nat_tests}
+use Rattle.cell_core.specs.declared.grid.Shape.TheVariants.{Series, Frame}
+use Rattle.table_meaning.specs.Table.{NumberedTable, column_at}
+use Rattle.table_meaning.specs.Change.{put_at, with_column}
+use Rattle.table_meaning.specs.Valid.{AreHeadings}
+use Rattle.frame_store.specs.Objects.{Tables, with_object, with_moved, table_or, table_at}
+
+nat_eq_self : (n : ℕ) → nat_eq n n ≡ true
+nat_eq_self n = grind (arith, nat_tests)
+
+nat_same : (a b : ℕ) → nat_eq a b ≡ true → a ≡ b
+nat_same a b e = grind (arith, nat_tests)
+
+nat_other : (a b : ℕ) → a ≢ b → nat_eq a b ≡ false
+nat_other a b apart = go (nat_eq a b) refl
+  where
+    go : (r : Bool) → nat_eq a b ≡ r → nat_eq a b ≡ false
+    go true is = absurd (apart (nat_same a b is))
+    go false is = is
+
+module _ (none one two : Tables) (a b : ℕ) (s t : NumberedTable) (fresh : one b ≡ None) (first : one ≡ with_object none a (Some s)) (second : two ≡ with_object one b (Some t)) where
+  before : one a ≡ Some s
+  before = ap (λ (f : Tables). f a) first ∙ ap (λ c. if c then Some s else none a) (nat_eq_self a)
+
+  pub apart : a ≢ b
+  apart = λ e. let wrong : true ≡ false = sym (ap is_some before) ∙ ap (λ n. is_some (one n)) e ∙ ap is_some fresh in cc
+
+  pub first_there : two a ≡ Some s
+  first_there = ap (λ (f : Tables). f a) second ∙ ap (λ c. if c then Some t else one a) (nat_other b a (λ e. apart (sym e))) ∙ before
+
+  pub second_there : two b ≡ Some t
+  second_there = ap (λ (f : Tables). f b) second ∙ ap (λ c. if c then Some t else one b) (nat_eq_self b)
+
+  pub moved_there : (three : Tables) → three ≡ with_moved two a 0 None b → IsSome (three a)
+  moved_there three moved =
+      let u = with_column (table_at two a) 0 None (column_at (table_at two b).columns 0) in
+      ap is_some (ap (λ (f : Tables). f a) moved ∙ ap (λ c. if c then Some u else (if nat_eq b a then None else two a)) (nat_eq_self a))
+
+-- the headings of a Series stay as they are
+pub same_headings : (o : Option NumberedTable) (t : NumberedTable) → o ≡ Some t → t.shape ≡ Series → t.columns_name ≡ None → t.headings ≡ None ∷ [] → AreHeadings (table_or o).shape (table_or o).columns_name (put_at (table_or o).headings 0 None)
+same_headings o t is series name headings =
+    let other : t.shape ≡ Frame → ⊥ = λ e. let wrong : Series ≡ Frame = sym series ∙ e in cc in
+    subst (λ (p : Option NumberedTable). AreHeadings (table_or p).shape (table_or p).columns_name (put_at (table_or p).headings 0 None)) (sym is)
+    (record {
+      single = λ e. ap (λ l. length (put_at l 0 None)) headings;
+      nameless = λ e. name;
+      labelled = λ e. absurd (other e);
+      different = λ e. absurd (other e);
+    })
