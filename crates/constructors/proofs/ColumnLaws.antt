@@ -11,11 +11,11 @@ use Rattle.column_core.specs.Columns.{CellColumn}
 use Rattle.table_meaning.specs.Table.{ColumnOf, column_value}
 use Rattle.form_meaning.specs.Finish.{try_all}
 use Rattle.form_parts.specs.Makes.{MakesBy, blocks_value}
-use Rattle.frame_store.specs.Parts.{IsSingle, block_column, single_block}
+use Rattle.frame_store.specs.Parts.{IsSingle, block_column, single_block, table_column}
 use Rattle.frame_store.specs.declared.arguments.Argument.{Argument}
 use Rattle.frame_store.specs.declared.fault.OpFault.{OpFault}
 use Rattle.frame_store.specs.declared.fault.OpFault.TheVariants.{Refused, NoMemory}
-use Rattle.constructors.specs.Scalars.{table_column, column_seen}
+use Rattle.constructors.specs.Scalars.{column_seen}
 use Rattle.constructors.specs.Pairs.{list_seen, list_at, lists_seen, listed_column}
 
 module _ {A B : Type 0} (f : A → Result B FaultValue) where

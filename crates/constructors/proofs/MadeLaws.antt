@@ -26,11 +26,11 @@ use Rattle.form_parts.specs.Makes.{MakesBy}
 use Rattle.form_parts.proofs.TableMade.{refused_on}
 use Rattle.frame_store.specs.declared.arguments.Item.{Item}
 use Rattle.frame_store.specs.declared.fault.OpFault.{OpFault}
-use Rattle.frame_store.specs.Parts.{table_with}
+use Rattle.frame_store.specs.Parts.{table_column}
 use Rattle.frame_store.specs.Shown.{labels_value, headings_value, cells_value, Makes}
 use Rattle.frame_store.proofs.Settling.{settled_later, seen_later, settled_by, cells_given, columns_settled, table_settled}
 use Rattle.signatures.specs.Scalars.{scalars}
-use Rattle.constructors.specs.Scalars.{table_column, column_seen}
+use Rattle.constructors.specs.Scalars.{column_seen, made_series}
 use Rattle.constructors.specs.Made.{axis_labels, labels_within, index_labels, indexed, series_with}
 
 -- the labels 0, 1 and so on
@@ -158,9 +158,6 @@ axis_refused old new cells index name kind listed column fault longer first seco
     subst (λ (m : Result Entry FaultValue). Makes new (Err fault) m) (sym (series_is new cells (index old) name kind (column_seen old listed) column first second))
     (refused_on axis_labels new (index_labels (length column.cells) 1 (index old)) (λ labels. Ok (table (series_named name (column_seen new column) labels))) (Err fault) fault refl
     (subst (λ (i : Option (List CellValue)). MakesBy axis_labels new (Err fault) (index_labels (length column.cells) 1 i)) (index_later old new index longer settled) refused))
-
-abbrev made_series : AxisValue → Option Label → CellColumn → NumberedTable
-made_series axis name column = table_with Series axis record { columns_name = None; labels = name ∷ [] } (table_column column ∷ [])
 
 pub series_answer : (old new : List Text) (cells : List CellValue) (index : List Text → Option (List CellValue)) (name : Option Label) (kind : Option Kind) (listed column : CellColumn) (axis : AxisValue) (made : NumberedTable)
     → IsLonger old new → list_column cells ≡ Ok (column_seen old listed) → cast_to kind (column_seen old listed) ≡ Ok (column_seen new column) → ((more : List Text) → index (old ++ more) ≡ index old)

@@ -1,5 +1,5 @@
 -- What the constructors make of scalars.
-use Rattle.std.specs.Prelude.{ℕ, List, [], ◌∷◌, map, length, Option, Some, None, Result, Ok, Err, if◌then◌else◌}
+use Rattle.std.specs.Prelude.{◌≡◌, ℕ, List, [], ◌∷◌, map, length, Option, Some, None, Result, Ok, Err, if◌then◌else◌}
 use Rattle.cell_core.specs.declared.cell.Kind.{Kind}
 use Rattle.meaning.specs.Text.{Text}
 use Rattle.meaning.specs.Cell.{CellValue, LabelValue}
@@ -16,6 +16,10 @@ use Rattle.constructors.specs.Pairs.{scalars_in, listed_column}
 -- the labels of an axis
 abbrev pub axis_labels : List Text → AxisValue → List (List LabelValue)
 axis_labels texts axis = labels_value texts axis.tuples
+
+-- one level, which has no name
+abbrev pub IsUnnamed : AxisValue → Type 0
+IsUnnamed axis = axis.names ≡ None ∷ []
 
 -- labels for so many rows, of a table that isn't beyond the limits
 abbrev pub labels_within : ℕ → ℕ → List (List LabelValue) → Result (List (List LabelValue)) FaultValue

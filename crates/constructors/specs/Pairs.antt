@@ -1,9 +1,10 @@
 -- The pairs of a dict, by where their last values stand.
-use Rattle.std.specs.Prelude.{ℕ, List, map, slice_get, Option, Some, None, Result, if◌then◌else◌}
+use Rattle.std.specs.Prelude.{ℕ, List, map, slice_get, Option, Some, None, Result, All, if◌then◌else◌}
 use Rattle.cell_core.specs.declared.cell.Label.{Label}
 use Rattle.meaning.specs.Text.{Text}
 use Rattle.meaning.specs.Cell.{CellValue, LabelValue, label_datum}
 use Rattle.meaning.specs.Fault.{FaultValue}
+use Rattle.table_meaning.specs.Settled.{IsSettled}
 use Rattle.table_meaning.specs.Table.{ColumnOf}
 use Rattle.table_meaning.specs.Value.{Given, GivenList, nothing, list_in}
 use Rattle.form_meaning.specs.Binding.{each, is_scalar}
@@ -12,6 +13,7 @@ use Rattle.form_meaning.specs.Set.{list_column}
 use Rattle.form_meaning.specs.Make.{on}
 use Rattle.frame_store.specs.Objects.{Tables}
 use Rattle.frame_store.specs.Arguments.{argument_of}
+use Rattle.frame_store.specs.Parts.{HeadingList}
 use Rattle.frame_store.specs.declared.arguments.Argument.{Argument}
 
 -- the value at a place
@@ -49,3 +51,17 @@ lists_seen texts pairs places = map (λ place. list_at texts (slice_get pairs pl
 -- the column of a list; anything but a list of scalars is a TypeError
 abbrev pub listed_column : Option (List CellValue) → Result (ColumnOf CellValue) FaultValue
 listed_column cells = on cells list_column
+
+-- the texts of labels, of keys and of the lists among values were given
+abbrev pub AreSettledLabels : List Text → List Label → Type 0
+AreSettledLabels texts labels = All (λ (label : Label). IsSettled label_datum texts label) labels
+
+abbrev pub AreSettledKeys : List Text → List (Label × Argument) → Type 0
+AreSettledKeys texts pairs = All (λ (p : Label × Argument). IsSettled label_datum texts p.0) pairs
+
+abbrev pub AreSettledLists : List Text → List (Label × Argument) → Type 0
+AreSettledLists texts pairs = All (λ (p : Label × Argument). IsSettled list_seen texts p.1) pairs
+
+-- keys as the labels of columns
+abbrev pub key_headings : List Label → HeadingList
+key_headings keys = record { columns_name = None; labels = map (λ key. Some key) keys }

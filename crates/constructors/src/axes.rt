@@ -1,12 +1,12 @@
 // The labels of the rows of a new table.
-ghost use Rattle.std.specs.Prelude.{◌≡◌, ◌∷◌, [], List, Some, None, IfOk};
-ghost use Rattle.std.specs.Option.{option_map};
+ghost use Rattle.std.specs.Prelude.{List, Some, IfOk};
 ghost use Rattle.meaning.specs.Text.{Text as OneText};
 ghost use Rattle.multi_index.specs.Axes.{HaveLevels};
 ghost use Rattle.frame_store.specs.Shown.{labels_value};
 ghost use Rattle.form_meaning.specs.Finish.{default_labels};
 ghost use Rattle.form_parts.specs.Makes.{MakesBy};
 ghost use Rattle.signatures.specs.Scalars.{scalars};
+ghost use Rattle.constructors.specs.Scalars.{scalars_given};
 ghost use Rattle.constructors.specs.Made as meant;
 
 use crate::scalars::single_tuples;
@@ -18,8 +18,9 @@ use std::alloc::Global;
 
 // The axis of 0, 1 and so on, of a table that isn't beyond the limits.
 fn counted_axis(alloc: Global, rows: usize, columns: usize) -> Result<Axis, OpFault>
-    ensures names { IfOk result (λ axis. axis.names ≡ None ∷ []) }
-    ensures labels { (texts : List OneText) → MakesBy meant.axis_labels texts result (meant.labels_within rows columns (default_labels rows)) }
+    ensures names { IfOk result meant.IsUnnamed }
+    ensures labels { (texts : List OneText) → MakesBy meant.axis_labels texts result
+        (meant.labels_within rows columns (default_labels rows)) }
 {
     if !within_limits(rows, columns) {
         return Err(OpFault::Refused(Code::Limit));
@@ -36,8 +37,9 @@ fn listed_axis(
     columns: usize,
 ) -> Result<Axis, OpFault>
     requires { HaveLevels 1 tuples.now }
-    ensures names { IfOk result (λ axis. axis.names ≡ None ∷ []) }
-    ensures labels { (texts : List OneText) → MakesBy meant.axis_labels texts result (meant.listed_labels rows columns (labels_value texts tuples.now)) }
+    ensures names { IfOk result meant.IsUnnamed }
+    ensures labels { (texts : List OneText) → MakesBy meant.axis_labels texts result
+        (meant.listed_labels rows columns (labels_value texts tuples.now)) }
 {
     if tuples.len() != rows {
         let length = Reason::Length(rows as u64, tuples.len() as u64);
@@ -57,8 +59,9 @@ fn labelled_axis(
     rows: usize,
     columns: usize,
 ) -> Result<Axis, OpFault>
-    ensures names { IfOk result (λ axis. axis.names ≡ None ∷ []) }
-    ensures labels { (texts : List OneText) → MakesBy meant.axis_labels texts result (meant.index_labels rows columns (Some (scalars texts index.now))) }
+    ensures names { IfOk result meant.IsUnnamed }
+    ensures labels { (texts : List OneText) → MakesBy meant.axis_labels texts result
+        (meant.index_labels rows columns (Some (scalars texts index.now))) }
 {
     let tuples = single_tuples(alloc, index)?;
     listed_axis(alloc, dict, &tuples, rows, columns)
@@ -72,8 +75,9 @@ pub(crate) fn index_axis(
     rows: usize,
     columns: usize,
 ) -> Result<Axis, OpFault>
-    ensures names { IfOk result (λ axis. axis.names ≡ None ∷ []) }
-    ensures labels { (texts : List OneText) → MakesBy meant.axis_labels texts result (meant.index_labels rows columns (option_map (λ items. scalars texts items.now) index.entry)) }
+    ensures names { IfOk result meant.IsUnnamed }
+    ensures labels { (texts : List OneText) → MakesBy meant.axis_labels texts result
+        (meant.index_labels rows columns (scalars_given texts index.entry)) }
 {
     match index {
         None => counted_axis(alloc, rows, columns),
@@ -83,8 +87,9 @@ pub(crate) fn index_axis(
 
 // The axis of the labels in a list, as many as there are, of a frame without columns.
 fn free_axis(alloc: Global, dict: &TextDict, index: &[Item]) -> Result<Axis, OpFault>
-    ensures names { IfOk result (λ axis. axis.names ≡ None ∷ []) }
-    ensures labels { (texts : List OneText) → MakesBy meant.axis_labels texts result (meant.free_labels (Some (scalars texts index.now))) }
+    ensures names { IfOk result meant.IsUnnamed }
+    ensures labels { (texts : List OneText) → MakesBy meant.axis_labels texts result
+        (meant.free_labels (Some (scalars texts index.now))) }
 {
     let tuples = single_tuples(alloc, index)?;
     listed_axis(alloc, dict, &tuples, tuples.len(), 0)
@@ -96,8 +101,9 @@ pub(crate) fn bare_axis(
     dict: &TextDict,
     index: Option<&[Item]>,
 ) -> Result<Axis, OpFault>
-    ensures names { IfOk result (λ axis. axis.names ≡ None ∷ []) }
-    ensures labels { (texts : List OneText) → MakesBy meant.axis_labels texts result (meant.free_labels (option_map (λ items. scalars texts items.now) index.entry)) }
+    ensures names { IfOk result meant.IsUnnamed }
+    ensures labels { (texts : List OneText) → MakesBy meant.axis_labels texts result
+        (meant.free_labels (scalars_given texts index.entry)) }
 {
     match index {
         None => counted_axis(alloc, 0, 0),

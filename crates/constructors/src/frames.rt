@@ -1,22 +1,18 @@
 // What `pd.DataFrame` makes.
-ghost use Rattle.std.specs.Prelude.{◌≡◌, ◌<◌, List, [], ◌∷◌, All, map, length, Some, None, IfOk};
-ghost use Rattle.std.specs.Option.{option_map};
+ghost use Rattle.std.specs.Prelude.{◌≡◌, List, All, length, IfOk};
 ghost use Rattle.indexmap.specs.IndexMap.{keys};
-ghost use Rattle.cell_core.specs.declared.cell.Label.{Label as OneLabel};
 ghost use Rattle.cell_core.specs.declared.grid.Shape.TheVariants.{Frame};
 ghost use Rattle.meaning.specs.Text.{Text as OneText};
-ghost use Rattle.meaning.specs.Cell.{label_datum};
 ghost use Rattle.table_meaning.specs.Settled.{IsSettled};
 ghost use Rattle.table_meaning.specs.Valid.{AreHeadings};
 ghost use Rattle.form_meaning.specs.Make as make;
 ghost use Rattle.form_parts.specs.Makes.{MakesBy, blocks_value};
-ghost use Rattle.frame_store.specs.declared.arguments.Argument.{Argument as OneArgument};
 ghost use Rattle.frame_store.specs.Arguments.{entries_of};
 ghost use Rattle.frame_store.specs.Objects.{Tables};
-ghost use Rattle.frame_store.specs.Parts.{block_column, IsSingle, HaveRows};
+ghost use Rattle.frame_store.specs.Parts.{columns_of, IsSingle, HaveRows};
 ghost use Rattle.frame_store.specs.Shown.{Makes};
-ghost use Rattle.signatures.specs.Scalars.{scalars};
-ghost use Rattle.constructors.specs.Pairs.{list_seen};
+ghost use Rattle.constructors.specs.Scalars.{scalars_given};
+ghost use Rattle.constructors.specs.Pairs.{AreSettledKeys, AreSettledLists, key_headings};
 ghost use Rattle.constructors.specs.Made as meant;
 
 use crate::axes::{bare_axis, index_axis};
@@ -30,7 +26,8 @@ use std::alloc::Global;
 // The number of rows that all columns have, if there are columns.
 fn common_rows(columns: &Blocks) -> Result<Option<usize>, OpFault>
     requires { All IsSingle columns.now }
-    ensures { (texts : List OneText) → MakesBy meant.rows_seen texts result (meant.common_rows (blocks_value texts columns.now)) }
+    ensures { (texts : List OneText) → MakesBy meant.rows_seen texts result
+        (meant.common_rows (blocks_value texts columns.now)) }
 {
     if columns.len() == 0 {
         return Ok(None);
@@ -54,8 +51,9 @@ fn axis_for(
     rows: Option<usize>,
     columns: usize,
 ) -> Result<Axis, OpFault>
-    ensures names { IfOk result (λ axis. axis.names ≡ None ∷ []) }
-    ensures labels { (texts : List OneText) → MakesBy meant.axis_labels texts result (meant.labels_for rows columns (option_map (λ items. scalars texts items.now) index.entry)) }
+    ensures names { IfOk result meant.IsUnnamed }
+    ensures labels { (texts : List OneText) → MakesBy meant.axis_labels texts result
+        (meant.labels_for rows columns (scalars_given texts index.entry)) }
 {
     match rows {
         Some(rows) => index_axis(alloc, dict, index, rows, columns),
@@ -71,9 +69,10 @@ fn frame_axis(
     columns: &Blocks,
 ) -> Result<Axis, OpFault>
     requires { All IsSingle columns.now }
-    ensures names { IfOk result (λ axis. axis.names ≡ None ∷ []) }
-    ensures rows { IfOk result (λ axis. HaveRows (length axis.tuples) (map block_column columns.now)) }
-    ensures labels { (texts : List OneText) → MakesBy meant.axis_labels texts result (meant.frame_labels (blocks_value texts columns.now) (option_map (λ items. scalars texts items.now) index.entry)) }
+    ensures names { IfOk result meant.IsUnnamed }
+    ensures rows { IfOk result (λ axis. HaveRows (length axis.tuples) (columns_of columns.now)) }
+    ensures labels { (texts : List OneText) → MakesBy meant.axis_labels texts result
+        (meant.frame_labels (blocks_value texts columns.now) (scalars_given texts index.entry)) }
 {
     let rows = common_rows(columns)?;
     axis_for(alloc, dict, index, rows, columns.len())
@@ -81,7 +80,7 @@ fn frame_axis(
 
 // The keys as the labels of columns.
 fn key_headings(alloc: Global, places: &IndexMap<Label, usize>) -> Result<Headings, NoMemory>
-    ensures labels { IfOk result (λ made. made ≡ record { columns_name = None; labels = map (λ key. Some key) (keys places.now) }) }
+    ensures labels { IfOk result (λ made. made ≡ key_headings (keys places.now)) }
     ensures different { IfOk result (λ made. AreHeadings Frame made.columns_name made.labels) }
 {
     let mut headings = Headings::new(alloc, None);
@@ -98,12 +97,12 @@ pub(crate) fn frame_of(
     pairs: &[(Label, Argument)],
     index: Option<&[Item]>,
 ) -> Result<Table, OpFault>
-    requires keys { All (λ (p : OneLabel × OneArgument). IsSettled label_datum dict.now p.0) pairs.now }
-    requires values { All (λ (p : OneLabel × OneArgument). IsSettled list_seen dict.now p.1) pairs.now }
-    requires index { IsSettled (λ texts given. option_map (λ items. scalars texts items.now) given) dict.now index }
+    requires keys { AreSettledKeys dict.now pairs.now }
+    requires values { AreSettledLists dict.now pairs.now }
+    requires index { IsSettled scalars_given dict.now index }
     ensures { (live : Tables) → Makes dict.now result (meant.frame_from
         (make.pairs_in (entries_of live dict.now pairs.now))
-        (option_map (λ items. scalars dict.now items.now) index.entry)) }
+        (scalars_given dict.now index.entry)) }
 {
     let places = last_places(alloc, dict, pairs)?;
     let columns = listed_columns(alloc, pairs, &places)?;

@@ -1,21 +1,15 @@
 // The pairs of a dict, and the columns that their values are.
-ghost use Rattle.std.specs.Prelude.{◌≡◌, ◌<◌, ℕ, List, All, map, length, IfOk};
-ghost use Rattle.std.specs.Option.{option_map};
+ghost use Rattle.std.specs.Prelude.{◌≡◌, List, All, length, IfOk};
 ghost use Rattle.indexmap.specs.IndexMap.{keys, values};
-ghost use Rattle.cell_core.specs.declared.cell.Label.{Label as OneLabel};
 ghost use Rattle.meaning.specs.Text.{Text as OneText};
-ghost use Rattle.meaning.specs.Cell.{label_datum};
-ghost use Rattle.table_meaning.specs.Settled.{IsSettled};
 ghost use Rattle.form_meaning.specs.Finish.{try_all};
 ghost use Rattle.form_meaning.specs.Make as make;
 ghost use Rattle.form_parts.specs.Makes.{MakesBy, blocks_value};
-ghost use Rattle.frame_store.specs.declared.arguments.Argument.{Argument as OneArgument};
 ghost use Rattle.frame_store.specs.Objects.{Tables};
 ghost use Rattle.frame_store.specs.Arguments.{entries_of};
-ghost use Rattle.frame_store.specs.Parts.{IsSingle};
-ghost use Rattle.signatures.specs.Scalars.{scalars};
-ghost use Rattle.constructors.specs.Scalars.{column_seen};
-ghost use Rattle.constructors.specs.Pairs.{entries_seen, list_seen, lists_seen, listed_column};
+ghost use Rattle.frame_store.specs.Parts.{AreBelow, IsSingle};
+ghost use Rattle.constructors.specs.Scalars.{column_seen, scalars_given};
+ghost use Rattle.constructors.specs.Pairs.{entries_seen, list_seen, lists_seen, listed_column, AreSettledKeys, AreSettledLabels};
 
 use crate::scalars::list_column;
 use cell_core::{Code, Label, NoMemory, TextDict};
@@ -31,10 +25,12 @@ pub(crate) fn last_places(
     dict: &TextDict,
     pairs: &[(Label, Argument)],
 ) -> Result<IndexMap<Label, usize>, NoMemory>
-    requires { All (λ (p : OneLabel × OneArgument). IsSettled label_datum dict.now p.0) pairs.now }
-    ensures inside { IfOk result (λ places. All (λ (place : ℕ). place < length pairs.now) (values places)) }
-    ensures settled { IfOk result (λ places. All (λ (key : OneLabel). IsSettled label_datum dict.now key) (keys places)) }
-    ensures pairs { IfOk result (λ places. (live : Tables) → entries_seen live dict.now pairs.now places.entries ≡ make.pairs_in (entries_of live dict.now pairs.now)) }
+    requires { AreSettledKeys dict.now pairs.now }
+    ensures inside { IfOk result (λ places. AreBelow (length pairs.now) (values places)) }
+    ensures settled { IfOk result (λ places. AreSettledLabels dict.now (keys places)) }
+    ensures pairs { IfOk result (λ places. (live : Tables)
+        → entries_seen live dict.now pairs.now places.entries
+        ≡ make.pairs_in (entries_of live dict.now pairs.now)) }
 {
     // Equal texts have equal numbers: `TextDict::len` says so.
     let _ = dict.len();
@@ -47,7 +43,7 @@ pub(crate) fn last_places(
 
 // The parts of a list that has scalars alone.
 fn scalar_list(argument: &Argument) -> Option<&[Item]>
-    ensures { (texts : List OneText) → option_map (λ items. scalars texts items.now) result ≡ list_seen texts argument.now }
+    ensures { (texts : List OneText) → scalars_given texts result ≡ list_seen texts argument.now }
 {
     match argument.list() {
         Some(items) => {
@@ -63,7 +59,8 @@ fn scalar_list(argument: &Argument) -> Option<&[Item]>
 
 // The column of a list of scalars.
 fn listed_column(alloc: Global, argument: &Argument) -> Result<Column, OpFault>
-    ensures { (texts : List OneText) → MakesBy column_seen texts result (listed_column (list_seen texts argument.now)) }
+    ensures { (texts : List OneText) → MakesBy column_seen texts result
+        (listed_column (list_seen texts argument.now)) }
 {
     match scalar_list(argument) {
         Some(items) => list_column(alloc, items),
@@ -77,9 +74,10 @@ pub(crate) fn listed_columns(
     pairs: &[(Label, Argument)],
     places: &IndexMap<Label, usize>,
 ) -> Result<Blocks, OpFault>
-    requires { All (λ (place : ℕ). place < length pairs.now) (values places.now) }
+    requires { AreBelow (length pairs.now) (values places.now) }
     ensures single { IfOk result (All IsSingle) }
-    ensures columns { (texts : List OneText) → MakesBy blocks_value texts result (try_all listed_column (lists_seen texts pairs.now (values places.now))) }
+    ensures columns { (texts : List OneText) → MakesBy blocks_value texts result
+        (try_all listed_column (lists_seen texts pairs.now (values places.now))) }
 {
     let mut columns = Blocks::new(alloc);
     for place in places.values() {

@@ -1,5 +1,5 @@
 // Columns and labels of the scalars of a list.
-ghost use Rattle.std.specs.Prelude.{◌≡◌, ◌++◌, List, map, Err, IfOk, OnOk, IfErr, unwrap_or};
+ghost use Rattle.std.specs.Prelude.{◌≡◌, ◌++◌, List, Some, IfOk, OnOk, IfErr, unwrap_or};
 ghost use Rattle.std.specs.Option.{option_map};
 ghost use Rattle.meaning.specs.Text.{Text as OneText};
 ghost use Rattle.meaning.specs.Cell.{CellValue, datum};
@@ -9,7 +9,7 @@ ghost use Rattle.form_meaning.specs.Set as set;
 ghost use Rattle.form_meaning.specs.Make as meant;
 ghost use Rattle.form_parts.specs.Makes.{MakesBy};
 ghost use Rattle.signatures.specs.Scalars.{scalars, with_cell};
-ghost use Rattle.constructors.specs.Scalars.{column_seen, held_after, held_column, tuples_of};
+ghost use Rattle.constructors.specs.Scalars.{column_seen, held_column, GetsCell, RefusesCell, tuples_of};
 
 use cell_core::{Cell, Code, Kind, NoMemory, Tuple, Tuples};
 use column_core::Column;
@@ -19,7 +19,9 @@ use std::alloc::Global;
 
 // The kind of a cell that is present.
 fn present_kind(cell: Option<Cell>) -> Option<Kind>
-    ensures { (texts : List OneText) (rest : List CellValue) → set.first_kind (with_cell (option_map (datum texts) cell) rest) ≡ unwrap_or result (set.first_kind rest) }
+    ensures { (texts : List OneText) (rest : List CellValue)
+        → set.first_kind (with_cell (option_map (datum texts) cell) rest)
+        ≡ unwrap_or result (set.first_kind rest) }
 {
     match cell {
         Some(Cell::Int(_)) => Some(Kind::Int64),
@@ -48,8 +50,8 @@ fn first_kind(items: &[Item]) -> Kind
 // Appends a cell, which the column's kind must hold.
 fn push_held(column: &mut Column, cell: Cell) -> Result<(), OpFault>
     ensures kind { column.new.kind ≡ column.old.kind }
-    ensures ok { OnOk result ((texts : List OneText) (rest : List CellValue) → held_after column.old.kind (map (datum texts) column.new.cells) rest ≡ held_after column.old.kind (map (datum texts) column.old.cells) (with_cell (option_map (datum texts) (Some cell)) rest)) }
-    ensures err { IfErr result (λ fault. (texts : List OneText) (rest : List CellValue) → MakesBy column_seen texts (Err fault) (held_after column.old.kind (map (datum texts) column.old.cells) (with_cell (option_map (datum texts) (Some cell)) rest))) }
+    ensures ok { OnOk result (GetsCell column.old column.new (Some cell)) }
+    ensures err { IfErr result (RefusesCell column.old (Some cell)) }
 {
     if !column.as_ref().kind().holds(cell) {
         return Err(OpFault::Refused(Code::WrongKind));
@@ -61,8 +63,8 @@ fn push_held(column: &mut Column, cell: Cell) -> Result<(), OpFault>
 // Appends the cell, if there is one, which the kind must hold.
 fn push_scalar(column: &mut Column, cell: Option<Cell>) -> Result<(), OpFault>
     ensures kind { column.new.kind ≡ column.old.kind }
-    ensures ok { OnOk result ((texts : List OneText) (rest : List CellValue) → held_after column.old.kind (map (datum texts) column.new.cells) rest ≡ held_after column.old.kind (map (datum texts) column.old.cells) (with_cell (option_map (datum texts) cell) rest)) }
-    ensures err { IfErr result (λ fault. (texts : List OneText) (rest : List CellValue) → MakesBy column_seen texts (Err fault) (held_after column.old.kind (map (datum texts) column.old.cells) (with_cell (option_map (datum texts) cell) rest))) }
+    ensures ok { OnOk result (GetsCell column.old column.new cell) }
+    ensures err { IfErr result (RefusesCell column.old cell) }
 {
     match cell {
         None => Ok(()),
@@ -72,7 +74,8 @@ fn push_scalar(column: &mut Column, cell: Option<Cell>) -> Result<(), OpFault>
 
 // The column of the scalars, each of which the kind must hold.
 fn column_of_kind(alloc: Global, kind: Kind, items: &[Item]) -> Result<Column, OpFault>
-    ensures { (texts : List OneText) → MakesBy column_seen texts result (held_column kind (scalars texts items.now)) }
+    ensures { (texts : List OneText) → MakesBy column_seen texts result
+        (held_column kind (scalars texts items.now)) }
 {
     let mut column = Column::new(alloc, kind);
     let mut rest = items;
@@ -85,7 +88,8 @@ fn column_of_kind(alloc: Global, kind: Kind, items: &[Item]) -> Result<Column, O
 
 // The column of the scalars, which must be of one kind.
 pub(crate) fn list_column(alloc: Global, items: &[Item]) -> Result<Column, OpFault>
-    ensures { (texts : List OneText) → MakesBy column_seen texts result (set.list_column (scalars texts items.now)) }
+    ensures { (texts : List OneText) → MakesBy column_seen texts result
+        (set.list_column (scalars texts items.now)) }
 {
     column_of_kind(alloc, first_kind(items), items)
 }
@@ -103,7 +107,8 @@ fn push_label(alloc: Global, tuples: &mut Tuples, cell: Option<Cell>) -> Result<
 // The scalars as labels, each in a tuple of its own.
 pub(crate) fn single_tuples(alloc: Global, items: &[Item]) -> Result<Tuples, NoMemory>
     ensures levels { IfOk result (HaveLevels 1) }
-    ensures labels { IfOk result (λ tuples. (texts : List OneText) → labels_value texts tuples ≡ meant.single_labels (scalars texts items.now)) }
+    ensures labels { IfOk result (λ tuples. (texts : List OneText)
+        → labels_value texts tuples ≡ meant.single_labels (scalars texts items.now)) }
 {
     let mut tuples = Tuples::new(alloc);
     let mut rest = items;

@@ -1,16 +1,13 @@
 // What `pd.Series` makes.
-ghost use Rattle.std.specs.Prelude.{◌≡◌, ◌∷◌, [], List, length, Some, None, IfOk};
-ghost use Rattle.std.specs.Option.{option_map};
-ghost use Rattle.cell_core.specs.declared.grid.Shape.TheVariants.{Series};
+ghost use Rattle.std.specs.Prelude.{◌≡◌, length, Some, IfOk};
 ghost use Rattle.meaning.specs.Cell.{AreGiven, IsLonger};
 ghost use Rattle.table_meaning.specs.Settled.{IsSettled};
 ghost use Rattle.table_meaning.specs.Table.{heading_value};
 ghost use Rattle.form_meaning.specs.Make as make;
 ghost use Rattle.form_parts.specs.Makes.{MakesBy};
-ghost use Rattle.frame_store.specs.Parts.{table_with};
 ghost use Rattle.frame_store.specs.Shown.{Makes};
 ghost use Rattle.signatures.specs.Scalars.{scalars};
-ghost use Rattle.constructors.specs.Scalars.{table_column, column_seen};
+ghost use Rattle.constructors.specs.Scalars.{column_seen, scalars_given, made_series};
 ghost use Rattle.constructors.specs.Made as meant;
 
 use crate::axes::index_axis;
@@ -33,7 +30,8 @@ fn cast_column(
     requires { AreGiven dict.old column.now.cells }
     ensures longer { IsLonger dict.old dict.new }
     ensures given { IfOk result (λ c. AreGiven dict.new c.cells) }
-    ensures answer { MakesBy column_seen dict.new result (make.cast_to (Some kind) (column_seen dict.old column.now)) }
+    ensures answer { MakesBy column_seen dict.new result
+        (make.cast_to (Some kind) (column_seen dict.old column.now)) }
 {
     match cast(alloc, dict, column.as_ref(), kind) {
         Ok(column) => Ok(column),
@@ -52,7 +50,8 @@ fn cast_to(
     requires { AreGiven dict.old column.cells }
     ensures longer { IsLonger dict.old dict.new }
     ensures given { IfOk result (λ c. AreGiven dict.new c.cells) }
-    ensures answer { MakesBy column_seen dict.new result (make.cast_to kind (column_seen dict.old column)) }
+    ensures answer { MakesBy column_seen dict.new result
+        (make.cast_to kind (column_seen dict.old column)) }
 {
     match kind {
         None => Ok(column),
@@ -68,7 +67,7 @@ fn series_table(
     column: Column,
 ) -> Result<Table, NoMemory>
     requires { length column.cells ≡ length axis.tuples }
-    ensures { IfOk result (λ made. made ≡ table_with Series axis record { columns_name = None; labels = name ∷ [] } (table_column column ∷ [])) }
+    ensures { IfOk result (λ made. made ≡ made_series axis name column) }
 {
     let mut headings = Headings::new(alloc, None);
     headings.push(name)?;
@@ -87,11 +86,11 @@ pub(crate) fn series_of(
     kind: Option<Kind>,
 ) -> Result<Table, OpFault>
     requires values { IsSettled scalars dict.old values.now }
-    requires index { IsSettled (λ texts given. option_map (λ items. scalars texts items.now) given) dict.old index }
+    requires index { IsSettled scalars_given dict.old index }
     requires name { IsSettled heading_value dict.old name }
     ensures longer { IsLonger dict.old dict.new }
     ensures answer { Makes dict.new result (meant.series_with (scalars dict.old values.now)
-        (option_map (λ items. scalars dict.old items.now) index.entry)
+        (scalars_given dict.old index.entry)
         (heading_value dict.old name) kind) }
 {
     let listed = list_column(alloc, values)?;

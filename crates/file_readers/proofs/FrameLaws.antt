@@ -22,10 +22,10 @@ use Rattle.method_meaning.specs.Readers.{frame_of_columns, frame_or_fault}
 use Rattle.csv_meaning.specs.CsvRead.{CsvValue, CsvRefusal}
 use Rattle.csv_frames.specs.Views.{tuples_seen, column_seen, columns_seen, csv_seen, PartsFit}
 use Rattle.csv_frames.specs.declared.table.CsvTable.{CsvTable}
-use Rattle.frame_store.specs.Parts.{HeadingList, IsSingle, block_column, table_with}
+use Rattle.frame_store.specs.Parts.{HeadingList, IsSingle, block_column, table_column, table_with}
 use Rattle.frame_store.specs.Shown.{labels_value, headings_value, columns_value}
 use Rattle.frame_store.proofs.Settling.{settled_by}
-use Rattle.file_readers.specs.Frames.{headings_of, table_column, column_block, frame_of}
+use Rattle.file_readers.specs.Frames.{headings_of, column_block, frame_of}
 
 abbrev pub first_label : List Label → Option Label
 first_label tuple = slice_get tuple 0

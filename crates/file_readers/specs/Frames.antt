@@ -1,6 +1,5 @@
 -- The frame of the columns of a file.
 use Rattle.std.specs.Prelude.{List, map, slice_get, None}
-use Rattle.cell_core.specs.declared.cell.Cell.{Cell}
 use Rattle.cell_core.specs.declared.cell.Label.{Label}
 use Rattle.cell_core.specs.declared.code.Code.TheVariants as code
 use Rattle.cell_core.specs.declared.code.Reason.TheVariants as reason
@@ -8,8 +7,8 @@ use Rattle.cell_core.specs.declared.grid.Shape.TheVariants.{Frame}
 use Rattle.column_core.specs.Blocks.{CellBlock}
 use Rattle.column_core.specs.Columns.{CellColumn}
 use Rattle.multi_index.specs.Axes.{range_axis}
-use Rattle.table_meaning.specs.Table.{ColumnOf, NumberedTable}
-use Rattle.frame_store.specs.Parts.{HeadingList, single_block, table_with}
+use Rattle.table_meaning.specs.Table.{NumberedTable}
+use Rattle.frame_store.specs.Parts.{HeadingList, single_block, table_column, table_with}
 use Rattle.frame_store.specs.declared.fault.OpFault.{OpFault}
 use Rattle.frame_store.specs.declared.fault.OpFault.TheVariants as op
 use Rattle.csv_frames.specs.declared.table.CsvTable.{CsvTable}
@@ -20,10 +19,7 @@ use Rattle.csv_frames.specs.declared.table.CsvFault.TheVariants as csv
 abbrev pub headings_of : List (List Label) → HeadingList
 headings_of labels = record { columns_name = None; labels = map (λ tuple. slice_get tuple 0) labels }
 
--- a column that was read as a column of a table, and as a block
-abbrev pub table_column : CellColumn → ColumnOf Cell
-table_column c = record { kind = c.kind; cells = c.cells }
-
+-- a column that was read as a block
 abbrev pub column_block : CellColumn → CellBlock
 column_block c = single_block (table_column c)
 

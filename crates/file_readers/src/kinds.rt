@@ -6,6 +6,7 @@ ghost use Rattle.method_meaning.specs.Readers as readers;
 ghost use Rattle.csv_frames.specs.Views.{entries_seen};
 ghost use Rattle.frame_store.specs.Objects.{Tables};
 ghost use Rattle.frame_store.specs.Arguments.{entries_of};
+ghost use Rattle.frame_store.specs.Readers.{lent_pairs};
 ghost use Rattle.file_readers.specs.Kinds as meant;
 
 use cell_core::{Cell, Label, NoMemory, TextDict, TextId};
@@ -16,7 +17,9 @@ use std::alloc::Global;
 
 // The kind that a value names for a label, if the value is a text.
 fn kind_of_text(dict: &TextDict, label: TextId, value: Option<Cell>) -> Option<NamedKind>
-    ensures { option_map (meant.entry_seen dict.now) result ≡ meant.kind_for (label_datum dict.now (Label.Text label)) (option_map (datum dict.now) value) }
+    ensures { option_map (meant.entry_seen dict.now) result
+        ≡ meant.kind_for (label_datum dict.now (Label.Text label))
+        (option_map (datum dict.now) value) }
 {
     match value {
         Some(Cell::Text(name)) => Some(NamedKind {
@@ -32,7 +35,8 @@ fn kind_of_text(dict: &TextDict, label: TextId, value: Option<Cell>) -> Option<N
 
 // The kind that a value names for a label, if both are texts.
 fn kind_for(dict: &TextDict, label: Label, value: Option<Cell>) -> Option<NamedKind>
-    ensures { option_map (meant.entry_seen dict.now) result ≡ meant.kind_for (label_datum dict.now label) (option_map (datum dict.now) value) }
+    ensures { option_map (meant.entry_seen dict.now) result
+        ≡ meant.kind_for (label_datum dict.now label) (option_map (datum dict.now) value) }
 {
     match label {
         Label::Text(label) => kind_of_text(dict, label, value),
@@ -58,7 +62,8 @@ pub(crate) fn kinds_in(
     dict: &TextDict,
     pairs: &[(Label, Argument)],
 ) -> Result<Entries, NoMemory>
-    ensures { IfOk result (λ kinds. (live : Tables) → entries_seen dict.now kinds ≡ readers.kinds_in (entries_of live dict.now pairs.now)) }
+    ensures { IfOk result (λ kinds. (live : Tables) → entries_seen dict.now kinds
+        ≡ readers.kinds_in (entries_of live dict.now pairs.now)) }
 {
     let mut kinds = Entries::new(alloc);
     let mut rest = pairs;
@@ -76,7 +81,8 @@ pub(crate) fn kinds_given(
     dict: &TextDict,
     pairs: Option<&[(Label, Argument)]>,
 ) -> Result<Entries, NoMemory>
-    ensures { IfOk result (λ kinds. (live : Tables) → entries_seen dict.now kinds ≡ readers.kinds_given (option_map (λ pairs. entries_of live dict.now pairs.now) pairs.entry)) }
+    ensures { IfOk result (λ kinds. (live : Tables) → entries_seen dict.now kinds
+        ≡ readers.kinds_given (option_map (lent_pairs live dict.now) pairs.entry)) }
 {
     match pairs {
         Some(pairs) => kinds_in(alloc, dict, pairs),

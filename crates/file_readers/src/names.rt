@@ -6,6 +6,7 @@ ghost use Rattle.method_meaning.specs.Readers as readers;
 ghost use Rattle.method_meaning.specs.Readers.{file_name_of};
 ghost use Rattle.frame_store.specs.Objects.{tables};
 ghost use Rattle.frame_store.specs.Arguments.{arguments_of, AreLive};
+ghost use Rattle.frame_store.specs.World.{world, arguments_in};
 ghost use Rattle.file_readers.specs.Names.{name_for, Names};
 
 use cell_core::{Cell, Code, TextDict, TextId};
@@ -22,7 +23,8 @@ fn name_of(
 ) -> Result<TextId, Code>
     requires live { AreLive (tables store.now) args.now }
     requires given { IsSettled (arguments_of (tables store.now)) dict.now args.now }
-    ensures { Names dict.now result (file_name_of function (arguments_of (tables store.now) dict.now args.now)) }
+    ensures { Names dict.now result
+        (file_name_of function (arguments_in (world store.now dict.now) args.now)) }
 {
     let bound = bind(store, dict, function_parameters(function), args)?;
     match bound.scalar_or_none(0) {
@@ -55,7 +57,8 @@ pub fn file_name(
 ) -> Result<TextId, Code>
     requires live { AreLive (tables store.now) args.now.items.items }
     requires given { IsSettled (arguments_of (tables store.now)) dict.now args.now.items.items }
-    ensures { Names dict.now result (name_for (signature.function_named function.now) (arguments_of (tables store.now) dict.now args.now.items.items)) }
+    ensures { Names dict.now result (name_for (signature.function_named function.now)
+        (arguments_in (world store.now dict.now) args.now.items.items)) }
 {
     match function_named(function) {
         Some(function) => name_of(store, dict, function, args.as_slice()),

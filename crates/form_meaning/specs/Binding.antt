@@ -1,7 +1,6 @@
 -- How the arguments of a call are bound to a signature, and the refusals that all calls share.
 use Rattle.std.specs.Prelude.{ℕ, ◌+◌, ℤ, pos, Bool, true, false, not, ◌&&◌, ◌||◌, List, [], ◌∷◌, slice_get, nat_eq, nat_lt, codes, Option, Some, None, Result, Err, if◌then◌else◌}
 use Rattle.std.specs.List.{position_or_len, list_any}
-use Rattle.std.specs.Option.{option_map}
 use Rattle.std.specs.Ordering.{is_eq, int_eq}
 use Rattle.cell_core.specs.declared.grid.Shape.{Shape}
 use Rattle.cell_core.specs.declared.grid.Shape.TheVariants.{Series, Frame}
@@ -350,16 +349,13 @@ truth_in g = truth_of (scalar_in g)
 abbrev pub text_in : Given → Option Text
 text_in g = text_of (scalar_in g)
 
--- None, or what it is else, where None may stand for an argument that isn't given
+-- None, which may stand for an argument that isn't given
 abbrev pub is_nothing : Given → Bool
 is_nothing nothing = true
 is_nothing (one v) = false
 is_nothing (row parts) = false
 is_nothing (many parts) = false
 is_nothing (entries pairs) = false
-
-abbrev pub or_none : {X : Type 0} → (Given → Option X) → Given → Option (Option X)
-or_none read g = if is_nothing g then Some None else option_map Some (read g)
 
 -- what stands where an argument isn't given is no text
 abbrev pub IsNoText : Omitted → Type 0

@@ -18,7 +18,8 @@ use multi_index::Axis;
 /// The label that a cell is. Takes no memory.
 pub fn label_of(cell: Cell) -> Label
     ensures label { result ≡ label_of cell }
-    ensures seen { (texts : List OneText) → label_datum texts result ≡ cell_label (datum texts cell) }
+    ensures seen { (texts : List OneText)
+        → label_datum texts result ≡ cell_label (datum texts cell) }
 {
     match cell {
         Cell::Na => Label::Na,
@@ -30,7 +31,8 @@ pub fn label_of(cell: Cell) -> Label
 
 /// The label that a scalar is, if there is one. Takes no memory.
 pub fn name_of(cell: Option<Cell>) -> Option<Label>
-    ensures { (texts : List OneText) → heading_value texts result ≡ option_map cell_label (option_map (datum texts) cell) }
+    ensures { (texts : List OneText)
+        → heading_value texts result ≡ option_map cell_label (option_map (datum texts) cell) }
 {
     match cell {
         Some(cell) => Some(label_of(cell)),
@@ -67,7 +69,8 @@ pub fn same_heading(dict: &TextDict, a: Option<Label>, b: Option<Label>) -> bool
 pub fn same_rows(dict: &TextDict, a: &Axis, b: &Axis) -> bool
     requires a { IsSettled labels_value dict.now a.now.tuples }
     requires b { IsSettled labels_value dict.now b.now.tuples }
-    ensures { result ≡ same_tuples (labels_value dict.now a.now.tuples) (labels_value dict.now b.now.tuples) }
+    ensures { result ≡ same_tuples
+        (labels_value dict.now a.now.tuples) (labels_value dict.now b.now.tuples) }
 {
     // Equal texts have equal numbers: `TextDict::len` says so.
     let _ = dict.len();
@@ -78,7 +81,8 @@ pub fn same_rows(dict: &TextDict, a: &Axis, b: &Axis) -> bool
 pub fn common_name(dict: &TextDict, a: Option<Label>, b: Option<Label>) -> Option<Label>
     requires a { IsSettled heading_value dict.now a }
     requires b { IsSettled heading_value dict.now b }
-    ensures name { heading_value dict.now result ≡ common_name (heading_value dict.now a) (heading_value dict.now b) }
+    ensures name { heading_value dict.now result
+        ≡ common_name (heading_value dict.now a) (heading_value dict.now b) }
     ensures settled { IsSettled heading_value dict.now result }
 {
     if same_heading(dict, a, b) { a } else { None }

@@ -20,8 +20,9 @@ pub fn placed(
     dict: &TextDict,
     made: Result<Table, OpFault>,
 ) -> Result<Value, OpFault>
-    ensures answers { (earlier : List Text) (meant : Result Entry FaultValue) → IsLonger earlier dict.now
-        → IsSettledWorld (world store.old earlier) → Makes dict.now made meant
+    ensures answers { (earlier : List Text) (meant : Result Entry FaultValue)
+        → IsLonger earlier dict.now → IsSettledWorld (world store.old earlier)
+        → Makes dict.now made meant
         → Forms result meant (world store.old earlier) (world store.new dict.now) }
     ensures err { OnErr result (tables store.new ≡ tables store.old) }
 {

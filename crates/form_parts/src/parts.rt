@@ -1,7 +1,7 @@
 // The parts that a new table takes over from another.
-ghost use Rattle.std.specs.Prelude.{◌≡◌, map, All, Option, IfOk};
+ghost use Rattle.std.specs.Prelude.{◌≡◌, All, IfOk};
 ghost use Rattle.table_meaning.specs.Valid.{IsWhole};
-ghost use Rattle.frame_store.specs.Parts.{block_column, IsSingle, table_with, axis_of};
+ghost use Rattle.frame_store.specs.Parts.{headings_of, headings_with, table_of, axis_of, IsSingle};
 ghost use Rattle.form_meaning.specs.Finish as finish;
 
 use cell_core::{Grid, Label, NoMemory};
@@ -19,7 +19,7 @@ pub fn within_limits(rows: usize, columns: usize) -> bool
 /// The headings of a table, for another one. `NoMemory` is the only refusal.
 pub fn headings_of(alloc: Global, on: &ObjRef<'_>) -> Result<Headings, NoMemory>
     requires { IsWhole on.now }
-    ensures { IfOk result (λ made. made ≡ record { columns_name = on.now.columns_name; labels = on.now.headings }) }
+    ensures { IfOk result (λ made. made ≡ headings_of on.now) }
 {
     headings_named(alloc, on, on.columns_name())
 }
@@ -31,7 +31,7 @@ pub fn headings_named(
     columns_name: Option<Label>,
 ) -> Result<Headings, NoMemory>
     requires { IsWhole on.now }
-    ensures { IfOk result (λ made. made ≡ record { columns_name = columns_name; labels = on.now.headings }) }
+    ensures { IfOk result (λ made. made ≡ headings_with on.now columns_name) }
 {
     let mut headings = Headings::new(alloc, columns_name);
     for column in 0..on.columns() {
@@ -49,8 +49,8 @@ pub fn table_under(
     blocks: Blocks,
 ) -> Result<Table, NoMemory>
     requires single { All IsSingle blocks }
-    requires whole { IsWhole (table_with on.now.shape (axis_of on.now) headings (map block_column blocks)) }
-    ensures { IfOk result (λ made. made ≡ table_with on.now.shape (axis_of on.now) headings (map block_column blocks)) }
+    requires whole { IsWhole (table_of on.now.shape (axis_of on.now) headings blocks) }
+    ensures { IfOk result (λ made. made ≡ table_of on.now.shape (axis_of on.now) headings blocks) }
 {
     let axis = on.axis().copy(alloc)?;
     Ok(Table::new(on.shape(), axis, headings, blocks))

@@ -1,9 +1,10 @@
 -- The answer of a call, by its method.
-use Rattle.std.proofs.Common.{◌≡◌, ◌∙◌, ap, sym, subst, refl, Bool, true, false, List, Some, None, Result, Err, if◌then◌else◌}
+use Rattle.std.proofs.Common.{◌≡◌, ◌∙◌, ℕ, ap, sym, subst, refl, Bool, true, false, List, Some, None, Result, Err, if◌then◌else◌}
 use Rattle.nullable_array.specs.declared.ops.Reduction.TheVariants as reduction
 use Rattle.meaning.specs.Text.{Text}
-use Rattle.meaning.specs.Fault.{FaultValue, not_built}
-use Rattle.table_meaning.specs.Table.{Table}
+use Rattle.meaning.specs.Fault.{FaultValue, not_built, then_value}
+use Rattle.table_meaning.specs.Table.{NumberedTable, Table, table_value}
+use Rattle.table_meaning.specs.Valid.{IsWhole}
 use Rattle.table_meaning.specs.Value.{Entry, Given, NamedGiven}
 use Rattle.form_meaning.specs.declared.Method.{Method}
 use Rattle.form_meaning.specs.declared.Parameter.{Parameter}
@@ -11,11 +12,13 @@ use Rattle.form_meaning.specs.Signature.{parameters_of}
 use Rattle.form_meaning.specs.Binding.{bound, bound_of, on_bound, argument_at, arguments_from}
 use Rattle.method_meaning.specs.Methods.{summary, answer_for, is_built}
 use Rattle.method_meaning.specs.Calls.{called}
-use Rattle.frame_store.specs.Shown.{Refuses}
+use Rattle.frame_store.specs.Shown.{Refuses, Makes}
 use Rattle.frame_store.specs.declared.arguments.Named.{Named}
 use Rattle.frame_store.specs.declared.arguments.Value.{Value}
 use Rattle.frame_store.specs.declared.fault.OpFault.{OpFault}
-use Rattle.frame_store.specs.World.{World, arguments_in, Forms}
+use Rattle.frame_store.specs.World.{World, arguments_in, IsSettledWorld, IsKnownTable, Forms}
+use Rattle.frame_store.specs.declared.fault.OpFault.TheVariants.{Refused, NoMemory}
+use Rattle.frame_store.proofs.Settling.{longer_self, object_settled}
 use Rattle.signatures.specs.Bound.{given_in, stands_at, IsBound, code_of}
 use Rattle.signatures.specs.declared.binding.Unbound.{Unbound}
 use Rattle.signatures.specs.declared.binding.Unbound.TheVariants.{NotTaken, NotListed}
@@ -23,12 +26,12 @@ use Rattle.signatures.specs.declared.bound.Bound.{Bound}
 use Rattle.signatures.proofs.ToldLaws.{some_same}
 use Rattle.frame_methods.specs.Built.{method_of}
 use Rattle.frame_methods.specs.Calls.{answer_in}
+use Rattle.frame_methods.specs.Named.{FindsPlaces}
 use Rattle.frame_methods.specs.Summaries.{summary_value}
 use Rattle.frame_methods.specs.declared.summaries.Summary.{Summary}
 use Rattle.frame_methods.specs.declared.summaries.Summary.TheVariants.{Reduced, Distinct}
 use Rattle.frame_methods.specs.declared.built.Built.{Built}
 use Rattle.frame_methods.specs.declared.built.Built.TheVariants as built
-use Rattle.frame_methods.specs.declared.binding.BoundCall.{BoundCall}
 
 -- a method that is built
 pub built_is : (yes : Bool) (m x : Method) → Some x ≡ (if yes then Some m else None) → (yes ≡ true) × (x ≡ m)
@@ -57,25 +60,41 @@ call_unbound w m b ps args NotListed name t some is same = (
   λ more. refl,
 )
 
--- the parameters and the answer of a call whose method is known
-pub parameters_are : (call : BoundCall) (b : Built) → call.built ≡ b → call.bound.parameters.now ≡ parameters_of (method_of call.built) → call.bound.parameters.now ≡ parameters_of (method_of b)
-parameters_are call b is parameters = parameters ∙ ap (λ x. parameters_of (method_of x)) is
+-- the answer of a method that is known, by its own parameters
+abbrev pub answer_of : World → Method → Bound → Table → Result Entry FaultValue
+answer_of w m b t = answer_for m (arguments_from (parameters_of m) (arguments_in w b.args.now) 0 (parameters_of m)) t
 
-abbrev answer_by : World → BoundCall → Built → Table → Result Entry FaultValue
-answer_by w call b t = answer_for (method_of b) (arguments_from (parameters_of (method_of b)) (arguments_in w call.bound.args.now) 0 (parameters_of (method_of b))) t
+pub answer_is : (w : World) (m m' : Method) (b : Bound) (t : Table) → m ≡ m' → b.parameters.now ≡ parameters_of m → answer_of w m' b t ≡ answer_in w m b t
+answer_is w m m' b t is parameters =
+    ap (λ x. answer_of w x b t) (sym is) ∙ ap (λ p. answer_for m (arguments_from p (arguments_in w b.args.now) 0 p) t) (sym parameters)
 
-pub answer_is : (w : World) (call : BoundCall) (b : Built) (t : Table) → call.built ≡ b → call.bound.parameters.now ≡ parameters_of (method_of call.built) → answer_by w call b t ≡ answer_in w call t
-answer_is w call b t is parameters =
-    sym (
-    ap (λ p. answer_for (method_of call.built) (arguments_from p (arguments_in w call.bound.args.now) 0 p) t) parameters
-    ∙ ap (λ x. answer_by w call x t) is
-    )
+-- by what stands at the places of its parameters
+pub answer_by : (w : World) (m m' : Method) (b : Bound) (t : Table) (go : (ℕ → Given) → Result Entry FaultValue) → m ≡ m' → b.parameters.now ≡ parameters_of m
+    → go (argument_at (parameters_of m') (arguments_in w b.args.now)) ≡ answer_of w m' b t → go (stands_at w.tables w.texts b) ≡ answer_in w m b t
+answer_by w m m' b t go is parameters same =
+    ap (λ p. go (argument_at p (arguments_in w b.args.now))) (parameters ∙ ap parameters_of is) ∙ same ∙ answer_is w m m' b t is parameters
 
--- one that takes one argument
-pub answer_at : (w : World) (call : BoundCall) (b : Built) (t : Table) (go : Given → Result Entry FaultValue) → call.built ≡ b → call.bound.parameters.now ≡ parameters_of (method_of call.built)
-    → go (argument_at (parameters_of (method_of b)) (arguments_in w call.bound.args.now) 0) ≡ answer_by w call b t → go (stands_at w.tables w.texts call.bound 0) ≡ answer_in w call t
-answer_at w call b t go is parameters same =
-    ap (λ p. go (argument_at p (arguments_in w call.bound.args.now) 0)) (parameters_are call b is parameters) ∙ same ∙ answer_is w call b t is parameters
+-- a table that is read of a settled world
+pub known_table : (w : World) (id : ℕ) (t : NumberedTable) → w.tables id ≡ Some t → IsWhole t → IsSettledWorld w → IsKnownTable w.texts t
+known_table w id t at whole settled = record { whole = whole; given = object_settled w.texts w.tables id t at settled }
+
+-- a table that is made of an object's, by another wording
+pub makes_by : (w : World) (m m' : Method) (b : Bound) (source t : NumberedTable) (r : Result NumberedTable OpFault) (go : (ℕ → Given) → Table → Result Entry FaultValue) (meant : Result Entry FaultValue) → source ≡ t → m ≡ m'
+    → b.parameters.now ≡ parameters_of m → ((v : Table) → go (argument_at (parameters_of m') (arguments_in w b.args.now)) v ≡ answer_of w m' b v) → meant ≡ go (stands_at w.tables w.texts b) (table_value w.texts source)
+    → Makes w.texts r meant → Makes w.texts r (answer_in w m b (table_value w.texts t))
+makes_by w m m' b source t r go meant at is parameters same said makes =
+    subst (λ (e : Result Entry FaultValue). Makes w.texts r e)
+    (said ∙ ap (λ (n : NumberedTable). go (stands_at w.tables w.texts b) (table_value w.texts n)) at ∙ answer_by w m m' b (table_value w.texts t) (λ a. go a (table_value w.texts t)) is parameters (same (table_value w.texts t)))
+    makes
+
+-- places that aren't found
+pub lost_forms : (w : World) (t : NumberedTable) (fault : OpFault) (lost : Result (List ℕ) OpFault) (meant : Result (List ℕ) FaultValue) (go : List ℕ → Result Entry FaultValue) → lost ≡ Err fault → FindsPlaces w.texts t lost meant
+    → IsSettledWorld w → Forms (Err fault) (then_value meant go) w w
+lost_forms w t fault lost meant go was finds settled = at fault (subst (λ (r : Result (List ℕ) OpFault). FindsPlaces w.texts t r meant) was finds)
+  where
+    at : (f : OpFault) → FindsPlaces w.texts t (Err f) meant → Forms (Err f) (then_value meant go) w w
+    at (Refused code) m = (((ap (λ (r : Result (List ℕ) FaultValue). then_value r go) m.0.0, m.0.1), refl), longer_self w.texts, settled)
+    at NoMemory m = (refl, longer_self w.texts, settled)
 
 pub forms_so : (r : Result Value OpFault) (meant meant' : Result Entry FaultValue) (old new : World) → meant ≡ meant' → Forms r meant old new → Forms r meant' old new
 forms_so r meant meant' old new same = subst (λ (m : Result Entry FaultValue). Forms r m old new) same

@@ -12,10 +12,10 @@ use Rattle.column_core.specs.Blocks.{CellBlock}
 use Rattle.table_meaning.specs.Settled.{IsSettled}
 use Rattle.table_meaning.specs.Table.{ColumnOf, NumberedTable, column_value, column_at, no_column, table_value}
 use Rattle.form_meaning.specs.Finish.{try_all}
-use Rattle.frame_store.specs.Parts.{block_column, single_block, IsSingle}
+use Rattle.frame_store.specs.Parts.{block_column, single_block, IsSingle, table_column}
 use Rattle.frame_store.specs.Shown.{columns_value, cells_value}
 use Rattle.frame_store.proofs.Settling.{settled_later, seen_later, cells_settled, cells_given, column_settled, columns_settled, columns_given, columns_part, longer_self, longer_twice}
-use Rattle.frame_methods.specs.Columns.{table_column, with_front, IsFront, MakesColumn, MakesColumns}
+use Rattle.frame_methods.specs.Columns.{with_front, IsFront, MakesColumn, MakesColumns}
 use Rattle.meaning.specs.FaultOf.{fault_of}
 use Rattle.frame_store.specs.declared.fault.OpFault.{OpFault}
 use Rattle.frame_store.specs.declared.fault.OpFault.TheVariants.{Refused, NoMemory}

@@ -11,3 +11,7 @@ pub mod NameLaws
 pub mod ListedLaws
 pub mod RenameLaws
 pub mod CsvLaws
+pub mod RowLaws
+pub mod DuplicateLaws
+pub mod SortLaws
+pub mod NamedLaws

@@ -34,12 +34,12 @@ use Rattle.frame_store.specs.Shown.{cells_value}
 use Rattle.frame_store.specs.declared.arguments.Item.{Item}
 use Rattle.frame_store.proofs.Settling.{cell_settled, cell_given}
 use Rattle.signatures.proofs.ScalarLaws.{cells_of_more, scalars_are}
-use Rattle.frame_methods.specs.Columns.{table_column}
+use Rattle.frame_store.specs.Parts.{table_column}
 use Rattle.signatures.specs.Scalars.{scalars, with_cell}
 use Rattle.frame_methods.specs.Listed.{noted, listed_column}
 use Rattle.nullable_array.specs.Marks.{same_number, listed_mark}
 
-same_decides : (a b : Cell) → Decides (same_number a b) (a ≡ b)
+pub same_decides : (a b : Cell) → Decides (same_number a b) (a ≡ b)
 same_decides a b = search rules
 
 -- a cell as a label, and back
@@ -65,7 +65,7 @@ label_settled : (texts : List Text) (c : Cell) → IsGiven texts c → IsSettled
 label_settled texts c given = λ more. label_seen (texts ++ more) c ∙ ap cell_label (cell_settled texts c given more) ∙ sym (label_seen texts c)
 
 -- a test by numbers is the test by texts
-cell_by_number : (texts : List Text) (a b : Cell) → AreDistinct texts → IsGiven texts a → IsGiven texts b → same_number a b ≡ same_cell (datum texts a) (datum texts b)
+pub cell_by_number : (texts : List Text) (a b : Cell) → AreDistinct texts → IsGiven texts a → IsGiven texts b → same_number a b ≡ same_cell (datum texts a) (datum texts b)
 cell_by_number texts a b distinct f g =
     let labels : Decides (same_number a b) (label_of a ≡ label_of b) = (
       λ e. ap label_of ((same_decides a b).0 e),
@@ -97,10 +97,10 @@ listed_given texts values a new is =
     subst (λ (n : CellColumn). AreGiven texts n.cells) (sym is) (All-map (IsGiven texts) (listed_mark values) a.cells (λ k d lt. tt))
 
 -- the scalars from a part on
-abbrev IsScalarOf : Option Cell → Item → Type 0
+abbrev pub IsScalarOf : Option Cell → Item → Type 0
 IsScalarOf o item = (live : Tables) (texts : List Text) → option_map (datum texts) o ≡ scalar_in (item_of live texts item)
 
-scalars_from : (texts : List Text) (items : List Item) (i : ℕ) (item : Item) (o : Option Cell) → i < length items → item ≡ get_or items i item → IsScalarOf o item
+pub scalars_from : (texts : List Text) (items : List Item) (i : ℕ) (item : Item) (o : Option Cell) → i < length items → item ≡ get_or items i item → IsScalarOf o item
     → scalars texts (drop i items) ≡ with_cell (option_map (datum texts) o) (scalars texts (drop (i + 1) items))
 scalars_from texts items i item o lt is scalar =
     let next : suc i ≡ i + 1 = omega arith in

@@ -1,5 +1,5 @@
 -- Objects under other headings.
-use Rattle.std.proofs.Common.{◌≡◌, ◌∙◌, refl, ap, sym, subst, pos, List, [], ◌∷◌, ◌++◌, length, map, Option, Some, None, slice_index_or, Result}
+use Rattle.std.proofs.Common.{◌≡◌, ◌∙◌, refl, ap, sym, subst, pos, List, [], ◌∷◌, ◌++◌, length, map, Option, Some, None, slice_index_or, unwrap_or, Result}
 use Rattle.cell_core.specs.declared.cell.Label.{Label}
 use Rattle.cell_core.specs.declared.cell.Label.TheVariants as label
 use Rattle.cell_core.specs.declared.grid.Shape.TheVariants.{Frame}
@@ -11,7 +11,7 @@ use Rattle.table_meaning.specs.Table.{NumberedTable, Table, table_value, heading
 use Rattle.table_meaning.specs.Value.{Entry}
 use Rattle.form_meaning.specs.Finish.{limited}
 use Rattle.method_meaning.specs.Methods as meant
-use Rattle.method_meaning.specs.Methods.{renamed_series, label_or}
+use Rattle.method_meaning.specs.Methods.{renamed_series}
 use Rattle.frame_store.specs.declared.arguments.Value.{Value}
 use Rattle.frame_store.specs.declared.fault.OpFault.{OpFault}
 use Rattle.frame_store.specs.Parts.{HeadingList}
@@ -38,7 +38,7 @@ pub meant_so : (texts : List Text) (result : Result Value OpFault) (meant meant'
 meant_so texts result meant meant' old new same answers = subst (λ (m : Result Entry FaultValue). FormAnswers texts result m old new) same answers
 
 -- the label of a Series' column
-pub label_seen : (h : Option Label) (l : Label) → column_tuple h ≡ l ∷ [] → (ts : List Text) → label_datum ts l ≡ label_or (heading_value ts h) (int (pos 0))
+pub label_seen : (h : Option Label) (l : Label) → column_tuple h ≡ l ∷ [] → (ts : List Text) → label_datum ts l ≡ unwrap_or (heading_value ts h) (int (pos 0))
 label_seen None l is ts = let same : label.Int (pos 0) ≡ l = cc in ap (label_datum ts) (sym same)
 label_seen (Some x) l is ts = let same : x ≡ l = cc in ap (label_datum ts) (sym same)
 
@@ -48,7 +48,7 @@ one_item (h ∷ []) is = refl
 one_item (h ∷ g ∷ hs) is = cc
 
 abbrev pub frame_heading : Option LabelValue → Option LabelValue
-frame_heading h = Some (label_or h (int (pos 0)))
+frame_heading h = Some (unwrap_or h (int (pos 0)))
 
 abbrev frame_with : Table → List (Option LabelValue) → Table
 frame_with t headings = record t { shape = Frame; headings = headings }

@@ -29,7 +29,8 @@ use Rattle.frame_store.specs.declared.fault.OpFault.{OpFault}
 use Rattle.frame_store.specs.Shown.{cells_value}
 use Rattle.frame_store.proofs.Settling.{settled_by, cells_settled, cells_given}
 use Rattle.nullable_array.specs.Marks.{missing_mark, filled_cell}
-use Rattle.frame_methods.specs.Columns.{table_column, MakesColumn}
+use Rattle.frame_methods.specs.Columns.{MakesColumn}
+use Rattle.frame_store.specs.Parts.{table_column}
 use Rattle.frame_methods.specs.Marks.{mark_of, marked_column}
 
 -- cells by themselves

@@ -260,19 +260,21 @@ relabelled_by texts es hs all distinct settled here is =
 abbrev heads : Option Label → List (Option Label) → HeadingList
 heads name hs = record { columns_name = name; labels = hs }
 
+-- labels of a frame's columns of which none stands twice
+pub frame_heads : (name : Option Label) (labels : List (Option Label)) → All IsSome labels → repeated_heading labels ≡ None → AreHeadings Frame name labels
+frame_heads name labels all none =
+    record {
+      single = λ e. cc;
+      nameless = λ e. cc;
+      labelled = λ e. all;
+      different = λ e. different labels all none;
+    }
+
 -- a frame's new headings
 pub new_heads : (es : List (Label × Option Label)) (name : Option Label) (hs new : List (Option Label)) (r : Result HeadingList OpFault) → new ≡ map (heading_by es) hs → All IsSome hs
     → IfOk r (λ made. repeated_heading new ≡ None) → IfOk r (λ made. made ≡ heads name new) → IfOk r (λ made. AreHeadings Frame made.columns_name made.labels)
 new_heads es name hs new (Ok made) is all none same =
-    let labels : All IsSome new = subst (All IsSome) (sym is) (headings_labelled es hs all) in
-    let ours : AreHeadings Frame name new =
-    record {
-      single = λ e. cc;
-      nameless = λ e. cc;
-      labelled = λ e. labels;
-      different = λ e. different new labels none;
-    } in
-    subst (λ (h : HeadingList). AreHeadings Frame h.columns_name h.labels) (sym same) ours
+    subst (λ (h : HeadingList). AreHeadings Frame h.columns_name h.labels) (sym same) (frame_heads name new (subst (All IsSome) (sym is) (headings_labelled es hs all)) none)
 new_heads es name hs new (Err fault) is all none same = tt
 
 pub new_settled : (texts : List Text) (es : List (Label × Option Label)) (name : Option Label) (hs new : List (Option Label)) (r : Result HeadingList OpFault) → new ≡ map (heading_by es) hs → IsSettled pairs_seen texts es → IsSettled headings_value texts hs

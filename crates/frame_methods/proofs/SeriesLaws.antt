@@ -1,5 +1,5 @@
 -- Series over the labels of columns.
-use Rattle.std.proofs.Common.{◌≡◌, ◌∙◌, refl, ap, sym, subst, pos, true, List, [], ◌∷◌, map, length, Option, Some, None, slice_index_or, Result, Ok, Err}
+use Rattle.std.proofs.Common.{◌≡◌, ◌∙◌, refl, ap, sym, subst, pos, true, List, [], ◌∷◌, map, length, Option, Some, None, slice_index_or, unwrap_or, Result, Ok, Err}
 use Rattle.std.proofs.lemmas.List.{length-map}
 use Rattle.std.proofs.lemmas.List.Elements.{All-map, All-cons, All-nil}
 use Rattle.cell_core.specs.declared.cell.Cell.{Cell}
@@ -14,12 +14,11 @@ use Rattle.multi_index.specs.Axes.{AxisValue, HaveLevels}
 use Rattle.table_meaning.specs.Table.{ColumnOf, NumberedTable, table_value, heading_value, tuple_value}
 use Rattle.table_meaning.specs.Value.{Entry, table}
 use Rattle.table_meaning.specs.Settled.{IsSettled}
-use Rattle.form_meaning.specs.Finish.{within_limits, limited, try_all}
-use Rattle.method_meaning.specs.Methods.{Summary, label_or, kind_for, summary_as, summary_series, summary_of}
-use Rattle.frame_store.specs.Parts.{table_with}
+use Rattle.form_meaning.specs.Finish.{within_limits, limited, try_all, across_columns}
+use Rattle.method_meaning.specs.Methods.{Summary, kind_for, summary_as, summary_of}
+use Rattle.frame_store.specs.Parts.{table_with, table_column}
 use Rattle.frame_store.specs.Shown.{labels_value, headings_value, columns_value}
 use Rattle.frame_store.proofs.Settling.{settled_by, columns_name_part, headings_part, columns_settled, table_settled}
-use Rattle.frame_methods.specs.Columns.{table_column}
 use Rattle.frame_methods.specs.Labels.{column_tuple}
 use Rattle.frame_methods.proofs.TableLaws.{limited_within}
 
@@ -32,7 +31,7 @@ tuples_alike hs = All-map (λ (tuple : List Label). length tuple ≡ 1) column_t
 
 -- the label of a column as a tuple, with texts
 abbrev label_tuple : Option LabelValue → List LabelValue
-label_tuple h = label_or h (int (pos 0)) ∷ []
+label_tuple h = unwrap_or h (int (pos 0)) ∷ []
 
 tuple_seen : (texts : List Text) (h : Option Label) → label_tuple (heading_value texts h) ≡ tuple_value texts (column_tuple h)
 tuple_seen texts None = refl
@@ -49,7 +48,7 @@ abbrev summaries_table : NumberedTable → AxisValue → CellColumn → Numbered
 summaries_table t axis cells = table_with Series axis record { columns_name = None; labels = None ∷ [] } (table_column cells ∷ [])
 
 series_seen : (texts : List Text) (t : NumberedTable) (kind : Kind) (cells : CellColumn) → cells.kind ≡ kind
-    → summary_series (table_value texts t) kind (map (datum texts) cells.cells) ≡ table_value texts (summaries_table t (summaries_axis t) cells)
+    → across_columns (table_value texts t) None kind (map (datum texts) cells.cells) ≡ table_value texts (summaries_table t (summaries_axis t) cells)
 series_seen texts t kind cells same = λ j.
     record {
       shape = Series;
@@ -61,7 +60,7 @@ series_seen texts t kind cells same = λ j.
     }
 
 abbrev then_series : NumberedTable → List Text → Kind → Result (List CellValue) FaultValue → Result Entry FaultValue
-then_series t texts kind r = then_value r (λ cells. limited (summary_series (table_value texts t) kind cells))
+then_series t texts kind r = then_value r (λ cells. limited (across_columns (table_value texts t) None kind cells))
 
 abbrev all_summaries : Summary → NumberedTable → List Text → Kind → Result Entry FaultValue
 all_summaries op t texts kind = then_series t texts kind (try_all (summary_as op kind) (columns_value texts t.columns))
@@ -73,7 +72,7 @@ pub frame_answer : (op : Summary) (texts : List Text) (t made : NumberedTable) (
 frame_answer op texts t made kind axis cells all kinds same within headed axis_is is =
     ap (all_summaries op t texts) (sym kinds)
     ∙ ap (then_series t texts kind) all
-    ∙ limited_within (summary_series (table_value texts t) kind (map (datum texts) cells.cells)) (length t.columns) 1
+    ∙ limited_within (across_columns (table_value texts t) None kind (map (datum texts) cells.cells)) (length t.columns) 1
     (length-map (headings_value texts t.headings) label_tuple ∙ length-map t.headings (heading_value texts) ∙ headed) refl within
     ∙ ap (λ v. Ok (table v)) (series_seen texts t kind cells same ∙ ap (λ a. table_value texts (summaries_table t a cells)) (sym axis_is) ∙ ap (table_value texts) (sym is))
 

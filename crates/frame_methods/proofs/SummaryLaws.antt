@@ -19,7 +19,8 @@ use Rattle.form_parts.specs.Makes.{MakesBy}
 use Rattle.frame_store.specs.Shown.{columns_value}
 use Rattle.frame_store.specs.declared.fault.OpFault.{OpFault}
 use Rattle.frame_store.specs.declared.fault.OpFault.TheVariants.{Refused, NoMemory}
-use Rattle.frame_methods.specs.Columns.{table_column, with_front}
+use Rattle.frame_methods.specs.Columns.{with_front}
+use Rattle.frame_store.specs.Parts.{table_column}
 use Rattle.frame_methods.specs.Summaries.{AreCells, counted_cell}
 use Rattle.frame_methods.proofs.ColumnLaws.{front_next, front_fails, at_place, drop_all}
 

@@ -4,20 +4,35 @@ use Rattle.form_meaning.specs.declared.Method.TheVariants as method
 use Rattle.nullable_array.specs.declared.ops.Cumulation.TheVariants as cumulation
 use Rattle.nullable_array.specs.declared.ops.Reduction.TheVariants as reduction
 use Rattle.frame_methods.specs.declared.summaries.Summary.TheVariants.{Reduced, Distinct}
+use Rattle.frame_methods.specs.declared.built.ColumnMethod.{ColumnMethod}
+use Rattle.frame_methods.specs.declared.built.ColumnMethod.TheVariants as columns
+use Rattle.frame_methods.specs.declared.built.RowMethod.{RowMethod}
+use Rattle.frame_methods.specs.declared.built.RowMethod.TheVariants as rows
 use Rattle.frame_methods.specs.declared.built.Built.{Built}
 use Rattle.frame_methods.specs.declared.built.Built.TheVariants as built
 
+abbrev pub column_method : ColumnMethod → Method
+column_method columns.Isna = method.Isna
+column_method columns.Notna = method.Notna
+column_method columns.Fillna = method.Fillna
+column_method columns.Isin = method.Isin
+column_method columns.Astype = method.Astype
+column_method columns.Shift = method.Shift
+column_method (columns.Cumulated cumulation.Sum) = method.Cumsum
+column_method (columns.Cumulated cumulation.Min) = method.Cummin
+column_method (columns.Cumulated cumulation.Max) = method.Cummax
+
+abbrev pub row_method : RowMethod → Method
+row_method rows.Dropna = method.Dropna
+row_method rows.DuplicatedSeries = method.DuplicatedSeries
+row_method rows.DuplicatedFrame = method.DuplicatedFrame
+row_method rows.SortValuesSeries = method.SortValuesSeries
+row_method rows.SortValuesFrame = method.SortValuesFrame
+row_method rows.SortIndex = method.SortIndex
+
 abbrev pub method_of : Built → Method
 method_of built.Copy = method.Copy
-method_of built.Isna = method.Isna
-method_of built.Notna = method.Notna
-method_of built.Fillna = method.Fillna
-method_of built.Isin = method.Isin
-method_of built.Astype = method.Astype
-method_of built.Shift = method.Shift
-method_of (built.Cumulated cumulation.Sum) = method.Cumsum
-method_of (built.Cumulated cumulation.Min) = method.Cummin
-method_of (built.Cumulated cumulation.Max) = method.Cummax
+method_of (built.Columns m) = column_method m
 method_of (built.Summary (Reduced reduction.Sum)) = method.Sum
 method_of (built.Summary (Reduced reduction.Min)) = method.Min
 method_of (built.Summary (Reduced reduction.Max)) = method.Max
@@ -25,7 +40,11 @@ method_of (built.Summary (Reduced reduction.Any)) = method.Any
 method_of (built.Summary (Reduced reduction.All)) = method.All
 method_of (built.Summary (Reduced reduction.Count)) = method.Count
 method_of (built.Summary Distinct) = method.Nunique
+method_of built.Head = method.Head
+method_of built.Tail = method.Tail
+method_of (built.Rows m) = row_method m
 method_of built.RenameSeries = method.RenameSeries
 method_of built.RenameFrame = method.RenameFrame
 method_of built.ToFrame = method.ToFrame
+method_of built.DropColumns = method.DropColumns
 method_of built.ToCsv = method.ToCsv

@@ -19,6 +19,7 @@ use Rattle.frame_store.specs.Shown.{Refuses}
 use Rattle.frame_store.specs.Arguments.{arguments_of}
 use Rattle.frame_store.specs.World.{World}
 use Rattle.signatures.specs.Bound.{given_in}
+use Rattle.signatures.specs.declared.bound.Bound.{Bound}
 use Rattle.frame_methods.specs.Built.{method_of}
 use Rattle.frame_methods.specs.declared.binding.BoundCall.{BoundCall}
 
@@ -30,23 +31,28 @@ chain_of (Expanding args name) = through (codes "expanding")
 
 -- a method of Series alone isn't one of a frame, nor the other way round
 abbrev pub fits_shape : Method → Shape → Bool
+fits_shape method.DuplicatedSeries Frame = false
+fits_shape method.DuplicatedFrame Series = false
+fits_shape method.SortValuesSeries Frame = false
+fits_shape method.SortValuesFrame Series = false
 fits_shape method.RenameSeries Frame = false
 fits_shape method.RenameFrame Series = false
+fits_shape method.DropColumns Series = false
 fits_shape method.ToFrame Frame = false
 fits_shape m shape = true
 
--- the parameters are those of the method, which the shape has, and the texts of the arguments were given
-pub record IsCall (w : World) (call : BoundCall) (shape : Shape) : Type 0 where
-  pub parameters : call.bound.parameters.now ≡ parameters_of (method_of call.built)
-  pub shaped : fits_shape (method_of call.built) shape ≡ true
-  pub given : IsSettled (arguments_of w.tables) w.texts call.bound.args.now
+-- the arguments are those of the method, which the shape has, and their texts were given
+pub record IsCall (w : World) (m : Method) (b : Bound) (shape : Shape) : Type 0 where
+  pub parameters : b.parameters.now ≡ parameters_of m
+  pub shaped : fits_shape m shape ≡ true
+  pub given : IsSettled (arguments_of w.tables) w.texts b.args.now
 
 -- what the method answers for its arguments
-abbrev pub answer_in : World → BoundCall → Table → Result Entry FaultValue
-answer_in w call t = answer_for (method_of call.built) (given_in w call.bound) t
+abbrev pub answer_in : World → Method → Bound → Table → Result Entry FaultValue
+answer_in w m b t = answer_for m (given_in w b) t
 
 -- the call's answer is what is meant, or the first fault is
 abbrev pub Binds : World → Result BoundCall OpFault → Table → Result Entry FaultValue → Type 0
-Binds w (Ok call) t meant = (meant ≡ answer_in w call t) × IsCall w call t.shape
+Binds w (Ok call) t meant = (meant ≡ answer_in w (method_of call.built) call.bound t) × IsCall w (method_of call.built) call.bound t.shape
 Binds w (Err (Refused code)) t meant = Refuses w.texts code meant
 Binds w (Err NoMemory) t meant = Unit {0}

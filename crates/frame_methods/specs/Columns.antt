@@ -9,17 +9,17 @@ use Rattle.table_meaning.specs.Table.{ColumnOf, column_value}
 use Rattle.frame_store.specs.declared.fault.OpFault.{OpFault}
 use Rattle.frame_store.specs.declared.fault.OpFault.TheVariants.{Refused, NoMemory}
 use Rattle.frame_store.specs.Shown.{columns_value, Refuses}
-use Rattle.frame_store.specs.Parts.{block_column, IsSingle, HaveRows}
+use Rattle.frame_store.specs.Parts.{table_column, block_column, IsSingle, HaveRows}
 use Rattle.form_meaning.specs.Finish.{try_all}
 use Rattle.column_core.specs.Blocks.{CellBlock}
 
--- a column of a kernel as a column of a table
-abbrev pub table_column : CellColumn → ColumnOf Cell
-table_column c = record { kind = c.kind; cells = c.cells }
+-- a column of a kernel with texts
+abbrev pub seen_column : List Text → CellColumn → ColumnOf CellValue
+seen_column texts c = column_value texts (table_column c)
 
 -- the column that is made is the one that is meant, or its fault is
 abbrev pub MakesColumn : List Text → Result CellColumn OpFault → Result (ColumnOf CellValue) FaultValue → Type 0
-MakesColumn texts (Ok c) meant = meant ≡ Ok (column_value texts (table_column c))
+MakesColumn texts (Ok c) meant = meant ≡ Ok (seen_column texts c)
 MakesColumn texts (Err (Refused code)) meant = Refuses texts code meant
 MakesColumn texts (Err NoMemory) meant = Unit {0}
 

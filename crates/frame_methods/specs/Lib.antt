@@ -8,3 +8,6 @@ pub mod Calls
 pub mod Faults
 pub mod Listed
 pub mod Renames
+pub mod Sorts
+pub mod Rows
+pub mod Named

@@ -37,7 +37,8 @@ pub(crate) fn no_attribute(alloc: Global, name: &str) -> OpFault
 /// scalar has none. Takes no memory.
 pub fn exists(store: &Store, on: Value, name: &str) -> bool
     requires { IsLive (tables store.now) on }
-    ensures { (texts : List OneText) → result ≡ has_method (entry_of (tables store.now) texts on) name.now }
+    ensures { (texts : List OneText)
+        → result ≡ has_method (entry_of (tables store.now) texts on) name.now }
 {
     match on {
         Value::Scalar(_) => false,
@@ -56,9 +57,10 @@ pub(crate) fn bound_call<'a>(
 ) -> Result<BoundCall<'a>, OpFault>
     requires live { IsSome (tables store.now on.0) }
     requires arguments { AreKnownArguments (world store.now dict.now) args.now }
-    ensures { let t = table_value dict.now (table_at (tables store.now) on.0) in
-        let gs = arguments_in (world store.now dict.now) args.now in
-        Binds (world store.now dict.now) result t (called (named_method t.shape name.now) name.now gs t) }
+    ensures { let w = world store.now dict.now in
+        let t = table_value dict.now (table_at (tables store.now) on.0) in
+        Binds w result t
+        (called (named_method t.shape name.now) name.now (arguments_in w args.now) t) }
 {
     let Some(method) = method_named(store.read(on).shape(), name) else {
         return Err(no_attribute(alloc, name));

@@ -8,27 +8,57 @@ use crate::summaries::Summary;
 use form_meaning::Method;
 use nullable_array::{Cumulation, Reduction};
 
+// A method that makes new columns, each of the cells of its own.
+#[derive(Clone, Copy)]
+pub(crate) enum ColumnMethod {
+    // Marks of the cells that are missing, or there.
+    Isna,
+    Notna,
+    // A cell in place of the missing ones.
+    Fillna,
+    // Marks of the cells in a list.
+    Isin,
+    // Cells of another kind.
+    Astype,
+    // The cells some rows further.
+    Shift,
+    // The sums, least or greatest cells up to each row.
+    Cumulated(Cumulation),
+}
+
+// A method that makes a table of some rows, of all in another order, or of marks of them.
+#[derive(Clone, Copy)]
+pub(crate) enum RowMethod {
+    // The rows in which no cell is missing.
+    Dropna,
+    // Marks of the rows that stand earlier already.
+    DuplicatedSeries,
+    DuplicatedFrame,
+    // The rows in the order of their cells, or of their labels.
+    SortValuesSeries,
+    SortValuesFrame,
+    SortIndex,
+}
+
 // What a method that is built makes.
 #[derive(Clone, Copy)]
 pub(crate) enum Built {
     // The table again.
     Copy,
-    // New columns, each of its own cells: marks of those that are missing or there, a cell in place of
-    // the missing ones, marks of those in a list, cells of another kind, cells some rows further, and
-    // the sums, least or greatest cells up to each row.
-    Isna,
-    Notna,
-    Fillna,
-    Isin,
-    Astype,
-    Shift,
-    Cumulated(Cumulation),
+    // New columns.
+    Columns(ColumnMethod),
     // One cell of each column.
     Summary(Summary),
+    // The first or the last rows, and a table of other rows.
+    Head,
+    Tail,
+    Rows(RowMethod),
     // The same rows under other headings: a name, labels, or those of a frame.
     RenameSeries,
     RenameFrame,
     ToFrame,
+    // The columns that aren't named.
+    DropColumns,
     // The text of the whole table.
     ToCsv,
 }
@@ -40,15 +70,20 @@ impl Built {
     {
         match method {
             Method::Copy => Some(Built::Copy),
-            Method::Isna => Some(Built::Isna),
-            Method::Notna => Some(Built::Notna),
-            Method::Fillna => Some(Built::Fillna),
-            Method::Isin => Some(Built::Isin),
-            Method::Astype => Some(Built::Astype),
-            Method::Shift => Some(Built::Shift),
-            Method::Cumsum => Some(Built::Cumulated(Cumulation::Sum)),
-            Method::Cummin => Some(Built::Cumulated(Cumulation::Min)),
-            Method::Cummax => Some(Built::Cumulated(Cumulation::Max)),
+            Method::Head => Some(Built::Head),
+            Method::Tail => Some(Built::Tail),
+            Method::Isna => Some(Built::Columns(ColumnMethod::Isna)),
+            Method::Notna => Some(Built::Columns(ColumnMethod::Notna)),
+            Method::Fillna => Some(Built::Columns(ColumnMethod::Fillna)),
+            Method::Dropna => Some(Built::Rows(RowMethod::Dropna)),
+            Method::Isin => Some(Built::Columns(ColumnMethod::Isin)),
+            Method::Astype => Some(Built::Columns(ColumnMethod::Astype)),
+            Method::DuplicatedSeries => Some(Built::Rows(RowMethod::DuplicatedSeries)),
+            Method::DuplicatedFrame => Some(Built::Rows(RowMethod::DuplicatedFrame)),
+            Method::Shift => Some(Built::Columns(ColumnMethod::Shift)),
+            Method::Cumsum => Some(Built::Columns(ColumnMethod::Cumulated(Cumulation::Sum))),
+            Method::Cummin => Some(Built::Columns(ColumnMethod::Cumulated(Cumulation::Min))),
+            Method::Cummax => Some(Built::Columns(ColumnMethod::Cumulated(Cumulation::Max))),
             Method::Sum => Some(Built::Summary(Summary::Reduced(Reduction::Sum))),
             Method::Min => Some(Built::Summary(Summary::Reduced(Reduction::Min))),
             Method::Max => Some(Built::Summary(Summary::Reduced(Reduction::Max))),
@@ -56,8 +91,12 @@ impl Built {
             Method::All => Some(Built::Summary(Summary::Reduced(Reduction::All))),
             Method::Count => Some(Built::Summary(Summary::Reduced(Reduction::Count))),
             Method::Nunique => Some(Built::Summary(Summary::Distinct)),
+            Method::SortValuesSeries => Some(Built::Rows(RowMethod::SortValuesSeries)),
+            Method::SortValuesFrame => Some(Built::Rows(RowMethod::SortValuesFrame)),
+            Method::SortIndex => Some(Built::Rows(RowMethod::SortIndex)),
             Method::RenameSeries => Some(Built::RenameSeries),
             Method::RenameFrame => Some(Built::RenameFrame),
+            Method::DropColumns => Some(Built::DropColumns),
             Method::ToFrame => Some(Built::ToFrame),
             Method::ToCsv => Some(Built::ToCsv),
             _ => None,

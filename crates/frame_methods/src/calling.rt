@@ -9,27 +9,34 @@ ghost use Rattle.table_meaning.specs.Value.{Entry};
 ghost use Rattle.method_meaning.specs.Methods.{each_column};
 ghost use Rattle.method_meaning.specs.Calls.{chain_result, method_result};
 ghost use Rattle.form_parts.specs.Makes.{MakesBy};
-ghost use Rattle.frame_store.specs.Arguments.{entry_of, IsLive};
+ghost use Rattle.frame_store.specs.Arguments.{entry_of, object_value, shape_at, IsLive};
 ghost use Rattle.frame_store.specs.Objects.{tables, table_at};
+ghost use Rattle.frame_store.specs.Shown.{Makes};
 ghost use Rattle.frame_store.specs.World.{world, entry_in, arguments_in, IsSettledWorld, AreKnownArguments, Forms};
+ghost use Rattle.frame_methods.specs.Built.{method_of, column_method, row_method};
 ghost use Rattle.frame_methods.specs.Calls.{chain_of, answer_in, IsCall};
 ghost use Rattle.frame_methods.specs.Made.{made_value};
 ghost use Rattle.frame_methods.specs.Faults.{IsChained};
 
 use crate::binding::{BoundCall, bound_call, exists, no_attribute};
-use crate::built::Built;
+use crate::built::{Built, ColumnMethod, RowMethod};
 use crate::column_ops::{Cast, Cumulated, Filled, Marked, Shifted};
 use crate::columns::ColumnOp;
 use crate::csv::to_csv;
+use crate::duplicates::duplicated;
 use crate::listed::{Listed, listed_cells};
 use crate::made::Made;
+use crate::named_columns::{drop_columns, named_places, subset_places};
 use crate::renaming::{rename_frame, rename_series, to_frame};
+use crate::rows::{dropna, head, tail};
+use crate::sorts::{sort_index, sort_values};
 use crate::summaries::summarize;
 use crate::tables::columns_table;
-use cell_core::{Code, TextDict};
+use cell_core::{Code, Grid, TextDict};
 use form_parts::{name_of, placed};
-use frame_store::{Chain, Named, NamedList, ObjId, OpFault, Store, Value};
-use selections::copied;
+use frame_store::{Chain, Named, NamedList, ObjId, OpFault, Store, Table, Value};
+use selections::{copied, places_below};
+use signatures::Bound;
 use std::alloc::Global;
 
 // The answer for what a method made: a scalar, or a new object.
@@ -52,7 +59,8 @@ fn answer_made(
 // The name that a chain has before its last one, on a value that may have it.
 fn chained(alloc: Global, store: &Store, on: Value, name: &str) -> OpFault
     requires { IsLive (tables store.now) on }
-    ensures { (texts : List OneText) → IsChained texts result (entry_of (tables store.now) texts on) name.now }
+    ensures { (texts : List OneText)
+        → IsChained texts result (entry_of (tables store.now) texts on) name.now }
 {
     if exists(store, on, name) {
         return OpFault::Refused(Code::NotBuilt);
@@ -79,6 +87,86 @@ fn columns_placed<O: ColumnOp>(
     placed(store, dict, table)
 }
 
+// The answer of a method that makes new columns.
+fn columns_answer(
+    alloc: Global,
+    store: &mut Store,
+    dict: &mut TextDict,
+    method: ColumnMethod,
+    bound: &Bound<'_>,
+    on: ObjId,
+) -> Result<Value, OpFault>
+    requires live { IsSome (tables store.old on.0) }
+    requires settled { IsSettledWorld (world store.old dict.old) }
+    requires call { IsCall (world store.old dict.old) (column_method method) bound.now
+        (shape_at (tables store.old) on) }
+    ensures { Forms result (answer_in (world store.old dict.old) (column_method method) bound.now
+        (object_value (tables store.old) dict.old on))
+        (world store.old dict.old) (world store.new dict.new) }
+{
+    match method {
+        ColumnMethod::Isna => columns_placed(alloc, store, dict, &Marked { missing: true }, on),
+        ColumnMethod::Notna => columns_placed(alloc, store, dict, &Marked { missing: false }, on),
+        ColumnMethod::Fillna => {
+            let value = bound.scalar(0);
+            columns_placed(alloc, store, dict, &Filled { value }, on)
+        }
+        ColumnMethod::Isin => {
+            let values = listed_cells(alloc, dict, bound.list(0))?;
+            columns_placed(alloc, store, dict, &Listed { values }, on)
+        }
+        ColumnMethod::Astype => {
+            let kind = bound.kind(dict, 0);
+            columns_placed(alloc, store, dict, &Cast { kind }, on)
+        }
+        ColumnMethod::Shift => {
+            let periods = bound.whole(0);
+            columns_placed(alloc, store, dict, &Shifted { periods }, on)
+        }
+        ColumnMethod::Cumulated(op) => columns_placed(alloc, store, dict, &Cumulated { op }, on),
+    }
+}
+
+// The table that a method makes of rows.
+fn rows_made(
+    alloc: Global,
+    store: &Store,
+    dict: &TextDict,
+    method: RowMethod,
+    bound: &Bound<'_>,
+    on: ObjId,
+) -> Result<Table, OpFault>
+    requires live { IsSome (tables store.now on.0) }
+    requires settled { IsSettledWorld (world store.now dict.now) }
+    requires call { IsCall (world store.now dict.now) (row_method method) bound.now
+        (shape_at (tables store.now) on) }
+    ensures { Makes dict.now result (answer_in (world store.now dict.now) (row_method method)
+        bound.now (object_value (tables store.now) dict.now on)) }
+{
+    let source = store.read(on);
+    match method {
+        RowMethod::Dropna => dropna(alloc, &source),
+        RowMethod::DuplicatedSeries => {
+            let places = places_below(alloc, source.columns())?;
+            duplicated(alloc, dict, &source, &places)
+        }
+        RowMethod::DuplicatedFrame => {
+            let places = subset_places(alloc, store, dict, bound, on)?;
+            duplicated(alloc, dict, &source, &places)
+        }
+        RowMethod::SortValuesSeries => {
+            let places = places_below(alloc, source.columns())?;
+            sort_values(alloc, dict, &source, &places, bound.truth(0))
+        }
+        RowMethod::SortValuesFrame => {
+            let ascending = bound.truth(1);
+            let places = named_places(alloc, store, dict, bound, on)?;
+            sort_values(alloc, dict, &source, &places, ascending)
+        }
+        RowMethod::SortIndex => sort_index(alloc, dict, &source, bound.truth(0)),
+    }
+}
+
 // The answer of a call.
 fn answer(
     alloc: Global,
@@ -89,36 +177,25 @@ fn answer(
 ) -> Result<Value, OpFault>
     requires live { IsSome (tables store.old on.0) }
     requires settled { IsSettledWorld (world store.old dict.old) }
-    requires call { IsCall (world store.old dict.old) call.now (table_at (tables store.old) on.0).shape }
-    ensures { Forms result (answer_in (world store.old dict.old) call.now
-        (table_value dict.old (table_at (tables store.old) on.0)))
+    requires call { IsCall (world store.old dict.old) (method_of call.now.built) call.now.bound
+        (shape_at (tables store.old) on) }
+    ensures { Forms result (answer_in (world store.old dict.old) (method_of call.now.built)
+        call.now.bound (object_value (tables store.old) dict.old on))
         (world store.old dict.old) (world store.new dict.new) }
 {
-    let bound = call.bound;
+    let bound = &call.bound;
     match call.built {
         Built::Copy => copied(alloc, store, dict, on),
-        Built::Isna => columns_placed(alloc, store, dict, &Marked { missing: true }, on),
-        Built::Notna => columns_placed(alloc, store, dict, &Marked { missing: false }, on),
-        Built::Fillna => {
-            let value = bound.scalar(0);
-            columns_placed(alloc, store, dict, &Filled { value }, on)
-        }
-        Built::Isin => {
-            let values = listed_cells(alloc, dict, bound.list(0))?;
-            columns_placed(alloc, store, dict, &Listed { values }, on)
-        }
-        Built::Astype => {
-            let kind = bound.kind(dict, 0);
-            columns_placed(alloc, store, dict, &Cast { kind }, on)
-        }
-        Built::Shift => {
-            let periods = bound.whole(0);
-            columns_placed(alloc, store, dict, &Shifted { periods }, on)
-        }
-        Built::Cumulated(op) => columns_placed(alloc, store, dict, &Cumulated { op }, on),
+        Built::Columns(method) => columns_answer(alloc, store, dict, method, bound, on),
         Built::Summary(op) => {
             let made = summarize(alloc, dict, op, &store.read(on));
             answer_made(store, dict, made)
+        }
+        Built::Head => head(alloc, store, on, bound.whole(0)),
+        Built::Tail => tail(alloc, store, on, bound.whole(0)),
+        Built::Rows(method) => {
+            let table = rows_made(alloc, store, dict, method, bound, on);
+            placed(store, dict, table)
         }
         Built::RenameSeries => {
             let name = name_of(bound.scalar_or_none(0));
@@ -126,6 +203,10 @@ fn answer(
         }
         Built::RenameFrame => rename_frame(alloc, store, dict, bound.dict(0), on),
         Built::ToFrame => to_frame(alloc, store, dict, on),
+        Built::DropColumns => {
+            let places = named_places(alloc, store, dict, bound, on)?;
+            drop_columns(alloc, store, dict, &places, on)
+        }
         Built::ToCsv => {
             let text = to_csv(alloc, store, dict, bound.truth(0), on);
             answer_made(store, dict, text)

@@ -2,12 +2,11 @@
 ghost use Rattle.std.specs.Prelude.{◌≡◌, List, length, map, IfOk, true, false, if◌then◌else◌};
 ghost use Rattle.meaning.specs.Text.{Text as OneText};
 ghost use Rattle.meaning.specs.Cell.{AreGiven, IsGiven, IsLonger, holds, datum};
-ghost use Rattle.table_meaning.specs.Table.{column_value};
 ghost use Rattle.method_meaning.specs.Methods.{filled_column, shifted_column, cast_as, cumulated};
 ghost use Rattle.cell_core.specs.declared.cell.Kind.TheVariants.{Boolean};
 ghost use Rattle.nullable_array.specs.Folds.{cumulation_of};
 ghost use Rattle.nullable_array.specs.Marks.{missing_mark};
-ghost use Rattle.frame_methods.specs.Columns.{table_column, MakesColumn};
+ghost use Rattle.frame_methods.specs.Columns.{seen_column, MakesColumn};
 ghost use Rattle.frame_methods.specs.Marks.{marked_column};
 ghost use Rattle.frame_methods.specs.Listed.{listed_column};
 ghost use Rattle.frame_store.specs.Shown.{cells_value};
@@ -38,7 +37,8 @@ impl ColumnOp for Marked {
         ensures longer { IsLonger dict.old dict.new }
         ensures given { IfOk result (λ c. AreGiven dict.new c.cells) }
         ensures rows { IfOk result (λ c. length c.cells ≡ length a.entry.cells) }
-        ensures answer { MakesColumn dict.new result (marked_column self.now.missing (column_value dict.old (table_column a.entry))) }
+        ensures answer { MakesColumn dict.new result
+            (marked_column self.now.missing (seen_column dict.old a.entry)) }
     {
         Ok(marks(alloc, a, self.missing)?)
     }
@@ -49,7 +49,8 @@ impl ColumnOp for Marked {
 }
 
 fn marks(alloc: Global, a: ColRef<'_>, missing: bool) -> Result<Column, NoMemory>
-    ensures { IfOk result (λ c. c ≡ record { kind = Boolean; cells = map (missing_mark missing) a.entry.cells }) }
+    ensures { IfOk result (λ c. c
+        ≡ record { kind = Boolean; cells = map (missing_mark missing) a.entry.cells }) }
 {
     if missing {
         isna(alloc, a)
@@ -77,7 +78,8 @@ impl ColumnOp for Filled {
         ensures longer { IsLonger dict.old dict.new }
         ensures given { IfOk result (λ c. AreGiven dict.new c.cells) }
         ensures rows { IfOk result (λ c. length c.cells ≡ length a.entry.cells) }
-        ensures answer { MakesColumn dict.new result (filled_column (datum dict.old self.now.value) (column_value dict.old (table_column a.entry))) }
+        ensures answer { MakesColumn dict.new result
+            (filled_column (datum dict.old self.now.value) (seen_column dict.old a.entry)) }
     {
         let kind = a.kind();
         if !kind.holds(self.value) {
@@ -105,7 +107,9 @@ impl ColumnOp for Listed {
         ensures longer { IsLonger dict.old dict.new }
         ensures given { IfOk result (λ c. AreGiven dict.new c.cells) }
         ensures rows { IfOk result (λ c. length c.cells ≡ length a.entry.cells) }
-        ensures answer { MakesColumn dict.new result (listed_column (cells_value dict.old self.now.values.keys) (column_value dict.old (table_column a.entry))) }
+        ensures answer { MakesColumn dict.new result
+            (listed_column (cells_value dict.old self.now.values.keys)
+            (seen_column dict.old a.entry)) }
     {
         // Equal texts have equal numbers: `TextDict::len` says so.
         let _ = dict.len();
@@ -134,7 +138,8 @@ impl ColumnOp for Shifted {
         ensures longer { IsLonger dict.old dict.new }
         ensures given { IfOk result (λ c. AreGiven dict.new c.cells) }
         ensures rows { IfOk result (λ c. length c.cells ≡ length a.entry.cells) }
-        ensures answer { MakesColumn dict.new result (shifted_column self.now.periods (column_value dict.old (table_column a.entry))) }
+        ensures answer { MakesColumn dict.new result
+            (shifted_column self.now.periods (seen_column dict.old a.entry)) }
     {
         Ok(shift(alloc, a, self.periods)?)
     }
@@ -161,7 +166,8 @@ impl ColumnOp for Cast {
         ensures longer { IsLonger dict.old dict.new }
         ensures given { IfOk result (λ c. AreGiven dict.new c.cells) }
         ensures rows { IfOk result (λ c. length c.cells ≡ length a.entry.cells) }
-        ensures answer { MakesColumn dict.new result (cast_as self.now.kind (column_value dict.old (table_column a.entry))) }
+        ensures answer { MakesColumn dict.new result
+            (cast_as self.now.kind (seen_column dict.old a.entry)) }
     {
         match cast(alloc, dict, a, self.kind) {
             Ok(column) => Ok(column),
@@ -191,7 +197,8 @@ impl ColumnOp for Cumulated {
         ensures longer { IsLonger dict.old dict.new }
         ensures given { IfOk result (λ c. AreGiven dict.new c.cells) }
         ensures rows { IfOk result (λ c. length c.cells ≡ length a.entry.cells) }
-        ensures answer { MakesColumn dict.new result (cumulated (cumulation_of self.now.op) (column_value dict.old (table_column a.entry))) }
+        ensures answer { MakesColumn dict.new result
+            (cumulated (cumulation_of self.now.op) (seen_column dict.old a.entry)) }
     {
         match cumulate(alloc, self.op, a) {
             Ok(column) => Ok(column),

@@ -4,13 +4,13 @@ ghost use Rattle.cell_core.specs.declared.cell.Cell.{Cell as OneCell};
 ghost use Rattle.meaning.specs.Text.{Text as OneText};
 ghost use Rattle.meaning.specs.Cell.{CellValue, AreGiven, IsLonger};
 ghost use Rattle.meaning.specs.Fault.{FaultValue};
-ghost use Rattle.table_meaning.specs.Table.{ColumnOf, column_value, table_value};
+ghost use Rattle.table_meaning.specs.Table.{ColumnOf, table_value};
 ghost use Rattle.table_meaning.specs.Valid.{IsWhole};
 ghost use Rattle.table_meaning.specs.Settled.{IsSettled};
 ghost use Rattle.form_meaning.specs.Finish.{try_all};
 ghost use Rattle.frame_store.specs.Parts.{block_column, IsSingle, HaveRows};
 ghost use Rattle.frame_store.specs.Shown.{columns_value};
-ghost use Rattle.frame_methods.specs.Columns.{table_column, MakesColumn, MakesColumns};
+ghost use Rattle.frame_methods.specs.Columns.{seen_column, MakesColumn, MakesColumns};
 
 use cell_core::{Grid, TextDict};
 use column_core::{ColRef, Column};
@@ -19,7 +19,8 @@ use std::alloc::Global;
 
 // A column that is made of a column with as many cells.
 pub(crate) trait ColumnOp {
-    ghost answer: { Self → List OneText → ColumnOf CellValue → Result (ColumnOf CellValue) FaultValue };
+    ghost answer: { Self → List OneText
+        → ColumnOf CellValue → Result (ColumnOf CellValue) FaultValue };
 
     // The texts that it was given.
     ghost given: { Self → List OneText → Type 0 };
@@ -30,11 +31,14 @@ pub(crate) trait ColumnOp {
         ensures longer { IsLonger dict.old dict.new }
         ensures given { IfOk result (λ c. AreGiven dict.new c.cells) }
         ensures rows { IfOk result (λ c. length c.cells ≡ length a.entry.cells) }
-        ensures answer { MakesColumn dict.new result (answer self.now dict.old (column_value dict.old (table_column a.entry))) };
+        ensures answer { MakesColumn dict.new result
+            (answer self.now dict.old (seen_column dict.old a.entry)) };
 
-    ghost lasts: { (s : Self) (earlier later : List OneText) → IsLonger earlier later → given s earlier → given s later };
+    ghost lasts: { (s : Self) (earlier later : List OneText)
+        → IsLonger earlier later → given s earlier → given s later };
 
-    ghost stays: { (s : Self) (earlier later : List OneText) → IsLonger earlier later → given s earlier → answer s later ≡ answer s earlier };
+    ghost stays: { (s : Self) (earlier later : List OneText)
+        → IsLonger earlier later → given s earlier → answer s later ≡ answer s earlier };
 }
 
 // What is made of each column of a table, each in a block of its own, or the first fault.
@@ -48,11 +52,13 @@ pub(crate) fn each_column<O: ColumnOp>(
     requires whole { IsWhole on.now }
     requires settled { IsSettled table_value dict.old on.now }
     ensures longer { IsLonger dict.old dict.new }
-    ensures given { IfOk result (λ made. All (λ c. AreGiven dict.new c.cells) (map block_column made)) }
+    ensures given { IfOk result (λ made.
+        All (λ c. AreGiven dict.new c.cells) (map block_column made)) }
     ensures single { IfOk result (λ made. All IsSingle made) }
     ensures rows { IfOk result (λ made. HaveRows (length on.now.labels) (map block_column made)) }
     ensures count { IfOk result (λ made. length made ≡ length on.now.columns) }
-    ensures answer { MakesColumns dict.new result (try_all (O.answer op.now dict.old) (columns_value dict.old on.now.columns)) }
+    ensures answer { MakesColumns dict.new result
+        (try_all (O.answer op.now dict.old) (columns_value dict.old on.now.columns)) }
 {
     let mut made = Blocks::new(alloc);
     for place in 0..on.columns() {

@@ -29,7 +29,8 @@ fn csv_cell(
     requires columns { index ≡ false → 0 < length on.now.columns }
     ensures longer { IsLonger dict.old dict.new }
     ensures given { IfOk result (IsGiven dict.new) }
-    ensures text { IfOk result (λ c. datum dict.new c ≡ text_cell (csv_text_of index (table_value dict.old on.now))) }
+    ensures text { IfOk result (λ c.
+        datum dict.new c ≡ text_cell (csv_text_of index (table_value dict.old on.now))) }
 {
     let text = csv_text(alloc, dict, on, index)?;
     Ok(Cell::Text(dict.intern(text.as_str())?))

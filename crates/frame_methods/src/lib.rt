@@ -8,8 +8,11 @@
 //!
 //! A method that makes new cells makes them column by column (`columns`), each by an operation of its
 //! own (`column_ops`); one that gives an object's rows again under other headings does so by
-//! `Store::derive`; one that makes one cell of a column does so by a reduction (`summaries`). The text
-//! of a whole table, which `to_csv` answers, is made by `frame_format` (`csv`).
+//! `Store::derive`; one that makes one cell of a column does so by a reduction (`summaries`). Rows are
+//! picked (`rows`), told apart (`duplicates`) or put in order by their keys (`sorts`, `sort_keys`) as
+//! numbers, of which one table is made; the columns that an argument names are found in
+//! `named_columns`. The text of a whole table, which `to_csv` answers, is made by `frame_format`
+//! (`csv`).
 //!
 //! ```text
 //! let mut args = NamedList::new(alloc);
@@ -26,11 +29,16 @@ mod calling;
 mod column_ops;
 mod columns;
 mod csv;
+mod duplicates;
 mod listed;
 mod made;
+mod named_columns;
 mod relabelling;
 mod renaming;
+mod rows;
 mod series;
+mod sort_keys;
+mod sorts;
 mod summaries;
 mod tables;
 

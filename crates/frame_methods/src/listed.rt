@@ -37,7 +37,8 @@ pub(crate) fn listed_cells(
 ) -> Result<IndexSet<Cell>, NoMemory>
     requires { IsSettled scalars dict.now items.now }
     ensures given { IfOk result (λ values. AreGiven dict.now values.keys) }
-    ensures same { IfOk result (λ values. (texts : List OneText) (test : CellValue → Bool) → list_any test (cells_value texts values.keys) ≡ list_any test (scalars texts items.now)) }
+    ensures same { IfOk result (λ values. (texts : List OneText) (test : CellValue → Bool)
+        → list_any test (cells_value texts values.keys) ≡ list_any test (scalars texts items.now)) }
 {
     let mut values = IndexSet::new(alloc);
     for item in items {

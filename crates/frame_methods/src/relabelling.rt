@@ -26,7 +26,8 @@ fn last_labels(
 ) -> Result<IndexMap<Label, Option<Label>>, NoMemory>
     requires { IsSettled given_labels dict.now pairs.now }
     ensures settled { IfOk result (λ labels. IsSettled pairs_seen dict.now labels.entries) }
-    ensures last { IfOk result (λ labels. pairs_seen dict.now labels.entries ≡ insert_all same_label [] (given_labels dict.now pairs.now)) }
+    ensures last { IfOk result (λ labels. pairs_seen dict.now labels.entries
+        ≡ insert_all same_label [] (given_labels dict.now pairs.now)) }
 {
     // Equal texts have equal numbers: `TextDict::len` says so.
     let _ = dict.len();
@@ -64,7 +65,8 @@ fn new_headings(
     labels: &IndexMap<Label, Option<Label>>,
 ) -> Result<Vec<Option<Label>>, NoMemory>
     requires { length on.now.headings ≡ length on.now.columns }
-    ensures { IfOk result (λ made. made.items ≡ map (heading_by labels.now.entries) on.now.headings) }
+    ensures { IfOk result (λ made. made.items
+        ≡ map (heading_by labels.now.entries) on.now.headings) }
 {
     let mut made = Vec::new(alloc);
     for place in 0..on.columns() {
@@ -88,7 +90,9 @@ pub(crate) fn renamed_headings(
     ensures headings { IfOk result (λ made. AreHeadings Frame made.columns_name made.labels) }
     ensures name { IfOk result (λ made. made.columns_name ≡ on.now.columns_name) }
     ensures settled { IfOk result (λ made. IsSettled headings_value dict.now made.labels) }
-    ensures answer { MakesBy labels_seen dict.now result (relabelled (insert_all same_label [] (given_labels dict.now pairs.now)) (headings_value dict.now on.now.headings)) }
+    ensures answer { MakesBy labels_seen dict.now result
+        (relabelled (insert_all same_label [] (given_labels dict.now pairs.now))
+        (headings_value dict.now on.now.headings)) }
 {
     // Equal texts have equal numbers: `TextDict::len` says so.
     let _ = dict.len();

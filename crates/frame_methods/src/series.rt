@@ -1,8 +1,7 @@
 // Series of their own.
 ghost use Rattle.std.specs.Prelude.{◌≡◌, ◌∷◌, [], map, length, None, IfOk};
 ghost use Rattle.cell_core.specs.declared.grid.Shape.TheVariants.{Series};
-ghost use Rattle.frame_store.specs.Parts.{table_with};
-ghost use Rattle.frame_methods.specs.Columns.{table_column};
+ghost use Rattle.frame_store.specs.Parts.{table_with, table_column};
 ghost use Rattle.frame_methods.specs.Labels.{column_tuple};
 
 use cell_core::{Grid, Label, NoMemory, Shape, TextDict, Tuple, Tuples};
@@ -19,7 +18,8 @@ pub(crate) fn series_table(
     column: Column,
 ) -> Result<Table, NoMemory>
     requires { length column.cells ≡ length axis.tuples }
-    ensures { IfOk result (λ made. made ≡ table_with Series axis record { columns_name = None; labels = name ∷ [] } (table_column column ∷ [])) }
+    ensures { IfOk result (λ made. made ≡ table_with Series axis
+        record { columns_name = None; labels = name ∷ [] } (table_column column ∷ [])) }
 {
     let mut headings = Headings::new(alloc, None);
     headings.push(name)?;
@@ -57,7 +57,10 @@ pub(crate) fn columns_axis(
     on: &ObjRef<'_>,
 ) -> Result<Axis, NoMemory>
     requires { length on.now.headings ≡ length on.now.columns }
-    ensures { IfOk result (λ axis. axis ≡ record { tuples = map column_tuple on.now.headings; names = on.now.columns_name ∷ [] }) }
+    ensures { IfOk result (λ axis. axis ≡ record {
+      tuples = map column_tuple on.now.headings;
+      names = on.now.columns_name ∷ [];
+    }) }
 {
     let tuples = column_tuples(alloc, on)?;
     let mut axis = Axis::from_tuples(alloc, dict, &tuples, 1)?;

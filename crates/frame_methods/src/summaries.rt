@@ -2,7 +2,7 @@
 ghost use Rattle.std.specs.Prelude.{◌≡◌, ◌∷◌, [], List, map, length, true, IfOk};
 ghost use Rattle.meaning.specs.Text.{Text as OneText};
 ghost use Rattle.meaning.specs.Cell.{AreGiven, IsGiven, datum, holds};
-ghost use Rattle.table_meaning.specs.Table.{column_value, table_value};
+ghost use Rattle.table_meaning.specs.Table.{table_value};
 ghost use Rattle.table_meaning.specs.Settled.{IsSettled};
 ghost use Rattle.form_meaning.specs.Finish.{try_all};
 ghost use Rattle.method_meaning.specs.Methods as meant;
@@ -11,7 +11,7 @@ ghost use Rattle.cell_core.specs.declared.grid.Shape.TheVariants.{Frame};
 ghost use Rattle.frame_store.specs.Shown.{columns_value, Makes};
 ghost use Rattle.frame_store.specs.World.{IsKnownTable};
 ghost use Rattle.frame_methods.specs.Made.{made_value};
-ghost use Rattle.frame_methods.specs.Columns.{table_column};
+ghost use Rattle.frame_methods.specs.Columns.{seen_column};
 ghost use Rattle.frame_methods.specs.Summaries.{summary_value, counted_cell, column_cells};
 
 use crate::made::Made;
@@ -61,8 +61,10 @@ pub(crate) fn summary_cell(
 ) -> Result<Cell, OpFault>
     requires { AreGiven dict.now a.cells }
     ensures given { IfOk result (IsGiven dict.now) }
-    ensures held { IfOk result (λ c. (texts : List OneText) → holds (meant.summary_kind (summary_value op) a.entry.kind) (datum texts c) ≡ true) }
-    ensures answer { MakesBy datum dict.now result (meant.summary_cell (summary_value op) (column_value dict.now (table_column a.entry))) }
+    ensures held { IfOk result (λ c. (texts : List OneText)
+        → holds (meant.summary_kind (summary_value op) a.entry.kind) (datum texts c) ≡ true) }
+    ensures answer { MakesBy datum dict.now result
+        (meant.summary_cell (summary_value op) (seen_column dict.now a.entry)) }
 {
     match op {
         Summary::Reduced(op) => match reduce(dict, op, a) {
@@ -87,7 +89,8 @@ fn summary_as(
     requires { AreGiven dict.now a.cells }
     ensures given { IfOk result (IsGiven dict.now) }
     ensures held { IfOk result (λ c. (texts : List OneText) → holds kind (datum texts c) ≡ true) }
-    ensures answer { MakesBy datum dict.now result (meant.summary_as (summary_value op) kind (column_value dict.now (table_column a.entry))) }
+    ensures answer { MakesBy datum dict.now result
+        (meant.summary_as (summary_value op) kind (seen_column dict.now a.entry)) }
 {
     if summary_kind(op, a.kind()) != kind {
         return Err(OpFault::Refused(Code::WrongKind));
@@ -107,7 +110,9 @@ pub(crate) fn summary_column(
     ensures kind { IfOk result (λ c. c.kind ≡ kind) }
     ensures given { IfOk result (λ c. AreGiven dict.now c.cells) }
     ensures rows { IfOk result (λ c. length c.cells ≡ length on.now.columns) }
-    ensures answer { MakesBy column_cells dict.now result (try_all (meant.summary_as (summary_value op) kind) (columns_value dict.now on.now.columns)) }
+    ensures answer { MakesBy column_cells dict.now result
+        (try_all (meant.summary_as (summary_value op) kind)
+        (columns_value dict.now on.now.columns)) }
 {
     let mut made = Column::new(alloc, kind);
     for place in 0..on.columns() {
@@ -118,7 +123,8 @@ pub(crate) fn summary_column(
 
 // The kind of the summaries of a frame's columns: that of the first one's.
 fn kind_for(op: Summary, on: &ObjRef<'_>) -> Kind
-    ensures { (texts : List OneText) → result ≡ meant.kind_for (summary_value op) (columns_value texts on.now.columns) }
+    ensures { (texts : List OneText)
+        → result ≡ meant.kind_for (summary_value op) (columns_value texts on.now.columns) }
 {
     if on.columns() == 0 {
         return summary_kind(op, Kind::Int64);
@@ -155,7 +161,8 @@ pub(crate) fn summarize(
 ) -> Result<Made, OpFault>
     requires { IsKnownTable dict.now on.now }
     ensures settled { IfOk result (IsSettled made_value dict.now) }
-    ensures answer { MakesBy made_value dict.now result (meant.summary (summary_value op) (table_value dict.now on.now)) }
+    ensures answer { MakesBy made_value dict.now result
+        (meant.summary (summary_value op) (table_value dict.now on.now)) }
 {
     match on.shape() {
         Shape::Series => Ok(Made::Scalar(summary_cell(alloc, dict, op, on.column(0))?)),

@@ -4,14 +4,14 @@ use Rattle.cell_core.specs.declared.grid.Shape.TheVariants.{Series, Frame}
 use Rattle.meaning.specs.Text.{Text}
 use Rattle.table_meaning.specs.Settled.{IsSettled}
 use Rattle.table_meaning.specs.Table.{NumberedTable, heading_value}
-use Rattle.frame_store.specs.Parts.{HeadingList, table_with, axis_of}
+use Rattle.frame_store.specs.Parts.{HeadingList, headings_of, headings_with, table_with, axis_of}
 use Rattle.frame_ops.specs.declared.naming.Naming.{Naming}
 use Rattle.frame_ops.specs.declared.naming.Naming.TheVariants.{Kept, Name, ColumnsName}
 
 abbrev pub headings_by : NumberedTable → Naming → HeadingList
-headings_by on Kept = record { columns_name = on.columns_name; labels = on.headings }
+headings_by on Kept = headings_of on
 headings_by on (Name name) = record { columns_name = on.columns_name; labels = name ∷ [] }
-headings_by on (ColumnsName name) = record { columns_name = name; labels = on.headings }
+headings_by on (ColumnsName name) = headings_with on name
 
 -- the table under these headings
 abbrev pub named_by : NumberedTable → Naming → NumberedTable

@@ -13,6 +13,8 @@ use Rattle.meaning.specs.Symbol.{Binary}
 use Rattle.table_meaning.specs.Table.{ColumnOf, NumberedTable, column_at, column_value}
 use Rattle.form_meaning.specs.Finish.{value_of_column, within_limits, try_all}
 use Rattle.form_meaning.specs.Infix.{Meeting, met, meets}
+use Rattle.column_core.specs.Blocks.{CellBlock}
+use Rattle.form_parts.specs.Makes.{AreColumns}
 use Rattle.frame_ops.specs.declared.other.Other.{Other}
 use Rattle.frame_ops.specs.declared.other.Other.TheVariants.{Scalar, Beside, Across}
 
@@ -46,6 +48,13 @@ pair_at (Across s left) place a = turned_pair left a (repeated (column_at s.colu
 abbrev pub pairs_from : Other → ℕ → List (ColumnOf Cell) → List Pair
 pairs_from other place [] = []
 pairs_from other place (a ∷ as') = pair_at other place a ∷ pairs_from other (suc place) as'
+
+-- a column of the table with what it meets, and all columns
+abbrev pub met_at : NumberedTable → Other → ℕ → Pair
+met_at on other place = pair_at other place (column_at on.columns place)
+
+abbrev pub all_met : NumberedTable → Other → List Pair
+all_met on other = pairs_from other 0 on.columns
 
 -- the operator takes the kinds
 abbrev pub kinds_meet : Binary → Pair → Bool
@@ -86,3 +95,11 @@ columns_meant op rows fit meetings =
     if list_all (meets op) meetings
     then (if fit then (if within_limits rows (length meetings) then try_all (met op) meetings else Err limit) else Err (bad_value levels))
     else Err wrong_kind
+
+-- the columns that an operator makes of a table and what its columns meet
+abbrev pub columns_for : Binary → List Text → NumberedTable → Other → Result (List (ColumnOf CellValue)) FaultValue
+columns_for op texts on other = columns_meant op (length on.labels) (levels_fit on other) (meetings_value texts (all_met on other))
+
+-- as many columns as the table has, and as long, whose texts were given
+abbrev pub AreColumnsFor : List Text → NumberedTable → List CellBlock → Type 0
+AreColumnsFor texts on blocks = AreColumns texts (length on.labels) (length on.columns) blocks

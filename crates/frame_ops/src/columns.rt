@@ -1,15 +1,14 @@
 // The columns that an operator makes.
-ghost use Rattle.std.specs.Prelude.{◌≡◌, ◌<◌, List, All, length, true, IfOk};
+ghost use Rattle.std.specs.Prelude.{◌≡◌, ◌<◌, All, length, true, IfOk};
 ghost use Rattle.std.specs.List.{list_all};
 ghost use Rattle.meaning.specs.Cell.{AreGiven, IsLonger};
 ghost use Rattle.nullable_array.specs.Answers.{Answers};
 ghost use Rattle.nullable_array.specs.Tasks.{operator_of};
-ghost use Rattle.table_meaning.specs.Table.{column_at};
 ghost use Rattle.form_meaning.specs.Finish.{try_all};
 ghost use Rattle.form_meaning.specs.Infix.{met};
-ghost use Rattle.frame_store.specs.Parts.{IsSingle, HaveRows, block_column};
-ghost use Rattle.form_parts.specs.Makes.{MakesBy, block_value, blocks_value, AreColumns};
-ghost use Rattle.frame_ops.specs.Pairs.{pair_at, pairs_from, kinds_meet, meeting_value, meetings_value, column_meant, levels_fit, IsOpposite, IsGivenOther, columns_meant};
+ghost use Rattle.frame_store.specs.Parts.{IsSingle, block_column};
+ghost use Rattle.form_parts.specs.Makes.{MakesBy, block_value, blocks_value};
+ghost use Rattle.frame_ops.specs.Pairs.{met_at, all_met, kinds_meet, meeting_value, meetings_value, column_meant, columns_for, AreColumnsFor, IsOpposite, IsGivenOther};
 
 use crate::kinds::{all_meet, levels_fit};
 use crate::other::Other;
@@ -33,11 +32,12 @@ fn column_met(
     requires opposite { IsOpposite on.now other.now }
     requires given { All (λ c. AreGiven dict.old c.cells) on.now.columns }
     requires other { IsGivenOther dict.old other.now }
-    requires kinds { kinds_meet (operator_of op) (pair_at other.now place (column_at on.now.columns place)) ≡ true }
+    requires kinds { kinds_meet (operator_of op) (met_at on.now other.now place) ≡ true }
     ensures longer { IsLonger dict.old dict.new }
     ensures given { IfOk result (λ made. AreGiven dict.new made.cells) }
     ensures rows { IfOk result (λ made. length made.cells ≡ length on.now.labels) }
-    ensures answer { Answers dict.new result (column_meant (operator_of op) (meeting_value dict.old (pair_at other.now place (column_at on.now.columns place)))) }
+    ensures answer { Answers dict.new result (column_meant (operator_of op)
+        (meeting_value dict.old (met_at on.now other.now place))) }
 {
     let column = on.column(place);
     match other {
@@ -63,12 +63,13 @@ fn block_met(
     requires opposite { IsOpposite on.now other.now }
     requires given { All (λ c. AreGiven dict.old c.cells) on.now.columns }
     requires other { IsGivenOther dict.old other.now }
-    requires kinds { kinds_meet (operator_of op) (pair_at other.now place (column_at on.now.columns place)) ≡ true }
+    requires kinds { kinds_meet (operator_of op) (met_at on.now other.now place) ≡ true }
     ensures longer { IsLonger dict.old dict.new }
-    ensures single { IfOk result (λ made. IsSingle made) }
+    ensures single { IfOk result IsSingle }
     ensures rows { IfOk result (λ made. length (block_column made).cells ≡ length on.now.labels) }
     ensures given { IfOk result (λ made. AreGiven dict.new (block_column made).cells) }
-    ensures made { MakesBy block_value dict.new result (met (operator_of op) (meeting_value dict.old (pair_at other.now place (column_at on.now.columns place)))) }
+    ensures made { MakesBy block_value dict.new result
+        (met (operator_of op) (meeting_value dict.old (met_at on.now other.now place))) }
 {
     block_of(column_met(alloc, dict, op, on, other, place))
 }
@@ -84,10 +85,11 @@ fn columns_met(
     requires opposite { IsOpposite on.now other.now }
     requires given { All (λ c. AreGiven dict.old c.cells) on.now.columns }
     requires other { IsGivenOther dict.old other.now }
-    requires kinds { list_all (kinds_meet (operator_of op)) (pairs_from other.now 0 on.now.columns) ≡ true }
+    requires kinds { list_all (kinds_meet (operator_of op)) (all_met on.now other.now) ≡ true }
     ensures longer { IsLonger dict.old dict.new }
-    ensures columns { IfOk result (λ made. AreColumns dict.new (length on.now.labels) (length on.now.columns) made) }
-    ensures made { MakesBy blocks_value dict.new result (try_all (met (operator_of op)) (meetings_value dict.old (pairs_from other.now 0 on.now.columns))) }
+    ensures columns { IfOk result (AreColumnsFor dict.new on.now) }
+    ensures made { MakesBy blocks_value dict.new result (try_all (met (operator_of op))
+        (meetings_value dict.old (all_met on.now other.now))) }
 {
     let mut made = Blocks::new(alloc);
     for place in 0..on.columns() {
@@ -113,8 +115,9 @@ pub(crate) fn infix_columns(
     requires given { All (λ c. AreGiven dict.old c.cells) on.now.columns }
     requires other { IsGivenOther dict.old other.now }
     ensures longer { IsLonger dict.old dict.new }
-    ensures columns { IfOk result (λ made. AreColumns dict.new (length on.now.labels) (length on.now.columns) made) }
-    ensures made { MakesBy blocks_value dict.new result (columns_meant (operator_of op) (length on.now.labels) (levels_fit on.now other.now) (meetings_value dict.old (pairs_from other.now 0 on.now.columns))) }
+    ensures columns { IfOk result (AreColumnsFor dict.new on.now) }
+    ensures made { MakesBy blocks_value dict.new result
+        (columns_for (operator_of op) dict.old on.now other.now) }
 {
     if !all_meet(op, on, other) {
         return Err(OpFault::Refused(Code::WrongKind));

@@ -1,11 +1,10 @@
 // Whether an operator takes the kinds of its operands.
-ghost use Rattle.std.specs.Prelude.{◌≡◌, ◌≤◌, ◌<◌, ℕ, List, length, is_some};
+ghost use Rattle.std.specs.Prelude.{◌≡◌, ◌<◌, length, is_some};
 ghost use Rattle.std.specs.List.{list_all};
 ghost use Rattle.meaning.specs.Text.{Text};
 ghost use Rattle.meaning.specs.Operator.{operator_kind};
 ghost use Rattle.nullable_array.specs.Tasks.{operator_of};
-ghost use Rattle.table_meaning.specs.Table.{column_at};
-ghost use Rattle.frame_ops.specs.Pairs.{kind_beside, pair_at, pairs_from, kinds_meet, levels_fit, IsOpposite};
+ghost use Rattle.frame_ops.specs.Pairs.{kind_beside, met_at, all_met, kinds_meet, levels_fit, IsOpposite};
 
 use crate::other::Other;
 use cell_core::{Cell, Grid, Kind};
@@ -48,7 +47,7 @@ fn kind_beside(kind: Kind, cell: Cell) -> Kind
 fn kinds_meet(op: Binary, on: &ObjRef<'_>, other: &Other<'_>, place: usize) -> bool
     requires place { place < length on.now.columns }
     requires opposite { IsOpposite on.now other.now }
-    ensures { result ≡ kinds_meet (operator_of op) (pair_at other.now place (column_at on.now.columns place)) }
+    ensures { result ≡ kinds_meet (operator_of op) (met_at on.now other.now place) }
 {
     let kind = on.kind(place);
     match other {
@@ -61,7 +60,7 @@ fn kinds_meet(op: Binary, on: &ObjRef<'_>, other: &Other<'_>, place: usize) -> b
 /// Whether the operator takes each column with what it meets.
 pub(crate) fn all_meet(op: Binary, on: &ObjRef<'_>, other: &Other<'_>) -> bool
     requires { IsOpposite on.now other.now }
-    ensures { result ≡ list_all (kinds_meet (operator_of op)) (pairs_from other.now 0 on.now.columns) }
+    ensures { result ≡ list_all (kinds_meet (operator_of op)) (all_met on.now other.now) }
 {
     for place in 0..on.columns() {
         if !kinds_meet(op, on, other, place) {

@@ -1,7 +1,7 @@
 // The tables that an operator makes.
-ghost use Rattle.std.specs.Prelude.{◌≡◌, List, All, length, Ok};
+ghost use Rattle.std.specs.Prelude.{◌≡◌, Ok};
 ghost use Rattle.cell_core.specs.declared.grid.Shape.TheVariants.{Series as one_column, Frame as columns};
-ghost use Rattle.meaning.specs.Cell.{AreGiven, IsGiven, IsLonger, datum};
+ghost use Rattle.meaning.specs.Cell.{IsGiven, IsLonger, datum};
 ghost use Rattle.meaning.specs.Fault.{then_value};
 ghost use Rattle.nullable_array.specs.Tasks.{operator_of};
 ghost use Rattle.table_meaning.specs.Table.{table_value};
@@ -10,7 +10,7 @@ ghost use Rattle.form_meaning.specs.Finish.{with_columns};
 ghost use Rattle.form_meaning.specs.Infix as meant;
 ghost use Rattle.frame_store.specs.Shown.{Makes};
 ghost use Rattle.frame_store.specs.World.{IsKnownTable};
-ghost use Rattle.frame_ops.specs.Pairs.{pairs_from, meetings_value, levels_fit, IsOpposite, IsGivenOther, columns_meant};
+ghost use Rattle.frame_ops.specs.Pairs.{columns_for, IsOpposite, IsGivenOther};
 ghost use Rattle.frame_ops.specs.Namings.{named_by, IsNaming, IsSettledNaming};
 
 use crate::columns::infix_columns;
@@ -39,8 +39,7 @@ fn table_met(
     requires name { IsSettledNaming dict.old naming }
     ensures longer { IsLonger dict.old dict.new }
     ensures makes { Makes dict.new result (then_value
-        (columns_meant (operator_of op) (length on.now.labels) (levels_fit on.now other.now)
-        (meetings_value dict.old (pairs_from other.now 0 on.now.columns)))
+        (columns_for (operator_of op) dict.old on.now other.now)
         (λ columns. Ok (value.table
         (with_columns (table_value dict.old (named_by on.now naming)) columns)))) }
 {

@@ -1,7 +1,9 @@
+pub mod Lists
 pub mod Parts
 pub mod Views
 pub mod Grids
 pub mod Objects
 pub mod Arguments
+pub mod Readers
 pub mod Shown
 pub mod World

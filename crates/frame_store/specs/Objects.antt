@@ -1,9 +1,10 @@
 -- Objects and their tables.
-use Rattle.std.specs.Prelude.{ℕ, ◌-◌, ◌*◌, ◌^◌, length, sum_by, min, nat_eq, Option, Some, None, if◌then◌else◌}
+use Rattle.std.specs.Prelude.{◌≡◌, ℕ, ◌-◌, ◌*◌, ◌^◌, length, sum_by, min, nat_eq, Option, Some, None, IsSome, if◌then◌else◌}
 use Rattle.slab.specs.Slab.{get, entries}
 use Rattle.cell_core.specs.declared.cell.Label.{Label}
 use Rattle.table_meaning.specs.Table.{NumberedTable, no_table, column_at}
 use Rattle.table_meaning.specs.Change.{with_column}
+use Rattle.frame_store.specs.declared.object.ObjId.{ObjId}
 use Rattle.frame_store.specs.declared.store.Store.{Store}
 
 -- the table of each live object
@@ -25,11 +26,37 @@ table_or (Some t) = t
 abbrev pub table_at : Tables → ℕ → NumberedTable
 table_at tables id = table_or (tables id)
 
+abbrev pub table_on : Store → ObjId → NumberedTable
+table_on s id = table_at (tables s) id.0
+
+-- the object is live, or no live object has the number
+abbrev pub IsLiveIn : Store → ObjId → Type 0
+IsLiveIn s id = IsSome (tables s id.0)
+
+abbrev pub IsFree : Store → ObjId → Type 0
+IsFree s id = tables s id.0 ≡ None
+
+-- each object has the table that it had
+abbrev pub Stays : Store → Store → Type 0
+Stays old new = tables new ≡ tables old
+
+-- the object has this table, and each other one has what it had
+abbrev pub Becomes : Store → Store → ObjId → NumberedTable → Type 0
+Becomes old new id t = tables new ≡ with_object (tables old) id.0 (Some t)
+
+-- the table of the object is changed so, and no other one
+abbrev pub Alters : Store → Store → ObjId → (NumberedTable → NumberedTable) → Type 0
+Alters old new id change = Becomes old new id (change (table_on old id))
+
 -- the tables after the column of a Series, which ends, was put into the table of another object
 abbrev pub with_moved : Tables → ℕ → ℕ → Option Label → ℕ → Tables
 with_moved tables on column heading series =
     with_object (with_object tables series None) on
     (Some (with_column (table_at tables on) column heading (column_at (table_at tables series).columns 0)))
+
+-- the tables after an object got the table of another one, which ends
+abbrev pub with_replaced : Tables → ℕ → ℕ → Tables
+with_replaced tables on by = with_object (with_object tables on (tables by)) by None
 
 -- how many cells an object has
 abbrev pub cells_in : ℕ × NumberedTable → ℕ

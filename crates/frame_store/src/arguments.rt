@@ -1,5 +1,6 @@
 // Values, and the arguments and subscripts of forms.
-ghost use Rattle.std.specs.Prelude.{◌≡◌, ◌<◌, [], ◌∷◌, ◌++◌, length, slice_get, Some, OnOk, OnErr, MatchOption};
+ghost use Rattle.std.specs.Prelude.{◌≡◌, ◌<◌, [], ◌∷◌, ◌++◌, length, slice_get, Some, OnOk, OnErr};
+ghost use Rattle.frame_store.specs.Lists.{TakesLast};
 
 use crate::object::ObjId;
 use cell_core::{Cell, Label, NoMemory, Words};
@@ -150,7 +151,7 @@ impl Items {
 
     /// Takes the last part out; `None` exactly where the list is empty. Takes no memory.
     pub fn pop(&mut self) -> Option<Item>
-        ensures { MatchOption result ((self.old.items.items ≡ []) × (self.new.items.items ≡ [])) (λ last. self.old.items.items ≡ self.new.items.items ++ last ∷ []) }
+        ensures { TakesLast self.old.items.items self.new.items.items result }
     {
         self.items.pop()
     }
@@ -199,7 +200,7 @@ impl Entries {
 
     /// Takes the last pair out; `None` exactly where there is none. Takes no memory.
     pub fn pop(&mut self) -> Option<(Label, Argument)>
-        ensures { MatchOption result ((self.old.pairs.items ≡ []) × (self.new.pairs.items ≡ [])) (λ last. self.old.pairs.items ≡ self.new.pairs.items ++ last ∷ []) }
+        ensures { TakesLast self.old.pairs.items self.new.pairs.items result }
     {
         self.pairs.pop()
     }
@@ -248,7 +249,7 @@ impl NamedList {
 
     /// Takes the last argument out; `None` exactly where there is none. Takes no memory.
     pub fn pop(&mut self) -> Option<Named>
-        ensures { MatchOption result ((self.old.items.items ≡ []) × (self.new.items.items ≡ [])) (λ last. self.old.items.items ≡ self.new.items.items ++ last ∷ []) }
+        ensures { TakesLast self.old.items.items self.new.items.items result }
     {
         self.items.pop()
     }

@@ -1,5 +1,6 @@
 // Lists of blocks.
-ghost use Rattle.std.specs.Prelude.{◌≡◌, ◌<◌, [], ◌∷◌, ◌++◌, length, slice_get, Some, OnOk, OnErr, MatchOption};
+ghost use Rattle.std.specs.Prelude.{◌≡◌, ◌<◌, [], ◌∷◌, ◌++◌, length, slice_get, Some, OnOk, OnErr};
+ghost use Rattle.frame_store.specs.Lists.{TakesLast};
 
 use cell_core::NoMemory;
 use column_core::Block;
@@ -57,7 +58,7 @@ impl Blocks {
 
     /// Takes the last block out; `None` exactly where the list is empty. Takes no memory.
     pub fn pop(&mut self) -> Option<Block>
-        ensures { MatchOption result ((self.old ≡ []) × (self.new ≡ [])) (λ last. self.old ≡ self.new ++ last ∷ []) }
+        ensures { TakesLast self.old self.new result }
     {
         self.items.pop()
     }

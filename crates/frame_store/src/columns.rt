@@ -1,9 +1,9 @@
 // Columns of a table, one to a block.
-ghost use Rattle.std.specs.Prelude.{◌≡◌, ◌<◌, ◌≤◌, map, length, vec_len, vec_capacity, All, Some, IfOk};
+ghost use Rattle.std.specs.Prelude.{◌≡◌, ◌<◌, ◌≤◌, length, vec_len, vec_capacity, All, IfOk};
 ghost use Rattle.cell_core.specs.declared.cell.Cell.TheVariants.{Na};
 ghost use Rattle.cell_core.specs.Grids.{AreRowsBelow};
 ghost use Rattle.table_meaning.specs.Change.{put_at, strided_column, cut_columns};
-ghost use Rattle.frame_store.specs.Parts.{block_column, single_block, IsSingle, HaveRows};
+ghost use Rattle.frame_store.specs.Parts.{block_column, columns_of, single_block, AreBelow, IsSingle, HaveRows};
 
 use cell_core::{NoMemory, Places, Rows};
 use column_core::Block;
@@ -13,7 +13,8 @@ use std::alloc::Global;
 fn strided_copy(alloc: Global, block: &Block, rows: Rows) -> Result<Block, NoMemory>
     requires single { IsSingle block.now }
     requires rows { AreRowsBelow rows (length (block_column block.now).cells) }
-    ensures { IfOk result (λ copied. copied ≡ single_block (strided_column Na rows (block_column block.now))) }
+    ensures { IfOk result (λ copied. copied
+        ≡ single_block (strided_column Na rows (block_column block.now))) }
 {
     let copied = block.strided(0, rows).to_column(alloc)?;
     Ok(copied.into_block())
@@ -28,10 +29,11 @@ pub(crate) fn cut(
     count: usize,
 ) -> Result<Vec<Block>, NoMemory>
     requires single { All IsSingle blocks.now }
-    requires filled { HaveRows count (map block_column blocks.now) }
+    requires filled { HaveRows count (columns_of blocks.now) }
     requires rows { AreRowsBelow rows count }
-    requires places { All (λ place. place < length blocks.now) places.now }
-    ensures columns { IfOk result (λ made. map block_column made.items ≡ cut_columns Na (map block_column blocks.now) rows places.now) }
+    requires places { AreBelow (length blocks.now) places.now }
+    ensures columns { IfOk result (λ made. columns_of made.items
+        ≡ cut_columns Na (columns_of blocks.now) rows places.now) }
     ensures single { IfOk result (λ made. All IsSingle made.items) }
 {
     let mut made = Vec::new(alloc);

@@ -1,4 +1,7 @@
 // Why forms are refused.
+ghost use Rattle.std.specs.Prelude.{◌≡◌};
+ghost use Rattle.frame_store.specs.declared.fault.OpFault.TheVariants.{NoMemory as OutOfMemory};
+
 use cell_core::{Code, NoMemory};
 use std::alloc::{AllocError, AllocFailed};
 
@@ -12,9 +15,6 @@ pub enum OpFault {
 }
 
 impl From<NoMemory> for OpFault {
-    ghost use Rattle.std.specs.Prelude.{◌≡◌};
-    ghost use Rattle.frame_store.specs.declared.fault.OpFault.TheVariants.{NoMemory as OutOfMemory};
-
     ghost from_gives = { λ _ fault. fault ≡ OutOfMemory };
 
     fn from(_: NoMemory) -> Self {
@@ -23,9 +23,6 @@ impl From<NoMemory> for OpFault {
 }
 
 impl From<AllocError> for OpFault {
-    ghost use Rattle.std.specs.Prelude.{◌≡◌};
-    ghost use Rattle.frame_store.specs.declared.fault.OpFault.TheVariants.{NoMemory as OutOfMemory};
-
     ghost from_gives = { λ _ fault. fault ≡ OutOfMemory };
 
     fn from(_: AllocError) -> Self {
@@ -34,9 +31,6 @@ impl From<AllocError> for OpFault {
 }
 
 impl<T: Drop> From<AllocFailed<T>> for OpFault {
-    ghost use Rattle.std.specs.Prelude.{◌≡◌};
-    ghost use Rattle.frame_store.specs.declared.fault.OpFault.TheVariants.{NoMemory as OutOfMemory};
-
     ghost from_gives = { λ _ fault. fault ≡ OutOfMemory };
 
     fn from(_: AllocFailed<T>) -> Self {

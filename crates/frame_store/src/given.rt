@@ -1,11 +1,8 @@
 // What an argument and a part of one are.
-ghost use Rattle.std.specs.Prelude.{◌≡◌, List, IfSome};
-ghost use Rattle.std.specs.Option.{option_map};
-ghost use Rattle.meaning.specs.Text.{Text};
-ghost use Rattle.meaning.specs.Cell.{datum};
+ghost use Rattle.std.specs.Prelude.{◌≡◌, IfSome};
 ghost use Rattle.table_meaning.specs.Value.{scalar_in, object_in, tuple_in, list_in, dict_in};
-ghost use Rattle.frame_store.specs.Objects.{Tables};
-ghost use Rattle.frame_store.specs.Arguments.{object_value, IsLiveObject, item_of, items_of, argument_of, entries_of, IsLiveItem, AreLiveItems, IsLiveArgument, AreLivePairs};
+ghost use Rattle.frame_store.specs.Arguments.{object_value, IsLiveObject, item_of, argument_of, IsLiveItem, IsLiveArgument};
+ghost use Rattle.frame_store.specs.Readers.{AgreesSeen, IsLiveWith, cell_seen, lent_items, lent_pairs, AreLiveLentItems, AreLiveLentPairs};
 
 use crate::arguments::{Argument, Item, Value};
 use crate::object::ObjId;
@@ -14,7 +11,7 @@ use cell_core::{Cell, Label};
 impl Item {
     /// The scalar that the part is; `None` where it is something else. Takes no memory.
     pub fn scalar(&self) -> Option<Cell>
-        ensures { (tables : Tables) (texts : List Text) → option_map (datum texts) result ≡ scalar_in (item_of tables texts self.now) }
+        ensures { AgreesSeen scalar_in item_of self.now cell_seen result }
     {
         match self {
             Item::One(Value::Scalar(cell)) => Some(*cell),
@@ -25,8 +22,8 @@ impl Item {
 
     /// The object that the part is; `None` where it is something else. Takes no memory.
     pub fn object(&self) -> Option<ObjId>
-        ensures table { (tables : Tables) (texts : List Text) → option_map (object_value tables texts) result ≡ object_in (item_of tables texts self.now) }
-        ensures live { (tables : Tables) → IsLiveItem tables self.now → IfSome result (IsLiveObject tables) }
+        ensures table { AgreesSeen object_in item_of self.now object_value result }
+        ensures live { IsLiveWith IsLiveItem self.now IsLiveObject result }
     {
         match self {
             Item::One(Value::Object(id)) => Some(*id),
@@ -37,8 +34,8 @@ impl Item {
 
     /// The parts of the tuple that the part is; `None` where it is something else. Takes no memory.
     pub fn tuple(&self) -> Option<&[Item]>
-        ensures parts { (tables : Tables) (texts : List Text) → option_map (λ parts. items_of tables texts parts.now) result ≡ tuple_in (item_of tables texts self.now) }
-        ensures live { (tables : Tables) → IsLiveItem tables self.now → IfSome result (λ parts. AreLiveItems tables parts.now) }
+        ensures parts { AgreesSeen tuple_in item_of self.now lent_items result }
+        ensures live { IsLiveWith IsLiveItem self.now AreLiveLentItems result }
     {
         match self {
             Item::Row(items) => Some(items.as_slice()),
@@ -50,7 +47,7 @@ impl Item {
 impl Argument {
     /// The scalar that the argument is; `None` where it is something else. Takes no memory.
     pub fn scalar(&self) -> Option<Cell>
-        ensures { (tables : Tables) (texts : List Text) → option_map (datum texts) result ≡ scalar_in (argument_of tables texts self.now) }
+        ensures { AgreesSeen scalar_in argument_of self.now cell_seen result }
     {
         match self {
             Argument::One(Value::Scalar(cell)) => Some(*cell),
@@ -64,8 +61,8 @@ impl Argument {
 
     /// The object that the argument is; `None` where it is something else. Takes no memory.
     pub fn object(&self) -> Option<ObjId>
-        ensures table { (tables : Tables) (texts : List Text) → option_map (object_value tables texts) result ≡ object_in (argument_of tables texts self.now) }
-        ensures live { (tables : Tables) → IsLiveArgument tables self.now → IfSome result (IsLiveObject tables) }
+        ensures table { AgreesSeen object_in argument_of self.now object_value result }
+        ensures live { IsLiveWith IsLiveArgument self.now IsLiveObject result }
         ensures same { IfSome result (λ id. self.now ≡ Argument.One (Value.Object id)) }
     {
         match self {
@@ -80,8 +77,8 @@ impl Argument {
 
     /// The parts of the tuple that the argument is; `None` where it is something else. Takes no memory.
     pub fn tuple(&self) -> Option<&[Item]>
-        ensures parts { (tables : Tables) (texts : List Text) → option_map (λ parts. items_of tables texts parts.now) result ≡ tuple_in (argument_of tables texts self.now) }
-        ensures live { (tables : Tables) → IsLiveArgument tables self.now → IfSome result (λ parts. AreLiveItems tables parts.now) }
+        ensures parts { AgreesSeen tuple_in argument_of self.now lent_items result }
+        ensures live { IsLiveWith IsLiveArgument self.now AreLiveLentItems result }
     {
         match self {
             Argument::Row(items) => Some(items.as_slice()),
@@ -94,8 +91,8 @@ impl Argument {
 
     /// The parts of the list that the argument is; `None` where it is something else. Takes no memory.
     pub fn list(&self) -> Option<&[Item]>
-        ensures parts { (tables : Tables) (texts : List Text) → option_map (λ parts. items_of tables texts parts.now) result ≡ list_in (argument_of tables texts self.now) }
-        ensures live { (tables : Tables) → IsLiveArgument tables self.now → IfSome result (λ parts. AreLiveItems tables parts.now) }
+        ensures parts { AgreesSeen list_in argument_of self.now lent_items result }
+        ensures live { IsLiveWith IsLiveArgument self.now AreLiveLentItems result }
     {
         match self {
             Argument::Many(items) => Some(items.as_slice()),
@@ -109,8 +106,8 @@ impl Argument {
     /// The pairs of the dict that the argument is, in their order, also where a key stands twice;
     /// `None` where it is something else. Takes no memory.
     pub fn dict(&self) -> Option<&[(Label, Argument)]>
-        ensures pairs { (tables : Tables) (texts : List Text) → option_map (λ pairs. entries_of tables texts pairs.now) result ≡ dict_in (argument_of tables texts self.now) }
-        ensures live { (tables : Tables) → IsLiveArgument tables self.now → IfSome result (λ pairs. AreLivePairs tables pairs.now) }
+        ensures pairs { AgreesSeen dict_in argument_of self.now lent_pairs result }
+        ensures live { IsLiveWith IsLiveArgument self.now AreLiveLentPairs result }
     {
         match self {
             Argument::Table(entries) => Some(entries.as_slice()),

@@ -1,5 +1,5 @@
 // The headings of a table.
-ghost use Rattle.std.specs.Prelude.{◌≡◌, [], ◌∷◌, ◌++◌, OnOk, OnErr};
+ghost use Rattle.std.specs.Prelude.{◌≡◌, [], OnOk, OnErr};
 
 use cell_core::{Label, NoMemory};
 use std::alloc::Global;
@@ -22,6 +22,8 @@ impl Model for Headings {
 }
 
 impl Headings {
+    ghost use Rattle.frame_store.specs.Parts.{with_heading};
+
     /// No headings yet. Takes no memory.
     pub fn new(alloc: Global, columns_name: Option<Label>) -> Headings
         ensures { result ≡ record { columns_name = columns_name; labels = [] } }
@@ -34,7 +36,7 @@ impl Headings {
 
     /// Appends the heading of the next column. `NoMemory` leaves the headings as they were.
     pub fn push(&mut self, heading: Option<Label>) -> Result<(), NoMemory>
-        ensures ok { OnOk result (self.new ≡ record self.old { labels = self.old.labels ++ heading ∷ [] }) }
+        ensures ok { OnOk result (self.new ≡ with_heading self.old heading) }
         ensures err { OnErr result (self.new ≡ self.old) }
     {
         self.labels.push(heading)?;

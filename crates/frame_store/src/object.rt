@@ -2,7 +2,7 @@
 ghost use Rattle.std.specs.Prelude.{◌≡◌, ◌<◌, length};
 ghost use Rattle.table_meaning.specs.Table.{column_at};
 ghost use Rattle.frame_store.specs.Grids.{grid_of};
-ghost use Rattle.frame_store.specs.Parts.{axis_of};
+ghost use Rattle.frame_store.specs.Parts.{axis_of, table_column};
 
 use crate::table::Table;
 use cell_core::{Cell, Grid, Kind, Label, Shape};
@@ -39,7 +39,7 @@ impl ObjRef<'_> {
     /// A column, counted from 0. Takes no memory.
     pub fn column(&self, column: usize) -> ColRef<'_>
         requires { column < length self.now.columns }
-        ensures column { column_at self.now.columns column ≡ record { kind = result.kind; cells = result.cells } }
+        ensures column { column_at self.now.columns column ≡ table_column result }
         ensures rows { length result.cells ≡ length self.now.labels }
     {
         self.table.column(column)

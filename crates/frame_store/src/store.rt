@@ -1,13 +1,12 @@
 // The live objects and their tables.
-ghost use Rattle.std.specs.Prelude.{◌≡◌, ◌≢◌, ◌↔◌, ◌*◌, ◌<◌, ◌≤◌, ◌++◌, ◌∷◌, map, length, All, Some, None, IsSome, IsTrue, IfOk, OnOk, OnErr};
-ghost use Rattle.cell_core.specs.declared.cell.Cell.TheVariants.{Na};
+ghost use Rattle.std.specs.Prelude.{◌≡◌, ◌≢◌, ◌↔◌, ◌*◌, ◌<◌, ◌≤◌, length, All, Some, None, IsTrue, IfOk, OnOk, OnErr};
 ghost use Rattle.cell_core.specs.declared.grid.Shape.TheVariants.{Series};
 ghost use Rattle.cell_core.specs.Grids.{AreRowsBelow};
 ghost use Rattle.table_meaning.specs.Table.{column_at};
-ghost use Rattle.table_meaning.specs.Change.{put_at, cut_columns, with_column, without_column, with_labels, with_values};
+ghost use Rattle.table_meaning.specs.Change.{with_column, without_column, with_labels, with_values};
 ghost use Rattle.table_meaning.specs.Valid.{AreHeadings, IsWhole};
 ghost use Rattle.multi_index.specs.Axes.{HaveLevels};
-ghost use Rattle.frame_store.specs.Parts.{block_column, IsSingle, HaveRows, AreHeld, table_with, axis_of};
+ghost use Rattle.frame_store.specs.Parts.{block_column, table_column, table_of, cut_table, axis_of, AreRowsOf, AreColumnsOf, FitsRows, IsSingle, HaveRows, AreHeld, TakesHeading, SparesHeading};
 
 use crate::blocks::Blocks;
 use crate::headings::Headings;
@@ -30,7 +29,7 @@ pub struct Store {
 }
 
 impl Store {
-    ghost use Rattle.frame_store.specs.Objects.{tables, with_object, with_moved, table_at, held_of};
+    ghost use Rattle.frame_store.specs.Objects.{tables, with_object, with_moved, with_replaced, table_on, held_of, IsLiveIn, IsFree, Stays, Becomes, Alters};
 
     /// A store without objects. Takes no memory.
     pub fn new(alloc: Global) -> Store
@@ -53,10 +52,11 @@ impl Store {
         blocks: Blocks,
     ) -> Result<ObjId, NoMemory>
         requires single { All IsSingle blocks }
-        requires whole { IsWhole (table_with shape axis headings (map block_column blocks)) }
-        ensures fresh { IfOk result (λ id. tables self.old id.0 ≡ None) }
-        ensures ok { IfOk result (λ id. tables self.new ≡ with_object (tables self.old) id.0 (Some (table_with shape axis headings (map block_column blocks)))) }
-        ensures err { OnErr result (tables self.new ≡ tables self.old) }
+        requires whole { IsWhole (table_of shape axis headings blocks) }
+        ensures fresh { IfOk result (IsFree self.old) }
+        ensures ok { IfOk result (λ id.
+            Becomes self.old self.new id (table_of shape axis headings blocks)) }
+        ensures err { OnErr result (Stays self.old self.new) }
     {
         self.insert(Table::new(shape, axis, headings, blocks))
     }
@@ -64,9 +64,9 @@ impl Store {
     /// A new object with the table. The number that it gets is that of no live object. `NoMemory`
     /// leaves the store as it was.
     pub fn insert(&mut self, table: Table) -> Result<ObjId, NoMemory>
-        ensures fresh { IfOk result (λ id. tables self.old id.0 ≡ None) }
-        ensures ok { IfOk result (λ id. tables self.new ≡ with_object (tables self.old) id.0 (Some table)) }
-        ensures err { OnErr result (tables self.new ≡ tables self.old) }
+        ensures fresh { IfOk result (IsFree self.old) }
+        ensures ok { IfOk result (λ id. Becomes self.old self.new id table) }
+        ensures err { OnErr result (Stays self.old self.new) }
     {
         let key = self.objects.insert(table)?;
         Ok(ObjId(key as u64))
@@ -83,15 +83,16 @@ impl Store {
         axis: Axis,
         headings: Headings,
     ) -> Result<ObjId, NoMemory>
-        requires live { IsSome (tables self.old on.0) }
-        requires rows { AreRowsBelow rows (length (table_at (tables self.old) on.0).labels) }
-        requires columns { All (λ place. place < length (table_at (tables self.old) on.0).columns) columns.now }
+        requires live { IsLiveIn self.old on }
+        requires rows { AreRowsBelow rows (length (table_on self.old on).labels) }
+        requires columns { AreColumnsOf (table_on self.old on) columns.now }
         requires labels { length axis.tuples ≡ rows.count }
         requires headed { length headings.labels ≡ length columns.now }
         requires headings { AreHeadings shape headings.columns_name headings.labels }
-        ensures fresh { IfOk result (λ id. tables self.old id.0 ≡ None) }
-        ensures ok { IfOk result (λ id. tables self.new ≡ with_object (tables self.old) id.0 (Some (table_with shape axis headings (cut_columns Na (table_at (tables self.old) on.0).columns rows columns.now)))) }
-        ensures err { OnErr result (tables self.new ≡ tables self.old) }
+        ensures fresh { IfOk result (IsFree self.old) }
+        ensures ok { IfOk result (λ id. Becomes self.old self.new id
+            (cut_table shape axis headings (table_on self.old on) rows columns.now)) }
+        ensures err { OnErr result (Stays self.old self.new) }
     {
         let blocks = self.objects[on.0 as usize].cut_to(self.alloc, rows, columns)?;
         self.add(shape, axis, headings, blocks)
@@ -106,13 +107,14 @@ impl Store {
         columns: &Places,
         values: &Cells,
     ) -> Result<(), NoMemory>
-        requires live { IsSome (tables self.old on.0) }
-        requires rows { All (λ row. row < length (table_at (tables self.old) on.0).labels) rows.now }
-        requires columns { All (λ place. place < length (table_at (tables self.old) on.0).columns) columns.now }
+        requires live { IsLiveIn self.old on }
+        requires rows { AreRowsOf (table_on self.old on) rows.now }
+        requires columns { AreColumnsOf (table_on self.old on) columns.now }
         requires values { length values.now ≡ length rows.now * length columns.now }
-        requires held { AreHeld (table_at (tables self.old) on.0).columns columns.now values.now }
-        ensures ok { OnOk result (tables self.new ≡ with_object (tables self.old) on.0 (Some (with_values (table_at (tables self.old) on.0) rows.now columns.now values.now))) }
-        ensures err { OnErr result (tables self.new ≡ tables self.old) }
+        requires held { AreHeld (table_on self.old on).columns columns.now values.now }
+        ensures ok { OnOk result (Alters self.old self.new on
+            (λ t. with_values t rows.now columns.now values.now)) }
+        ensures err { OnErr result (Stays self.old self.new) }
     {
         self.objects[on.0 as usize].set_cells(rows, columns, values);
         Ok(())
@@ -127,13 +129,14 @@ impl Store {
         heading: Option<Label>,
         block: Block,
     ) -> Result<(), NoMemory>
-        requires live { IsSome (tables self.old on.0) }
-        requires column { column ≤ length (table_at (tables self.old) on.0).columns }
+        requires live { IsLiveIn self.old on }
+        requires column { column ≤ length (table_on self.old on).columns }
         requires single { IsSingle block }
-        requires rows { length (block_column block).cells ≡ length (table_at (tables self.old) on.0).labels }
-        requires headings { let t = table_at (tables self.old) on.0 in AreHeadings t.shape t.columns_name (put_at t.headings column heading) }
-        ensures ok { OnOk result (tables self.new ≡ with_object (tables self.old) on.0 (Some (with_column (table_at (tables self.old) on.0) column heading (block_column block)))) }
-        ensures err { OnErr result (tables self.new ≡ tables self.old) }
+        requires rows { FitsRows (table_on self.old on) block }
+        requires headings { TakesHeading (table_on self.old on) column heading }
+        ensures ok { OnOk result (Alters self.old self.new on
+            (λ t. with_column t column heading (block_column block))) }
+        ensures err { OnErr result (Stays self.old self.new) }
     {
         self.objects[on.0 as usize].put_column(column, heading, block)
     }
@@ -147,15 +150,17 @@ impl Store {
         heading: Option<Label>,
         series: ObjId,
     ) -> Result<(), NoMemory>
-        requires live { IsSome (tables self.old on.0) }
-        requires series_live { IsSome (tables self.old series.0) }
+        requires live { IsLiveIn self.old on }
+        requires series_live { IsLiveIn self.old series }
         requires different { on.0 ≢ series.0 }
-        requires column { column ≤ length (table_at (tables self.old) on.0).columns }
-        requires series { (table_at (tables self.old) series.0).shape ≡ Series }
-        requires rows { length (table_at (tables self.old) series.0).labels ≡ length (table_at (tables self.old) on.0).labels }
-        requires headings { let t = table_at (tables self.old) on.0 in AreHeadings t.shape t.columns_name (put_at t.headings column heading) }
-        ensures ok { OnOk result (tables self.new ≡ with_moved (tables self.old) on.0 column heading series.0) }
-        ensures err { OnErr result (tables self.new ≡ tables self.old) }
+        requires column { column ≤ length (table_on self.old on).columns }
+        requires series { (table_on self.old series).shape ≡ Series }
+        requires rows { length (table_on self.old series).labels
+            ≡ length (table_on self.old on).labels }
+        requires headings { TakesHeading (table_on self.old on) column heading }
+        ensures ok { OnOk result
+            (tables self.new ≡ with_moved (tables self.old) on.0 column heading series.0) }
+        ensures err { OnErr result (Stays self.old self.new) }
     {
         let source = self.objects.remove(series.0 as usize);
         match self.objects[on.0 as usize].take_column(column, heading, source) {
@@ -169,11 +174,11 @@ impl Store {
 
     /// Removes a column and its heading. `NoMemory` leaves the store as it was.
     pub fn remove_column(&mut self, on: ObjId, column: usize) -> Result<(), NoMemory>
-        requires live { IsSome (tables self.old on.0) }
-        requires column { column < length (table_at (tables self.old) on.0).columns }
-        requires headings { let t = table_at (tables self.old) on.0 in AreHeadings t.shape t.columns_name (without_column t column).headings }
-        ensures ok { OnOk result (tables self.new ≡ with_object (tables self.old) on.0 (Some (without_column (table_at (tables self.old) on.0) column))) }
-        ensures err { OnErr result (tables self.new ≡ tables self.old) }
+        requires live { IsLiveIn self.old on }
+        requires column { column < length (table_on self.old on).columns }
+        requires headings { SparesHeading (table_on self.old on) column }
+        ensures ok { OnOk result (Alters self.old self.new on (λ t. without_column t column)) }
+        ensures err { OnErr result (Stays self.old self.new) }
     {
         self.objects[on.0 as usize].remove_column(column);
         Ok(())
@@ -181,10 +186,10 @@ impl Store {
 
     /// Gives an object the table of another one, which ends. Takes no memory.
     pub fn replace(&mut self, on: ObjId, by: ObjId)
-        requires live { IsSome (tables self.old on.0) }
-        requires by { IsSome (tables self.old by.0) }
+        requires live { IsLiveIn self.old on }
+        requires by { IsLiveIn self.old by }
         requires different { on.0 ≢ by.0 }
-        ensures { tables self.new ≡ with_object (with_object (tables self.old) on.0 (tables self.old by.0)) by.0 None }
+        ensures { tables self.new ≡ with_replaced (tables self.old) on.0 by.0 }
     {
         let table = self.objects.remove(by.0 as usize);
         self.objects[on.0 as usize] = table;
@@ -192,23 +197,23 @@ impl Store {
 
     /// Gives an object another axis, with as many tuples as each column has cells. Takes no memory.
     pub fn replace_axis(&mut self, on: ObjId, axis: Axis)
-        requires live { IsSome (tables self.old on.0) }
-        requires rows { HaveRows (length axis.tuples) (table_at (tables self.old) on.0).columns }
-        ensures { tables self.new ≡ with_object (tables self.old) on.0 (Some (with_labels (table_at (tables self.old) on.0) axis.tuples axis.names)) }
+        requires live { IsLiveIn self.old on }
+        requires rows { HaveRows (length axis.tuples) (table_on self.old on).columns }
+        ensures { Alters self.old self.new on (λ t. with_labels t axis.tuples axis.names) }
     {
         self.objects[on.0 as usize].replace_axis(axis);
     }
 
     /// Whether the number is that of a live object. Takes no memory.
     pub fn contains(&self, id: ObjId) -> bool
-        ensures { IsTrue result ↔ IsSome (tables self.now id.0) }
+        ensures { IsTrue result ↔ IsLiveIn self.now id }
     {
         self.objects.contains(id.0 as usize)
     }
 
     /// Ends an object. Takes no memory.
     pub fn drop_object(&mut self, on: ObjId)
-        requires { IsSome (tables self.old on.0) }
+        requires { IsLiveIn self.old on }
         ensures { tables self.new ≡ with_object (tables self.old) on.0 None }
     {
         let _ = self.objects.remove(on.0 as usize);
@@ -216,7 +221,7 @@ impl Store {
 
     /// The table of an object. Takes no memory.
     pub fn read(&self, on: ObjId) -> ObjRef<'_>
-        requires { IsSome (tables self.now on.0) }
+        requires { IsLiveIn self.now on }
         ensures table { tables self.now on.0 ≡ Some result }
         ensures whole { IsWhole result }
         ensures levels { HaveLevels (length result.level_names) result.labels }
@@ -228,18 +233,18 @@ impl Store {
 
     /// A column of an object. Takes no memory.
     pub fn column(&self, on: ObjId, column: usize) -> ColRef<'_>
-        requires live { IsSome (tables self.now on.0) }
-        requires column { column < length (table_at (tables self.now) on.0).columns }
-        ensures column { column_at (table_at (tables self.now) on.0).columns column ≡ record { kind = result.kind; cells = result.cells } }
-        ensures rows { length result.cells ≡ length (table_at (tables self.now) on.0).labels }
+        requires live { IsLiveIn self.now on }
+        requires column { column < length (table_on self.now on).columns }
+        ensures column { column_at (table_on self.now on).columns column ≡ table_column result }
+        ensures rows { length result.cells ≡ length (table_on self.now on).labels }
     {
         self.objects[on.0 as usize].column(column)
     }
 
     /// The axis of an object. Takes no memory.
     pub fn axis(&self, on: ObjId) -> &Axis
-        requires { IsSome (tables self.now on.0) }
-        ensures { result.now ≡ axis_of (table_at (tables self.now) on.0) }
+        requires { IsLiveIn self.now on }
+        ensures { result.now ≡ axis_of (table_on self.now on) }
     {
         self.objects[on.0 as usize].axis()
     }

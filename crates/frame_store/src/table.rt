@@ -1,13 +1,13 @@
 // The table that an object keeps.
-ghost use Rattle.std.specs.Prelude.{◌≡◌, ◌*◌, ◌<◌, ◌≤◌, map, length, All, Some, IsSome, IfOk, IfErr, OnOk, OnErr, slice_index_or, None};
+ghost use Rattle.std.specs.Prelude.{◌≡◌, ◌*◌, ◌<◌, ◌≤◌, length, All, IsSome, IfOk, IfErr, OnOk, OnErr, slice_index_or, None};
 ghost use Rattle.cell_core.specs.declared.cell.Cell.TheVariants.{Na};
 ghost use Rattle.cell_core.specs.declared.grid.Shape.TheVariants.{Series, Frame};
 ghost use Rattle.cell_core.specs.Grids.{AreRowsBelow};
 ghost use Rattle.table_meaning.specs.Table.{column_at};
-ghost use Rattle.table_meaning.specs.Change.{put_at, cut_columns, with_column, without_column, with_labels, with_values};
-ghost use Rattle.table_meaning.specs.Valid.{AreHeadings, IsWhole};
+ghost use Rattle.table_meaning.specs.Change.{cut_columns, with_column, without_column, with_labels, with_values};
+ghost use Rattle.table_meaning.specs.Valid.{IsWhole};
 ghost use Rattle.multi_index.specs.Axes.{HaveLevels};
-ghost use Rattle.frame_store.specs.Parts.{block_column, IsSingle, HaveRows, AreHeld, table_with, axis_of, count_of};
+ghost use Rattle.frame_store.specs.Parts.{block_column, columns_of, table_column, table_of, axis_of, count_of, AreRowsOf, AreColumnsOf, FitsRows, IsSingle, HaveRows, AreHeld, TakesHeading, SparesHeading};
 
 use crate::blocks::Blocks;
 use crate::columns::{cut, put_at};
@@ -47,8 +47,8 @@ impl Table {
     /// column, and each block is one column, in their order. Takes no memory.
     pub fn new(shape: Shape, axis: Axis, headings: Headings, blocks: Blocks) -> Table
         requires single { All IsSingle blocks }
-        requires whole { IsWhole (table_with shape axis headings (map block_column blocks)) }
-        ensures { result ≡ table_with shape axis headings (map block_column blocks) }
+        requires whole { IsWhole (table_of shape axis headings blocks) }
+        ensures { result ≡ table_of shape axis headings blocks }
     {
         Table {
             shape,
@@ -103,7 +103,7 @@ impl Table {
 
     pub(crate) fn column(&self, column: usize) -> ColRef<'_>
         requires { column < length self.now.columns }
-        ensures column { column_at self.now.columns column ≡ record { kind = result.kind; cells = result.cells } }
+        ensures column { column_at self.now.columns column ≡ table_column result }
         ensures rows { length result.cells ≡ length self.now.labels }
     {
         self.blocks[column].column(0)
@@ -124,17 +124,20 @@ impl Table {
         places: &Places,
     ) -> Result<Blocks, NoMemory>
         requires rows { AreRowsBelow rows (length self.now.labels) }
-        requires places { All (λ place. place < length self.now.columns) places.now }
-        ensures columns { IfOk result (λ cut. map block_column cut ≡ cut_columns Na self.now.columns rows places.now) }
-        ensures single { IfOk result (λ cut. All IsSingle cut) }
+        requires places { AreColumnsOf self.now places.now }
+        ensures columns { IfOk result (λ cut. columns_of cut
+            ≡ cut_columns Na self.now.columns rows places.now) }
+        ensures single { IfOk result (All IsSingle) }
     {
         let items = cut(alloc, self.blocks.as_slice(), rows, places, self.axis.len())?;
         Ok(Blocks { items })
     }
 
-    pub(crate) fn set_cells(&mut self, rows: &Places, places: &Places, values: &Cells)
-        requires rows { All (λ row. row < length self.old.labels) rows.now }
-        requires places { All (λ place. place < length self.old.columns) places.now }
+    /// Puts the values, one for each row and column, row by row. Where a cell is given twice, the
+    /// later value stays. Takes no memory.
+    pub fn set_cells(&mut self, rows: &Places, places: &Places, values: &Cells)
+        requires rows { AreRowsOf self.old rows.now }
+        requires places { AreColumnsOf self.old places.now }
         requires values { length values.now ≡ length rows.now * length places.now }
         requires held { AreHeld self.old.columns places.now values.now }
         ensures { self.new ≡ with_values self.old rows.now places.now values.now }
@@ -142,8 +145,9 @@ impl Table {
         put_values(&mut self.blocks, self.axis.len(), rows, places, values);
     }
 
-    /// `NoMemory` leaves the table as it was.
-    pub(crate) fn put_column(
+    /// Replaces a column, which the block is, and its heading, or appends them last where the number
+    /// is that of the columns. `NoMemory` leaves the table as it was.
+    pub fn put_column(
         &mut self,
         column: usize,
         heading: Option<Label>,
@@ -151,9 +155,10 @@ impl Table {
     ) -> Result<(), NoMemory>
         requires column { column ≤ length self.old.columns }
         requires single { IsSingle block }
-        requires rows { length (block_column block).cells ≡ length self.old.labels }
-        requires headings { AreHeadings self.old.shape self.old.columns_name (put_at self.old.headings column heading) }
-        ensures ok { OnOk result (self.new ≡ with_column self.old column heading (block_column block)) }
+        requires rows { FitsRows self.old block }
+        requires headings { TakesHeading self.old column heading }
+        ensures ok { OnOk result
+            (self.new ≡ with_column self.old column heading (block_column block)) }
         ensures err { OnErr result (self.new ≡ self.old) }
     {
         self.headings.reserve(1)?;
@@ -174,8 +179,9 @@ impl Table {
         requires column { column ≤ length self.old.columns }
         requires series { from.shape ≡ Series }
         requires rows { length from.labels ≡ length self.old.labels }
-        requires headings { AreHeadings self.old.shape self.old.columns_name (put_at self.old.headings column heading) }
-        ensures ok { OnOk result (self.new ≡ with_column self.old column heading (column_at from.columns 0)) }
+        requires headings { TakesHeading self.old column heading }
+        ensures ok { OnOk result
+            (self.new ≡ with_column self.old column heading (column_at from.columns 0)) }
         ensures err { OnErr result (self.new ≡ self.old) }
         ensures back { IfErr result (λ back. back ≡ from) }
     {
@@ -195,7 +201,7 @@ impl Table {
         requires { self.shape ≡ Series }
         ensures column { block_column result ≡ column_at self.columns 0 }
         ensures single { IsSingle result }
-        ensures rows { length (block_column result).cells ≡ length self.labels }
+        ensures rows { FitsRows self result }
     {
         let mut blocks = self.blocks;
         blocks.remove(0)
@@ -203,7 +209,7 @@ impl Table {
 
     pub(crate) fn remove_column(&mut self, column: usize)
         requires column { column < length self.old.columns }
-        requires headings { AreHeadings self.old.shape self.old.columns_name (without_column self.old column).headings }
+        requires headings { SparesHeading self.old column }
         ensures { self.new ≡ without_column self.old column }
     {
         self.headings.remove(column);

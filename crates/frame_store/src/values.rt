@@ -1,8 +1,8 @@
 // Cells that are put into columns.
-ghost use Rattle.std.specs.Prelude.{◌≡◌, ◌*◌, ◌<◌, map, length, vec_len, All};
+ghost use Rattle.std.specs.Prelude.{◌≡◌, ◌*◌, ◌<◌, length, vec_len, All};
 ghost use Rattle.table_meaning.specs.Change.{with_cell_at, with_cell, with_values_from};
 ghost use Rattle.table_meaning.specs.Table.{column_at};
-ghost use Rattle.frame_store.specs.Parts.{block_column, single_block, IsSingle, IsHeld, HaveRows, AreHeld};
+ghost use Rattle.frame_store.specs.Parts.{block_column, columns_of, single_block, AreBelow, IsSingle, IsHeld, HaveRows, AreHeld};
 
 use cell_core::{Cell, Cells, Places};
 use column_core::Block;
@@ -21,9 +21,10 @@ fn put_cell(block: &mut Block, row: usize, cell: Cell)
 fn put_value(blocks: &mut Vec<Block>, place: usize, row: usize, cell: Cell)
     requires place { place < vec_len blocks.old }
     requires single { All IsSingle blocks.old.items }
-    requires row { row < length (column_at (map block_column blocks.old.items) place).cells }
-    requires held { IsHeld (column_at (map block_column blocks.old.items) place).kind cell }
-    ensures columns { map block_column blocks.new.items ≡ with_cell (map block_column blocks.old.items) place row cell }
+    requires row { row < length (column_at (columns_of blocks.old.items) place).cells }
+    requires held { IsHeld (column_at (columns_of blocks.old.items) place).kind cell }
+    ensures columns { columns_of blocks.new.items
+        ≡ with_cell (columns_of blocks.old.items) place row cell }
     ensures single { All IsSingle blocks.new.items }
     ensures len { vec_len blocks.new ≡ vec_len blocks.old }
 {
@@ -39,14 +40,15 @@ pub(crate) fn put_values(
     values: &Cells,
 )
     requires single { All IsSingle blocks.old.items }
-    requires filled { HaveRows count (map block_column blocks.old.items) }
-    requires rows { All (λ row. row < count) rows.now }
-    requires places { All (λ place. place < vec_len blocks.old) places.now }
+    requires filled { HaveRows count (columns_of blocks.old.items) }
+    requires rows { AreBelow count rows.now }
+    requires places { AreBelow (vec_len blocks.old) places.now }
     requires values { length values.now ≡ length rows.now * length places.now }
-    requires held { AreHeld (map block_column blocks.old.items) places.now values.now }
-    ensures columns { map block_column blocks.new.items ≡ with_values_from 0 (map block_column blocks.old.items) rows.now places.now values.now }
+    requires held { AreHeld (columns_of blocks.old.items) places.now values.now }
+    ensures columns { columns_of blocks.new.items
+        ≡ with_values_from 0 (columns_of blocks.old.items) rows.now places.now values.now }
     ensures single { All IsSingle blocks.new.items }
-    ensures filled { HaveRows count (map block_column blocks.new.items) }
+    ensures filled { HaveRows count (columns_of blocks.new.items) }
     ensures len { vec_len blocks.new ≡ vec_len blocks.old }
 {
     let width = places.len();

@@ -1,3 +1,4 @@
+pub mod Rows
 pub mod Methods
 pub mod Calls
 pub mod Readers

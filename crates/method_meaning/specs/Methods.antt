@@ -16,14 +16,15 @@ use Rattle.meaning.specs.Cumulate as cumulation
 use Rattle.meaning.specs.Cumulate.{Cumulation, cumulate_column}
 use Rattle.meaning.specs.Fault.{FaultValue, wrong_kind, bad_value, no_columns, not_built, then_value}
 use Rattle.table_meaning.specs.Table.{ColumnOf, Table, column_at}
-use Rattle.table_meaning.specs.Value.{Entry, cell, Given, scalar_in, list_in, dict_in}
+use Rattle.table_meaning.specs.Value.{Entry, cell, Given, nothing, scalar_in, list_in, dict_in}
 use Rattle.form_meaning.specs.declared.Method.{Method}
 use Rattle.form_meaning.specs.declared.Method.TheVariants as method
 use Rattle.form_meaning.specs.Binding.{is_scalar, same_label, whole_in, truth_in}
-use Rattle.form_meaning.specs.Finish.{limited, finished, value_of_column, fault_of_column, made_column, try_all, with_columns}
+use Rattle.form_meaning.specs.Finish.{limited, finished, value_of_column, fault_of_column, made_column, try_all, with_columns, same_kind, across_columns}
 use Rattle.form_meaning.specs.Select.{cells_of}
 use Rattle.form_meaning.specs.Make.{on, kind_given, pairs_in}
 use Rattle.format_meaning.specs.CsvWrite.{csv_text_of}
+use Rattle.method_meaning.specs.Rows.{all_places, head_result, tail_result, dropna_result, duplicated_result, sort_values_result, sort_by_result, sorted_result, drop_result}
 
 -- each column by itself, or the first fault
 abbrev pub each_column : (ColumnOf CellValue → Result (ColumnOf CellValue) FaultValue) → Table → Result Entry FaultValue
@@ -84,12 +85,6 @@ summary_kind (reduced reduction.all) kind = Boolean
 summary_kind (reduced reduction.count) kind = Int64
 summary_kind distinct kind = Int64
 
-abbrev pub same_kind : Kind → Kind → Bool
-same_kind Int64 Int64 = true
-same_kind Boolean Boolean = true
-same_kind string string = true
-same_kind a b = false
-
 -- the summaries' kind: whole numbers where there is no column
 abbrev pub kind_for : Summary → List (ColumnOf CellValue) → Kind
 kind_for op [] = summary_kind op Int64
@@ -99,26 +94,10 @@ kind_for op (c ∷ cs) = summary_kind op c.kind
 abbrev pub summary_as : Summary → Kind → ColumnOf CellValue → Result CellValue FaultValue
 summary_as op kind c = if same_kind (summary_kind op c.kind) kind then summary_cell op c else Err wrong_kind
 
-abbrev pub label_or : Option LabelValue → LabelValue → LabelValue
-label_or None l = l
-label_or (Some l) other = l
-
--- a Series of the summaries over the labels of the columns; 0 would stand for a label that is missing, which no frame has
-abbrev pub summary_series : Table → Kind → List CellValue → Table
-summary_series t kind cells =
-    record {
-      shape = Series;
-      columns_name = None;
-      level_names = t.columns_name ∷ [];
-      labels = map (λ h. label_or h (int (pos 0)) ∷ []) t.headings;
-      headings = None ∷ [];
-      columns = record { kind = kind; cells = cells } ∷ [];
-    }
-
 -- a Series gives a scalar; a frame gives a Series, whose cells must be of one kind
 abbrev pub summary_of : Shape → Summary → Table → Result Entry FaultValue
 summary_of Series op t = then_value (summary_cell op (column_at t.columns 0)) (λ c. Ok (cell c))
-summary_of Frame op t = then_value (try_all (summary_as op (kind_for op t.columns)) t.columns) (λ cells. limited (summary_series t (kind_for op t.columns) cells))
+summary_of Frame op t = then_value (try_all (summary_as op (kind_for op t.columns)) t.columns) (λ cells. limited (across_columns t None (kind_for op t.columns) cells))
 
 abbrev pub summary : Summary → Table → Result Entry FaultValue
 summary op t = summary_of t.shape op t
@@ -145,7 +124,7 @@ renamed_frame t pairs = if list_all is_scalar_pair pairs then finished (record t
 
 -- a frame of the one column, which has the name, or 0
 abbrev pub as_frame : Table → Table
-as_frame t = record t { shape = Frame; headings = map (λ h. Some (label_or h (int (pos 0)))) t.headings }
+as_frame t = record t { shape = Frame; headings = map (λ h. Some (unwrap_or h (int (pos 0)))) t.headings }
 
 -- the table as CSV text; without the labels of the rows there must be a column
 abbrev pub csv_answer : Bool → Table → Result Entry FaultValue
@@ -153,11 +132,16 @@ csv_answer index t = if index || nat_lt 0 (length t.columns) then Ok (cell (text
 
 abbrev pub answer_for : Method → List Given → Table → Result Entry FaultValue
 answer_for method.Copy gs t = limited t
+answer_for method.Head (n ∷ []) t = on (whole_in n) (head_result t)
+answer_for method.Tail (n ∷ []) t = on (whole_in n) (tail_result t)
 answer_for method.Isna gs t = each_column (mapped Boolean missing_mark) t
 answer_for method.Notna gs t = each_column (mapped Boolean present_mark) t
 answer_for method.Fillna (value ∷ []) t = on (scalar_in value) (λ c. each_column (filled_column c) t)
+answer_for method.Dropna gs t = dropna_result t
 answer_for method.Isin (values ∷ []) t = on (list_in values) (λ parts. each_column (mapped Boolean (is_in (cells_of parts))) t)
 answer_for method.Astype (dtype ∷ []) t = on (kind_given (scalar_in dtype)) (λ kind. each_column (cast_as kind) t)
+answer_for method.DuplicatedSeries gs t = duplicated_result t nothing
+answer_for method.DuplicatedFrame (subset ∷ []) t = duplicated_result t subset
 answer_for method.Shift (periods ∷ []) t = on (whole_in periods) (λ z. each_column (shifted_column z) t)
 answer_for method.Cumsum gs t = each_column (cumulated cumulation.sum) t
 answer_for method.Cummin gs t = each_column (cumulated cumulation.min) t
@@ -169,8 +153,12 @@ answer_for method.Any gs t = summary (reduced reduction.any) t
 answer_for method.All gs t = summary (reduced reduction.all) t
 answer_for method.Count gs t = summary (reduced reduction.count) t
 answer_for method.Nunique gs t = summary distinct t
+answer_for method.SortValuesSeries (ascending ∷ []) t = on (truth_in ascending) (λ b. sort_values_result t b (all_places t))
+answer_for method.SortValuesFrame (by ∷ ascending ∷ []) t = on (truth_in ascending) (λ b. sort_by_result t b by)
+answer_for method.SortIndex (ascending ∷ []) t = on (truth_in ascending) (λ b. sorted_result t b t.labels)
 answer_for method.RenameSeries (name ∷ []) t = limited (renamed_series t (option_map cell_label (scalar_in name)))
 answer_for method.RenameFrame (columns ∷ []) t = on (dict_in columns) (λ pairs. renamed_frame t (pairs_in pairs))
+answer_for method.DropColumns (columns ∷ []) t = drop_result t columns
 answer_for method.ToFrame gs t = limited (as_frame t)
 answer_for method.ToCsv (index ∷ []) t = on (truth_in index) (λ b. csv_answer b t)
 -- no other number of arguments is bound, and no other method is built
@@ -179,11 +167,16 @@ answer_for m gs t = Err not_built
 -- whether the method is built; one that isn't answers so before its arguments are looked at
 abbrev pub is_built : Method → Bool
 is_built method.Copy = true
+is_built method.Head = true
+is_built method.Tail = true
 is_built method.Isna = true
 is_built method.Notna = true
 is_built method.Fillna = true
+is_built method.Dropna = true
 is_built method.Isin = true
 is_built method.Astype = true
+is_built method.DuplicatedSeries = true
+is_built method.DuplicatedFrame = true
 is_built method.Shift = true
 is_built method.Cumsum = true
 is_built method.Cummin = true
@@ -195,8 +188,12 @@ is_built method.Any = true
 is_built method.All = true
 is_built method.Count = true
 is_built method.Nunique = true
+is_built method.SortValuesSeries = true
+is_built method.SortValuesFrame = true
+is_built method.SortIndex = true
 is_built method.RenameSeries = true
 is_built method.RenameFrame = true
+is_built method.DropColumns = true
 is_built method.ToFrame = true
 is_built method.ToCsv = true
 is_built m = false

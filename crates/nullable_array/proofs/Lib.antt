@@ -11,3 +11,4 @@ pub mod TruthLaws
 pub mod MarkLaws
 pub mod PlaceLaws
 pub mod QuotientLaws
+pub mod PairRows

@@ -1,5 +1,5 @@
 -- Operations on the values of a row, told by flags.
-use Rattle.std.specs.Prelude.{◌≡◌, ℕ, ◌<◌, ◌≤◌, Bool, true, false, not, ◌&&◌, ◌||◌, ℤ, List, length, slice_get, slice_index_or, Option, Some, None, unwrap_or, is_some, if◌then◌else◌}
+use Rattle.std.specs.Prelude.{◌≡◌, ℕ, ◌<◌, Bool, true, false, not, ◌&&◌, ◌||◌, ℤ, List, slice_get, slice_index_or, Option, Some, None, unwrap_or, is_some, if◌then◌else◌}
 use Rattle.std.specs.Int.{int_wrap, w64}
 use Rattle.std.specs.declared.cmp.Ordering.{Ordering}
 use Rattle.std.proofs.Common.{refl, ap}
@@ -7,7 +7,7 @@ use Rattle.nullable_array.specs.declared.ops.Relation.{Relation}
 use Rattle.nullable_array.specs.Tasks.{passes}
 use Rattle.nullable_array.specs.Operations.{number_row, compare_row, and_row, or_row, xor_row}
 use Rattle.column_core.specs.Lanes.{option_at}
-use Rattle.column_core.specs.Rows.{flagged, AreWritten}
+use Rattle.column_core.specs.Rows.{flagged}
 
 -- where `and` and `or` are known: where both values are, and where one decides
 abbrev pub and_flag : Bool → Bool → Bool → Bool → Bool
@@ -95,17 +95,12 @@ pub flagged_value : {T : Type 0} (o : Option T) (blank x : T) → Some (unwrap_o
 flagged_value None blank x e = refl
 flagged_value (Some y) blank x e = e
 
--- each flag from start up to count is that of the values and flags of its row
-abbrev pub AreFlagged : {X Y : Type 0} → (X → Bool → Y → Bool → Bool) → (ℕ → Option X) → (ℕ → Bool) → (ℕ → Option Y) → (ℕ → Bool) → ℕ → ℕ → List Bool → Type 0
-AreFlagged {X} {Y} flag xs ps ys qs start count present =
-    (k : ℕ) (x : X) (y : Y) → start ≤ k → k < count → xs k ≡ Some x → ys k ≡ Some y → slice_index_or present k false ≡ flag x (ps k) y (qs k)
+-- each flag below count is that of the values and flags of its row
+abbrev pub AreFlagged : {X Y : Type 0} → (X → Bool → Y → Bool → Bool) → (ℕ → Option X) → (ℕ → Bool) → (ℕ → Option Y) → (ℕ → Bool) → ℕ → List Bool → Type 0
+AreFlagged {X} {Y} flag xs ps ys qs count flags =
+    (k : ℕ) (x : X) (y : Y) → k < count → xs k ≡ Some x → ys k ≡ Some y → slice_index_or flags k false ≡ flag x (ps k) y (qs k)
 
--- the flags below start are the same
-abbrev pub AreSameFlags : ℕ → List Bool → List Bool → Type 0
-AreSameFlags start present present' = (k : ℕ) → k < start → slice_index_or present' k false ≡ slice_index_or present k false
-
--- so many rows are made, each of them what was written
-pub record AreMade {U : Type 0} (at : ℕ → Option (Option U)) (count : ℕ) (values : List U) (present : List Bool) : Type 0 where
-  pub values_made : length values ≡ count
-  pub flags_made : length present ≡ count
-  pub written : AreWritten at count values present
+-- each value below count is that of the values and flags of its row
+abbrev pub AreValued : {X Y U : Type 0} → (X → Bool → Y → Bool → U) → (ℕ → Option X) → (ℕ → Bool) → (ℕ → Option Y) → (ℕ → Bool) → ℕ → List U → Type 0
+AreValued {X} {Y} value xs ps ys qs count values =
+    (k : ℕ) → k < count → (x : X) × (y : Y) × (xs k ≡ Some x) × (ys k ≡ Some y) × (slice_get values k ≡ Some (value x (ps k) y (qs k)))

@@ -1,5 +1,5 @@
 -- Quotients by one divisor.
-use Rattle.std.specs.Prelude.{◌≡◌, ℕ, ◌<◌, Bool, true, false, ℤ, pos, negsuc, nat_abs, Some, None, if◌then◌else◌}
+use Rattle.std.specs.Prelude.{◌≡◌, ℕ, ◌+◌, ◌*◌, ◌^◌, ◌<◌, ◌≤◌, Bool, true, false, ℤ, pos, negsuc, nat_abs, Some, None, if◌then◌else◌}
 use Rattle.std.specs.Bool.{Decides}
 use Rattle.std.specs.Cmp.{signed_Decides, below_irrefl}
 use Rattle.std.specs.Ordering.{int_eq}
@@ -18,6 +18,12 @@ magnitude (negsuc n) = n
 abbrev pub signed_as : ℤ → ℕ → ℤ
 signed_as (pos n) m = pos m
 signed_as (negsuc n) m = negsuc m
+
+-- the inverse of a divisor: their product is a power of 2, or a little more
+pub record IsInverse (value inverse shift : ℕ) : Type 0 where
+  pub narrow : shift < 64
+  pub enough : 2 ^ 63 * 2 ^ shift ≤ inverse * value
+  pub near : inverse * value < 2 ^ 63 * 2 ^ shift + 2 ^ shift
 
 not_zero : (b : Bool) (d : ℕ) → Decides b (pos d ≡ pos 0) → 0 < d → b ≡ false
 not_zero false d t above = refl

@@ -274,7 +274,7 @@ fn numbers_of_side<A: Side<bool>>(alloc: Global, a: A) -> Result<Column, ArrayFa
         (column_value texts (column_with Boolean truth_cell (A.count_of a) (A.row_of a)))) }
 {
     let nothing = Nothing { count: a.count() };
-    let rows = by_sides(alloc, &NumberOfTruth, 0, a, nothing)?;
+    let rows = by_sides(alloc, &NumberOfTruth, a, nothing)?;
     Ok(i64::column(rows))
 }
 

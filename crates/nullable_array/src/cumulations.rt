@@ -94,27 +94,28 @@ impl Fold<bool, Option<i64>> for RunningTotal {
     }
 }
 
-// Writes at each row what the rows up to it come to.
-fn fill_running<T, U: Copy, F: Fold<T, Option<U>>, A: Source<T>>(
+// At each row what the rows up to it come to. Room for all rows is taken first, so that a row is a write.
+fn running_rows<T, U: Copy + Drop, F: Fold<T, Option<U>>, A: Source<T>>(
+    alloc: Global,
     fold: &F,
     blank: U,
     a: &A,
-    values: &mut [U],
-    present: &mut [bool],
-)
-    requires values { length values.old ≡ A.count_of a.now }
-    requires present { length present.old ≡ A.count_of a.now }
-    ensures { AreWritten (λ k. Some (running_row (F.step_of fold.now) (A.row_of a.now) k)) (A.count_of a.now) values.new present.new }
+) -> Result<Owned<U>, NoMemory>
+    ensures count { IfOk result (λ made. length made.values.items ≡ A.count_of a.now) }
+    ensures rows { IfOk result (λ made. AreWritten (λ k. Some (running_row (F.step_of fold.now) (A.row_of a.now) k)) (A.count_of a.now) made.values.items made.present.items) }
 {
+    let mut values = Vec::with_capacity(alloc, a.count())?;
+    let mut present = Vec::with_capacity(alloc, a.count())?;
     let mut so_far = None;
-    for row in 0..present.len() {
+    for row in 0..a.count() {
         let x = a.get(row);
         let is_present = x.is_some();
         so_far = next(fold, so_far, x);
         let value = kept(is_present, so_far);
-        present[row] = value.is_some();
-        values[row] = value.unwrap_or(blank);
+        present.push_reserved(value.is_some());
+        values.push_reserved(value.unwrap_or(blank));
     }
+    Ok(Owned { values, present })
 }
 
 #[inline(always)]
@@ -124,7 +125,7 @@ fn kept<U: Copy>(is_present: bool, so_far: Option<U>) -> Option<U>
     if is_present { so_far } else { None }
 }
 
-// At each row what the rows up to it come to, as a column.
+// The same as a column.
 fn run<T, U: Value, F: Fold<T, Option<U>>, A: Source<T>>(
     alloc: Global,
     fold: &F,
@@ -132,10 +133,6 @@ fn run<T, U: Value, F: Fold<T, Option<U>>, A: Source<T>>(
 ) -> Result<Column, NoMemory>
     ensures { IfOk result (λ c. c ≡ column_with U.kind U.cell (A.count_of a.now) (running_row (F.step_of fold.now) (A.row_of a.now))) }
 {
-    let Owned {
-        mut values,
-        mut present,
-    } = Owned::missing(alloc, U::blank(), a.count())?;
-    fill_running(fold, U::blank(), a, &mut values, &mut present);
-    Ok(U::column(Owned { values, present }))
+    let rows = running_rows(alloc, fold, U::blank(), a)?;
+    Ok(U::column(rows))
 }

@@ -1,51 +1,60 @@
 // Quotients by one divisor for many dividends.
-ghost use Rattle.std.specs.Prelude.{◌≡◌, ◌<◌, ◌*◌, ◌/◌, ◌^◌, IsTrue, pos, Some};
+ghost use Rattle.std.specs.Prelude.{◌≡◌, ◌<◌, ◌≤◌, ◌*◌, ◌/◌, ◌^◌, pos, Some};
 ghost use Rattle.std.specs.Int.{int_wrap, w64};
 ghost use Rattle.meaning.specs.Operator.{floor_quotient};
 ghost use Rattle.nullable_array.specs.Operations.{division_row};
-ghost use Rattle.nullable_array.specs.Quotients.{magnitude as magnitude_of, signed_as, quotient_pair};
+ghost use Rattle.nullable_array.specs.Quotients.{magnitude as magnitude_of, signed_as, quotient_pair, IsInverse};
 
 use crate::pairs::PairOp;
 use column_core::RowOp;
 
-/// A divisor above 0, with an inverse by which a product is nearly each quotient: a division takes several times as long.
+/// A divisor above 0 and below 2^63, with an inverse. The product of a dividend below 2^63 with the inverse gives the
+/// quotient: a division takes several times as long.
 #[derive(Drop)]
 pub(crate) struct Divisor {
     value: u64,
     inverse: u64,
+    shift: u32,
     ghost above: { 0 < value },
+    ghost inverts: { IsInverse value inverse shift },
 }
 
 impl Divisor {
     pub(crate) fn new(value: u64) -> Divisor
-        requires { 0 < value }
+        requires above { 0 < value }
+        requires below { value < 2 ^ 63 }
         ensures { result.value ≡ value }
     {
-        let inverse = (u64::MAX / value).saturating_add(1);
-        Divisor { value, inverse }
+        let shift = 64 - (value - 1).leading_zeros();
+        Divisor {
+            value,
+            inverse: inverse(value, shift),
+            shift,
+        }
     }
 
     /// The quotient of a dividend.
     #[inline(always)]
     fn quotient(&self, dividend: u64) -> u64
+        requires { dividend < 2 ^ 63 }
         ensures { result ≡ dividend / self.now.value }
     {
-        let near = (product(dividend, self.inverse) >> 64) as u64;
-        if is_quotient(near, dividend, self.value) {
-            near
-        } else {
-            dividend / self.value
-        }
+        let near = (product(2 * dividend, self.inverse) >> 64) as u64;
+        near >> self.shift
     }
 }
 
-#[inline(always)]
-fn is_quotient(near: u64, dividend: u64, divisor: u64) -> bool
-    ensures { IsTrue result → near ≡ dividend / divisor }
+// The least number whose product with the divisor is no less than 2^63 times the power of 2.
+fn inverse(value: u64, shift: u32) -> u64
+    requires above { 0 < value }
+    requires below { value < 2 ^ 63 }
+    requires narrow { shift < 64 }
+    requires enough { value ≤ 2 ^ shift }
+    requires least { 2 ^ shift < 2 * value }
+    ensures { IsInverse value result shift }
 {
-    let product = product(near, divisor);
-    let dividend = u128::from(dividend);
-    product <= dividend && dividend - product < u128::from(divisor)
+    let power = 1u128 << (63 + shift);
+    ((power - 1) / u128::from(value) + 1) as u64
 }
 
 #[inline(always)]

@@ -1,5 +1,5 @@
 // Operators on columns.
-ghost use Rattle.std.specs.Prelude.{◌≡◌, ◌<◌, ℕ, pos, List, length, Option, Some, IfOk, IfErr, OnErr};
+ghost use Rattle.std.specs.Prelude.{◌≡◌, ◌<◌, ◌^◌, ℕ, pos, List, length, Option, Some, IfOk, IfErr, OnErr};
 ghost use Rattle.cell_core.specs.declared.cell.Kind.TheVariants.{Int64, Boolean, Text as string};
 ghost use Rattle.meaning.specs.Cell.{datum, AreGiven, IsGiven, IsLonger};
 ghost use Rattle.meaning.specs.Column.{column_of, zero_division};
@@ -201,7 +201,8 @@ fn on_number_before<A: Side<i64>>(
 
 // The quotients by one divisor, which isn't 0: so no row is refused.
 fn quotients_by<A: Side<i64>>(alloc: Global, a: A, divisor: u64) -> Result<Column, ArrayFault>
-    requires { 0 < divisor }
+    requires above { 0 < divisor }
+    requires below { divisor < 2 ^ 63 }
     ensures given { IfOk result (λ c. (texts : List (List ℕ)) → AreGiven texts c.cells) }
     ensures answer { (texts : List (List ℕ)) → Answers texts result (task_column Task.Quotient
         (column_value texts (column_with Int64 number_cell (A.count_of a) (A.row_of a)))
@@ -355,7 +356,7 @@ fn operate_sides<X: Copy, Y: Copy, U: Plain, O: PairOp<X, Y, U>, A: Side<X>, B: 
     ensures answer { (texts : List (List ℕ)) → Answers texts result
         (column_of U.kind zero_division (map_rows (λ z. datum texts (U.cell z)) (try_rows (A.count_of a) (λ k. O.row_of op.now (A.row_of a k) (B.row_of b k))))) }
 {
-    let rows = by_sides(alloc, op, U::blank(), a, b)?;
+    let rows = by_sides(alloc, op, a, b)?;
     Ok(U::column(rows))
 }
 

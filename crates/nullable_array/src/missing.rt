@@ -156,7 +156,7 @@ fn mark_side<T: Copy + Drop, A: Side<T>>(
     ensures { IfOk result (λ c. c ≡ column_with Boolean truth_cell (A.count_of a) (λ k. Some (mark_of mark.now.missing (A.row_of a k)))) }
 {
     let nothing = Nothing { count: a.count() };
-    let rows = by_sides(alloc, mark, false, a, nothing)?;
+    let rows = by_sides(alloc, mark, a, nothing)?;
     Ok(bool::column(rows))
 }
 
@@ -188,6 +188,6 @@ fn fill_side<T: Value, A: Side<T>>(alloc: Global, fill: &Fill<T>, a: A) -> Resul
     ensures { IfOk result (λ c. c ≡ column_with T.kind T.cell (A.count_of a) (λ k. filled_value fill.now.value (A.row_of a k))) }
 {
     let nothing = Nothing { count: a.count() };
-    let rows = by_sides(alloc, fill, T::blank(), a, nothing)?;
+    let rows = by_sides(alloc, fill, a, nothing)?;
     Ok(T::column(rows))
 }

@@ -4,7 +4,7 @@ ghost use Rattle.std.proofs.Common.{refl};
 ghost use Rattle.std.specs.Int.{int_wrap, w64};
 ghost use Rattle.column_core.specs.Rows.{flagged, AreWritten};
 ghost use Rattle.nullable_array.specs.Tasks.{passes};
-ghost use Rattle.nullable_array.specs.Pairs.{and_flag, or_flag, xor_value, AreFlagged, AreSameFlags, AreMade, flagged_at, flagged_value, number_pair, compare_pair, and_pair, or_pair, xor_pair};
+ghost use Rattle.nullable_array.specs.Pairs.{and_flag, or_flag, xor_value, AreFlagged, AreValued, flagged_at, flagged_value, number_pair, compare_pair, and_pair, or_pair, xor_pair};
 
 use crate::operators::{Both, Compare, Difference, Either, OneOf, Order, Product, Sum, is_in};
 use cell_core::NoMemory;
@@ -276,77 +276,51 @@ impl Side<()> for Nothing {
     ghost row_at = { λ _ _ _ _. refl };
 }
 
-// How many rows are made at a time: few enough that a blank is still in the processor's cache when its value comes. Beyond
-// 2,048 bytes the C library fills memory past the cache, which takes half as long again.
-const PIECE: usize = 256;
-
-// Writes each row from `start` on: first the flags and then the values, so that either loop goes over a few slices.
+// Whether each row has a value. Room for all rows is taken first, so that a row is a write.
 #[inline(always)]
-fn fill_sides<X: Copy, Y: Copy, U: Copy, O: PairOp<X, Y, U>, A: Side<X>, B: Side<Y>>(
+fn row_flags<X: Copy, Y: Copy, U: Copy, O: PairOp<X, Y, U>, A: Side<X>, B: Side<Y>>(
+    alloc: Global,
     op: &O,
     a: &A,
     b: &B,
-    start: usize,
-    values: &mut [U],
-    present: &mut [bool],
-)
-    requires start { start ≤ length values.old }
-    requires within { length values.old ≤ A.count_of a.now }
-    requires alike { length present.old ≡ length values.old }
-    requires same { A.count_of a.now ≡ B.count_of b.now }
-    requires before { AreWritten (λ k. O.row_of op.now (A.row_of a.now k) (B.row_of b.now k)) start values.old present.old }
-    ensures { AreWritten (λ k. O.row_of op.now (A.row_of a.now k) (B.row_of b.now k)) (length values.new) values.new present.new }
+) -> Result<Vec<bool>, NoMemory>
+    requires { A.count_of a.now ≡ B.count_of b.now }
+    ensures count { IfOk result (λ flags. length flags.items ≡ A.count_of a.now) }
+    ensures flags { IfOk result (λ flags. AreFlagged (O.flag_of op.now) (A.value_at a.now) (A.flag_at a.now) (B.value_at b.now) (B.flag_at b.now) (A.count_of a.now) flags.items) }
 {
-    fill_flags(op, a, b, start, present);
-    for row in start..values.len() {
-        values[row] = op.value(a.value(row), a.flag(row), b.value(row), b.flag(row));
+    let mut flags = Vec::with_capacity(alloc, a.count())?;
+    for row in 0..a.count() {
+        let x = a.value(row);
+        let y = b.value(row);
+        let flag = op.flag(x, a.flag(row), y, b.flag(row));
+        flags.push_reserved(flag);
     }
+    Ok(flags)
 }
 
+// The value of each row.
 #[inline(always)]
-fn fill_flags<X: Copy, Y: Copy, U: Copy, O: PairOp<X, Y, U>, A: Side<X>, B: Side<Y>>(
+fn row_values<X: Copy, Y: Copy, U: Copy + Drop, O: PairOp<X, Y, U>, A: Side<X>, B: Side<Y>>(
+    alloc: Global,
     op: &O,
     a: &A,
     b: &B,
-    start: usize,
-    present: &mut [bool],
-)
-    requires start { start ≤ length present.old }
-    requires within { length present.old ≤ A.count_of a.now }
-    requires same { A.count_of a.now ≡ B.count_of b.now }
-    ensures before { AreSameFlags start present.old present.new }
-    ensures flags { AreFlagged (O.flag_of op.now) (A.value_at a.now) (A.flag_at a.now) (B.value_at b.now) (B.flag_at b.now) start (length present.new) present.new }
+) -> Result<Vec<U>, NoMemory>
+    requires { A.count_of a.now ≡ B.count_of b.now }
+    ensures count { IfOk result (λ values. length values.items ≡ A.count_of a.now) }
+    ensures values { IfOk result (λ values. AreValued (O.value_of op.now) (A.value_at a.now) (A.flag_at a.now) (B.value_at b.now) (B.flag_at b.now) (A.count_of a.now) values.items) }
 {
-    for row in start..present.len() {
-        present[row] = op.flag(a.value(row), a.flag(row), b.value(row), b.flag(row));
+    let mut values = Vec::with_capacity(alloc, a.count())?;
+    for row in 0..a.count() {
+        let x = a.value(row);
+        let y = b.value(row);
+        let value = op.value(x, a.flag(row), y, b.flag(row));
+        values.push_reserved(value);
     }
+    Ok(values)
 }
 
-// Adds the rows up to `end`.
-#[inline(always)]
-fn add_sides<X: Copy, Y: Copy, U: Copy, O: PairOp<X, Y, U>, A: Side<X>, B: Side<Y>>(
-    op: &O,
-    blank: U,
-    a: &A,
-    b: &B,
-    end: usize,
-    values: &mut Vec<U>,
-    present: &mut Vec<bool>,
-) -> Result<(), NoMemory>
-    requires end { length values.old.items ≤ end }
-    requires within { end ≤ A.count_of a.now }
-    requires same { A.count_of a.now ≡ B.count_of b.now }
-    requires made { AreMade (λ k. O.row_of op.now (A.row_of a.now k) (B.row_of b.now k)) (length values.old.items) values.old.items present.old.items }
-    ensures { OnOk result (AreMade (λ k. O.row_of op.now (A.row_of a.now k) (B.row_of b.now k)) end values.new.items present.new.items) }
-{
-    let start = values.len();
-    values.resize(end, blank)?;
-    present.resize(end, false)?;
-    fill_sides(op, a, b, start, values, present);
-    Ok(())
-}
-
-/// The operation at each row.
+/// The operation at each row: first the flags and then the values, so that either loop goes over a few slices.
 #[inline(always)]
 pub(crate) fn by_sides<
     X: Copy,
@@ -355,17 +329,12 @@ pub(crate) fn by_sides<
     O: PairOp<X, Y, U>,
     A: Side<X>,
     B: Side<Y>,
->(alloc: Global, op: &O, blank: U, a: A, b: B) -> Result<Owned<U>, NoMemory>
+>(alloc: Global, op: &O, a: A, b: B) -> Result<Owned<U>, NoMemory>
     requires { A.count_of a ≡ B.count_of b }
     ensures count { IfOk result (λ made. length made.values.items ≡ A.count_of a) }
     ensures rows { IfOk result (λ made. AreWritten (λ k. O.row_of op.now (A.row_of a k) (B.row_of b k)) (A.count_of a) made.values.items made.present.items) }
 {
-    let count = a.count();
-    let mut values = Vec::with_capacity(alloc, count)?;
-    let mut present = Vec::with_capacity(alloc, count)?;
-    'pieces: while values.len() < count {
-        let end = values.len() + PIECE.min(count - values.len());
-        add_sides(op, blank, &a, &b, end, &mut values, &mut present)?;
-    }
+    let present = row_flags(alloc, op, &a, &b)?;
+    let values = row_values(alloc, op, &a, &b)?;
     Ok(Owned { values, present })
 }

@@ -10,7 +10,8 @@ use Rattle.table_meaning.specs.Value.{Entry, cell, Given, GivenList, GivenPairs,
 use Rattle.form_meaning.specs.declared.Function.TheVariants.{ReadCsv}
 use Rattle.form_meaning.specs.Signature.{function_named}
 use Rattle.form_meaning.specs.Infix.{infix_result, sign_result}
-use Rattle.form_meaning.specs.Select.{Way, plain, through, select_result, length_result}
+use Rattle.form_meaning.specs.Select.{length_result}
+use Rattle.select_meaning.specs.Select.{Way, plain, through, select_result}
 use Rattle.form_meaning.specs.Functions.{make_result}
 use Rattle.method_meaning.specs.Calls as calls
 use Rattle.method_meaning.specs.Calls.{has_method, chain_result}

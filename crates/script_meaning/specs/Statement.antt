@@ -7,7 +7,7 @@ use Rattle.meaning.specs.Fault.{FaultValue}
 use Rattle.language_meaning.specs.Tree as tree
 use Rattle.table_meaning.specs.Table.{Table}
 use Rattle.table_meaning.specs.Value.{Entry, Given, cell, table}
-use Rattle.form_meaning.specs.Set.{assign_result, removal_result}
+use Rattle.select_meaning.specs.Set.{assign_result, removal_result}
 use Rattle.format_meaning.specs.Print.{table_text_of}
 use Rattle.script_meaning.specs.Reading.{Files, Reading, Reads, at_once, then_or}
 use Rattle.script_meaning.specs.State.{State, with_new, with_object, with_table, without_name}

@@ -1,8 +1,9 @@
 // Keys as the lines of errors write them.
-ghost use Rattle.std.specs.Prelude.{◌≡◌, ◌++◌, OnOk, drop, encode_utf8, map, string_bytes};
+ghost use Rattle.std.specs.Prelude.{drop, encode_utf8, map};
 ghost use Rattle.cell_core.specs.Values.{label_datum};
 ghost use Rattle.meaning.specs.Cell.{text as text_label};
 ghost use Rattle.meaning.specs.FaultText.{key_text, label_text, more_labels, quoted_bytes};
+ghost use Rattle.script_run.specs.Lines.{Appends};
 
 use cell_core::{Label, TextDict, Tuple};
 use itoa::{Buffer, Integer};
@@ -10,7 +11,7 @@ use std::alloc::AllocError;
 
 /// Appends a key: one label as it is, several in parentheses. Where memory is refused, a part of it may stand there.
 pub(crate) fn push_key(line: &mut String, texts: &TextDict, key: &Tuple) -> Result<(), AllocError>
-    ensures { OnOk result (string_bytes line.new ≡ string_bytes line.old ++ key_text (map (label_datum texts.now) key.now)) }
+    ensures { Appends result line.old line.new (key_text (map (label_datum texts.now) key.now)) }
 {
     if key.len() == 1 {
         return push_label(line, texts, key.at(0));
@@ -23,7 +24,7 @@ pub(crate) fn push_key(line: &mut String, texts: &TextDict, key: &Tuple) -> Resu
 
 /// Appends a number in decimal; nothing where memory is refused.
 pub(crate) fn push_number<N: Integer>(line: &mut String, number: N) -> Result<(), AllocError>
-    ensures { OnOk result (string_bytes line.new ≡ string_bytes line.old ++ N.text number) }
+    ensures { Appends result line.old line.new (N.text number) }
 {
     let mut digits = Buffer::new();
     line.push_str(digits.format(number))
@@ -31,7 +32,8 @@ pub(crate) fn push_number<N: Integer>(line: &mut String, number: N) -> Result<()
 
 // Appends the labels after the first, each behind a comma.
 fn push_more_labels(line: &mut String, texts: &TextDict, key: &Tuple) -> Result<(), AllocError>
-    ensures { OnOk result (string_bytes line.new ≡ string_bytes line.old ++ more_labels (map (label_datum texts.now) (drop 1 key.now))) }
+    ensures { Appends result line.old line.new
+        (more_labels (map (label_datum texts.now) (drop 1 key.now))) }
 {
     for level in 1..key.len() {
         line.push_str(", ")?;
@@ -41,7 +43,7 @@ fn push_more_labels(line: &mut String, texts: &TextDict, key: &Tuple) -> Result<
 }
 
 fn push_label(line: &mut String, texts: &TextDict, label: Label) -> Result<(), AllocError>
-    ensures { OnOk result (string_bytes line.new ≡ string_bytes line.old ++ label_text (label_datum texts.now label)) }
+    ensures { Appends result line.old line.new (label_text (label_datum texts.now label)) }
 {
     match label {
         Label::Bool(true) => line.push_str("True"),
@@ -54,7 +56,7 @@ fn push_label(line: &mut String, texts: &TextDict, label: Label) -> Result<(), A
 
 // Appends a text in quotes, with its escapes.
 fn push_quoted(line: &mut String, text: &str) -> Result<(), AllocError>
-    ensures { OnOk result (string_bytes line.new ≡ string_bytes line.old ++ label_text (text_label text.now)) }
+    ensures { Appends result line.old line.new (label_text (text_label text.now)) }
 {
     line.push_str("'")?;
     push_escaped(line, text)?;
@@ -62,7 +64,7 @@ fn push_quoted(line: &mut String, text: &str) -> Result<(), AllocError>
 }
 
 fn push_escaped(line: &mut String, text: &str) -> Result<(), AllocError>
-    ensures { OnOk result (string_bytes line.new ≡ string_bytes line.old ++ quoted_bytes text.now) }
+    ensures { Appends result line.old line.new (quoted_bytes text.now) }
 {
     for character in text.chars() {
         push_character(line, character)?;
@@ -71,7 +73,7 @@ fn push_escaped(line: &mut String, text: &str) -> Result<(), AllocError>
 }
 
 fn push_character(line: &mut String, character: char) -> Result<(), AllocError>
-    ensures { OnOk result (string_bytes line.new ≡ string_bytes line.old ++ quoted_bytes (encode_utf8 character)) }
+    ensures { Appends result line.old line.new (quoted_bytes (encode_utf8 character)) }
 {
     match character {
         '\\' => line.push_str("\\\\"),

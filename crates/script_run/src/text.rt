@@ -1,10 +1,11 @@
 // The lines of errors.
-ghost use Rattle.std.specs.Prelude.{◌≡◌, ◌++◌, IfOk, OnOk, decimal, map, string_bytes, true};
+ghost use Rattle.std.specs.Prelude.{◌≡◌, ◌++◌, IfOk, decimal, map, string_bytes, true};
 ghost use Rattle.cell_core.specs.Values.{label_datum};
 ghost use Rattle.script_meaning.specs.Run.{line_about, not_found_line, syntax_line, warning_line};
 ghost use Rattle.meaning.specs.Fault.{bad_merge, bad_value, length_of, long_row, out_of_range};
 ghost use Rattle.meaning.specs.FaultOf.{fault_of, reason_of, side_of};
 ghost use Rattle.meaning.specs.FaultText.{fault_text, key_text, reason_text, side_text};
+ghost use Rattle.script_run.specs.Lines.{Appends};
 
 use crate::key::{push_key, push_number};
 use cell_core::{Code, Fault, Reason, Side, TextDict, Tuple};
@@ -16,7 +17,8 @@ pub(crate) fn line_of_fault(
     texts: &TextDict,
     fault: &Fault,
 ) -> Result<String, AllocError>
-    ensures { IfOk result (λ text. string_bytes text ≡ line_about fault.now.line (fault_text (fault_of texts.now fault.now.code))) }
+    ensures { IfOk result (λ text. string_bytes text
+        ≡ line_about fault.now.line (fault_text (fault_of texts.now fault.now.code))) }
 {
     let line = fault.line;
     let mut text = format!(in alloc; "line {line}: ")?;
@@ -48,7 +50,7 @@ pub(crate) fn line_of_warning(alloc: Global, line: u64) -> Result<String, AllocE
 
 // Appends a cause: its class word, and what the line says of it. Where memory is refused, a part of it may stand there.
 fn push_fault(line: &mut String, texts: &TextDict, code: &Code) -> Result<(), AllocError>
-    ensures { OnOk result (string_bytes line.new ≡ string_bytes line.old ++ fault_text (fault_of texts.now code.now)) }
+    ensures { Appends result line.old line.new (fault_text (fault_of texts.now code.now)) }
 {
     match code {
         Code::NoName(name) => push_words(line, "NameError: ", name.as_str()),
@@ -72,14 +74,15 @@ fn push_fault(line: &mut String, texts: &TextDict, code: &Code) -> Result<(), Al
 }
 
 fn push_bad_value(line: &mut String, texts: &TextDict, reason: &Reason) -> Result<(), AllocError>
-    ensures { OnOk result (string_bytes line.new ≡ string_bytes line.old ++ fault_text (bad_value (reason_of texts.now reason.now))) }
+    ensures { Appends result line.old line.new
+        (fault_text (bad_value (reason_of texts.now reason.now))) }
 {
     line.push_str("ValueError: ")?;
     push_reason(line, texts, reason)
 }
 
 fn push_reason(line: &mut String, texts: &TextDict, reason: &Reason) -> Result<(), AllocError>
-    ensures { OnOk result (string_bytes line.new ≡ string_bytes line.old ++ reason_text (reason_of texts.now reason.now)) }
+    ensures { Appends result line.old line.new (reason_text (reason_of texts.now reason.now)) }
 {
     match reason {
         Reason::Repeated(key) => push_keyed(line, "duplicate labels ", texts, key),
@@ -95,7 +98,7 @@ fn push_reason(line: &mut String, texts: &TextDict, reason: &Reason) -> Result<(
 }
 
 fn push_words(line: &mut String, before: &str, words: &str) -> Result<(), AllocError>
-    ensures { OnOk result (string_bytes line.new ≡ string_bytes line.old ++ (before.now ++ words.now)) }
+    ensures { Appends result line.old line.new (before.now ++ words.now) }
 {
     line.push_str(before)?;
     line.push_str(words)
@@ -107,28 +110,29 @@ fn push_keyed(
     texts: &TextDict,
     key: &Tuple,
 ) -> Result<(), AllocError>
-    ensures { OnOk result (string_bytes line.new ≡ string_bytes line.old ++ (before.now ++ key_text (map (label_datum texts.now) key.now))) }
+    ensures { Appends result line.old line.new
+        (before.now ++ key_text (map (label_datum texts.now) key.now)) }
 {
     line.push_str(before)?;
     push_key(line, texts, key)
 }
 
 fn push_counted(line: &mut String, before: &str, count: u64) -> Result<(), AllocError>
-    ensures { OnOk result (string_bytes line.new ≡ string_bytes line.old ++ (before.now ++ decimal count)) }
+    ensures { Appends result line.old line.new (before.now ++ decimal count) }
 {
     line.push_str(before)?;
     push_number(line, count)
 }
 
 fn push_length(line: &mut String, expected: u64, given: u64) -> Result<(), AllocError>
-    ensures { OnOk result (string_bytes line.new ≡ string_bytes line.old ++ reason_text (length_of expected given)) }
+    ensures { Appends result line.old line.new (reason_text (length_of expected given)) }
 {
     push_counted(line, "length ", expected)?;
     push_counted(line, ", got ", given)
 }
 
 fn push_position(line: &mut String, position: i64, rows: u64) -> Result<(), AllocError>
-    ensures { OnOk result (string_bytes line.new ≡ string_bytes line.old ++ fault_text (out_of_range position rows)) }
+    ensures { Appends result line.old line.new (fault_text (out_of_range position rows)) }
 {
     line.push_str("IndexError: position ")?;
     push_number(line, position)?;
@@ -141,7 +145,8 @@ fn push_bad_merge(
     texts: &TextDict,
     key: &Tuple,
 ) -> Result<(), AllocError>
-    ensures { OnOk result (string_bytes line.new ≡ string_bytes line.old ++ fault_text (bad_merge (side_of side) (map (label_datum texts.now) key.now))) }
+    ensures { Appends result line.old line.new
+        (fault_text (bad_merge (side_of side) (map (label_datum texts.now) key.now))) }
 {
     push_words(line, "MergeError: ", side_word(side))?;
     push_keyed(line, " keys repeat ", texts, key)
@@ -157,7 +162,7 @@ fn side_word(side: Side) -> &'static str
 }
 
 fn push_long_row(line: &mut String, number: u64, expected: u64, seen: u64) -> Result<(), AllocError>
-    ensures { OnOk result (string_bytes line.new ≡ string_bytes line.old ++ fault_text (long_row number expected seen)) }
+    ensures { Appends result line.old line.new (fault_text (long_row number expected seen)) }
 {
     push_counted(line, "ParserError: record ", number)?;
     push_counted(line, ", expected ", expected)?;

@@ -30,7 +30,9 @@ impl From<NoMemory> for WordsFault {
 
 /// The script's path in the words, of which the first is the program's name, and the words after it.
 pub(crate) fn script_in(words: &Vec<String>) -> Option<(&str, &[String])>
-    ensures { MatchOption result (run_in (map string_bytes words.now.items) ≡ None) (λ r. run_in (map string_bytes words.now.items) ≡ with_script r.0.now (pairs_after [] (map string_bytes r.1.now))) }
+    ensures { let run = run_in (map string_bytes words.now.items) in
+        MatchOption result (run ≡ None)
+        (λ r. run ≡ with_script r.0.now (pairs_after [] (map string_bytes r.1.now))) }
 {
     match words.as_slice() {
         [_, script, more @ ..] if names_path(script.as_str()) => Some((script.as_str(), more)),
@@ -41,8 +43,10 @@ pub(crate) fn script_in(words: &Vec<String>) -> Option<(&str, &[String])>
 /// The names that the words give, each with its path. A word is a name, `=` and a path, cut at its
 /// first `=`; neither is empty, the word doesn't begin with `-`, and no name stands twice.
 pub(crate) fn names_in(alloc: Global, words: &[String]) -> Result<FileNames, WordsFault>
-    ensures names { IfOk result (λ names. pairs_after [] (map string_bytes words.now) ≡ Some (paths_of names)) }
-    ensures usage { IsErrOf result WordsFault.Usage → pairs_after [] (map string_bytes words.now) ≡ None }
+    ensures names { IfOk result
+        (λ names. pairs_after [] (map string_bytes words.now) ≡ Some (paths_of names)) }
+    ensures usage { IsErrOf result WordsFault.Usage
+        → pairs_after [] (map string_bytes words.now) ≡ None }
 {
     let mut names = FileNames::new(alloc);
     for word in words {
@@ -55,7 +59,8 @@ pub(crate) fn names_in(alloc: Global, words: &[String]) -> Result<FileNames, Wor
 fn push_pair(alloc: Global, names: &mut FileNames, word: &str) -> Result<(), WordsFault>
     ensures fits { OnOk result (may_follow (paths_of names.old) word.now ≡ true) }
     ensures names { OnOk result (paths_of names.new ≡ paths_of names.old ++ pair_in word.now ∷ []) }
-    ensures usage { IsErrOf result WordsFault.Usage → may_follow (paths_of names.old) word.now ≡ false }
+    ensures usage { IsErrOf result WordsFault.Usage
+        → may_follow (paths_of names.old) word.now ≡ false }
 {
     let Some((name, path)) = pair_in(word) else {
         return Err(WordsFault::Usage);
@@ -71,7 +76,8 @@ fn push_pair(alloc: Global, names: &mut FileNames, word: &str) -> Result<(), Wor
 
 // The name and the path in a word.
 fn pair_in(word: &str) -> Option<(&str, &str)>
-    ensures { MatchOption result (is_pair word.now ≡ false) (λ pair. (is_pair word.now ≡ true) × (pair_in word.now ≡ (pair.0.now, pair.1.now))) }
+    ensures { MatchOption result (is_pair word.now ≡ false) (λ pair.
+        (is_pair word.now ≡ true) × (pair_in word.now ≡ (pair.0.now, pair.1.now))) }
 {
     let (name, path) = word.split_once('=')?;
     if !names_path(word) || name.is_empty() || path.is_empty() {

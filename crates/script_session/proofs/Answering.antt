@@ -1,6 +1,6 @@
 -- What statements answer.
 use Rattle.std.proofs.Common.{◌≡◌, ℕ, Bool, true, false, nat_eq, List, [], ◌∷◌, Option, Some, None, refl, sym, ◌∙◌, ap, subst, IsSome}
-use Rattle.std.specs.Prelude.{if◌then◌else◌, ◌||◌, option_map, Result, Ok, Err, IfErr, IfOk, OnErr}
+use Rattle.std.specs.Prelude.{if◌then◌else◌, ◌||◌, option_map, Result, Ok, Err, OnErr}
 use Rattle.meaning.specs.Text.{Text, same_text}
 use Rattle.meaning.specs.Cell.{datum}
 use Rattle.meaning.specs.Fault.{FaultValue}
@@ -30,7 +30,7 @@ use Rattle.outside_io.specs.Files.{FilesValue}
 use Rattle.script_session.specs.Reads.{Goes, Halts, absent_name}
 use Rattle.frame_store.specs.World.{World, objects_of, entry_in, Keeps, Sets}
 use Rattle.script_session.specs.Bindings.{Bindings, value_at, is_named, one_object, state_over, IsOf, KeepNamed, AreGiven, AreNamed}
-use Rattle.script_session.specs.Faults.{IsNoName, IsStepFault, IsRefusal, Performs, step_fault, marked_fault}
+use Rattle.script_session.specs.Faults.{IsNoName, IsStepFault, Performs, PerformsOnce, step_fault, marked_fault}
 use Rattle.script_session.proofs.Numbers.{nat_same, nat_eq_self, true_false, same_congr}
 use Rattle.script_session.proofs.Bindings.{named_object}
 use Rattle.script_session.proofs.States.{same_state, state_swept}
@@ -131,12 +131,11 @@ set_refused {texts} files {first} {last} {whole} s o on meant form f warned e ol
     at OpNoMemory sets = goes_spends goes
 
 -- what a statement that reads no file answers
-pub performs_once : (texts : List Text) (files : Files) (seen : FilesValue) (whole : Reading Answer) (s : State) (r : Result Outcome StepFault) → IfOk r (λ o. whole ≡ at_once (done s o.printed o.warned)) → IfErr r (λ f. IsRefusal texts f whole)
-    → Performs s texts files seen seen whole r
-performs_once texts files seen whole s (Ok o) is f = goes_same is
-performs_once texts files seen whole s (Err (Refused code warned)) is f = (goes_same f.0, uncaused files.paths seen seen (absent_name code) f.1, f.2)
-performs_once texts files seen whole s (Err Input) is f = absurd f
-performs_once texts files seen whole s (Err NoMemory) is f = spends_none
+pub performs_once : (texts : List Text) (files : Files) (seen : FilesValue) (whole : Reading Answer) (s : State) (r : Result Outcome StepFault) → PerformsOnce s texts whole r → Performs s texts files seen seen whole r
+performs_once texts files seen whole s (Ok o) is = goes_same is
+performs_once texts files seen whole s (Err (Refused code warned)) f = (goes_same f.0, uncaused files.paths seen seen (absent_name code) f.1, f.2)
+performs_once texts files seen whole s (Err Input) f = absurd f
+performs_once texts files seen whole s (Err NoMemory) f = spends_none
 
 pub performs_by : (s : State) (texts : List Text) (files : Files) (old new : FilesValue) {whole other : Reading Answer} (r : Result Outcome StepFault) → whole ≡ other → Performs s texts files old new other r → Performs s texts files old new whole r
 performs_by s texts files old new r is h = subst (λ (a : Reading Answer). Performs s texts files old new a r) (sym is) h

@@ -1,6 +1,6 @@
 -- Evaluations one after the other.
-use Rattle.std.proofs.Common.{◌≡◌, Bool, true, false, List, Option, Some, None, refl, sym, ◌∙◌, ap, subst}
-use Rattle.std.specs.Prelude.{Result, Ok, Err, IfOk, IfErr, IsErrAnd, option_map}
+use Rattle.std.proofs.Common.{◌≡◌, Bool, true, List, Option, Some, None, refl, sym, ◌∙◌, ap, subst}
+use Rattle.std.specs.Prelude.{Result, Ok, Err, IfOk, IfErr, IsErrAnd}
 use Rattle.meaning.specs.Text.{Text}
 use Rattle.cell_core.specs.declared.code.Code.TheVariants.{NotBuilt}
 use Rattle.meaning.specs.Fault.{FaultValue, not_built}
@@ -16,8 +16,8 @@ use Rattle.script_session.specs.Bindings.{value_at, IsOf}
 use Rattle.script_session.specs.Evaluates.{Moment, IsValue, Evaluates}
 use Rattle.script_session.specs.Faults.{IsNoAttribute, IsNoName, evaluated}
 use Rattle.script_session.specs.FormFault.{HasFormFault}
-use Rattle.outside_io.specs.Files.{FilesValue, Serves}
-use Rattle.script_session.specs.Reads.{Halts, Reaches, files_in}
+use Rattle.outside_io.specs.Files.{FilesValue}
+use Rattle.script_session.specs.Reads.{Halts, files_in}
 use Rattle.frame_store.specs.World.{World, Keeps, IsKnownValue, entry_in, Forms}
 use Rattle.script_session.specs.Work.{names_in, world_of, state_in}
 use Rattle.script_session.specs.declared.file_names.FileName.{FileName}

@@ -1,5 +1,5 @@
 -- Lists whose parts are evaluated one after the other.
-use Rattle.std.proofs.Common.{◌≡◌, List, refl, sym, ◌∙◌, ap, subst}
+use Rattle.std.proofs.Common.{◌≡◌, List, sym, ◌∙◌, ap, subst}
 use Rattle.std.specs.Prelude.{Result, Ok, Err, IsErrAnd}
 use Rattle.meaning.specs.Text.{Contents}
 use Rattle.script_meaning.specs.Reading.{Files, Reads, gives}
@@ -13,9 +13,9 @@ use Rattle.script_session.specs.declared.file_names.FileName.{FileName}
 use Rattle.script_session.specs.declared.fault.EvalFault.{EvalFault}
 use Rattle.script_session.specs.declared.fault.EvalFault.TheVariants.{NoMemory}
 use Rattle.script_session.specs.declared.work.Work.{Work}
-use Rattle.script_session.proofs.Rides.{serves_self, serves_both, goes_same, goes_by, goes_to, ahead, joined, loop_next, loop_fault, loop_end, loop_spends}
+use Rattle.script_session.proofs.Rides.{serves_both, goes_by, goes_to, ahead, joined, loop_next, loop_fault, loop_end, loop_spends}
 use Rattle.script_session.proofs.States.{state_kept}
-use Rattle.script_session.proofs.Worlds.{keeps_both, keeps_same}
+use Rattle.script_session.proofs.Worlds.{keeps_both}
 
 -- the parts so far are joined to what the rest gives
 pub record Gathers {L : Type 0} (paths : List FileName) (join : L → L → L) (whole rest : Files → State → Reads L) (so_far : L) (old new : Moment) : Type 0 where

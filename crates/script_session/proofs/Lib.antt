@@ -7,6 +7,9 @@ pub mod Naming
 pub mod States
 pub mod Binding
 pub mod FormFaults
+pub mod SelectFaults
+pub mod SetFaults
+pub mod MethodFaults
 pub mod Rides
 pub mod Fetching
 pub mod Parts

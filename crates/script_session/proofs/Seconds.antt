@@ -1,9 +1,8 @@
 -- Parts that may be left out, where they stand.
-use Rattle.std.proofs.Common.{◌≡◌, List, Option, Some, None, refl}
+use Rattle.std.proofs.Common.{List, Option, Some, refl}
 use Rattle.std.specs.Prelude.{Ok, Err, option_map, IfSome}
 use Rattle.meaning.specs.Text.{Text}
-use Rattle.table_meaning.specs.Value.{Entry, Given, GivenSub, one}
-use Rattle.frame_store.specs.declared.arguments.Argument.{Argument}
+use Rattle.table_meaning.specs.Value.{Entry, GivenSub, one}
 use Rattle.frame_store.specs.declared.arguments.Argument.TheVariants.{One}
 use Rattle.frame_store.specs.declared.arguments.Subscript.{Subscript}
 use Rattle.frame_store.specs.declared.arguments.Value.{Value}

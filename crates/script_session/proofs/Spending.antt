@@ -16,11 +16,9 @@ use Rattle.frame_store.specs.declared.arguments.Subscript.{Subscript}
 use Rattle.frame_store.specs.declared.arguments.Value.{Value}
 use Rattle.frame_store.specs.declared.arguments.Value.TheVariants.{Object, Scalar}
 use Rattle.frame_store.specs.declared.fault.OpFault.{OpFault}
-use Rattle.selections.specs.Assigned.{moved_object, IsOther, IsNewFor}
-use Rattle.selections.specs.declared.moving.NewValue.{NewValue}
-use Rattle.selections.specs.declared.moving.NewValue.TheVariants.{Copied, Moved}
-use Rattle.script_session.specs.Bindings.{Bindings, is_named, is_spare, contains, state_over, AreNoted, KeepNamed}
-use Rattle.script_session.specs.Work.{without, IsUnnamedValue}
+use Rattle.settings.specs.Assigned.{without, IsOther}
+use Rattle.script_session.specs.Bindings.{Bindings, is_named, is_spare, state_over, AreNoted, KeepNamed}
+use Rattle.script_session.specs.Work.{IsUnnamedValue}
 use Rattle.script_session.proofs.Numbers.{nat_same, true_false, some_none}
 use Rattle.script_session.proofs.LiveObjects.{kept_ended}
 use Rattle.script_session.proofs.States.{state_swept}
@@ -71,15 +69,15 @@ spent_noted bs ts (Ok done) (Some o) tables have = λ id live. have id (was id (
 spent_noted bs ts (Err f) spare tables have = have
 
 -- the value that is set stays
-pub spent_on : (tables : Tables) (on : Value) (value : NewValue) (r : Result ⊤ OpFault) → IsNewFor tables on value → IsLive tables on → IsLive (spent r (moved_object value) tables) on
-spent_on tables on (Copied a) (Ok done) new live = live
-spent_on tables (Object o) (Moved id) (Ok done) new live = go (nat_eq id.0 o.0) refl
+pub spent_on : (tables : Tables) (on : Value) (spare : Option ObjId) (r : Result ⊤ OpFault) → IfSome spare (IsOther on) → IsLive tables on → IsLive (spent r spare tables) on
+spent_on tables on None (Ok done) other live = live
+spent_on tables (Object o) (Some id) (Ok done) other live = go (nat_eq id.0 o.0) refl
   where
     go : (b : Bool) → nat_eq id.0 o.0 ≡ b → IsSome (if b then None else tables o.0)
-    go true is = absurd (new.1 (sym (nat_same id.0 o.0 is)))
+    go true is = absurd (other (sym (nat_same id.0 o.0 is)))
     go false is = live
-spent_on tables (Scalar c) (Moved id) (Ok done) new live = tt
-spent_on tables on value (Err f) new live = live
+spent_on tables (Scalar c) (Some id) (Ok done) other live = tt
+spent_on tables on spare (Err f) other live = live
 
 -- the state is the same without it
 pub spent_state : (bs : Bindings) (value : Argument) (r : Result ⊤ OpFault) (spare : Option ObjId) (w : World) → IfSome spare (IsUnnamedValue bs value) → state_over bs w ≡ state_over bs (without r spare w)

@@ -1,5 +1,5 @@
 -- How many names stand for an object, as names get values and lose them.
-use Rattle.std.proofs.Common.{◌≡◌, ◌<◌, ◌≤◌, ℕ, suc, Bool, true, false, nat_eq, List, [], ◌∷◌, Option, Some, None, refl, sym, ◌∙◌, ap, subst, arith, IsSome}
+use Rattle.std.proofs.Common.{◌≡◌, ◌<◌, ◌≤◌, ℕ, suc, Bool, true, false, [], ◌∷◌, Option, Some, None, refl, sym, ◌∙◌, ap, arith, IsSome}
 use Rattle.std.specs.Prelude.{if◌then◌else◌, cond, nat_lt, Result, Ok, Err, OnOk, OnErr}
 use Rattle.std.proofs.lemmas.Bool.Decides.{nat_tests}
 use Rattle.meaning.specs.Text.{Text, same_text}

@@ -1,7 +1,7 @@
 -- The tables of live objects stay valid.
-use Rattle.std.proofs.Common.{◌≡◌, ◌∙◌, ℕ, Bool, true, false, nat_eq, List, Option, Some, None, refl, sym, ap, subst, IsSome}
+use Rattle.std.proofs.Common.{◌≡◌, ℕ, Bool, true, false, nat_eq, List, Option, Some, None, refl, sym, ap, subst, IsSome}
 use Rattle.std.specs.Prelude.{if◌then◌else◌, option_map, ⊤, Result, Ok, Err, IfOk, IfSome}
-use Rattle.meaning.specs.Cell.{IsLonger, datum}
+use Rattle.meaning.specs.Cell.{IsLonger}
 use Rattle.meaning.specs.Text.{Text}
 use Rattle.meaning.specs.Fault.{FaultValue}
 use Rattle.table_meaning.specs.Settled.{IsSettled}
@@ -13,7 +13,6 @@ use Rattle.frame_store.specs.Objects.{Tables, table_or, with_object}
 use Rattle.frame_store.specs.Arguments.{argument_of, IsLive, IsLiveArgument}
 use Rattle.frame_store.specs.declared.arguments.Argument.{Argument, Nothing, One, Row, Many, Table'}
 use Rattle.frame_store.specs.Shown.{Shown, shown, with_shown, table_in, FormAnswers, Changes}
-use Rattle.frame_store.specs.declared.object.ObjId.{ObjId}
 use Rattle.frame_store.specs.declared.arguments.Value.{Value}
 use Rattle.frame_store.specs.declared.arguments.Value.TheVariants.{Object, Scalar}
 use Rattle.frame_store.specs.declared.fault.OpFault.{OpFault}

@@ -73,3 +73,8 @@ abbrev pub IsRefusal : List Text → StepFault → Reading Answer → Type 0
 IsRefusal texts (Refused code warned) answer = (answer ≡ at_once (refused (fault_of texts code) warned)) × (absent_name code ≡ None) × IsSettled fault_of texts code
 IsRefusal texts Input answer = ⊥
 IsRefusal texts NoMemory answer = Unit {0}
+
+-- what a statement that reads no file answers
+abbrev pub PerformsOnce : State → List Text → Reading Answer → Result Outcome StepFault → Type 0
+PerformsOnce s texts answer (Ok o) = answer ≡ at_once (done s o.printed o.warned)
+PerformsOnce s texts answer (Err fault) = IsRefusal texts fault answer

@@ -4,7 +4,7 @@ use Rattle.indexmap.specs.IndexMap.{get}
 use Rattle.frame_store.specs.declared.object.ObjId.{ObjId}
 use Rattle.frame_store.specs.declared.arguments.Value.{Value}
 use Rattle.frame_store.specs.declared.arguments.Value.TheVariants.{Object, Scalar}
-use Rattle.script_session.specs.Bindings.{Bindings, bindings_of, uses_of, is_object}
+use Rattle.script_session.specs.Bindings.{Bindings, uses_of, is_object}
 use Rattle.script_session.specs.declared.uses.Uses.{Uses}
 
 abbrev pub same_id : ObjId → ObjId → Bool

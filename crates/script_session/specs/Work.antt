@@ -3,7 +3,6 @@ use Rattle.std.specs.Prelude.{◌≡◌, false, Option, IfSome, ⊤, Result}
 use Rattle.meaning.specs.Fault.{FaultValue}
 use Rattle.table_meaning.specs.Table.{Table}
 use Rattle.frame_store.specs.Objects.{Tables, tables}
-use Rattle.frame_store.specs.Shown.{spent}
 use Rattle.frame_store.specs.declared.object.ObjId.{ObjId}
 use Rattle.frame_store.specs.declared.arguments.Value.{Value}
 use Rattle.frame_store.specs.declared.arguments.Value.TheVariants.{Object}
@@ -12,6 +11,7 @@ use Rattle.frame_store.specs.declared.arguments.Argument.TheVariants.{One}
 use Rattle.frame_store.specs.declared.fault.OpFault.{OpFault}
 use Rattle.script_meaning.specs.State.{State}
 use Rattle.frame_store.specs.World.{World, Sets}
+use Rattle.settings.specs.Assigned.{without}
 use Rattle.script_session.specs.Bindings.{Bindings, bindings_of, is_named, state_over}
 use Rattle.script_session.specs.declared.work.Work.{Work}
 
@@ -26,10 +26,6 @@ world_of w = record { tables = tables w.store; texts = w.dict }
 
 abbrev pub state_in : Work → State
 state_in w = state_over (names_in w) (world_of w)
-
--- the world without an object, if there is one, that ends with a setting
-abbrev pub without : Result ⊤ OpFault → Option ObjId → World → World
-without r spare w = record { tables = spent r spare w.tables; texts = w.texts }
 
 -- the object is the value, and no name stands for it
 abbrev pub IsUnnamedValue : Bindings → Argument → ObjId → Type 0

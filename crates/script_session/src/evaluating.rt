@@ -145,7 +145,8 @@ impl Work {
     ) -> Result<(Subscript, Option<Subscript>), EvalFault>
         ensures { let at = moment F.seen in
             Evaluates names.now AreSubscripts subscripts_in
-            (λ fs s. both_of (sub_of fs s (view_sub first.now)) (second_of fs s (optional_sub second.now)))
+            (λ fs s. both_of (sub_of fs s (view_sub first.now))
+            (second_of fs s (optional_sub second.now)))
             (at self.old files.old) (at self.new files.new) result }
     {
         let first = self.sub(files, names, first)?;

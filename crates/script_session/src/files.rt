@@ -5,10 +5,9 @@ ghost use Rattle.meaning.specs.Fault.{FaultValue};
 ghost use Rattle.table_meaning.specs.Value.{Entry};
 ghost use Rattle.form_meaning.specs.declared.Function.TheVariants.{ReadCsv};
 ghost use Rattle.method_meaning.specs.Readers.{file_name_of, read_result};
-ghost use Rattle.frame_store.specs.Arguments.{arguments_of};
 ghost use Rattle.script_meaning.specs.Reading.{at_once, then_read, of_file};
 ghost use Rattle.script_meaning.specs.Expression.{made};
-ghost use Rattle.frame_store.specs.World.{Keeps, IsKnownValue, AreKnownArguments, entry_in};
+ghost use Rattle.frame_store.specs.World.{Keeps, IsKnownValue, AreKnownArguments, entry_in, arguments_in};
 ghost use Rattle.script_session.specs.Bindings.{IsOf};
 ghost use Rattle.outside_io.specs.Files.{Serves};
 ghost use Rattle.script_session.specs.Reads.{files_in, Reaches, ReachesBytes, RefusesLong};
@@ -42,10 +41,10 @@ impl Work {
         ensures names { names_in self.new ≡ names_in self.old }
         ensures kept { Keeps (world_of self.old) (world_of self.new) }
         ensures reads { (held : Contents) →
-            Reaches (entry_in (world_of self.new)) (world_of self.new).texts (files_in names.now held)
-            (F.seen files.old) (F.seen files.new)
+            Reaches (entry_in (world_of self.new)) (world_of self.new).texts
+            (files_in names.now held) (F.seen files.old) (F.seen files.new)
             (made (files_in names.now held) function.now
-            (arguments_of (world_of self.old).tables (world_of self.old).texts args.now.items.items))
+            (arguments_in (world_of self.old) args.now.items.items))
             result }
         ensures known { IfOk result (λ v. IsKnownValue (world_of self.new) v) }
         ensures object { IfOk result (λ v. IsOf (names_in self.new) None v) }
@@ -66,10 +65,10 @@ impl Work {
         args: &NamedList,
     ) -> Result<Bytes, EvalFault>
         requires { AreKnownArguments (world_of self.now) args.now.items.items }
-        ensures reads { let w = world_of self.now in let given = arguments_of w.tables w.texts args.now.items.items in
+        ensures reads { let given = arguments_in (world_of self.now) args.now.items.items in
             (held : Contents) →
-            ReachesBytes (λ bytes. read_result bytes given) w.texts (files_in names.now held)
-            (F.seen files.old) (F.seen files.new)
+            ReachesBytes (λ bytes. read_result bytes given) (world_of self.now).texts
+            (files_in names.now held) (F.seen files.old) (F.seen files.new)
             (then_read (at_once (file_name_of ReadCsv given)) (λ name.
             of_file (files_in names.now held) name (λ bytes. read_result bytes given)))
             result }

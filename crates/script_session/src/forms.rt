@@ -7,22 +7,22 @@ ghost use Rattle.table_meaning.specs.Value.{cell};
 ghost use Rattle.table_meaning.specs.Settled.{IsSettled};
 ghost use Rattle.form_meaning.specs.Signature.{function_named};
 ghost use Rattle.form_meaning.specs.Infix.{infix_result, sign_result};
-ghost use Rattle.form_meaning.specs.Select.{length_result, select_result};
-ghost use Rattle.form_meaning.specs.Set.{assign_result, removal_result};
+ghost use Rattle.form_meaning.specs.Select.{length_result};
+ghost use Rattle.select_meaning.specs.Select.{select_result};
+ghost use Rattle.select_meaning.specs.Set.{assign_result, removal_result};
 ghost use Rattle.method_meaning.specs.Calls.{chain_result, has_method};
 ghost use Rattle.method_meaning.specs.Readers.{make_with};
 ghost use Rattle.table_laws.specs.Validity.{IsHeldCell};
 ghost use Rattle.frame_store.specs.Objects.{tables};
 ghost use Rattle.frame_store.specs.Arguments.{entry_of, argument_of, IsLive};
-ghost use Rattle.frame_store.specs.Shown.{FormAnswers};
 ghost use Rattle.frame_methods.specs.Calls.{chain_of};
 ghost use Rattle.selections.specs.Selected.{way_of};
-ghost use Rattle.selections.specs.Assigned.{new_value, moved_object, IsNewFor};
+ghost use Rattle.settings.specs.Assigned.{new_value, moved_object, IsLiveNew, IsOther};
 ghost use Rattle.nullable_array.specs.Tasks.{operator_of};
 ghost use Rattle.script_tokens.specs.View.{binary_of};
 ghost use Rattle.script_syntax.specs.View.{literal_of, unary_of};
 ghost use Rattle.script_meaning.specs.Expression.{cell_of, is_minus};
-ghost use Rattle.frame_store.specs.World.{objects_of, entry_in, argument_in, arguments_in, subscript_in, Keeps, IsKnownValue, IsKnownArgument, AreKnownArguments, IsKnownSubscript, Forms, Sets};
+ghost use Rattle.frame_store.specs.World.{entry_in, argument_in, arguments_in, subscript_in, Keeps, IsKnownValue, IsKnownArgument, AreKnownArguments, IsKnownSubscript, Forms, Sets};
 ghost use Rattle.script_session.specs.Bindings.{value_at, noted, is_spare, IsOf};
 ghost use Rattle.script_session.specs.Faults.{IsNoName, IsNoAttribute};
 
@@ -37,7 +37,7 @@ use frame_methods::exists;
 use frame_store::{Argument, Chain, NamedList, ObjId, OpFault, Selector, Store, Subscript, Value};
 use nullable_array::Binary as Operator;
 use script_syntax::{Binary, Literal, Unary};
-use selections::NewValue;
+use settings::NewValue;
 use std::alloc::Global;
 
 impl Work {
@@ -47,7 +47,8 @@ impl Work {
     pub(crate) fn named(&self, name: &Words) -> Result<Value, EvalFault>
         ensures found { IfOk result (λ v. value_at (names_in self.now) name.now ≡ Some v) }
         ensures known { IfOk result (λ v. IsKnownValue (world_of self.now) v) }
-        ensures fault { IfErr result (λ f. IsNoName f name.now (value_at (names_in self.now) name.now)) }
+        ensures fault { IfErr result
+            (λ f. IsNoName f name.now (value_at (names_in self.now) name.now)) }
     {
         match find(&self.names.values, name.as_str()) {
             Some(value) => Ok(value),
@@ -62,7 +63,8 @@ impl Work {
     pub(crate) fn literal(&mut self, literal: &Literal) -> Result<Value, EvalFault>
         ensures names { names_in self.new ≡ names_in self.old }
         ensures kept { Keeps (world_of self.old) (world_of self.new) }
-        ensures value { IfOk result (λ v. entry_in (world_of self.new) v ≡ cell (cell_of (literal_of literal.now))) }
+        ensures value { IfOk result (λ v. entry_in (world_of self.new) v
+            ≡ cell (cell_of (literal_of literal.now))) }
         ensures object { IfOk result (λ v. IsOf (names_in self.new) None v) }
         ensures known { IfOk result (λ v. IsKnownValue (world_of self.new) v) }
         ensures memory { IfErr result (λ f. f ≡ EvalFault.NoMemory) }
@@ -75,7 +77,8 @@ impl Work {
     pub(crate) fn key(&mut self, literal: &Literal) -> Result<Label, EvalFault>
         ensures names { names_in self.new ≡ names_in self.old }
         ensures kept { Keeps (world_of self.old) (world_of self.new) }
-        ensures label { IfOk result (λ l. label_datum (world_of self.new).texts l ≡ cell_label (cell_of (literal_of literal.now))) }
+        ensures label { IfOk result (λ l. label_datum (world_of self.new).texts l
+            ≡ cell_label (cell_of (literal_of literal.now))) }
         ensures given { IfOk result (λ l. IsSettled label_datum (world_of self.new).texts l) }
         ensures memory { IfErr result (λ f. f ≡ EvalFault.NoMemory) }
     {
@@ -207,7 +210,8 @@ impl Work {
         Ok(made)
     }
 
-    // What brackets or an accessor name is set. Where no name stands for the value's object, it may end.
+    // What brackets or an accessor name is set. Where no name stands for the value's object, it may
+    // end.
     pub(crate) fn assign(
         &mut self,
         on: Value,
@@ -232,7 +236,7 @@ impl Work {
         prove!(is_held(scalar));
         let second = second.as_ref();
         let value = self.new_value(on, value);
-        selections::assign(
+        settings::assign(
             self.alloc,
             &mut self.store,
             &mut self.dict,
@@ -244,14 +248,16 @@ impl Work {
         )
     }
 
-    // What a place is set to. An object that no name stands for isn't needed after the setting, if the one that is set
-    // has a name and so is another.
+    // What a place is set to. An object that no name stands for isn't needed after the setting, if
+    // the one that is set has a name and so is another.
     fn new_value<'a>(&self, on: Value, value: &'a Argument) -> NewValue<'a>
         requires { IsKnownArgument (world_of self.now) value.now }
         ensures meant { (texts : List OneText) → new_value (tables_in self.now) texts result
             ≡ argument_of (tables_in self.now) texts value.now }
-        ensures live { IsNewFor (tables_in self.now) on result }
-        ensures spare { IfSome (moved_object result) (IsUnnamedValue (names_in self.now) value.now) }
+        ensures live { IsLiveNew (tables_in self.now) result }
+        ensures other { IfSome (moved_object result) (IsOther on) }
+        ensures spare { IfSome (moved_object result)
+            (IsUnnamedValue (names_in self.now) value.now) }
     {
         if let Some(id) = value.object() {
             if self.is_spare(on, id) {
@@ -280,13 +286,14 @@ impl Work {
             (entry_in (world_of self.old) on) (entry_in (world_of self.old) label))
             (world_of self.old) (world_of self.new) }
     {
-        selections::remove(self.alloc, &mut self.store, &self.dict, on, label)
+        settings::remove(self.alloc, &mut self.store, &self.dict, on, label)
     }
 
     // The number of rows.
     pub(crate) fn length(&self, on: Value) -> Result<Value, OpFault>
         requires { IsKnownValue (world_of self.now) on }
-        ensures { FormAnswers (world_of self.now).texts result (length_result (entry_in (world_of self.now) on)) (objects_of (world_of self.now)) (objects_of (world_of self.now)) }
+        ensures { Forms result (length_result (entry_in (world_of self.now) on))
+            (world_of self.now) (world_of self.now) }
     {
         match on {
             Value::Object(id) => {
@@ -361,8 +368,11 @@ pub(crate) fn expect_method(
     name: &str,
 ) -> Result<(), EvalFault>
     requires { IsLive (tables store.now) on }
-    ensures known { (texts : List OneText) → OnOk result (has_method (entry_of (tables store.now) texts on) name.now ≡ true) }
-    ensures fault { (texts : List OneText) → IfErr result (λ f. IsNoAttribute f name.now (has_method (entry_of (tables store.now) texts on) name.now)) }
+    ensures known { (texts : List OneText) →
+        OnOk result (has_method (entry_of (tables store.now) texts on) name.now ≡ true) }
+    ensures fault { (texts : List OneText) →
+        IfErr result (λ f. IsNoAttribute f name.now
+        (has_method (entry_of (tables store.now) texts on) name.now)) }
 {
     expect_known(alloc, exists(store, on, name), name)
 }
@@ -370,7 +380,8 @@ pub(crate) fn expect_method(
 // Whether `pd` has a function of this name, or an AttributeError.
 pub(crate) fn expect_function(alloc: Global, name: &str) -> Result<(), EvalFault>
     ensures known { OnOk result (is_some (function_named name.now) ≡ true) }
-    ensures fault { IfErr result (λ f. IsNoAttribute f name.now (is_some (function_named name.now))) }
+    ensures fault { IfErr result
+        (λ f. IsNoAttribute f name.now (is_some (function_named name.now))) }
 {
     expect_known(alloc, function_exists(name), name)
 }

@@ -43,7 +43,13 @@ impl Link {
         name: &'a Words,
         more: &'a Args,
     ) -> Linked<'a>
-        ensures { result ≡ record { link = self; args = args.entry; by = by.entry; name = name.entry; more = more.entry } }
+        ensures { result ≡ record {
+          link = self;
+          args = args.entry;
+          by = by.entry;
+          name = name.entry;
+          more = more.entry;
+        } }
     {
         Linked {
             link: self,

@@ -48,8 +48,10 @@ impl Names {
         name: &str,
         value: Value,
     ) -> Result<Option<Value>, NoMemory>
-        ensures bound { OnOk result (bindings_of self.new.values.entries ≡ bound (bindings_of self.old.values.entries) name.now value) }
-        ensures left { IfOk result (λ left. left ≡ value_at (bindings_of self.old.values.entries) name.now) }
+        ensures bound { OnOk result (bindings_of self.new.values.entries
+            ≡ bound (bindings_of self.old.values.entries) name.now value) }
+        ensures left { IfOk result
+            (λ left. left ≡ value_at (bindings_of self.old.values.entries) name.now) }
         ensures same { OnErr result (self.new.values.entries ≡ self.old.values.entries) }
     {
         self.uses.make_room(value)?;
@@ -61,7 +63,8 @@ impl Names {
 
     // The name is taken out. Answers the value that it had. Takes no memory.
     pub(crate) fn unbind(&mut self, name: &str) -> Option<Value>
-        ensures unbound { bindings_of self.new.values.entries ≡ unbound (bindings_of self.old.values.entries) name.now }
+        ensures unbound { bindings_of self.new.values.entries
+            ≡ unbound (bindings_of self.old.values.entries) name.now }
         ensures left { result ≡ value_at (bindings_of self.old.values.entries) name.now }
     {
         let left = unbind(&mut self.values, name);
@@ -84,8 +87,10 @@ fn bind(
     name: &str,
     value: Value,
 ) -> Result<Option<Value>, NoMemory>
-    ensures bound { OnOk result (bindings_of names.new.entries ≡ bound (bindings_of names.old.entries) name.now value) }
-    ensures left { IfOk result (λ left. left ≡ value_at (bindings_of names.old.entries) name.now) }
+    ensures bound { OnOk result (bindings_of names.new.entries
+        ≡ bound (bindings_of names.old.entries) name.now value) }
+    ensures left { IfOk result
+        (λ left. left ≡ value_at (bindings_of names.old.entries) name.now) }
     ensures unique { OnOk result (IsUnique string_eq names.new) }
     ensures same { OnErr result (names.new.entries ≡ names.old.entries) }
 {
@@ -96,7 +101,8 @@ fn bind(
 
 // The name is taken out. Answers the value that it had. Takes no memory.
 fn unbind(names: &mut IndexMap<String, Value>, name: &str) -> Option<Value>
-    ensures unbound { bindings_of names.new.entries ≡ unbound (bindings_of names.old.entries) name.now }
+    ensures unbound { bindings_of names.new.entries
+        ≡ unbound (bindings_of names.old.entries) name.now }
     ensures left { result ≡ value_at (bindings_of names.old.entries) name.now }
     ensures unique { IsUnique string_eq names.new }
 {

@@ -20,7 +20,8 @@ pub(crate) fn printed_value(
     end: &str,
 ) -> Result<Words, NoMemory>
     requires { IsLive (tables store.now) value }
-    ensures { IfOk result (λ text. text ≡ entry_text (entry_of (tables store.now) dict.now value) ++ end.now) }
+    ensures { IfOk result
+        (λ text. text ≡ entry_text (entry_of (tables store.now) dict.now value) ++ end.now) }
 {
     let mut text = value_text(alloc, dict, store, value)?;
     text.push_str(end)?;
@@ -34,7 +35,8 @@ fn value_text(
     value: Value,
 ) -> Result<Words, NoMemory>
     requires { IsLive (tables store.now) value }
-    ensures { IfOk result (λ text. text ≡ entry_text (entry_of (tables store.now) dict.now value)) }
+    ensures { IfOk result
+        (λ text. text ≡ entry_text (entry_of (tables store.now) dict.now value)) }
 {
     match value {
         Value::Scalar(cell) => cell_text(alloc, dict, cell),

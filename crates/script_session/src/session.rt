@@ -86,7 +86,8 @@ impl Session {
         ensures longer { IsLonger (texts_of self.old) (texts_of self.new) }
         ensures live { LiveAreNamed self.new }
         ensures valid { AreValid (live_of self.new) }
-        ensures apart { OnOk result (ChangesOneObject (form_of statement.now.form) (state_of self.old) (state_of self.new)) }
+        ensures apart { OnOk result (ChangesOneObject (form_of statement.now.form)
+            (state_of self.old) (state_of self.new)) }
     {
         self.perform(files, names, &statement.form)
     }
@@ -129,7 +130,8 @@ impl Session {
         ensures longer { IsLonger (texts_of self.old) (texts_of self.new) }
         ensures live { LiveAreNamed self.new }
         ensures valid { AreValid (live_of self.new) }
-        ensures apart { OnOk result (ChangesOneObject (form_of form.now) (state_of self.old) (state_of self.new)) }
+        ensures apart { OnOk result (ChangesOneObject (form_of form.now)
+            (state_of self.old) (state_of self.new)) }
     {
         let result = self.work.perform(files, names, form);
         self.work.sweep();

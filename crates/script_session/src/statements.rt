@@ -1,5 +1,5 @@
 // Statements. What they make is noted.
-ghost use Rattle.std.specs.Prelude.{◌≡◌, [], Some, IfOk, IfErr, IfSome, OnOk, OnErr, is_some, option_map, ◌<◌, vec_len, vec_capacity};
+ghost use Rattle.std.specs.Prelude.{◌≡◌, [], Some, IfOk, IfSome, OnOk, OnErr, is_some, option_map, ◌<◌, vec_len, vec_capacity};
 ghost use Rattle.meaning.specs.Cell.{IsLonger};
 ghost use Rattle.meaning.specs.Text.{Contents};
 ghost use Rattle.language_meaning.specs.Tree as tree;
@@ -7,15 +7,15 @@ ghost use Rattle.frame_store.specs.Arguments.{subscript_of};
 ghost use Rattle.selections.specs.Selected.{way_of};
 ghost use Rattle.script_meaning.specs.State.{without_name};
 ghost use Rattle.script_meaning.specs.Expression.{named_by, target_of};
-ghost use Rattle.script_meaning.specs.Statement.{done, is_chained, statement_result};
+ghost use Rattle.script_meaning.specs.Statement.{is_chained, statement_result};
 ghost use Rattle.script_syntax.specs.View.{expr_of, step_of, arg_of, form_of};
 ghost use Rattle.frame_store.specs.World.{Keeps, IsKnownValue};
 ghost use Rattle.script_session.specs.Bindings.{bound, unbound, value_at, noted_old, AreNamed, KeepNamed};
-ghost use Rattle.script_meaning.specs.Reading.{Files as SomeFiles, at_once};
+ghost use Rattle.script_meaning.specs.Reading.{Files as SomeFiles};
 ghost use Rattle.outside_io.specs.Files.{Serves};
 ghost use Rattle.script_session.specs.Reads.{files_in};
 ghost use Rattle.script_session.specs.Evaluates.{moment, Evaluates, IsTarget};
-ghost use Rattle.script_session.specs.Faults.{Performs, IsRefusal, marked_fault};
+ghost use Rattle.script_session.specs.Faults.{Performs, PerformsOnce, marked_fault};
 ghost use Rattle.script_session.specs.Parts.{target_seen};
 ghost use Rattle.script_session.specs.Apart.{IsSetApart, ChangesOneObject};
 
@@ -51,7 +51,8 @@ impl Work {
         ensures names { OnErr result (names_in self.new ≡ names_in self.old) }
         ensures kept { OnErr result (Keeps (world_of self.old) (world_of self.new)) }
         ensures longer { IsLonger (world_of self.old).texts (world_of self.new).texts }
-        ensures apart { OnOk result (ChangesOneObject (form_of form.now) (state_in self.old) (state_in self.new)) }
+        ensures apart { OnOk result (ChangesOneObject (form_of form.now)
+            (state_in self.old) (state_in self.new)) }
     {
         match form {
             Form::Import => Ok(quiet(self.alloc, false)),
@@ -78,7 +79,8 @@ impl Work {
         ensures there { result ≡ is_some (value_at (names_in self.old) name.now) }
         ensures texts { (world_of self.new).texts ≡ (world_of self.old).texts }
         ensures state { state_in self.new ≡ without_name (state_in self.old) name.now }
-        ensures named { AreNamed (names_in self.old) (tables_in self.old) → AreNamed (names_in self.new) (tables_in self.new) }
+        ensures named { AreNamed (names_in self.old) (tables_in self.old)
+            → AreNamed (names_in self.new) (tables_in self.new) }
     {
         let left = self.names.unbind(name);
         release(&self.names, &mut self.store, left);
@@ -132,7 +134,8 @@ impl Work {
         ensures names { OnErr result (names_in self.new ≡ names_in self.old) }
         ensures kept { OnErr result (Keeps (world_of self.old) (world_of self.new)) }
         ensures longer { IsLonger (world_of self.old).texts (world_of self.new).texts }
-        ensures apart { OnOk result (IsSetApart (named_by (expr_of target.now)) (state_in self.old) (state_in self.new)) }
+        ensures apart { OnOk result (IsSetApart (named_by (expr_of target.now))
+            (state_in self.old) (state_in self.new)) }
     {
         let value = self.given(files, names, arg)?;
         let on = self.evaluate(files, names, target)?;
@@ -173,8 +176,9 @@ impl Work {
 
     // `del name`
     fn drop_name(&mut self, name: &Words) -> Result<Outcome, StepFault>
-        ensures done { (files : SomeFiles) → IfOk result (λ o. statement_result files (state_in self.old) (tree.drop_name name.now) ≡ at_once (done (state_in self.new) o.printed o.warned)) }
-        ensures refused { (files : SomeFiles) → IfErr result (λ f. IsRefusal (world_of self.new).texts f (statement_result files (state_in self.old) (tree.drop_name name.now))) }
+        ensures answers { (files : SomeFiles) →
+            PerformsOnce (state_in self.new) (world_of self.new).texts
+            (statement_result files (state_in self.old) (tree.drop_name name.now)) result }
         ensures names { OnErr result (names_in self.new ≡ names_in self.old) }
         ensures kept { OnErr result (Keeps (world_of self.old) (world_of self.new)) }
         ensures longer { IsLonger (world_of self.old).texts (world_of self.new).texts }
@@ -202,7 +206,8 @@ impl Work {
         ensures names { OnErr result (names_in self.new ≡ names_in self.old) }
         ensures kept { OnErr result (Keeps (world_of self.old) (world_of self.new)) }
         ensures longer { IsLonger (world_of self.old).texts (world_of self.new).texts }
-        ensures apart { OnOk result (IsSetApart (Some name.now) (state_in self.old) (state_in self.new)) }
+        ensures apart { OnOk result (IsSetApart (Some name.now)
+            (state_in self.old) (state_in self.new)) }
     {
         let on = self.named(name)?;
         let label = self.evaluate(files, names, key)?;

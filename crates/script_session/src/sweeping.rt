@@ -10,7 +10,8 @@ use frame_store::{ObjId, Store, Value};
 pub(crate) fn sweep(names: &Names, temps: &mut Vec<ObjId>, store: &mut Store)
     requires { AreNoted (bindings_of names.now.values.entries) temps.old.items (tables store.old) }
     ensures named { AreNamed (bindings_of names.now.values.entries) (tables store.new) }
-    ensures kept { KeepNamed (bindings_of names.now.values.entries) (tables store.old) (tables store.new) }
+    ensures kept { KeepNamed (bindings_of names.now.values.entries)
+        (tables store.old) (tables store.new) }
 {
     while let Some(id) = temps.pop() {
         if !names.has(id) {
@@ -21,7 +22,8 @@ pub(crate) fn sweep(names: &Names, temps: &mut Vec<ObjId>, store: &mut Store)
 
 // The object that a name has left ends if no other name stands for it.
 pub(crate) fn release(names: &Names, store: &mut Store, left: Option<Value>)
-    ensures { tables store.new ≡ released (bindings_of names.now.values.entries) (tables store.old) left }
+    ensures { tables store.new
+        ≡ released (bindings_of names.now.values.entries) (tables store.old) left }
 {
     if let Some(Value::Object(id)) = left {
         if !names.has(id) {

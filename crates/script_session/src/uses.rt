@@ -82,7 +82,8 @@ impl Uses {
     // The count of an object that has one. Takes no memory.
     fn put(&mut self, id: ObjId, count: usize)
         requires { IsSome (get same_id self.old.counts id) }
-        ensures { (other : Id) → get same_id self.new.counts other ≡ (if nat_eq id.0 other.0 then Some count else get same_id self.old.counts other) }
+        ensures { (other : Id) → get same_id self.new.counts other
+            ≡ (if nat_eq id.0 other.0 then Some count else get same_id self.old.counts other) }
     {
         let _ = self.counts.insert(id, count);
     }

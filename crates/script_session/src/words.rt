@@ -1,6 +1,6 @@
 // Words of trees, as the forms take them.
 ghost use Rattle.std.specs.Prelude.{◌≡◌, IfOk};
-ghost use Rattle.form_meaning.specs.Select.{through};
+ghost use Rattle.select_meaning.specs.Select.{through};
 ghost use Rattle.selections.specs.Selected.{way_of};
 ghost use Rattle.script_syntax.specs.View.{accessor_of};
 

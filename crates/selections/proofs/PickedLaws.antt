@@ -1,21 +1,12 @@
--- Columns of another table.
-use Rattle.std.proofs.Common.{◌≡◌, ◌∙◌, ℕ, suc, zero, ◌+◌, ◌*◌, ◌<◌, pos, List, [], ◌∷◌, length, map, refl, ap, sym, subst, arith, All, Option, Some, ◌++◌}
+-- Rows and places of another table.
+use Rattle.std.proofs.Common.{◌≡◌, ◌∙◌, ℕ, suc, zero, ◌+◌, ◌<◌, pos, List, [], ◌∷◌, length, map, refl, ap, sym, subst, arith, All, Option, Some, ◌++◌}
 use Rattle.std.specs.Prelude.{slice_index_or}
 use Rattle.std.specs.List.{range_with_len}
 use Rattle.std.proofs.lemmas.List.FromFn.{get_or-range_with_len, length-range_with_len}
 use Rattle.cell_core.specs.Grids.{AreRowsBelow}
 use Rattle.cell_core.specs.declared.grid.Rows.{Rows}
-use Rattle.cell_core.specs.declared.grid.Shape.{Shape}
-use Rattle.cell_core.specs.declared.cell.Cell.{Cell}
-use Rattle.cell_core.specs.declared.cell.Cell.TheVariants.{Na}
-use Rattle.multi_index.specs.Axes.{AxisValue}
-use Rattle.meaning.specs.Block.{strided}
-use Rattle.table_meaning.specs.Table.{ColumnOf, NumberedTable, column_at, no_column}
-use Rattle.table_meaning.specs.Change.{strided_column, cut_columns}
-use Rattle.table_meaning.specs.Valid.{IsWhole}
-use Rattle.frame_store.specs.Parts.{HeadingList, HaveRows, table_with, axis_of}
+use Rattle.table_meaning.specs.Table.{NumberedTable}
 use Rattle.frame_store.specs.Objects.{table_or}
-use Rattle.selections.specs.Picked.{picked}
 
 -- a list of a function of the place
 pub list_is : {C : Type 0} (f : ℕ → C) (xs : List C) (a : ℕ) (d : C) → ((k : ℕ) → k < length xs → f (a + k) ≡ slice_index_or xs k d) → map f (range_with_len a (length xs)) ≡ xs
@@ -36,34 +27,6 @@ all_rows_below count =
       below = λ row lt. omega arith;
       moves = λ more e. cc;
     }
-
--- all rows of a column are the column
-strided_all : (cells : List Cell) (count : ℕ) → length cells ≡ count → strided Na cells (all_rows count) ≡ cells
-strided_all cells count is =
-    ap (λ n. strided Na cells (all_rows n)) (sym is)
-    ∙ list_is (λ row. slice_index_or cells (0 + row * 1) Na) cells 0 Na (λ k lt. let same : 0 + (0 + k) * 1 ≡ k = omega arith in ap (λ i. slice_index_or cells i Na) same)
-
-cut_is : (columns : List (ColumnOf Cell)) (count : ℕ) (places : List ℕ) → HaveRows count columns → All (λ place. place < length columns) places
-    → cut_columns Na columns (all_rows count) places ≡ map (column_at columns) places
-cut_is columns count [] filled inside = refl
-cut_is columns count (p ∷ ps) filled inside = λ j. here j ∷ cut_is columns count ps filled (λ k d lt. inside (suc k) d (omega arith)) j
-  where
-    here : strided_column Na (all_rows count) (column_at columns p) ≡ column_at columns p
-    here = λ j. record { kind = (column_at columns p).kind; cells = strided_all (column_at columns p).cells count (filled p no_column (inside 0 p (omega arith))) j }
-
--- the table that is cut is the one that is picked
-pub cut_is_picked : (shape : Shape) (axis : AxisValue) (headings : HeadingList) (places : List ℕ) (t : NumberedTable) (count : ℕ) → IsWhole t → All (λ place. place < length t.columns) places → axis ≡ axis_of t → count ≡ length t.labels
-    → table_with shape axis headings (cut_columns Na t.columns (all_rows count) places) ≡ picked shape headings places t
-cut_is_picked shape axis headings places t count whole inside same is =
-    (λ j. table_with shape (same j) headings (cut_columns Na t.columns (all_rows (is j)) places))
-    ∙ ap (table_with shape (axis_of t) headings) (cut_is t.columns (length t.labels) places whole.filled inside)
-
-pub derived_is_picked : (object : Option NumberedTable) (source : NumberedTable) (shape : Shape) (axis : AxisValue) (headings : HeadingList) (places : List ℕ) (count : ℕ)
-    → object ≡ Some source → IsWhole source → All (λ place. place < length (table_or object).columns) places → axis ≡ axis_of source → count ≡ length source.labels
-    → table_with shape axis headings (cut_columns Na (table_or object).columns (all_rows count) places) ≡ picked shape headings places (table_or object)
-derived_is_picked object source shape axis headings places count is whole inside same rows =
-    let back : source ≡ table_or object = sym (ap table_or is) in
-    cut_is_picked shape axis headings places (table_or object) count (subst IsWhole back whole) inside (same ∙ ap axis_of back) (rows ∙ ap (λ (t : NumberedTable). length t.labels) back)
 
 -- the places below a count
 range_suc : (a n : ℕ) → range_with_len a (suc n) ≡ range_with_len a n ++ (a + n) ∷ []

@@ -91,7 +91,7 @@ no_place texts headings label place whole end before =
     sym (ap (λ t. moved place (place_of_label t (label_datum texts label))) (ap (λ n. drop n hs) all ∙ drop-length hs)) ∙ before
 
 -- a cell of a list that was given
-cell_seen : (texts : List Text) (cells : List Cell) (k : ℕ) (cell : Cell) → slice_get cells k ≡ Some cell → slice_index_or (cells_value texts cells) k na_cell ≡ datum texts cell
+pub cell_seen : (texts : List Text) (cells : List Cell) (k : ℕ) (cell : Cell) → slice_get cells k ≡ Some cell → slice_index_or (cells_value texts cells) k na_cell ≡ datum texts cell
 cell_seen texts cells k cell at = get_or-map (datum texts) cells k Na ∙ ap (datum texts) (get_or_from_slice_get cells k cell Na at)
 
 pub label_settled : (texts : List Text) (label : Label) (cell : Cell) → ((texts : List Text) → label_datum texts label ≡ cell_label (datum texts cell)) → IsSettled datum texts cell → IsSettled label_datum texts label
@@ -114,10 +114,10 @@ module _ {A B : Type 0} where
   abbrev joined : (A → Result B FaultValue) → List B → List A → Result B FaultValue → Result (List B) FaultValue
   joined f made xs r = then_value (then_value r (λ y. then_value (try_all f xs) (λ ys. Ok (y ∷ ys)))) (λ ys. Ok (made ++ ys))
 
-  one_more : (f : A → Result B FaultValue) (made : List B) (x : A) (xs : List A) (y : B) → f x ≡ Ok y → made_after f made (x ∷ xs) ≡ made_after f (made ++ y ∷ []) xs
+  pub one_more : (f : A → Result B FaultValue) (made : List B) (x : A) (xs : List A) (y : B) → f x ≡ Ok y → made_after f made (x ∷ xs) ≡ made_after f (made ++ y ∷ []) xs
   one_more f made x xs y is = ap (joined f made xs) is ∙ more_made made y (try_all f xs)
 
-  one_refused : (f : A → Result B FaultValue) (made : List B) (x : A) (xs : List A) (fault : FaultValue) → f x ≡ Err fault → made_after f made (x ∷ xs) ≡ Err fault
+  pub one_refused : (f : A → Result B FaultValue) (made : List B) (x : A) (xs : List A) (fault : FaultValue) → f x ≡ Err fault → made_after f made (x ∷ xs) ≡ Err fault
   one_refused f made x xs fault is = ap (joined f made xs) is
 
   pub all_made : (f : A → Result B FaultValue) (made : List B) (xs : List A) (k : ℕ) (whole : Result (List B) FaultValue) → k ≡ length xs → made_after f made (drop k xs) ≡ whole → whole ≡ Ok made

@@ -1,5 +1,5 @@
 -- What is read of subscripts and lists.
-use Rattle.std.proofs.Common.{◌≡◌, ◌∙◌, ℕ, suc, ℤ, ◌+◌, ◌-◌, ◌<◌, ◌≤◌, Bool, true, false, ◌&&◌, List, [], ◌∷◌, ◌++◌, length, take, drop, get_or, refl, ap, sym, arith, if◌then◌else◌, append-nil, append_assoc, Option, Some, None, Err}
+use Rattle.std.proofs.Common.{◌≡◌, ◌∙◌, ℕ, suc, ◌+◌, ◌-◌, ◌<◌, ◌≤◌, Bool, true, false, ◌&&◌, List, [], ◌∷◌, ◌++◌, length, take, drop, get_or, refl, ap, sym, arith, if◌then◌else◌, append-nil, append_assoc, Option, Some, None}
 use Rattle.std.specs.Prelude.{slice_get, nat_lt}
 use Rattle.std.specs.Option.{option_map}
 use Rattle.std.specs.List.{list_all}
@@ -10,50 +10,16 @@ use Rattle.std.proofs.lemmas.Option.{get_or_from_slice_get}
 use Rattle.cell_core.specs.declared.cell.Cell.{Cell}
 use Rattle.cell_core.specs.declared.cell.Cell.TheVariants.{Na}
 use Rattle.meaning.specs.Text.{Text}
-use Rattle.meaning.specs.Cell.{CellValue, na_cell, int_cell, truth_cell, text_cell, datum}
-use Rattle.meaning.specs.Place.{place_of}
-use Rattle.meaning.specs.Fault.{out_of_range}
-use Rattle.meaning.specs.Symbol.{iloc}
-use Rattle.table_meaning.specs.Table.{NumberedTable, table_value, tuple_value}
-use Rattle.table_meaning.specs.Value.{Given, GivenList, GivenSub, cell, table, nothing, one, row, many, entries, more_given, key_given, span_given, scalar_in}
+use Rattle.meaning.specs.Cell.{CellValue, datum}
+use Rattle.table_meaning.specs.Value.{Given, GivenList, cell, table, nothing, one, row, many, entries, more_given, scalar_in}
 use Rattle.form_meaning.specs.Binding.{is_truth, each, is_scalar}
-use Rattle.form_meaning.specs.Select.{cells_of, are_truths, position_of, row_found, row_place}
+use Rattle.form_meaning.specs.Select.{cells_of}
+use Rattle.select_meaning.specs.Select.{are_truths}
 use Rattle.frame_store.specs.Objects.{Tables}
 use Rattle.frame_store.specs.Arguments.{item_of, items_of}
 use Rattle.frame_store.specs.declared.arguments.Item.{Item}
 use Rattle.frame_store.specs.Shown.{cells_value}
-use Rattle.selections.specs.Selected.{only_key, whole_key, scalars_in}
-
--- the position is the whole number that the one key is
-pub position_key : (first : GivenSub) (second : Option GivenSub) → position_of iloc first second ≡ whole_key (only_key first second)
-position_key (key_given (one (cell (int_cell z)))) None = refl
-position_key (key_given (one (cell (truth_cell b)))) None = refl
-position_key (key_given (one (cell (text_cell t)))) None = refl
-position_key (key_given (one (cell na_cell))) None = refl
-position_key (key_given (one (table t))) None = refl
-position_key (key_given nothing) None = refl
-position_key (key_given (row parts)) None = refl
-position_key (key_given (many parts)) None = refl
-position_key (key_given (entries pairs)) None = refl
-position_key (key_given (one (cell (int_cell z)))) (Some other) = refl
-position_key (key_given (one (cell (truth_cell b)))) (Some other) = refl
-position_key (key_given (one (cell (text_cell t)))) (Some other) = refl
-position_key (key_given (one (cell na_cell))) (Some other) = refl
-position_key (key_given (one (table t))) (Some other) = refl
-position_key (key_given nothing) (Some other) = refl
-position_key (key_given (row parts)) (Some other) = refl
-position_key (key_given (many parts)) (Some other) = refl
-position_key (key_given (entries pairs)) (Some other) = refl
-position_key (span_given from to by) None = refl
-position_key (span_given from to by) (Some other) = refl
-
--- the row of a position
-pub row_is : (texts : List Text) (t : NumberedTable) (position : ℤ) (count : ℕ) (found : Option ℕ) → count ≡ length t.labels → found ≡ place_of position count → row_place (table_value texts t) position ≡ row_found (table_value texts t) position found
-row_is texts t position count found is same =
-    ap (row_found (table_value texts t) position) (ap (place_of position) (length-map t.labels (tuple_value texts) ∙ sym is) ∙ sym same)
-
-pub out_is : (texts : List Text) (t : NumberedTable) (position : ℤ) (count : ℕ) → count ≡ length t.labels → row_found (table_value texts t) position None ≡ Err (out_of_range position count)
-out_is texts t position count is = ap (λ n. Err (out_of_range position n)) (length-map t.labels (tuple_value texts) ∙ sym is)
+use Rattle.selections.specs.Selected.{scalars_in}
 
 -- what stands after the first part
 abbrev pub after : {X : Type 0} → List X → List X

@@ -1,4 +1,7 @@
 pub mod Picked
 pub mod Selected
-pub mod Assigned
 pub mod Headings
+pub mod Reaches
+pub mod Chosen
+pub mod Plans
+pub mod Across

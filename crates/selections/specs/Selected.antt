@@ -1,15 +1,14 @@
 -- What stands before a subscript, and what is read of subscripts and lists.
-use Rattle.std.specs.Prelude.{ℕ, ℤ, List, map, slice_index_or, Option, Some, None, option_and_then, if◌then◌else◌}
+use Rattle.std.specs.Prelude.{ℕ, Bool, false, List, map, slice_index_or, Option, Some, None, if◌then◌else◌}
 use Rattle.cell_core.specs.declared.cell.Label.{Label}
 use Rattle.meaning.specs.Text.{Text}
-use Rattle.meaning.specs.Cell.{CellValue, datum}
+use Rattle.meaning.specs.Cell.{CellValue}
 use Rattle.meaning.specs.Symbol.{loc, iloc, at, iat}
-use Rattle.cell_core.specs.declared.cell.Cell.{Cell}
 use Rattle.table_meaning.specs.Table.{NumberedTable}
-use Rattle.table_meaning.specs.Value as value
-use Rattle.table_meaning.specs.Value.{Entry, Given, GivenList, GivenSub, key_given, span_given, scalar_in}
-use Rattle.form_meaning.specs.Binding.{each, is_scalar, whole_of}
-use Rattle.form_meaning.specs.Select.{Way, plain, through, cells_of}
+use Rattle.table_meaning.specs.Value.{Given, GivenList, cell, one}
+use Rattle.form_meaning.specs.Binding.{each, is_scalar, is_truth}
+use Rattle.form_meaning.specs.Select.{cells_of}
+use Rattle.select_meaning.specs.Select.{Way, plain, through}
 use Rattle.frame_store.specs.declared.arguments.Selector.{Selector}
 use Rattle.frame_store.specs.declared.arguments.Selector.TheVariants as selector
 
@@ -20,26 +19,21 @@ way_of selector.Iloc = through iloc
 way_of selector.At = through at
 way_of selector.Iat = through iat
 
--- the key, where one stands alone
-abbrev pub only_key : GivenSub → Option GivenSub → Option Given
-only_key (key_given g) None = Some g
-only_key (key_given g) (Some other) = None
-only_key (span_given from to by) second = None
-
--- the whole number that a key is
-abbrev pub whole_key : Option Given → Option ℤ
-whole_key key = whole_of (option_and_then scalar_in key)
-
 -- the scalars of a list of scalars alone
 abbrev pub scalars_in : GivenList → Option (List CellValue)
 scalars_in parts = if each is_scalar parts then Some (cells_of parts) else None
 
--- a number that doesn't depend on texts, and a cell as a value
+-- each part of a list is a truth value
+abbrev pub is_truth_part : Given → Bool
+is_truth_part (one (cell c)) = is_truth c
+is_truth_part g = false
+
+abbrev pub each_truth : GivenList → Bool
+each_truth parts = each is_truth_part parts
+
+-- what doesn't depend on texts
 abbrev pub as_it_is : {X : Type 0} → List Text → X → X
 as_it_is texts x = x
-
-abbrev pub scalar_value : List Text → Cell → Entry
-scalar_value texts c = value.cell (datum texts c)
 
 -- the headings of the columns at these places
 abbrev pub heading_of : NumberedTable → ℕ → Option Label

@@ -42,7 +42,8 @@ fn heading_list(
     columns_name: Option<Label>,
     headings: &[Option<Label>],
 ) -> Result<Headings, NoMemory>
-    ensures { IfOk result (λ made. made ≡ record { columns_name = columns_name; labels = headings.now }) }
+    ensures { IfOk result (λ made. made
+        ≡ record { columns_name = columns_name; labels = headings.now }) }
 {
     let mut made = Headings::new(alloc, columns_name);
     for heading in headings {
@@ -53,20 +54,22 @@ fn heading_list(
 
 /// The headings of a table of which none stands twice, and the name that its columns have together.
 ///
-/// At most one heading of a table is missing, that of a Series without a name. A missing heading that stands
-/// twice in the list has no label to be named: it isn't refused, and nothing behind it is looked at.
+/// At most one heading of a table is missing, that of a Series without a name. A missing heading
+/// that stands twice in the list has no label to be named: it isn't refused, and nothing behind it
+/// is looked at.
 ///
 /// # Errors
 ///
-/// `BadValue(Repeated)` of the first heading that stands again at a later place. `NoMemory` may come in
-/// place of any answer.
+/// `BadValue(Repeated)` of the first heading that stands again at a later place. `NoMemory` may
+/// come in place of any answer.
 pub fn different_headings(
     alloc: Global,
     columns_name: Option<Label>,
     headings: &[Option<Label>],
 ) -> Result<Headings, OpFault>
     ensures different { IfOk result (λ made. repeated_heading headings.now ≡ None) }
-    ensures made { IfOk result (λ made. made ≡ record { columns_name = columns_name; labels = headings.now }) }
+    ensures made { IfOk result (λ made. made
+        ≡ record { columns_name = columns_name; labels = headings.now }) }
     ensures refused { IfErr result (λ fault. NamesRepeated fault (repeated_heading headings.now)) }
 {
     if let Some(label) = first_repeated(alloc, headings)? {

@@ -6,7 +6,6 @@ ghost use Rattle.meaning.specs.Operator.{cell_label};
 ghost use Rattle.table_meaning.specs.Settled.{IsSettled};
 ghost use Rattle.table_meaning.specs.Table.{table_value};
 ghost use Rattle.table_meaning.specs.Valid.{IsWhole};
-ghost use Rattle.form_meaning.specs.Finish as finish;
 ghost use Rattle.form_meaning.specs.Select as meant;
 ghost use Rattle.frame_store.specs.declared.fault.OpFault.TheVariants.{Refused};
 ghost use Rattle.frame_store.specs.Shown.{headings_value, cells_value};
@@ -26,12 +25,13 @@ fn missing(alloc: Global, label: Label) -> OpFault
     OpFault::Refused(Code::NoKey(Tuple::of(alloc, &[label])))
 }
 
-// The place of the first column with the label.
-pub(crate) fn place_of_label(dict: &TextDict, on: &ObjRef<'_>, label: Label) -> Option<usize>
+/// The place of the first column with the label. Takes no memory.
+pub fn place_of_label(dict: &TextDict, on: &ObjRef<'_>, label: Label) -> Option<usize>
     requires whole { IsWhole on.now }
     requires settled { IsSettled headings_value dict.now on.now.headings }
     requires label { IsSettled label_datum dict.now label }
-    ensures place { result ≡ meant.place_of_label (headings_value dict.now on.now.headings) (label_datum dict.now label) }
+    ensures place { result ≡ meant.place_of_label (headings_value dict.now on.now.headings)
+        (label_datum dict.now label) }
     ensures inside { IfSome result (λ place. place < length on.now.columns) }
     ensures met { IfSome result (λ place. slice_index_or on.now.headings place None ≡ Some label) }
     ensures absent { IfNone result (All (λ heading. heading ≢ Some label) on.now.headings) }
@@ -46,8 +46,8 @@ pub(crate) fn place_of_label(dict: &TextDict, on: &ObjRef<'_>, label: Label) -> 
     None
 }
 
-// The place of the first column with the label, or a refusal: no column has it.
-pub(crate) fn column_place(
+/// The place of the first column with the label, or `NoKey` where no column has it.
+pub fn column_place(
     alloc: Global,
     dict: &TextDict,
     on: &ObjRef<'_>,
@@ -56,7 +56,8 @@ pub(crate) fn column_place(
     requires whole { IsWhole on.now }
     requires settled { IsSettled headings_value dict.now on.now.headings }
     requires label { IsSettled label_datum dict.now label }
-    ensures answer { MakesBy as_it_is dict.now result (meant.column_place (table_value dict.now on.now) (label_datum dict.now label)) }
+    ensures answer { MakesBy as_it_is dict.now result
+        (meant.column_place (table_value dict.now on.now) (label_datum dict.now label)) }
     ensures inside { IfOk result (λ place. place < length on.now.columns) }
 {
     match place_of_label(dict, on, label) {
@@ -65,8 +66,9 @@ pub(crate) fn column_place(
     }
 }
 
-// The places of the columns with these labels, in their order, or the first label that no column has.
-pub(crate) fn column_places(
+/// The places of the columns with these labels, in their order, or `NoKey` of the first one that no
+/// column has. `NoMemory` may come in place of any answer.
+pub fn column_places(
     alloc: Global,
     dict: &TextDict,
     on: &ObjRef<'_>,
@@ -75,7 +77,8 @@ pub(crate) fn column_places(
     requires whole { IsWhole on.now }
     requires settled { IsSettled headings_value dict.now on.now.headings }
     requires cells { IsSettled cells_value dict.now cells.now }
-    ensures answer { MakesBy as_it_is dict.now result (finish.try_all (meant.column_place (table_value dict.now on.now)) (map cell_label (cells_value dict.now cells.now))) }
+    ensures answer { MakesBy as_it_is dict.now result (meant.column_places
+        (table_value dict.now on.now) (map cell_label (cells_value dict.now cells.now))) }
     ensures inside { IfOk result (All (λ place. place < length on.now.columns)) }
 {
     // Equal texts have equal numbers: `TextDict::len` says so.
@@ -92,8 +95,8 @@ pub(crate) fn column_places(
     Ok(places)
 }
 
-// The headings of the columns at these places.
-pub(crate) fn headings_at(
+/// The headings of the columns at these places. `NoMemory` is the only refusal.
+pub fn headings_at(
     alloc: Global,
     on: &ObjRef<'_>,
     places: &Places,

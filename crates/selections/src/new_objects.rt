@@ -1,78 +1,24 @@
 // Objects that have the rows of another one.
-ghost use Rattle.std.specs.Prelude.{◌≡◌, ◌<◌, length, All, Some, None, IsSome, IfOk, OnErr};
+ghost use Rattle.std.specs.Prelude.{◌≡◌, length, IsSome, IfOk};
 ghost use Rattle.std.specs.List.{range_with_len};
 ghost use Rattle.cell_core.specs.declared.grid.Shape.TheVariants.{Frame};
 ghost use Rattle.table_meaning.specs.Settled.{IsSettled};
 ghost use Rattle.table_meaning.specs.Table.{heading_value, table_value};
 ghost use Rattle.table_meaning.specs.Valid.{AreHeadings};
 ghost use Rattle.form_meaning.specs.Finish.{limited};
-ghost use Rattle.frame_store.specs.Objects.{tables, with_object, table_at};
+ghost use Rattle.frame_store.specs.Objects.{tables, table_at};
 ghost use Rattle.frame_store.specs.Shown.{shown, headings_value, FormAnswers};
-ghost use Rattle.selections.specs.Picked.{picked, headed_by as under_headings};
+ghost use Rattle.selections.specs.Picked.{headed_by as under_headings};
 
-use cell_core::{Code, Grid, NoMemory, Places, Rows, Shape, TextDict};
-use form_parts::{headings_of, within_limits};
+use crate::planning::all_rows;
+use crate::selecting::cut_within;
+use cell_core::{Grid, NoMemory, Places, Shape, TextDict};
+use form_parts::headings_of;
 use frame_store::{Headings, ObjId, OpFault, Store, Value};
 use std::alloc::Global;
 
-/// A new object with the same rows as another one and the columns at these places, in their order,
-/// under these headings. `NoMemory` is the only refusal, and leaves the store as it was.
-pub fn derived(
-    alloc: Global,
-    store: &mut Store,
-    on: ObjId,
-    shape: Shape,
-    places: &Places,
-    headings: Headings,
-) -> Result<ObjId, NoMemory>
-    requires live { IsSome (tables store.old on.0) }
-    requires columns { All (λ place. place < length (table_at (tables store.old) on.0).columns) places.now }
-    requires headed { length headings.labels ≡ length places.now }
-    requires headings { AreHeadings shape headings.columns_name headings.labels }
-    ensures fresh { IfOk result (λ id. tables store.old id.0 ≡ None) }
-    ensures ok { IfOk result (λ id. tables store.new ≡ with_object (tables store.old) id.0 (Some (picked shape headings places.now (table_at (tables store.old) on.0)))) }
-    ensures err { OnErr result (tables store.new ≡ tables store.old) }
-{
-    let source = store.read(on);
-    let axis = source.axis().copy(alloc)?;
-    let rows = Rows {
-        start: 0,
-        step: 1,
-        count: source.rows(),
-    };
-    store.derive(on, shape, rows, places, axis, headings)
-}
-
-/// The object that [`derived`] makes, as the answer of a form: `Limit` where the new table would be beyond the limits.
-/// `NoMemory` may come in place of any answer. After a refusal all objects are as they were.
-pub fn derived_within(
-    alloc: Global,
-    store: &mut Store,
-    dict: &TextDict,
-    on: ObjId,
-    shape: Shape,
-    places: &Places,
-    headings: Headings,
-) -> Result<Value, OpFault>
-    requires live { IsSome (tables store.old on.0) }
-    requires columns { All (λ place. place < length (table_at (tables store.old) on.0).columns) places.now }
-    requires headed { length headings.labels ≡ length places.now }
-    requires headings { AreHeadings shape headings.columns_name headings.labels }
-    requires settled { IsSettled shown dict.now (tables store.old) }
-    requires name { IsSettled heading_value dict.now headings.columns_name }
-    requires labels { IsSettled headings_value dict.now headings.labels }
-    ensures settled { IsSettled shown dict.now (tables store.new) }
-    ensures answers { FormAnswers dict.now result (limited (table_value dict.now (picked shape headings places.now (table_at (tables store.old) on.0)))) (shown dict.now (tables store.old)) (shown dict.now (tables store.new)) }
-{
-    if !within_limits(store.read(on).rows(), places.len()) {
-        return Err(OpFault::Refused(Code::Limit));
-    }
-    let id = derived(alloc, store, on, shape, places, headings)?;
-    Ok(Value::Object(id))
-}
-
-// The numbers below a count.
-fn places_below(alloc: Global, count: usize) -> Result<Places, NoMemory>
+/// The numbers below a count. `NoMemory` is the only refusal.
+pub fn places_below(alloc: Global, count: usize) -> Result<Places, NoMemory>
     ensures { IfOk result (λ made. made ≡ range_with_len 0 count) }
 {
     let mut places = Places::new(alloc);
@@ -82,9 +28,9 @@ fn places_below(alloc: Global, count: usize) -> Result<Places, NoMemory>
     Ok(places)
 }
 
-/// A new object with all rows and columns of another one, of this shape and under these headings, one
-/// for each column. Refused as [`derived_within`] is.
-pub fn headed_by(
+// A new object with all rows and columns of another one, of this shape and under these headings,
+// one for each column: `Limit` where it would be beyond the limits.
+fn headed_by(
     alloc: Global,
     store: &mut Store,
     dict: &TextDict,
@@ -99,13 +45,22 @@ pub fn headed_by(
     requires name { IsSettled heading_value dict.now headings.columns_name }
     requires labels { IsSettled headings_value dict.now headings.labels }
     ensures settled { IsSettled shown dict.now (tables store.new) }
-    ensures answers { FormAnswers dict.now result (limited (table_value dict.now (under_headings shape headings (table_at (tables store.old) on.0)))) (shown dict.now (tables store.old)) (shown dict.now (tables store.new)) }
+    ensures answers { FormAnswers dict.now result (limited (table_value dict.now
+        (under_headings shape headings (table_at (tables store.old) on.0))))
+        (shown dict.now (tables store.old)) (shown dict.now (tables store.new)) }
 {
-    let places = places_below(alloc, store.read(on).columns())?;
-    derived_within(alloc, store, dict, on, shape, &places, headings)
+    let source = store.read(on);
+    let columns = places_below(alloc, source.columns())?;
+    let rows = all_rows(&source);
+    cut_within(alloc, store, on, shape, &rows, &columns, headings)
 }
 
-/// A new object with the table of another one, for `copy`. Refused as [`derived_within`] is.
+/// A new object with the table of another one, for `copy`.
+///
+/// # Errors
+///
+/// `Limit` where it would be beyond the limits. `NoMemory` may come in place of any answer. After a
+/// refusal all objects are as they were.
 pub fn copied(
     alloc: Global,
     store: &mut Store,
@@ -115,7 +70,9 @@ pub fn copied(
     requires live { IsSome (tables store.old on.0) }
     requires settled { IsSettled shown dict.now (tables store.old) }
     ensures settled { IsSettled shown dict.now (tables store.new) }
-    ensures answers { FormAnswers dict.now result (limited (table_value dict.now (table_at (tables store.old) on.0))) (shown dict.now (tables store.old)) (shown dict.now (tables store.new)) }
+    ensures answers { FormAnswers dict.now result
+        (limited (table_value dict.now (table_at (tables store.old) on.0)))
+        (shown dict.now (tables store.old)) (shown dict.now (tables store.new)) }
 {
     let source = store.read(on);
     let headings = headings_of(alloc, &source)?;
@@ -124,7 +81,7 @@ pub fn copied(
 }
 
 /// A new object with the table of another one under other headings, for `rename`. Refused as
-/// [`derived_within`] is.
+/// [`copied`] is.
 pub fn renamed(
     alloc: Global,
     store: &mut Store,
@@ -134,19 +91,22 @@ pub fn renamed(
 ) -> Result<Value, OpFault>
     requires live { IsSome (tables store.old on.0) }
     requires headed { length headings.labels ≡ length (table_at (tables store.old) on.0).headings }
-    requires headings { AreHeadings (table_at (tables store.old) on.0).shape headings.columns_name headings.labels }
+    requires headings { AreHeadings (table_at (tables store.old) on.0).shape headings.columns_name
+        headings.labels }
     requires settled { IsSettled shown dict.now (tables store.old) }
     requires name { IsSettled heading_value dict.now headings.columns_name }
     requires labels { IsSettled headings_value dict.now headings.labels }
     ensures settled { IsSettled shown dict.now (tables store.new) }
-    ensures answers { FormAnswers dict.now result (limited (table_value dict.now (under_headings (table_at (tables store.old) on.0).shape headings (table_at (tables store.old) on.0)))) (shown dict.now (tables store.old)) (shown dict.now (tables store.new)) }
+    ensures answers { FormAnswers dict.now result (limited (table_value dict.now (under_headings
+        (table_at (tables store.old) on.0).shape headings (table_at (tables store.old) on.0))))
+        (shown dict.now (tables store.old)) (shown dict.now (tables store.new)) }
 {
     let shape = store.read(on).shape();
     headed_by(alloc, store, dict, on, shape, headings)
 }
 
-/// A new frame with the rows and columns of another object, for `to_frame`. Refused as
-/// [`derived_within`] is.
+/// A new frame with the rows and columns of another object, for `to_frame`. Refused as [`copied`]
+/// is.
 pub fn as_frame(
     alloc: Global,
     store: &mut Store,
@@ -161,7 +121,9 @@ pub fn as_frame(
     requires name { IsSettled heading_value dict.now headings.columns_name }
     requires labels { IsSettled headings_value dict.now headings.labels }
     ensures settled { IsSettled shown dict.now (tables store.new) }
-    ensures answers { FormAnswers dict.now result (limited (table_value dict.now (under_headings Frame headings (table_at (tables store.old) on.0)))) (shown dict.now (tables store.old)) (shown dict.now (tables store.new)) }
+    ensures answers { FormAnswers dict.now result (limited (table_value dict.now
+        (under_headings Frame headings (table_at (tables store.old) on.0))))
+        (shown dict.now (tables store.old)) (shown dict.now (tables store.new)) }
 {
     headed_by(alloc, store, dict, on, Shape::Frame, headings)
 }

@@ -1,275 +1,348 @@
-// What is selected from an object.
-ghost use Rattle.std.specs.Prelude.{◌≡◌, ◌<◌, List, length, map, All, IsSome, IfSome, IfOk, Some};
+// Selections: a plan of a table that is read, which one call of the store carries out.
+ghost use Rattle.std.specs.Prelude.{◌≡◌, ◌<◌, ◌^◌, ◌∷◌, [], true, false, List, length, All, Some, None, IfOk, IfSome, OnErr};
 ghost use Rattle.std.specs.Option.{option_map};
+ghost use Rattle.cell_core.specs.Grids.{AreRowsBelow, place_from, IsPlace};
 ghost use Rattle.cell_core.specs.declared.grid.Shape.TheVariants.{Frame};
 ghost use Rattle.meaning.specs.Text.{Text as OneText};
-ghost use Rattle.meaning.specs.Cell.{IsLonger, datum, label_datum};
-ghost use Rattle.meaning.specs.Operator.{cell_label};
-ghost use Rattle.meaning.specs.Symbol.{iloc};
-ghost use Rattle.table_meaning.specs.Settled.{IsSettled};
 ghost use Rattle.table_meaning.specs.Table.{table_value};
-ghost use Rattle.table_meaning.specs.Value.{table, many};
 ghost use Rattle.form_meaning.specs.Finish.{limited, finished};
-ghost use Rattle.form_meaning.specs.Select as meant;
+ghost use Rattle.form_meaning.specs.Select.{columns_frame};
+ghost use Rattle.select_meaning.specs.Select as meant;
+ghost use Rattle.pick_meaning.specs.Rows.{rows_of};
+ghost use Rattle.multi_index.specs.Axes.{HaveLevels, taken_axis};
 ghost use Rattle.form_parts.specs.Makes.{MakesBy};
-ghost use Rattle.frame_store.specs.Objects.{tables, table_at};
-ghost use Rattle.frame_store.specs.Arguments.{entry_of, argument_of, subscript_of, items_of, IsLive};
-ghost use Rattle.frame_store.specs.Shown.{shown, cells_value, FormAnswers};
-ghost use Rattle.selections.specs.Selected.{way_of, scalar_value};
+ghost use Rattle.frame_store.specs.Objects.{tables, table_at, with_object};
+ghost use Rattle.frame_store.specs.Arguments.{object_value, shape_at, IsLiveObject};
+ghost use Rattle.frame_store.specs.Shown.{Makes};
+ghost use Rattle.frame_store.specs.World.{world, entry_in, subscript_in, IsKnownValue, IsKnownSubscript, IsKnownTable, IsSettledWorld, Forms};
+ghost use Rattle.selections.specs.Plans.{rows_in, has_single_column, reach_of_plan, cut_by, IsPlanFor, CanTake};
+ghost use Rattle.selections.specs.Selected.{as_it_is, way_of};
+ghost use Rattle.selections.specs.Chosen.{chosen, AreSettledHeadings};
+ghost use Rattle.selections.specs.Across.{HaveKind, cells_across};
 
 use crate::headings::different_headings;
-use crate::labels::{column_place, column_places, headings_at};
-use crate::new_objects::derived_within;
-use crate::subscripts::{are_truths, only_key, position_in, row_place, scalars_of};
-use cell_core::{Cell, Cells, Code, Grid, Label, Places, Shape, TextDict};
-use form_parts::label_of;
-use frame_store::{Argument, Headings, Item, ObjId, OpFault, Selector, Store, Subscript, Value};
+use crate::keys::wrong_kind;
+use crate::labels::headings_at;
+use crate::new_objects::places_below;
+use crate::planning::{Form, Plan, Taken, plan_for, whole_columns};
+use crate::reaching::columns_axis;
+use crate::taking::chosen_table;
+use cell_core::{Code, Grid, Kind, NoMemory, Places, Rows, Shape, TextDict};
+use column_core::Column;
+use form_parts::{headings_of, placed, within_limits};
+use frame_store::{
+    Blocks, Headings, ObjId, ObjRef, OpFault, Selector, Store, Subscript, Table, Value,
+};
+use multi_index::Axis;
 use std::alloc::Global;
 
-// The column at a place as a Series named by the label.
-fn column_series(
-    alloc: Global,
-    store: &mut Store,
-    dict: &TextDict,
-    on: ObjId,
-    label: Label,
-    place: usize,
-) -> Result<Value, OpFault>
-    requires live { IsSome (tables store.old on.0) }
-    requires settled { IsSettled shown dict.now (tables store.old) }
-    requires label { IsSettled label_datum dict.now label }
-    requires inside { place < length (table_at (tables store.old) on.0).columns }
-    ensures settled { IsSettled shown dict.now (tables store.new) }
-    ensures answers { FormAnswers dict.now result (limited (meant.column_series (table_value dict.now (table_at (tables store.old) on.0)) (label_datum dict.now label) place)) (shown dict.now (tables store.old)) (shown dict.now (tables store.new)) }
+// The kind of these columns, which must be of one: whole numbers where there is none.
+fn kind_across(on: &ObjRef<'_>, columns: &Places) -> Result<Kind, OpFault>
+    requires { All (λ place. place < length on.now.columns) columns.now }
+    ensures kind { (texts : List OneText) → MakesBy as_it_is texts result
+        (meant.one_kind (columns_frame (table_value texts on.now) columns.now).columns) }
+    ensures each { IfOk result (λ kind. HaveKind kind on.now columns.now) }
 {
-    let mut places = Places::new(alloc);
-    places.push(place)?;
+    let mut kind = Kind::Int64;
+    for k in 0..columns.len() {
+        let next = on.kind(*columns.at(k));
+        if k > 0 && next != kind {
+            return Err(wrong_kind());
+        }
+        kind = next;
+    }
+    Ok(kind)
+}
+
+// The cells of a row in these columns.
+fn row_cells(
+    alloc: Global,
+    on: &ObjRef<'_>,
+    kind: Kind,
+    row: usize,
+    columns: &Places,
+) -> Result<Column, NoMemory>
+    requires row { row < length on.now.labels }
+    requires columns { All (λ place. place < length on.now.columns) columns.now }
+    requires kinds { HaveKind kind on.now columns.now }
+    ensures { IfOk result (λ made. made ≡ cells_across kind row on.now columns.now) }
+{
+    let mut cells = Column::new(alloc, kind);
+    for k in 0..columns.len() {
+        cells.push(on.column(*columns.at(k)).cell(row))?;
+    }
+    Ok(cells)
+}
+
+// A row as a Series over the labels of these columns, named by the row's label.
+fn row_series(
+    alloc: Global,
+    dict: &TextDict,
+    on: &ObjRef<'_>,
+    row: usize,
+    columns: &Places,
+) -> Result<Table, OpFault>
+    requires known { IsKnownTable dict.now on.now }
+    requires shape { on.now.shape ≡ Frame }
+    requires one { length on.now.level_names ≡ 1 }
+    requires levels { HaveLevels 1 on.now.labels }
+    requires row { row < length on.now.labels }
+    requires columns { All (λ place. place < length on.now.columns) columns.now }
+    ensures { Makes dict.now result (meant.row_result
+        (meant.cut (table_value dict.now on.now) (row ∷ []) columns.now)) }
+{
+    let kind = kind_across(on, columns)?;
+    if !within_limits(columns.len(), 1) {
+        return Err(OpFault::Refused(Code::Limit));
+    }
+    let cells = row_cells(alloc, on, kind, row, columns)?;
+    let axis = columns_axis(alloc, dict, on, columns)?;
     let mut headings = Headings::new(alloc, None);
-    headings.push(Some(label))?;
-    derived_within(alloc, store, dict, on, Shape::Series, &places, headings)
+    headings.push(Some(on.label(row, 0)))?;
+    let mut blocks = Blocks::new(alloc);
+    blocks.push(cells.into_block())?;
+    Ok(Table::new(Shape::Series, axis, headings, blocks))
 }
 
-// The column of a label.
-fn column_item(
-    alloc: Global,
-    store: &mut Store,
-    dict: &TextDict,
-    on: ObjId,
-    label: Label,
-) -> Result<Value, OpFault>
-    requires live { IsSome (tables store.old on.0) }
-    requires settled { IsSettled shown dict.now (tables store.old) }
-    requires label { IsSettled label_datum dict.now label }
-    ensures settled { IsSettled shown dict.now (tables store.new) }
-    ensures answers { FormAnswers dict.now result (meant.column_result (table_value dict.now (table_at (tables store.old) on.0)) (label_datum dict.now label)) (shown dict.now (tables store.old)) (shown dict.now (tables store.new)) }
+// The place of a row of a slice.
+fn place_of(rows: Rows, row: usize) -> usize
+    requires place { IsPlace rows.start rows.step row }
+    requires fits { place_from rows.start rows.step row < 2 ^ 64 }
+    ensures { result ≡ place_from rows.start rows.step row }
 {
-    let place = column_place(alloc, dict, &store.read(on), label)?;
-    column_series(alloc, store, dict, on, label, place)
+    let distance = row * rows.step.unsigned_abs() as usize;
+    if rows.step >= 0 {
+        rows.start + distance
+    } else {
+        rows.start - distance
+    }
 }
 
-// The frame of the columns at these places.
-fn columns_frame(
+// The axis of a slice of rows.
+fn sliced_axis(alloc: Global, axis: &Axis, rows: Rows) -> Result<Axis, NoMemory>
+    requires { AreRowsBelow rows (length axis.now.tuples) }
+    ensures { IfOk result (λ made. made ≡ taken_axis axis.now (rows_of rows)) }
+{
+    let count = axis.len();
+    if rows.start == 0 && rows.step == 1 && rows.count == count {
+        return axis.copy(alloc);
+    }
+    let mut places = Places::new(alloc);
+    for row in 0..rows.count {
+        places.push(place_of(rows, row))?;
+    }
+    axis.take(alloc, &places)
+}
+
+// A new object with these rows and columns of another one.
+fn make_taken(
+    alloc: Global,
+    store: &mut Store,
+    on: ObjId,
+    shape: Shape,
+    rows: &Taken,
+    columns: &Places,
+    headings: Headings,
+) -> Result<ObjId, NoMemory>
+    requires live { IsLiveObject (tables store.old) on }
+    requires taken { CanTake shape headings rows.now columns.now
+        (table_at (tables store.old) on.0) }
+    ensures fresh { IfOk result (λ id. tables store.old id.0 ≡ None) }
+    ensures ok { IfOk result (λ id. tables store.new ≡ with_object (tables store.old) id.0
+        (Some (chosen shape headings (rows_in rows.now) columns.now
+        (table_at (tables store.old) on.0)))) }
+    ensures err { OnErr result (tables store.new ≡ tables store.old) }
+{
+    match rows {
+        Taken::Slice(rows) => {
+            let axis = sliced_axis(alloc, store.axis(on), *rows)?;
+            store.derive(on, shape, *rows, columns, axis, headings)
+        }
+        Taken::Listed(rows) => {
+            let source = store.read(on);
+            let table = chosen_table(alloc, &source, shape, rows, columns, headings)?;
+            store.insert(table)
+        }
+    }
+}
+
+/// A new object with these rows and columns of another one, unless it would be beyond the limits.
+pub(crate) fn cut_within(
+    alloc: Global,
+    store: &mut Store,
+    on: ObjId,
+    shape: Shape,
+    rows: &Taken,
+    columns: &Places,
+    headings: Headings,
+) -> Result<Value, OpFault>
+    requires live { IsLiveObject (tables store.old) on }
+    requires taken { CanTake shape headings rows.now columns.now
+        (table_at (tables store.old) on.0) }
+    ensures { (texts : List OneText) → IsSettledWorld (world store.old texts)
+        → AreSettledHeadings texts headings → Forms result (limited (table_value texts
+        (chosen shape headings (rows_in rows.now) columns.now (table_at (tables store.old) on.0))))
+        (world store.old texts) (world store.new texts) }
+{
+    if !within_limits(rows.count(), columns.len()) {
+        return Err(OpFault::Refused(Code::Limit));
+    }
+    let id = make_taken(alloc, store, on, shape, rows, columns, headings)?;
+    Ok(Value::Object(id))
+}
+
+// The rows of a single column, as a Series with the column's label as its name.
+fn take_column(alloc: Global, store: &mut Store, on: ObjId, plan: &Plan) -> Result<Value, OpFault>
+    requires live { IsLiveObject (tables store.old) on }
+    requires plan { IsPlanFor (table_at (tables store.old) on.0) plan.now }
+    requires single { has_single_column plan.now.form ≡ true }
+    ensures { (texts : List OneText) → IsSettledWorld (world store.old texts) → Forms result
+        (limited (meant.as_series (cut_by plan.now (object_value (tables store.old) texts on))))
+        (world store.old texts) (world store.new texts) }
+{
+    let source = store.read(on);
+    let mut headings = Headings::new(alloc, None);
+    headings.push(source.heading(*plan.columns.at(0)))?;
+    cut_within(
+        alloc,
+        store,
+        on,
+        Shape::Series,
+        &plan.rows,
+        &plan.columns,
+        headings,
+    )
+}
+
+// Rows and columns of a frame, as a frame.
+fn take_frame(
     alloc: Global,
     store: &mut Store,
     dict: &TextDict,
     on: ObjId,
-    places: &Places,
+    plan: &Plan,
 ) -> Result<Value, OpFault>
-    requires live { IsSome (tables store.old on.0) }
-    requires shape { (table_at (tables store.old) on.0).shape ≡ Frame }
-    requires settled { IsSettled shown dict.now (tables store.old) }
-    requires inside { All (λ place. place < length (table_at (tables store.old) on.0).columns) places.now }
-    ensures settled { IsSettled shown dict.now (tables store.new) }
-    ensures answers { FormAnswers dict.now result (finished (meant.columns_frame (table_value dict.now (table_at (tables store.old) on.0)) places.now)) (shown dict.now (tables store.old)) (shown dict.now (tables store.new)) }
+    requires live { IsLiveObject (tables store.old) on }
+    requires settled { IsSettledWorld (world store.old dict.now) }
+    requires plan { IsPlanFor (table_at (tables store.old) on.0) plan.now }
+    requires several { has_single_column plan.now.form ≡ false }
+    ensures { Forms result
+        (finished (cut_by plan.now (object_value (tables store.old) dict.now on)))
+        (world store.old dict.now) (world store.new dict.now) }
 {
     // Equal texts have equal numbers: `TextDict::len` says so.
     let _ = dict.len();
     let source = store.read(on);
-    let headings = headings_at(alloc, &source, places)?;
-    let headings = different_headings(alloc, source.columns_name(), &headings)?;
-    derived_within(alloc, store, dict, on, Shape::Frame, places, headings)
+    let labels = headings_at(alloc, &source, &plan.columns)?;
+    let headings = different_headings(alloc, source.columns_name(), &labels)?;
+    cut_within(
+        alloc,
+        store,
+        on,
+        Shape::Frame,
+        &plan.rows,
+        &plan.columns,
+        headings,
+    )
 }
 
-// The columns of these labels.
-fn columns_item(
-    alloc: Global,
-    store: &mut Store,
-    dict: &TextDict,
-    on: ObjId,
-    cells: &Cells,
-) -> Result<Value, OpFault>
-    requires live { IsSome (tables store.old on.0) }
-    requires shape { (table_at (tables store.old) on.0).shape ≡ Frame }
-    requires settled { IsSettled shown dict.now (tables store.old) }
-    requires cells { IsSettled cells_value dict.now cells.now }
-    ensures settled { IsSettled shown dict.now (tables store.new) }
-    ensures answers { FormAnswers dict.now result (meant.columns_result (table_value dict.now (table_at (tables store.old) on.0)) (map cell_label (cells_value dict.now cells.now))) (shown dict.now (tables store.old)) (shown dict.now (tables store.new)) }
-{
-    let places = column_places(alloc, dict, &store.read(on), cells)?;
-    columns_frame(alloc, store, dict, on, &places)
-}
-
-// The columns that a list names.
-fn list_item(
-    alloc: Global,
-    store: &mut Store,
-    dict: &TextDict,
-    on: ObjId,
-    items: &[Item],
-) -> Result<Value, OpFault>
-    requires live { IsSome (tables store.old on.0) }
-    requires shape { (table_at (tables store.old) on.0).shape ≡ Frame }
-    requires settled { IsSettled shown dict.now (tables store.old) }
-    requires items { IsSettled (items_of (tables store.old)) dict.now items.now }
-    ensures settled { IsSettled shown dict.now (tables store.new) }
-    ensures answers { FormAnswers dict.now result (meant.frame_item (table_value dict.now (table_at (tables store.old) on.0)) (many (items_of (tables store.old) dict.now items.now))) (shown dict.now (tables store.old)) (shown dict.now (tables store.new)) }
-{
-    let Some(cells) = scalars_of(alloc, items)? else {
-        return Err(OpFault::Refused(Code::NotBuilt));
-    };
-    if are_truths(&cells) {
-        return Err(OpFault::Refused(Code::WrongKind));
-    }
-    columns_item(alloc, store, dict, on, &cells)
-}
-
-// What a key in brackets names in a frame.
-fn frame_item(
-    alloc: Global,
-    store: &mut Store,
-    dict: &TextDict,
-    on: ObjId,
-    key: &Argument,
-) -> Result<Value, OpFault>
-    requires live { IsSome (tables store.old on.0) }
-    requires shape { (table_at (tables store.old) on.0).shape ≡ Frame }
-    requires settled { IsSettled shown dict.now (tables store.old) }
-    requires key { IsSettled (argument_of (tables store.old)) dict.now key.now }
-    ensures settled { IsSettled shown dict.now (tables store.new) }
-    ensures answers { FormAnswers dict.now result (meant.frame_item (table_value dict.now (table_at (tables store.old) on.0)) (argument_of (tables store.old) dict.now key.now)) (shown dict.now (tables store.old)) (shown dict.now (tables store.new)) }
-{
-    match key.scalar() {
-        Some(cell) => column_item(alloc, store, dict, on, label_of(cell)),
-        None => match key.list() {
-            Some(items) => list_item(alloc, store, dict, on, items),
-            None => Err(OpFault::Refused(Code::NotBuilt)),
-        },
-    }
-}
-
-// What a key in brackets names.
-fn table_item(
-    alloc: Global,
-    store: &mut Store,
-    dict: &TextDict,
-    on: ObjId,
-    key: &Argument,
-) -> Result<Value, OpFault>
-    requires live { IsSome (tables store.old on.0) }
-    requires settled { IsSettled shown dict.now (tables store.old) }
-    requires key { IsSettled (argument_of (tables store.old)) dict.now key.now }
-    ensures settled { IsSettled shown dict.now (tables store.new) }
-    ensures answers { let t = table_at (tables store.old) on.0 in FormAnswers dict.now result (meant.table_item t.shape (table_value dict.now t) (argument_of (tables store.old) dict.now key.now)) (shown dict.now (tables store.old)) (shown dict.now (tables store.new)) }
-{
-    match store.read(on).shape() {
-        Shape::Series => Err(OpFault::Refused(Code::NotBuilt)),
-        Shape::Frame => frame_item(alloc, store, dict, on, key),
-    }
-}
-
-// What stands in brackets.
-fn bracketed(
-    alloc: Global,
-    store: &mut Store,
-    dict: &TextDict,
-    on: ObjId,
-    first: &Subscript,
-    second: Option<&Subscript>,
-) -> Result<Value, OpFault>
-    requires live { IsSome (tables store.old on.0) }
-    requires settled { IsSettled shown dict.now (tables store.old) }
-    requires first { IsSettled (subscript_of (tables store.old)) dict.now first.now }
-    ensures settled { IsSettled shown dict.now (tables store.new) }
-    ensures answers { FormAnswers dict.now result (meant.brackets_result (table (table_value dict.now (table_at (tables store.old) on.0))) (subscript_of (tables store.old) dict.now first.now) (option_map (λ s. subscript_of (tables store.old) dict.now s.now) second.entry)) (shown dict.now (tables store.old)) (shown dict.now (tables store.new)) }
-{
-    match only_key(first, second) {
-        Some(key) => table_item(alloc, store, dict, on, key),
-        None => Err(OpFault::Refused(Code::NotBuilt)),
-    }
-}
-
-// The cell of a Series at a position.
-fn cell_at(store: &Store, on: ObjId, position: i64) -> Result<Cell, OpFault>
-    requires live { IsSome (tables store.now on.0) }
-    ensures { (texts : List OneText) → let t = table_at (tables store.now) on.0 in MakesBy scalar_value texts result (meant.table_access t.shape (table_value texts t) (Some position)) }
-{
-    let source = store.read(on);
-    match source.shape() {
-        Shape::Series => {
-            let row = row_place(&source, position)?;
-            Ok(source.cell(row, 0))
-        }
-        Shape::Frame => Err(OpFault::Refused(Code::NotBuilt)),
-    }
-}
-
-// The cell at a position in `iloc`.
-fn positioned(
-    store: &Store,
-    on: ObjId,
-    first: &Subscript,
-    second: Option<&Subscript>,
-) -> Result<Cell, OpFault>
-    requires live { IsSome (tables store.now on.0) }
-    ensures given { (texts : List OneText) → IsSettled table_value texts (table_at (tables store.now) on.0) → IfOk result (λ c. IsSettled datum texts c) }
-    ensures cell { (texts : List OneText) → MakesBy scalar_value texts result (meant.access_result (table (table_value texts (table_at (tables store.now) on.0))) iloc (subscript_of (tables store.now) texts first.now) (option_map (λ s. subscript_of (tables store.now) texts s.now) second.entry)) }
-{
-    match position_in(first, second) {
-        Some(position) => cell_at(store, on, position),
-        None => Err(OpFault::Refused(Code::NotBuilt)),
-    }
-}
-
-// A selection from an object.
-fn selected(
-    alloc: Global,
-    store: &mut Store,
-    dict: &TextDict,
-    on: ObjId,
-    by: Selector,
-    first: &Subscript,
-    second: Option<&Subscript>,
-) -> Result<Value, OpFault>
-    requires live { IsSome (tables store.old on.0) }
-    requires settled { IsSettled shown dict.now (tables store.old) }
-    requires first { IsSettled (subscript_of (tables store.old)) dict.now first.now }
-    ensures settled { IsSettled shown dict.now (tables store.new) }
-    ensures answers { FormAnswers dict.now result (meant.select_result (table (table_value dict.now (table_at (tables store.old) on.0))) (way_of by) (subscript_of (tables store.old) dict.now first.now) (option_map (λ s. subscript_of (tables store.old) dict.now s.now) second.entry)) (shown dict.now (tables store.old)) (shown dict.now (tables store.new)) }
-{
-    match by {
-        Selector::Plain => bracketed(alloc, store, dict, on, first, second),
-        Selector::Iloc => Ok(Value::Scalar(positioned(store, on, first, second)?)),
-        Selector::Loc => Err(OpFault::Refused(Code::NotBuilt)),
-        Selector::At => Err(OpFault::Refused(Code::NotBuilt)),
-        Selector::Iat => Err(OpFault::Refused(Code::NotBuilt)),
-    }
-}
-
-/// A selection: `v[..]`, `v.loc[..]`, `v.iloc[..]`, `v.at[..]` or `v.iat[..]`, as in the pandas user
-/// guide, "Indexing and selecting data". So far a frame's column by its label, its columns by a list
-/// of labels, and a Series' cell by its position in `iloc`.
-///
-/// A column is a new Series with the label as its name, a list gives a new frame with the columns in
-/// the order of the list; no other object changes.
+/// A new frame of all rows of these columns of another one, in their order, for `drop`.
 ///
 /// # Errors
 ///
-/// `WrongKind` of a scalar that is subscripted, and of a list of truth values alone; `NotBuilt` of any
-/// other subscript. Of labels, in this order: `NoKey` of the first one that no column has,
-/// `BadValue(Repeated)` of the first one that is listed twice, `Limit`. `OutOfRange` of a position
-/// that names no row. `NoMemory` may come in place of any answer. After a refusal all objects are as
-/// they were.
-#[tactic(auto, using(frame_store::proofs::Settling::longer_self))]
+/// `BadValue(Repeated)` of the first column that is listed twice, then `Limit` where the frame would
+/// be beyond the limits. `NoMemory` may come in place of any answer. After a refusal all objects are
+/// as they were.
+pub fn columns_of(
+    alloc: Global,
+    store: &mut Store,
+    dict: &TextDict,
+    on: ObjId,
+    columns: Places,
+) -> Result<Value, OpFault>
+    requires live { IsLiveObject (tables store.old) on }
+    requires settled { IsSettledWorld (world store.old dict.now) }
+    requires frame { shape_at (tables store.old) on ≡ Frame }
+    requires columns { All (λ place. place < length (table_at (tables store.old) on.0).columns)
+        columns }
+    ensures { Forms result
+        (finished (columns_frame (object_value (tables store.old) dict.now on) columns))
+        (world store.old dict.now) (world store.new dict.now) }
+{
+    let plan = whole_columns(&store.read(on), columns, Form::Frame);
+    take_frame(alloc, store, dict, on, &plan)
+}
+
+/// A new object with these rows of another one, of all its columns, for `head` and `tail`.
+///
+/// # Errors
+///
+/// `Limit` where it would be beyond the limits. `NoMemory` may come in place of any answer. After a
+/// refusal all objects are as they were.
+pub fn sliced(alloc: Global, store: &mut Store, on: ObjId, rows: Rows) -> Result<Value, OpFault>
+    requires live { IsLiveObject (tables store.old) on }
+    requires rows { AreRowsBelow rows (length (table_at (tables store.old) on.0).labels) }
+    ensures { (texts : List OneText) → IsSettledWorld (world store.old texts) → Forms result
+        (limited (meant.rows_taken (object_value (tables store.old) texts on) (rows_of rows)))
+        (world store.old texts) (world store.new texts) }
+{
+    let source = store.read(on);
+    let headings = headings_of(alloc, &source)?;
+    let columns = places_below(alloc, source.columns())?;
+    let shape = source.shape();
+    let rows = Taken::Slice(rows);
+    cut_within(alloc, store, on, shape, &rows, &columns, headings)
+}
+
+// The answer of a plan.
+fn carry_out(
+    alloc: Global,
+    store: &mut Store,
+    dict: &TextDict,
+    on: ObjId,
+    plan: Plan,
+) -> Result<Value, OpFault>
+    requires live { IsLiveObject (tables store.old) on }
+    requires settled { IsSettledWorld (world store.old dict.now) }
+    requires plan { IsPlanFor (table_at (tables store.old) on.0) plan }
+    ensures { Forms result (meant.picked_result (object_value (tables store.old) dict.now on)
+        (reach_of_plan plan)) (world store.old dict.now) (world store.new dict.now) }
+{
+    match plan.form {
+        Form::Cell => {
+            let cell = store.read(on).cell(plan.rows.first(), *plan.columns.at(0));
+            Ok(Value::Scalar(cell))
+        }
+        Form::Row => {
+            let row = plan.rows.first();
+            let series = row_series(alloc, dict, &store.read(on), row, &plan.columns);
+            placed(store, dict, series)
+        }
+        Form::Column => take_column(alloc, store, on, &plan),
+        Form::Frame => take_frame(alloc, store, dict, on, &plan),
+    }
+}
+
+/// A selection: `v[..]`, `v.loc[..]`, `v.iloc[..]`, `v.at[..]` or `v.iat[..]`, as in the pandas
+/// user guide, "Indexing and selecting data". Axes of several levels aren't built yet.
+///
+/// Brackets on a frame take a column by its label, columns by a list of labels, or the rows of a
+/// mask; those of a Series are `loc`. `loc` takes labels, `iloc` positions, on a frame with a key
+/// for the rows and one for the columns, which may be left out; `at` and `iat` take one label or
+/// position for each. A single row and column give a scalar, a single column or row a Series, all
+/// else a Series of a Series and a frame of a frame. The answer is a new object; no other object
+/// changes.
+///
+/// # Errors
+///
+/// `WrongKind` of a scalar that is subscripted, of a key of another form, and of a list of truth
+/// values alone in brackets; `NotBuilt` of axes of several levels. The row key before the column
+/// key: `NoKey` of a label that isn't there, or of the bound of a slice that isn't there or stands
+/// twice where the labels aren't in order; `OutOfRange` of a position; `NoMaskLabel` of a row whose
+/// label stands not just once in a mask of other labels; `BadValue(Argument)` of a step of 0;
+/// `BadValue(Repeated)` of a label of `at` that stands more than once. Then `WrongKind` of a row of
+/// several kinds, `BadValue(Repeated)` of the first column that is listed twice, `Limit`.
+/// `NoMemory` may come in place of any answer. After a refusal all objects are as they were.
 pub fn select(
     alloc: Global,
     store: &mut Store,
@@ -279,16 +352,18 @@ pub fn select(
     first: &Subscript,
     second: Option<&Subscript>,
 ) -> Result<Value, OpFault>
-    requires live { IsLive (tables store.old) on }
-    requires settled { IsSettled shown dict.old (tables store.old) }
-    requires first { IsSettled (subscript_of (tables store.old)) dict.old first.now }
-    requires second { IfSome second (λ s. IsSettled (subscript_of (tables store.old)) dict.old s.now) }
-    ensures longer { IsLonger dict.old dict.new }
-    ensures settled { IsSettled shown dict.new (tables store.new) }
-    ensures answers { FormAnswers dict.new result (meant.select_result (entry_of (tables store.old) dict.old on) (way_of by) (subscript_of (tables store.old) dict.old first.now) (option_map (λ s. subscript_of (tables store.old) dict.old s.now) second.entry)) (shown dict.old (tables store.old)) (shown dict.new (tables store.new)) }
+    requires on { IsKnownValue (world store.old dict.old) on }
+    requires settled { IsSettledWorld (world store.old dict.old) }
+    requires first { IsKnownSubscript (world store.old dict.old) first.now }
+    requires second { IfSome second (λ key. IsKnownSubscript (world store.old dict.old) key.now) }
+    ensures { Forms result (meant.select_result (entry_in (world store.old dict.old) on) (way_of by)
+        (subscript_in (world store.old dict.old) first.now)
+        (option_map (λ key. subscript_in (world store.old dict.old) key.now) second.entry))
+        (world store.old dict.old) (world store.new dict.new) }
 {
-    match on {
-        Value::Object(id) => selected(alloc, store, dict, id, by, first, second),
-        Value::Scalar(_) => Err(OpFault::Refused(Code::WrongKind)),
-    }
+    let Value::Object(id) = on else {
+        return Err(wrong_kind());
+    };
+    let plan = plan_for(alloc, store, dict, &store.read(id), by, first, second)?;
+    carry_out(alloc, store, dict, id, plan)
 }

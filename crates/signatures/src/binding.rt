@@ -1,13 +1,13 @@
 // How the arguments of a call are bound to a signature.
-ghost use Rattle.std.specs.Prelude.{◌≡◌, ◌+◌, ◌<◌, ◌^◌, List, length, slice_get, IfSome};
+ghost use Rattle.std.specs.Prelude.{◌≡◌, ◌+◌, ◌<◌, ◌^◌, length, slice_get};
 ghost use Rattle.std.specs.List.{position_or_len};
-ghost use Rattle.std.specs.Option.{option_map};
-ghost use Rattle.meaning.specs.Text.{Text, same_text};
+ghost use Rattle.meaning.specs.Text.{same_text};
 ghost use Rattle.form_meaning.specs.Signature as signature;
 ghost use Rattle.form_meaning.specs.Binding as plain;
-ghost use Rattle.frame_store.specs.Objects.{Tables, tables};
+ghost use Rattle.frame_store.specs.Objects.{tables};
 ghost use Rattle.frame_store.specs.Arguments.{argument_of, named_of, arguments_of, IsLiveArgument, AreLive};
-ghost use Rattle.frame_store.specs.World.{world};
+ghost use Rattle.frame_store.specs.Readers.{Agrees, AgreesBy, AgreesSeen, IsLiveWith, lent_argument, IsLiveLent};
+ghost use Rattle.frame_store.specs.World.{world, arguments_in};
 ghost use Rattle.signatures.specs.Bound.{IsBound};
 
 use crate::bound::Bound;
@@ -55,7 +55,8 @@ impl From<Unbound> for OpFault {
 
 // The place of the parameter with a name, or the number of parameters.
 fn place_named(parameters: &[Parameter], name: &str) -> usize
-    ensures { result ≡ position_or_len (λ p. same_text (signature.spelled p.name) name.now) parameters.now }
+    ensures { result
+        ≡ position_or_len (λ p. same_text (signature.spelled p.name) name.now) parameters.now }
 {
     let mut place = 0;
     let mut rest = parameters;
@@ -100,8 +101,9 @@ pub(crate) fn given_after<'a>(
     place: usize,
 ) -> Option<&'a Argument>
     requires { unnamed + length args.now < 2 ^ 64 }
-    ensures value { (live : Tables) (texts : List Text) → option_map (λ a. argument_of live texts a.now) result ≡ plain.given_at parameters.now unnamed (arguments_of live texts args.now) place }
-    ensures live { (live : Tables) → AreLive live args.now → IfSome result (λ a. IsLiveArgument live a.now) }
+    ensures value { AgreesSeen (λ gs. plain.given_at parameters.now unnamed gs place)
+        arguments_of args.now lent_argument result }
+    ensures live { IsLiveWith AreLive args.now IsLiveLent result }
 {
     let mut unnamed = unnamed;
     let mut rest = args;
@@ -126,7 +128,9 @@ fn fits(
 ) -> bool
     requires few { unnamed + length after.now + 1 < 2 ^ 64 }
     requires live { IsLiveArgument (tables store.now) first.now.value }
-    ensures { result ≡ plain.fits parameters.now unnamed (named_of (tables store.now) dict.now first.now) (arguments_of (tables store.now) dict.now after.now) }
+    ensures { result ≡ plain.fits parameters.now unnamed
+        (named_of (tables store.now) dict.now first.now)
+        (arguments_in (world store.now dict.now) after.now) }
 {
     let place = goes_to(parameters, unnamed, &first.name);
     match parameters.get(place) {
@@ -141,7 +145,8 @@ fn fits(
 // Whether each argument goes to a parameter that takes it, and no two go to one.
 fn all_fit(store: &Store, dict: &TextDict, parameters: &[Parameter], args: &[Named]) -> bool
     requires { AreLive (tables store.now) args.now }
-    ensures { result ≡ plain.fit parameters.now 0 (arguments_of (tables store.now) dict.now args.now) }
+    ensures { result
+        ≡ plain.fit parameters.now 0 (arguments_in (world store.now dict.now) args.now) }
 {
     let mut unnamed = 0;
     let mut rest = args;
@@ -156,7 +161,8 @@ fn all_fit(store: &Store, dict: &TextDict, parameters: &[Parameter], args: &[Nam
 }
 
 fn listed_at(dict: &TextDict, parameters: &[Parameter], place: usize, argument: &Argument) -> bool
-    ensures { (live : Tables) → result ≡ plain.listed_by (slice_get parameters.now place) (argument_of live dict.now argument.now) }
+    ensures { AgreesBy dict.now (plain.listed_by (slice_get parameters.now place))
+        argument_of argument.now result }
 {
     match parameters.get(place) {
         None => true,
@@ -166,7 +172,7 @@ fn listed_at(dict: &TextDict, parameters: &[Parameter], place: usize, argument: 
 
 // Whether each argument is among the values that its parameter lists.
 fn all_listed(dict: &TextDict, parameters: &[Parameter], args: &[Named]) -> bool
-    ensures { (live : Tables) → result ≡ plain.are_listed parameters.now 0 (arguments_of live dict.now args.now) }
+    ensures { AgreesBy dict.now (plain.are_listed parameters.now 0) arguments_of args.now result }
 {
     let mut unnamed = 0;
     let mut rest = args;
@@ -192,7 +198,8 @@ fn may_be_omitted(omitted: Omitted) -> bool
 
 // Whether no parameter lacks its argument.
 fn none_missing(parameters: &[Parameter], args: &[Named]) -> bool
-    ensures { (live : Tables) (texts : List Text) → result ≡ plain.none_missing parameters.now (arguments_of live texts args.now) 0 parameters.now }
+    ensures { Agrees (λ gs. plain.none_missing parameters.now gs 0 parameters.now)
+        arguments_of args.now result }
 {
     let mut place = 0;
     let mut rest = parameters;

@@ -6,13 +6,15 @@ ghost use Rattle.table_meaning.specs.Value.{row};
 ghost use Rattle.form_meaning.specs.Binding as plain;
 ghost use Rattle.frame_store.specs.Objects.{Tables, tables};
 ghost use Rattle.frame_store.specs.Arguments.{shape_at, IsLiveObject, item_of, items_of, argument_of, entries_of, IsLiveArgument};
+ghost use Rattle.frame_store.specs.Readers.{Agrees, AgreesBy};
+ghost use Rattle.frame_store.specs.World.{world, argument_in};
 
 use cell_core::{Cell, Grid, Label, Shape, TextDict};
 use form_meaning::{Form, Listed, Omitted, Parameter};
 use frame_store::{Argument, Item, ObjId, Store, Value};
 
 fn is_scalar(item: &Item) -> bool
-    ensures { (live : Tables) (texts : List Text) → result ≡ plain.is_scalar (item_of live texts item.now) }
+    ensures { Agrees plain.is_scalar item_of item.now result }
 {
     match item {
         Item::One(Value::Scalar(_)) => true,
@@ -22,7 +24,7 @@ fn is_scalar(item: &Item) -> bool
 }
 
 fn is_object(item: &Item) -> bool
-    ensures { (live : Tables) (texts : List Text) → result ≡ plain.is_object (item_of live texts item.now) }
+    ensures { Agrees plain.is_object item_of item.now result }
 {
     match item {
         Item::One(Value::Object(_)) => true,
@@ -33,20 +35,20 @@ fn is_object(item: &Item) -> bool
 
 /// Whether each part of a list is a scalar. Takes no memory.
 pub fn are_scalars(items: &[Item]) -> bool
-    ensures { (live : Tables) (texts : List Text) → result ≡ plain.each plain.is_scalar (items_of live texts items.now) }
+    ensures { Agrees (plain.each plain.is_scalar) items_of items.now result }
 {
     items.iter().all(is_scalar)
 }
 
 fn are_objects(items: &[Item]) -> bool
-    ensures { (live : Tables) (texts : List Text) → result ≡ plain.each plain.is_object (items_of live texts items.now) }
+    ensures { Agrees (plain.each plain.is_object) items_of items.now result }
 {
     items.iter().all(is_object)
 }
 
 // A scalar, or a tuple of scalars alone.
 fn is_key(item: &Item) -> bool
-    ensures { (live : Tables) (texts : List Text) → result ≡ plain.is_key (item_of live texts item.now) }
+    ensures { Agrees plain.is_key item_of item.now result }
 {
     match item {
         Item::One(Value::Scalar(_)) => true,
@@ -56,7 +58,7 @@ fn is_key(item: &Item) -> bool
 }
 
 fn are_keys(items: &[Item]) -> bool
-    ensures { (live : Tables) (texts : List Text) → result ≡ plain.each plain.is_key (items_of live texts items.now) }
+    ensures { Agrees (plain.each plain.is_key) items_of items.now result }
 {
     items.iter().all(is_key)
 }
@@ -64,13 +66,13 @@ fn are_keys(items: &[Item]) -> bool
 // A tuple of so many scalars, of which these are the parts.
 #[tactic(auto, using(crate::proofs::FormLaws::count_is))]
 fn are_so_many(count: usize, parts: &[Item]) -> bool
-    ensures { (live : Tables) (texts : List Text) → result ≡ plain.is_tuple_of count (row (items_of live texts parts.now)) }
+    ensures { Agrees (λ gs. plain.is_tuple_of count (row gs)) items_of parts.now result }
 {
     parts.len() == count && are_scalars(parts)
 }
 
 fn is_tuple_of(count: usize, item: &Item) -> bool
-    ensures { (live : Tables) (texts : List Text) → result ≡ plain.is_tuple_of count (item_of live texts item.now) }
+    ensures { Agrees (plain.is_tuple_of count) item_of item.now result }
 {
     match item {
         Item::One(_) => false,
@@ -79,7 +81,7 @@ fn is_tuple_of(count: usize, item: &Item) -> bool
 }
 
 fn are_tuples_of(count: usize, items: &[Item]) -> bool
-    ensures { (live : Tables) (texts : List Text) → result ≡ plain.each (plain.is_tuple_of count) (items_of live texts items.now) }
+    ensures { Agrees (plain.each (plain.is_tuple_of count)) items_of items.now result }
 {
     items.iter().all(|item| is_tuple_of(count, item))
 }
@@ -87,14 +89,16 @@ fn are_tuples_of(count: usize, items: &[Item]) -> bool
 // Two scalars or more, and after them tuples of as many.
 #[tactic(auto, using(crate::proofs::FormLaws::count_is))]
 fn are_tuples_like(parts: &[Item], rest: &[Item]) -> bool
-    ensures { (live : Tables) (texts : List Text) → result ≡ plain.are_alike (row (items_of live texts parts.now)) (items_of live texts rest.now) }
+    ensures { (live : Tables) (texts : List Text) → result
+        ≡ plain.are_alike (row (items_of live texts parts.now)) (items_of live texts rest.now) }
 {
     1 < parts.len() && are_scalars(parts) && are_tuples_of(parts.len(), rest)
 }
 
 // Scalars alone, or tuples of two scalars or more, all as long as the first.
 fn are_alike(first: &Item, rest: &[Item]) -> bool
-    ensures { (live : Tables) (texts : List Text) → result ≡ plain.are_alike (item_of live texts first.now) (items_of live texts rest.now) }
+    ensures { (live : Tables) (texts : List Text) → result
+        ≡ plain.are_alike (item_of live texts first.now) (items_of live texts rest.now) }
 {
     match first {
         Item::One(Value::Scalar(_)) => are_scalars(rest),
@@ -104,7 +108,7 @@ fn are_alike(first: &Item, rest: &[Item]) -> bool
 }
 
 fn are_row_labels(items: &[Item]) -> bool
-    ensures { (live : Tables) (texts : List Text) → result ≡ plain.are_row_labels (items_of live texts items.now) }
+    ensures { Agrees plain.are_row_labels items_of items.now result }
 {
     match items {
         [] => true,
@@ -114,7 +118,8 @@ fn are_row_labels(items: &[Item]) -> bool
 
 // Whether a key stands among the pairs.
 fn has_key(dict: &TextDict, key: Label, pairs: &[(Label, Argument)]) -> bool
-    ensures { (live : Tables) → result ≡ plain.has_key (label_datum dict.now key) (entries_of live dict.now pairs.now) }
+    ensures { AgreesBy dict.now (plain.has_key (label_datum dict.now key))
+        entries_of pairs.now result }
 {
     let mut rest = pairs;
     while let [first, after @ ..] = rest {
@@ -127,7 +132,7 @@ fn has_key(dict: &TextDict, key: Label, pairs: &[(Label, Argument)]) -> bool
 }
 
 fn is_text(argument: &Argument) -> bool
-    ensures { (live : Tables) (texts : List Text) → result ≡ plain.is_given_text (argument_of live texts argument.now) }
+    ensures { Agrees plain.is_given_text argument_of argument.now result }
 {
     match argument {
         Argument::One(Value::Scalar(cell)) => matches!(cell, Cell::Text(_)),
@@ -141,7 +146,7 @@ fn is_text(argument: &Argument) -> bool
 
 // Whether each value that isn't replaced by a later one of its key is a text.
 fn are_texts(dict: &TextDict, pairs: &[(Label, Argument)]) -> bool
-    ensures { (live : Tables) → result ≡ plain.each_value plain.is_given_text (entries_of live dict.now pairs.now) }
+    ensures { AgreesBy dict.now (plain.each_value plain.is_given_text) entries_of pairs.now result }
 {
     let mut rest = pairs;
     while let [first, after @ ..] = rest {
@@ -154,7 +159,7 @@ fn are_texts(dict: &TextDict, pairs: &[(Label, Argument)]) -> bool
 }
 
 fn is_kind_name(dict: &TextDict, argument: &Argument) -> bool
-    ensures { (live : Tables) → result ≡ plain.is_kind_name (argument_of live dict.now argument.now) }
+    ensures { AgreesBy dict.now plain.is_kind_name argument_of argument.now result }
 {
     match argument {
         Argument::One(Value::Scalar(cell)) => lists_scalar(dict, Listed::KindNames, *cell),
@@ -168,7 +173,7 @@ fn is_kind_name(dict: &TextDict, argument: &Argument) -> bool
 
 // Whether each value that isn't replaced by a later one of its key is the name of a kind.
 fn are_kind_names(dict: &TextDict, pairs: &[(Label, Argument)]) -> bool
-    ensures { (live : Tables) → result ≡ plain.each_value plain.is_kind_name (entries_of live dict.now pairs.now) }
+    ensures { AgreesBy dict.now (plain.each_value plain.is_kind_name) entries_of pairs.now result }
 {
     let mut rest = pairs;
     while let [first, after @ ..] = rest {
@@ -214,7 +219,7 @@ fn object_has(form: Form, shape: Shape) -> bool
 
 #[tactic(auto, using(crate::proofs::FormLaws::count_is))]
 fn list_has(form: Form, items: &[Item]) -> bool
-    ensures { (live : Tables) (texts : List Text) → result ≡ plain.list_has form (items_of live texts items.now) }
+    ensures { Agrees (plain.list_has form) items_of items.now result }
 {
     match form {
         Form::Scalars => are_scalars(items),
@@ -229,7 +234,7 @@ fn list_has(form: Form, items: &[Item]) -> bool
 }
 
 fn dict_has(dict: &TextDict, form: Form, pairs: &[(Label, Argument)]) -> bool
-    ensures { (live : Tables) → result ≡ plain.dict_has form (entries_of live dict.now pairs.now) }
+    ensures { AgreesBy dict.now (plain.dict_has form) entries_of pairs.now result }
 {
     match form {
         Form::Dict => true,
@@ -259,7 +264,8 @@ pub(crate) fn takes(
     argument: &Argument,
 ) -> bool
     requires { IsLiveArgument (tables store.now) argument.now }
-    ensures { result ≡ plain.takes parameter (argument_of (tables store.now) dict.now argument.now) }
+    ensures { result
+        ≡ plain.takes parameter (argument_in (world store.now dict.now) argument.now) }
 {
     match argument {
         Argument::Nothing => none_stands(parameter.omitted) || none_has(parameter.form),
@@ -340,7 +346,7 @@ fn lists_scalar(dict: &TextDict, listed: Listed, cell: Cell) -> bool
 }
 
 fn lists_dict(dict: &TextDict, listed: Listed, pairs: &[(Label, Argument)]) -> bool
-    ensures { (live : Tables) → result ≡ plain.lists_dict listed (entries_of live dict.now pairs.now) }
+    ensures { AgreesBy dict.now (plain.lists_dict listed) entries_of pairs.now result }
 {
     match listed {
         Listed::KindNameDict => are_kind_names(dict, pairs),
@@ -350,7 +356,7 @@ fn lists_dict(dict: &TextDict, listed: Listed, pairs: &[(Label, Argument)]) -> b
 
 // Whether an argument is among the listed values.
 pub(crate) fn lists(dict: &TextDict, listed: Listed, argument: &Argument) -> bool
-    ensures { (live : Tables) → result ≡ plain.lists listed (argument_of live dict.now argument.now) }
+    ensures { AgreesBy dict.now (plain.lists listed) argument_of argument.now result }
 {
     match argument {
         Argument::Nothing => true,

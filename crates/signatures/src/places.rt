@@ -1,5 +1,5 @@
 // What stands at a place of a signature: the argument that goes there, or what its parameter has for one.
-ghost use Rattle.std.specs.Prelude.{◌≡◌, List, slice_get, is_some, Some, IfSome};
+ghost use Rattle.std.specs.Prelude.{◌≡◌, List, slice_get, is_some, Some};
 ghost use Rattle.std.specs.Option.{option_map};
 ghost use Rattle.meaning.specs.Text.{Text};
 ghost use Rattle.meaning.specs.Cell.{datum};
@@ -8,7 +8,8 @@ ghost use Rattle.form_meaning.specs.Binding as plain;
 ghost use Rattle.form_meaning.specs.Make.{kind_given};
 ghost use Rattle.form_meaning.specs.declared.Form.TheVariants as form;
 ghost use Rattle.frame_store.specs.Objects.{Tables};
-ghost use Rattle.frame_store.specs.Arguments.{argument_of, items_of, entries_of, arguments_of, IsLiveArgument, AreLiveItems, AreLivePairs, AreLive};
+ghost use Rattle.frame_store.specs.Arguments.{argument_of, items_of, entries_of, arguments_of, AreLiveItems, AreLivePairs, AreLive};
+ghost use Rattle.frame_store.specs.Readers.{Agrees, AgreesSeen, IsLiveWith, lent_argument, IsLiveLent, AreLiveLentItems, AreLiveLentPairs};
 ghost use Rattle.signatures.specs.Found.{found_value, IsFoundLive, StandsNoText};
 ghost use Rattle.signatures.specs.Bound.{Tells, stands_at, form_at};
 
@@ -28,14 +29,17 @@ enum Found<'a> {
 
 // The argument that goes to a place of the signature, if one is given.
 fn given_at<'a>(parameters: &[Parameter], args: &'a [Named], place: usize) -> Option<&'a Argument>
-    ensures value { (live : Tables) (texts : List Text) → option_map (λ a. argument_of live texts a.now) result ≡ plain.given_at parameters.now 0 (arguments_of live texts args.now) place }
-    ensures live { (live : Tables) → AreLive live args.now → IfSome result (λ a. IsLiveArgument live a.now) }
+    ensures value { AgreesSeen (λ gs. plain.given_at parameters.now 0 gs place)
+        arguments_of args.now lent_argument result }
+    ensures live { IsLiveWith AreLive args.now IsLiveLent result }
 {
     given_after(parameters, 0, args, place)
 }
 
 fn found_at<'a>(parameters: &[Parameter], args: &'a [Named], place: usize) -> Found<'a>
-    ensures value { (live : Tables) (texts : List Text) → found_value live texts result ≡ plain.argument_at parameters.now (arguments_of live texts args.now) place }
+    ensures value { (live : Tables) (texts : List Text)
+        → found_value live texts result
+        ≡ plain.argument_at parameters.now (arguments_of live texts args.now) place }
     ensures live { (live : Tables) → AreLive live args.now → IsFoundLive live result }
     ensures no_text { plain.HasNoText (slice_get parameters.now place) → StandsNoText result }
 {
@@ -73,7 +77,8 @@ fn truth_of(cell: Option<Cell>) -> Option<bool>
 }
 
 fn text_of(dict: &TextDict, cell: Option<Cell>) -> Option<&str>
-    ensures value { option_map (λ t. t.now) result ≡ plain.text_of (option_map (datum dict.now) cell) }
+    ensures value { option_map (λ t. t.now) result
+        ≡ plain.text_of (option_map (datum dict.now) cell) }
     ensures there { (texts : List Text)
         → is_some result ≡ is_some (plain.text_of (option_map (datum texts) cell)) }
 {
@@ -88,7 +93,8 @@ fn text_of(dict: &TextDict, cell: Option<Cell>) -> Option<&str>
 
 fn cell_for(omitted: Omitted) -> Option<Cell>
     requires { plain.IsNoText omitted }
-    ensures { (texts : List Text) → option_map (datum texts) result ≡ scalar_in (plain.stands_for omitted) }
+    ensures { (texts : List Text)
+        → option_map (datum texts) result ≡ scalar_in (plain.stands_for omitted) }
 {
     match omitted {
         Omitted::Number(number) => Some(Cell::Int(number)),
@@ -123,6 +129,30 @@ fn truth_for(omitted: Omitted) -> Option<bool>
     }
 }
 
+fn is_nothing(argument: &Argument) -> bool
+    ensures { Agrees plain.is_nothing argument_of argument.now result }
+{
+    match argument {
+        Argument::Nothing => true,
+        Argument::One(_) => false,
+        Argument::Row(_) => false,
+        Argument::Many(_) => false,
+        Argument::Table(_) => false,
+    }
+}
+
+fn nothing_for(omitted: Omitted) -> bool
+    ensures { result ≡ plain.is_nothing (plain.stands_for omitted) }
+{
+    match omitted {
+        Omitted::Required => true,
+        Omitted::None => true,
+        Omitted::Number(_) => false,
+        Omitted::Truth(_) => false,
+        Omitted::Text(_) => false,
+    }
+}
+
 fn text_for(omitted: Omitted) -> Option<&'static str>
     ensures { option_map (λ t. t.now) result ≡ plain.text_in (plain.stands_for omitted) }
 {
@@ -136,6 +166,18 @@ fn text_for(omitted: Omitted) -> Option<&'static str>
 }
 
 impl<'a> Bound<'a> {
+    /// Whether `None` stands at a place, as where an argument that may be left out isn't given. Takes no
+    /// memory.
+    pub fn is_none(&self, place: usize) -> bool
+        ensures { (live : Tables) (texts : List Text)
+            → result ≡ plain.is_nothing (stands_at live texts self.now place) }
+    {
+        match found_at(self.parameters, self.args, place) {
+            Found::Given(argument) => is_nothing(argument),
+            Found::StandIn(omitted) => nothing_for(omitted),
+        }
+    }
+
     /// The scalar that stands at a place, counted from 0; `None` where something else stands there. The
     /// default of the parameter is no text. Takes no memory.
     pub fn scalar_or_none(&self, place: usize) -> Option<Cell>
@@ -230,8 +272,7 @@ impl<'a> Bound<'a> {
     pub fn list_or_none(&self, place: usize) -> Option<&'a [Item]>
         ensures value { Tells self.now place list_in
             (λ live texts. option_map (λ parts. items_of live texts parts.now) result) }
-        ensures live { (live : Tables) → AreLive live self.now.args.now
-            → IfSome result (λ parts. AreLiveItems live parts.now) }
+        ensures live { IsLiveWith AreLive self.now.args.now AreLiveLentItems result }
     {
         match found_at(self.parameters, self.args, place) {
             Found::Given(argument) => argument.list(),
@@ -256,8 +297,7 @@ impl<'a> Bound<'a> {
     pub fn dict_or_none(&self, place: usize) -> Option<&'a [(Label, Argument)]>
         ensures value { Tells self.now place dict_in
             (λ live texts. option_map (λ pairs. entries_of live texts pairs.now) result) }
-        ensures live { (live : Tables) → AreLive live self.now.args.now
-            → IfSome result (λ pairs. AreLivePairs live pairs.now) }
+        ensures live { IsLiveWith AreLive self.now.args.now AreLiveLentPairs result }
     {
         match found_at(self.parameters, self.args, place) {
             Found::Given(argument) => argument.dict(),

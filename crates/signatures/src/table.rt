@@ -33,44 +33,81 @@ macro_rules! optional {
     };
 }
 
-/// The parameters of a method, in their order. Takes no memory.
+const SORT: &[Parameter] = &[optional!(Ascending: Truth = Omitted::Truth(true))];
+
+const SORT_FRAME: &[Parameter] = &[
+    needed!(By: Labels),
+    optional!(Ascending: Truth = Omitted::Truth(true)),
+];
+
+const REINDEX_FRAME: &[Parameter] = &[
+    optional!(Index: Keys = Omitted::None),
+    optional!(Columns: Scalars = Omitted::None),
+];
+
+const SWAPLEVEL: &[Parameter] = &[
+    optional!(I: Level = Omitted::Number(-2)),
+    optional!(J: Level = Omitted::Number(-1)),
+];
+
+const XS: &[Parameter] = &[
+    needed!(Key: Scalar),
+    optional!(Level: Level = Omitted::Number(0)),
+];
+
+const GROUPBY: &[Parameter] = &[
+    needed!(By: SomeLabels),
+    optional!(Sort: Truth = Omitted::Truth(true)),
+    optional!(Dropna: Truth = Omitted::Truth(true)),
+    optional!(AsIndex: Truth = Omitted::Truth(true)),
+];
+
+const ROLLING: &[Parameter] = &[
+    needed!(Window: Whole),
+    optional!(MinPeriods: Whole = Omitted::None),
+];
+
+const MERGE: &[Parameter] = &[
+    needed!(Right: Frame),
+    optional!(How: Text in Hows = Omitted::Text(DefaultText::Inner)),
+    optional!(On: SomeLabels = Omitted::None),
+    optional!(Validate: Text in Validations = Omitted::None),
+];
+
+const PIVOT: &[Parameter] = &[
+    needed!(Columns: Scalar),
+    needed!(Index: SomeLabels),
+    needed!(Values: Scalar),
+];
+
+const PIVOT_TABLE: &[Parameter] = &[
+    needed!(Values: Scalar),
+    needed!(Index: SomeLabels),
+    needed!(Columns: Scalar),
+    needed!(Aggfunc: Text in Aggregations),
+];
+
+const MELT: &[Parameter] = &[
+    optional!(IdVars: Labels = Omitted::None),
+    optional!(ValueVars: Labels = Omitted::None),
+];
+
+/// The parameters of a method, in their order; most have none. Takes no memory.
 pub fn parameters(method: Method) -> &'static [Parameter]
     ensures { result.now ≡ signature.parameters_of method }
 {
     match method {
         Method::Copy => &[optional!(Deep: Truth = Omitted::Truth(true))],
-        Method::Head => &[optional!(N: Whole = Omitted::Number(5))],
-        Method::Tail => &[optional!(N: Whole = Omitted::Number(5))],
-        Method::Isna => &[],
-        Method::Notna => &[],
+        Method::Head | Method::Tail => &[optional!(N: Whole = Omitted::Number(5))],
         Method::Fillna => &[needed!(Value: Scalar)],
-        Method::Dropna => &[],
         Method::Isin => &[needed!(Values: Scalars)],
         Method::Astype => &[needed!(Dtype: Text in KindNames)],
-        Method::DuplicatedSeries => &[],
         Method::DuplicatedFrame => &[optional!(Subset: Labels = Omitted::None)],
         Method::Shift => &[optional!(Periods: Whole = Omitted::Number(1))],
-        Method::Cumsum => &[],
-        Method::Cummin => &[],
-        Method::Cummax => &[],
-        Method::Sum => &[],
-        Method::Min => &[],
-        Method::Max => &[],
-        Method::Any => &[],
-        Method::All => &[],
-        Method::Count => &[],
-        Method::Nunique => &[],
-        Method::SortValuesSeries => &[optional!(Ascending: Truth = Omitted::Truth(true))],
-        Method::SortValuesFrame => &[
-            needed!(By: Labels),
-            optional!(Ascending: Truth = Omitted::Truth(true)),
-        ],
-        Method::SortIndex => &[optional!(Ascending: Truth = Omitted::Truth(true))],
+        Method::SortValuesSeries | Method::SortIndex => SORT,
+        Method::SortValuesFrame => SORT_FRAME,
         Method::ReindexSeries => &[needed!(Index: Keys)],
-        Method::ReindexFrame => &[
-            optional!(Index: Keys = Omitted::None),
-            optional!(Columns: Scalars = Omitted::None),
-        ],
+        Method::ReindexFrame => REINDEX_FRAME,
         Method::RenameSeries => &[needed!(Name: ScalarOrNone)],
         Method::RenameFrame => &[needed!(Columns: Dict)],
         Method::RenameAxis => &[needed!(Names: Names)],
@@ -78,50 +115,18 @@ pub fn parameters(method: Method) -> &'static [Parameter]
         Method::ResetIndex => &[optional!(DropLabels: Truth = Omitted::Truth(false))],
         Method::DropColumns => &[needed!(Columns: Labels)],
         Method::Droplevel => &[needed!(Level: Level)],
-        Method::Swaplevel => &[
-            optional!(I: Level = Omitted::Number(-2)),
-            optional!(J: Level = Omitted::Number(-1)),
-        ],
-        Method::Xs => &[
-            needed!(Key: Scalar),
-            optional!(Level: Level = Omitted::Number(0)),
-        ],
-        Method::ToFrame => &[],
+        Method::Swaplevel => SWAPLEVEL,
+        Method::Xs => XS,
         Method::ToCsv => &[optional!(Index: Truth = Omitted::Truth(true))],
-        Method::Groupby => &[
-            needed!(By: SomeLabels),
-            optional!(Sort: Truth = Omitted::Truth(true)),
-            optional!(Dropna: Truth = Omitted::Truth(true)),
-            optional!(AsIndex: Truth = Omitted::Truth(true)),
-        ],
-        Method::Rolling => &[
-            needed!(Window: Whole),
-            optional!(MinPeriods: Whole = Omitted::None),
-        ],
+        Method::Groupby => GROUPBY,
+        Method::Rolling => ROLLING,
         Method::Expanding => &[optional!(MinPeriods: Whole = Omitted::Number(1))],
-        Method::Merge => &[
-            needed!(Right: Frame),
-            optional!(How: Text in Hows = Omitted::Text(DefaultText::Inner)),
-            optional!(On: SomeLabels = Omitted::None),
-            optional!(Validate: Text in Validations = Omitted::None),
-        ],
-        Method::Stack => &[],
+        Method::Merge => MERGE,
         Method::Unstack => &[optional!(Level: Level = Omitted::Number(-1))],
-        Method::Pivot => &[
-            needed!(Columns: Scalar),
-            needed!(Index: SomeLabels),
-            needed!(Values: Scalar),
-        ],
-        Method::PivotTable => &[
-            needed!(Values: Scalar),
-            needed!(Index: SomeLabels),
-            needed!(Columns: Scalar),
-            needed!(Aggfunc: Text in Aggregations),
-        ],
-        Method::Melt => &[
-            optional!(IdVars: Labels = Omitted::None),
-            optional!(ValueVars: Labels = Omitted::None),
-        ],
+        Method::Pivot => PIVOT,
+        Method::PivotTable => PIVOT_TABLE,
+        Method::Melt => MELT,
+        _ => &[],
     }
 }
 

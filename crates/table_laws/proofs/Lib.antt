@@ -5,7 +5,9 @@ pub mod TableLaws
 pub mod InfixLaws
 pub mod HeadingLaws
 pub mod SelectLaws
+pub mod ReachLaws
 pub mod SetLaws
+pub mod RowLaws
 pub mod MethodLaws
 pub mod MakeLaws
 pub mod CsvLaws

@@ -1,13 +1,13 @@
 -- Methods make valid tables of valid ones.
 use Rattle.std.proofs.Common.{◌≡◌, ◌∙◌, refl, sym, subst, ℕ, pos, List, [], ◌∷◌, length, map, arith}
-use Rattle.std.specs.Prelude.{Bool, true, false, ◌||◌, nat_lt, if◌then◌else◌, codes, Option, Some, None, IsSome, IfSome, option_map, Result, Ok, Err, IfOk, All}
+use Rattle.std.specs.Prelude.{Bool, true, false, ◌||◌, nat_lt, if◌then◌else◌, codes, unwrap_or, Option, Some, None, IsSome, IfSome, option_map, Result, Ok, Err, IfOk, All}
 use Rattle.std.specs.List.{list_all}
 use Rattle.std.proofs.lemmas.List.{length-map}
 use Rattle.std.proofs.lemmas.List.Elements.{All-nil, All-cons}
 use Rattle.cell_core.specs.declared.grid.Shape.{Shape}
 use Rattle.cell_core.specs.declared.grid.Shape.TheVariants.{Series, Frame}
 use Rattle.meaning.specs.Text.{Text, same_text}
-use Rattle.meaning.specs.Cell.{CellValue, text_cell, LabelValue, int, Kind, Int64, Boolean, string}
+use Rattle.meaning.specs.Cell.{CellValue, text_cell, LabelValue, int, Kind, Boolean}
 use Rattle.meaning.specs.Column.{kind_mismatch}
 use Rattle.meaning.specs.Operator.{cell_label}
 use Rattle.meaning.specs.Reduce as reduction
@@ -15,16 +15,16 @@ use Rattle.meaning.specs.Reduce.{Reduction, reduction_takes, reduction_cell, sam
 use Rattle.meaning.specs.Cumulate as cumulation
 use Rattle.meaning.specs.Fault.{FaultValue, wrong_kind, bad_value, no_columns, not_built}
 use Rattle.table_meaning.specs.Table.{ColumnOf, Table, column_at}
-use Rattle.table_meaning.specs.Value.{Entry, cell, table, Given, NamedGiven, scalar_in, list_in, dict_in}
+use Rattle.table_meaning.specs.Value.{Entry, cell, table, Given, NamedGiven, nothing, scalar_in, list_in, dict_in}
 use Rattle.form_meaning.specs.declared.Method.{Method}
 use Rattle.form_meaning.specs.declared.Method.TheVariants as method
 use Rattle.form_meaning.specs.Signature.{method_named, parameters_of, either, series_alone, frame_alone}
 use Rattle.form_meaning.specs.Binding.{Bound, not_taken, not_listed, bound, bound_of, on_bound, whole_in, truth_in}
-use Rattle.form_meaning.specs.Finish.{first_repeated, limited, finished, try_all, with_columns}
+use Rattle.form_meaning.specs.Finish.{first_repeated, limited, finished, try_all, with_columns, same_kind, across_columns}
 use Rattle.form_meaning.specs.Select.{cells_of}
 use Rattle.form_meaning.specs.Make.{on, kind_given, pairs_in}
 use Rattle.format_meaning.specs.CsvWrite.{csv_text_of}
-use Rattle.method_meaning.specs.Methods.{each_column, mapped, missing_mark, present_mark, filled_column, is_in, shifted_column, cast_as, cumulated, Summary, reduced, distinct, made_cell, summary_cell, summary_kind, same_kind, kind_for, summary_as, label_or, summary_series, summary_of, summary, renamed_series, is_scalar_pair, renamed_heading, renamed_frame, as_frame, csv_answer, answer_for, is_built}
+use Rattle.method_meaning.specs.Methods.{each_column, mapped, missing_mark, present_mark, filled_column, is_in, shifted_column, cast_as, cumulated, Summary, reduced, distinct, made_cell, summary_cell, summary_kind, kind_for, summary_as, summary_of, summary, renamed_series, is_scalar_pair, renamed_heading, renamed_frame, as_frame, csv_answer, answer_for, is_built}
 use Rattle.method_meaning.specs.Calls.{has_method, called, method_result, ChainValue, plain, through, not_built_if, chain_result}
 use Rattle.table_laws.specs.Validity.{IsValidObject, IsValidEntry}
 use Rattle.table_laws.proofs.ListLaws.{all_made, all_mapped, then_keeps, try_keeps}
@@ -32,6 +32,9 @@ use Rattle.table_laws.proofs.CellLaws.{Held, held_cell, wrap_fits, reduced_kind,
 use Rattle.table_laws.proofs.ColumnLaws.{IsColumn, mapped_keeps, filled_keeps, shifted_keeps, cast_keeps, cumulated_keeps}
 use Rattle.table_laws.proofs.TableLaws.{IsShaped, shaped, limited_keeps, with_columns_shaped, column_of_table, series_heading, frame_headings, one_column}
 use Rattle.table_laws.proofs.HeadingLaws.{different, finished_keeps}
+use Rattle.table_laws.proofs.SelectLaws.{kind_is}
+use Rattle.table_laws.proofs.RowLaws.{head_keeps, tail_keeps, dropna_keeps, duplicated_keeps, sort_values_keeps, sort_by_keeps, sorted_keeps, drop_keeps}
+use Rattle.method_meaning.specs.Rows.{all_places}
 
 -- each column by itself
 each_keeps : (f : ColumnOf CellValue → Result (ColumnOf CellValue) FaultValue) (t : Table) → IsShaped t → ((rows : ℕ) (c : ColumnOf CellValue) → IsColumn rows c → IfOk (f c) (IsColumn rows)) → IfOk (each_column f t) IsValidEntry
@@ -58,26 +61,20 @@ summary_held (reduced op) c h = by (reduction_takes op c.kind)
     by false = tt
 summary_held distinct c h = wrap_fits (pos (distinct_count c.cells))
 
-same_kind_is : (a b : Kind) → same_kind a b ≡ true → a ≡ b
-same_kind_is Int64 Int64 e = refl
-same_kind_is Boolean Boolean e = refl
-same_kind_is string string e = refl
-same_kind_is a b e = Prim.cc
-
 summary_as_keeps : (op : Summary) (kind : Kind) (c : ColumnOf CellValue) → All (Held c.kind) c.cells → IfOk (summary_as op kind c) (Held kind)
 summary_as_keeps op kind c h = by (same_kind (summary_kind op c.kind) kind) refl
   where
     by : (b : Bool) → same_kind (summary_kind op c.kind) kind ≡ b → IfOk (if b then summary_cell op c else Err wrong_kind) (Held kind)
-    by true e = subst (λ k. IfOk (summary_cell op c) (Held k)) (same_kind_is (summary_kind op c.kind) kind e) (summary_held op c h)
+    by true e = subst (λ k. IfOk (summary_cell op c) (Held k)) (kind_is (summary_kind op c.kind) kind e) (summary_held op c h)
     by false e = tt
 
-series_shaped : (t : Table) (kind : Kind) (cells : List CellValue) → length cells ≡ length t.headings → All (Held kind) cells → IsShaped (summary_series t kind cells)
+series_shaped : (t : Table) (kind : Kind) (cells : List CellValue) → length cells ≡ length t.headings → All (Held kind) cells → IsShaped (across_columns t None kind cells)
 series_shaped t kind cells size h = record {
   some = Prim.omega arith;
   few = Prim.omega arith;
-  levels = all_mapped (λ (tuple : List LabelValue). length tuple ≡ 1) (λ h. label_or h (int (pos 0)) ∷ []) (λ h. refl) t.headings;
+  levels = all_mapped (λ (tuple : List LabelValue). length tuple ≡ 1) (λ h. unwrap_or h (int (pos 0)) ∷ []) (λ h. refl) t.headings;
   headed = refl;
-  columns = All-cons (IsColumn (length (summary_series t kind cells).labels)) record { kind = kind; cells = cells } [] record { filled = size ∙ sym (length-map t.headings _); held = h } (All-nil (IsColumn (length (summary_series t kind cells).labels)));
+  columns = All-cons (IsColumn (length (across_columns t None kind cells).labels)) record { kind = kind; cells = cells } [] record { filled = size ∙ sym (length-map t.headings _); held = h } (All-nil (IsColumn (length (across_columns t None kind cells).labels)));
   headings = series_heading Series None None refl refl;
 }
 
@@ -93,7 +90,7 @@ summary_of_keeps Frame op t s is =
     let kind = kind_for op t.columns in
     then_keeps (λ cells. (length cells ≡ length t.columns) × All (Held kind) cells) IsValidEntry (try_all (summary_as op kind) t.columns) _
     (try_keeps (λ c. All (Held c.kind) c.cells) (Held kind) (summary_as op kind) (summary_as_keeps op kind) t.columns (held_columns t s))
-    (λ cells made. limited_keeps (summary_series t kind cells) (series_shaped t kind cells (made.0 ∙ sym s.headed) made.1))
+    (λ cells made. limited_keeps (across_columns t None kind cells) (series_shaped t kind cells (made.0 ∙ sym s.headed) made.1))
 
 summary_keeps : (op : Summary) (t : Table) → IsShaped t → IfOk (summary op t) IsValidEntry
 summary_keeps op t s = summary_of_keeps t.shape op t s refl
@@ -146,7 +143,7 @@ as_frame_keeps t s is =
       levels = s.levels;
       headed = length-map t.headings _ ∙ s.headed;
       columns = s.columns;
-      headings = frame_headings Frame t.columns_name (as_frame t).headings refl (all_mapped IsSome (λ h. Some (label_or h (int (pos 0)))) (λ h. refl) t.headings) (λ i j d lt within. absurd (Prim.omega (arith, lt, within, size)));
+      headings = frame_headings Frame t.columns_name (as_frame t).headings refl (all_mapped IsSome (λ h. Some (unwrap_or h (int (pos 0)))) (λ h. refl) t.headings) (λ i j d lt within. absurd (Prim.omega (arith, lt, within, size)));
     }
 
 csv_keeps : (index : Bool) (t : Table) → IfOk (csv_answer index t) IsValidEntry
@@ -161,6 +158,7 @@ abbrev suits : Method → Shape → Bool
 suits method.RenameSeries Frame = false
 suits method.RenameFrame Series = false
 suits method.ToFrame Frame = false
+suits method.DropColumns Series = false
 suits m s = true
 
 series_of : (t : Table) (m : Method) → suits m Frame ≡ false → suits m t.shape ≡ true → t.shape ≡ Series
@@ -183,11 +181,16 @@ on_keeps P (Some a) go h = h a
 
 answer_keeps : (m : Method) (gs : List Given) (t : Table) → IsShaped t → suits m t.shape ≡ true → IfOk (answer_for m gs t) IsValidEntry
 answer_keeps method.Copy gs t s fit = limited_keeps t s
+answer_keeps method.Head (n ∷ []) t s fit = on_keeps IsValidEntry (whole_in n) _ (λ z. head_keeps t z s)
+answer_keeps method.Tail (n ∷ []) t s fit = on_keeps IsValidEntry (whole_in n) _ (λ z. tail_keeps t z s)
 answer_keeps method.Isna gs t s fit = each_keeps (mapped Boolean missing_mark) t s (mapped_keeps Boolean missing_mark (λ c. refl))
 answer_keeps method.Notna gs t s fit = each_keeps (mapped Boolean present_mark) t s (mapped_keeps Boolean present_mark (λ c. refl))
 answer_keeps method.Fillna (value ∷ []) t s fit = on_keeps IsValidEntry (scalar_in value) _ (λ c. each_keeps (filled_column c) t s (filled_keeps c))
+answer_keeps method.Dropna gs t s fit = dropna_keeps t s
 answer_keeps method.Isin (values ∷ []) t s fit = on_keeps IsValidEntry (list_in values) _ (λ parts. each_keeps (mapped Boolean (is_in (cells_of parts))) t s (mapped_keeps Boolean (is_in (cells_of parts)) (λ c. refl)))
 answer_keeps method.Astype (dtype ∷ []) t s fit = on_keeps IsValidEntry (kind_given (scalar_in dtype)) _ (λ kind. each_keeps (cast_as kind) t s (cast_keeps kind))
+answer_keeps method.DuplicatedSeries gs t s fit = duplicated_keeps t nothing s
+answer_keeps method.DuplicatedFrame (subset ∷ []) t s fit = duplicated_keeps t subset s
 answer_keeps method.Shift (periods ∷ []) t s fit = on_keeps IsValidEntry (whole_in periods) _ (λ z. each_keeps (shifted_column z) t s (shifted_keeps z))
 answer_keeps method.Cumsum gs t s fit = each_keeps (cumulated cumulation.sum) t s (cumulated_keeps cumulation.sum)
 answer_keeps method.Cummin gs t s fit = each_keeps (cumulated cumulation.min) t s (cumulated_keeps cumulation.min)
@@ -199,8 +202,12 @@ answer_keeps method.Any gs t s fit = summary_keeps (reduced reduction.any) t s
 answer_keeps method.All gs t s fit = summary_keeps (reduced reduction.all) t s
 answer_keeps method.Count gs t s fit = summary_keeps (reduced reduction.count) t s
 answer_keeps method.Nunique gs t s fit = summary_keeps distinct t s
+answer_keeps method.SortValuesSeries (ascending ∷ []) t s fit = on_keeps IsValidEntry (truth_in ascending) _ (λ b. sort_values_keeps t b (all_places t) s)
+answer_keeps method.SortValuesFrame (by ∷ ascending ∷ []) t s fit = on_keeps IsValidEntry (truth_in ascending) _ (λ b. sort_by_keeps t b by s)
+answer_keeps method.SortIndex (ascending ∷ []) t s fit = on_keeps IsValidEntry (truth_in ascending) _ (λ b. sorted_keeps t b t.labels s refl)
 answer_keeps method.RenameSeries (name ∷ []) t s fit = renamed_series_keeps t (option_map cell_label (scalar_in name)) s (series_of t method.RenameSeries refl fit)
 answer_keeps method.RenameFrame (columns ∷ []) t s fit = on_keeps IsValidEntry (dict_in columns) _ (λ pairs. renamed_frame_keeps t (pairs_in pairs) s (frame_of t method.RenameFrame refl fit))
+answer_keeps method.DropColumns (columns ∷ []) t s fit = drop_keeps t columns s (frame_of t method.DropColumns refl fit)
 answer_keeps method.ToFrame gs t s fit = as_frame_keeps t s (series_of t method.ToFrame refl fit)
 answer_keeps method.ToCsv (index ∷ []) t s fit = on_keeps IsValidEntry (truth_in index) _ (λ b. csv_keeps b t)
 answer_keeps m gs t s fit = tt

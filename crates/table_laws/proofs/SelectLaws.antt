@@ -1,112 +1,148 @@
 -- Selections give valid tables of valid ones, and cells that columns can hold.
-use Rattle.std.proofs.Common.{◌≡◌, ◌∙◌, refl, sym, ℕ, ◌<◌, ℤ, pos, List, [], length, map, arith}
-use Rattle.std.specs.Prelude.{Bool, true, false, if◌then◌else◌, slice_index_or, Option, Some, None, IsSome, Result, Ok, Err, IfOk, All}
+use Rattle.std.proofs.Common.{◌≡◌, ◌∙◌, refl, sym, subst, ℕ, ◌<◌, pos, List, [], ◌∷◌, length, map, arith}
+use Rattle.std.specs.Prelude.{Bool, true, false, if◌then◌else◌, slice_index_or, unwrap_or, Option, None, IsSome, Ok, Err, IfOk, All}
+use Rattle.std.specs.List.{list_all}
 use Rattle.std.proofs.lemmas.List.{length-map}
 use Rattle.std.proofs.lemmas.List.Elements.{All-nil, All-cons}
+use Rattle.cell_core.specs.declared.cell.Kind.{Kind}
 use Rattle.cell_core.specs.declared.grid.Shape.{Shape}
 use Rattle.cell_core.specs.declared.grid.Shape.TheVariants.{Series, Frame}
-use Rattle.meaning.specs.Cell.{na_cell, LabelValue, Int64}
-use Rattle.meaning.specs.Operator.{cell_label}
-use Rattle.meaning.specs.Symbol.{Accessor}
-use Rattle.meaning.specs.Fault.{FaultValue, wrong_kind, not_built, then_value}
-use Rattle.table_meaning.specs.Table.{Table, column_at, no_column}
-use Rattle.table_meaning.specs.Valid.{IsValid}
-use Rattle.table_meaning.specs.Value.{Entry, cell, table, Given, GivenList, GivenSub, nothing, one, row, many, entries, key_given, span_given}
-use Rattle.form_meaning.specs.Binding.{each, is_scalar}
-use Rattle.form_meaning.specs.Finish.{first_repeated, try_all}
-use Rattle.form_meaning.specs.Select.{column_place, column_series, column_result, heading_at, columns_frame, columns_result, cells_of, labels_of, are_truths, list_result, frame_item, table_item, row_place, position_of, position_result, table_access, access_result, Way, plain, through, brackets_result, select_result, length_result}
-use Rattle.table_laws.specs.Validity.{IsValidObject, IsHeldCell, IsValidEntry}
-use Rattle.table_laws.proofs.ListLaws.{all_made, at_or, then_keeps, try_keeps}
-use Rattle.table_laws.proofs.CellLaws.{Held, held_cell, wrap_fits}
+use Rattle.meaning.specs.Cell.{CellValue, na_cell, LabelValue, Int64, Boolean, string, int}
+use Rattle.meaning.specs.Fault.{wrong_kind, then_value}
+use Rattle.table_meaning.specs.Table.{ColumnOf, Table, column_at}
+use Rattle.table_meaning.specs.Valid.{AreHeadings}
+use Rattle.table_meaning.specs.Value.{Entry, cell, table}
+use Rattle.form_meaning.specs.Finish.{limited, same_kind}
+use Rattle.form_meaning.specs.Select.{heading_at, length_result}
+use Rattle.select_meaning.specs.Keys.{Reach}
+use Rattle.select_meaning.specs.Select.{column_rows, rows_taken, cut, as_series, row_name, first_cell, kind_across, row_series, row_result, shown_as, picked_result}
+use Rattle.table_laws.specs.Validity.{IsHeldCell, IsValidEntry}
+use Rattle.table_laws.proofs.ListLaws.{all_made, all_mapped, all_pass, at_or}
+use Rattle.table_laws.proofs.CellLaws.{Held, na_held, held_cell, wrap_fits}
 use Rattle.table_laws.proofs.ColumnLaws.{IsColumn}
-use Rattle.table_laws.proofs.TableLaws.{IsShaped, shaped, limited_keeps, column_of_table, series_heading, frame_headings}
-use Rattle.table_laws.proofs.HeadingLaws.{different, finished_keeps, column_place_found}
+use Rattle.table_laws.proofs.TableLaws.{IsShaped, limited_keeps, column_of_table, series_heading, frame_headings}
+use Rattle.table_laws.proofs.HeadingLaws.{different, finished_keeps}
 
-column_keeps : (t : Table) (l : LabelValue) → IsShaped t → IfOk (column_result t l) IsValidEntry
-column_keeps t l s =
-    then_keeps (λ place. place < length t.headings) IsValidEntry (column_place t l) _ (column_place_found t l)
-    (λ place lt. limited_keeps (column_series t l place) record {
-      some = s.some;
-      few = s.few;
-      levels = s.levels;
-      headed = refl;
-      columns = All-cons (IsColumn (length t.labels)) (column_at t.columns place) [] (column_of_table t s place (Prim.omega (arith, lt, s.headed))) (All-nil (IsColumn (length t.labels)));
-      headings = series_heading Series None (Some l) refl refl;
-    })
-
-frame_shaped : (t : Table) (places : List ℕ) → IsShaped t → t.shape ≡ Frame → All (λ place. place < length t.headings) places → first_repeated (columns_frame t places).headings ≡ None → IsShaped (columns_frame t places)
-frame_shaped t places s is below none =
-    let some : All IsSome (map (heading_at t) places) = all_made (λ place. place < length t.headings) IsSome (heading_at t) (λ place lt. s.headings.labelled is place None lt) places below in
-    record {
-      some = s.some;
-      few = s.few;
-      levels = s.levels;
-      headed = length-map places (heading_at t) ∙ sym (length-map places (column_at t.columns));
-      columns = all_made (λ place. place < length t.headings) (IsColumn (length t.labels)) (column_at t.columns) (λ place lt. column_of_table t s place (Prim.omega (arith, lt, s.headed))) places below;
-      headings = frame_headings t.shape t.columns_name (map (heading_at t) places) is some (different (map (heading_at t) places) some none);
-    }
-
-columns_keep : (t : Table) (ls : List LabelValue) → IsShaped t → t.shape ≡ Frame → IfOk (columns_result t ls) IsValidEntry
-columns_keep t ls s is =
-    then_keeps (λ places. (length places ≡ length ls) × All (λ place. place < length t.headings) places) IsValidEntry (try_all (column_place t) ls) _
-    (try_keeps (λ _. Unit {0}) (λ place. place < length t.headings) (column_place t) (λ l _. column_place_found t l) ls (λ k d lt. tt))
-    (λ places below. finished_keeps (columns_frame t places) (frame_shaped t places s is below.1))
-
-list_keeps : (t : Table) (parts : GivenList) → IsShaped t → t.shape ≡ Frame → IfOk (list_result t parts) IsValidEntry
-list_keeps t parts s is = by (are_truths (cells_of parts))
-  where
-    by : (b : Bool) → IfOk (if b then Err wrong_kind else columns_result t (labels_of parts)) IsValidEntry
-    by true = tt
-    by false = columns_keep t (labels_of parts) s is
-
-frame_item_keeps : (t : Table) (g : Given) → IsShaped t → t.shape ≡ Frame → IfOk (frame_item t g) IsValidEntry
-frame_item_keeps t (one (cell c)) s is = column_keeps t (cell_label c) s
-frame_item_keeps t (many parts) s is = by (each is_scalar parts)
-  where
-    by : (b : Bool) → IfOk (if b then list_result t parts else Err not_built) IsValidEntry
-    by true = list_keeps t parts s is
-    by false = tt
-frame_item_keeps t (one (table m)) s is = tt
-frame_item_keeps t nothing s is = tt
-frame_item_keeps t (row parts) s is = tt
-frame_item_keeps t (entries pairs) s is = tt
-
-item_keeps : (p : Shape) (t : Table) (g : Given) → IsShaped t → t.shape ≡ p → IfOk (table_item p t g) IsValidEntry
-item_keeps Series t g s is = tt
-item_keeps Frame t g s is = frame_item_keeps t g s is
+-- what is reached lies in the table; single columns are one, and where they aren't single the table is a frame
+pub record IsReach (t : Table) (reach : Reach) : Type 0 where
+  pub rows : All (λ row. row < length t.labels) reach.rows.rows
+  pub columns : All (λ place. place < length t.columns) reach.columns.rows
+  pub one : reach.columns.single ≡ true → length reach.columns.rows ≡ 1
+  pub frame : reach.columns.single ≡ false → t.shape ≡ Frame
 
 -- a cell of a column
-pub cell_of_table : (t : Table) (column place : ℕ) → IsValid t → IsHeldCell (slice_index_or (column_at t.columns column).cells place na_cell)
-cell_of_table t column place v =
-    let c = column_at t.columns column in
-    held_cell c.kind (slice_index_or c.cells place na_cell) (at_or (Held c.kind) c.cells place na_cell refl (at_or (λ c. All (Held c.kind) c.cells) t.columns column no_column (All-nil (Held Int64)) v.held))
+pub cell_of_column : (rows : ℕ) (c : ColumnOf CellValue) (k : ℕ) → IsColumn rows c → Held c.kind (slice_index_or c.cells k na_cell)
+cell_of_column rows c k h = at_or (Held c.kind) c.cells k na_cell (na_held c.kind) h.held
 
-position_keeps : (t : Table) (k : Option ℤ) → IsValid t → IfOk (position_result t k) IsValidEntry
-position_keeps t None v = tt
-position_keeps t (Some k) v = by (row_place t k)
+rows_of_column : (count : ℕ) (rows : List ℕ) (c : ColumnOf CellValue) → IsColumn count c → IsColumn (length rows) (column_rows rows c)
+rows_of_column count rows c h = record {
+  filled = length-map rows (λ row. slice_index_or c.cells row na_cell);
+  held = all_mapped (Held c.kind) (λ row. slice_index_or c.cells row na_cell) (λ row. cell_of_column count c row h) rows;
+}
+
+-- some rows of a table
+pub rows_shaped : (t : Table) (rows : List ℕ) → IsShaped t → All (λ row. row < length t.labels) rows → IsShaped (rows_taken t rows)
+rows_shaped t rows s inside = record {
+  some = s.some;
+  few = s.few;
+  levels = all_made (λ row. row < length t.labels) (λ tuple. length tuple ≡ length t.level_names) (λ row. slice_index_or t.labels row []) (λ row lt. s.levels row [] lt) rows inside;
+  headed = s.headed ∙ sym (length-map t.columns (column_rows rows));
+  columns = subst (λ n. All (IsColumn n) (map (column_rows rows) t.columns)) (sym (length-map rows (λ row. slice_index_or t.labels row [])))
+      (all_made (IsColumn (length t.labels)) (IsColumn (length rows)) (column_rows rows) (rows_of_column (length t.labels) rows) t.columns s.columns);
+  headings = s.headings;
+}
+
+-- the rows and columns that were picked: a heading for each column, and as many cells as rows
+cut_headed : (t : Table) (rows places : List ℕ) → length (cut t rows places).headings ≡ length (cut t rows places).columns
+cut_headed t rows places = length-map places (heading_at t) ∙ sym (length-map (map (column_at t.columns) places) (column_rows rows) ∙ length-map places (column_at t.columns))
+
+cut_columns : (t : Table) (rows places : List ℕ) → IsShaped t → All (λ place. place < length t.columns) places → All (IsColumn (length (cut t rows places).labels)) (cut t rows places).columns
+cut_columns t rows places s below =
+    subst (λ n. All (IsColumn n) (map (column_rows rows) (map (column_at t.columns) places))) (sym (length-map rows (λ row. slice_index_or t.labels row [])))
+    (all_made (IsColumn (length t.labels)) (IsColumn (length rows)) (column_rows rows) (rows_of_column (length t.labels) rows) (map (column_at t.columns) places)
+    (all_made (λ place. place < length t.columns) (IsColumn (length t.labels)) (column_at t.columns) (λ place lt. column_of_table t s place lt) places below))
+
+-- under headings that fit they are a table
+cut_shaped : (t : Table) (rows places : List ℕ) (shape : Shape) (name : Option LabelValue) → IsShaped t → All (λ row. row < length t.labels) rows → All (λ place. place < length t.columns) places
+    → AreHeadings shape name (map (heading_at t) places) → IsShaped (record (cut t rows places) { shape = shape; columns_name = name })
+cut_shaped t rows places shape name s inside below headings = record {
+  some = s.some;
+  few = s.few;
+  levels = all_made (λ row. row < length t.labels) (λ tuple. length tuple ≡ length t.level_names) (λ row. slice_index_or t.labels row []) (λ row lt. s.levels row [] lt) rows inside;
+  headed = cut_headed t rows places;
+  columns = cut_columns t rows places s below;
+  headings = headings;
+}
+
+-- one column as a Series
+one_heading : (t : Table) (places : List ℕ) → length places ≡ 1 → AreHeadings Series None (map (heading_at t) places)
+one_heading t [] e = Prim.cc
+one_heading t (place ∷ []) e = series_heading Series None (heading_at t place) refl refl
+one_heading t (place ∷ (other ∷ places)) e = Prim.cc
+
+series_keeps : (t : Table) (rows places : List ℕ) → IsShaped t → All (λ row. row < length t.labels) rows → All (λ place. place < length t.columns) places → length places ≡ 1 → IfOk (shown_as false true (cut t rows places)) IsValidEntry
+series_keeps t rows places s inside below e = limited_keeps (as_series (cut t rows places)) (cut_shaped t rows places Series None s inside below (one_heading t places e))
+
+-- a frame
+frame_keeps : (t : Table) (rows places : List ℕ) → IsShaped t → t.shape ≡ Frame → All (λ row. row < length t.labels) rows → All (λ place. place < length t.columns) places → IfOk (shown_as false false (cut t rows places)) IsValidEntry
+frame_keeps t rows places s is inside below =
+    let some : All IsSome (map (heading_at t) places) = all_made (λ place. place < length t.columns) IsSome (heading_at t) (λ place lt. s.headings.labelled is place None (omega (arith, lt, s.headed))) places below in
+    finished_keeps (cut t rows places) (λ none. cut_shaped t rows places t.shape t.columns_name s inside below (frame_headings t.shape t.columns_name (map (heading_at t) places) is some (different (map (heading_at t) places) some none)))
+
+-- a row across columns of one kind
+pub kind_is : (a b : Kind) → same_kind a b ≡ true → a ≡ b
+kind_is Int64 Int64 e = refl
+kind_is Boolean Boolean e = refl
+kind_is string string e = refl
+kind_is a b e = Prim.cc
+
+first_held : (count : ℕ) (kind : Kind) (c : ColumnOf CellValue) → IsColumn count c → same_kind c.kind kind ≡ true → Held kind (first_cell c)
+first_held count kind c h e = subst (λ k. Held k (first_cell c)) (kind_is c.kind kind e) (cell_of_column count c 0 h)
+
+firsts_held : (count : ℕ) (kind : Kind) (cs : List (ColumnOf CellValue)) → All (IsColumn count) cs → list_all (λ c. same_kind c.kind kind) cs ≡ true → All (Held kind) (map first_cell cs)
+firsts_held count kind cs h e =
+    let alike = all_pass (λ c. same_kind c.kind kind) cs e in
+    all_made (λ c. IsColumn count c × (same_kind c.kind kind ≡ true)) (Held kind) first_cell (λ c both. first_held count kind c both.0 both.1) cs (λ k d lt. (h k d lt, alike k d lt))
+
+row_shaped : (t : Table) (kind : Kind) → length t.headings ≡ length t.columns → All (Held kind) (map first_cell t.columns) → IsShaped (row_series t kind)
+row_shaped t kind headed held = record {
+  some = omega arith;
+  few = omega arith;
+  levels = all_mapped (λ (tuple : List LabelValue). length tuple ≡ 1) (λ h. unwrap_or h (int (pos 0)) ∷ []) (λ h. refl) t.headings;
+  headed = refl;
+  columns = All-cons (IsColumn (length (row_series t kind).labels)) record { kind = kind; cells = map first_cell t.columns } []
+      record { filled = length-map t.columns first_cell ∙ sym headed ∙ sym (length-map t.headings (λ h. unwrap_or h (int (pos 0)) ∷ [])); held = held } (All-nil (IsColumn (length (row_series t kind).labels)));
+  headings = series_heading Series None (row_name (slice_index_or t.labels 0 [])) refl refl;
+}
+
+row_keeps : (t : Table) (count : ℕ) → length t.headings ≡ length t.columns → All (IsColumn count) t.columns → IfOk (row_result t) IsValidEntry
+row_keeps t count headed columns = by (list_all (λ c. same_kind c.kind (kind_across t.columns)) t.columns) refl
   where
-    by : (r : Result ℕ FaultValue) → IfOk (then_value r (λ place. Ok (cell (slice_index_or (column_at t.columns 0).cells place na_cell)))) IsValidEntry
-    by (Ok place) = cell_of_table t 0 place v
-    by (Err fault) = tt
+    by : (b : Bool) → list_all (λ c. same_kind c.kind (kind_across t.columns)) t.columns ≡ b
+        → IfOk (then_value (if b then Ok (kind_across t.columns) else Err wrong_kind) (λ kind. limited (row_series t kind))) IsValidEntry
+    by true e = limited_keeps (row_series t (kind_across t.columns)) (row_shaped t (kind_across t.columns) headed (firsts_held count (kind_across t.columns) t.columns columns e))
+    by false e = tt
 
-access_keeps : (p : Shape) (t : Table) (k : Option ℤ) → IsValid t → IfOk (table_access p t k) IsValidEntry
-access_keeps Series t k v = position_keeps t k v
-access_keeps Frame t k v = tt
+-- one cell
+cell_keeps : (count : ℕ) (cs : List (ColumnOf CellValue)) → All (IsColumn count) cs → IsHeldCell (first_cell (column_at cs 0))
+cell_keeps count [] h = refl
+cell_keeps count (c ∷ cs) h = held_cell c.kind (first_cell c) (cell_of_column count c 0 (h 0 c (omega arith)))
 
-brackets_keep : (v : Entry) (first : GivenSub) (second : Option GivenSub) → IsValidObject v → IfOk (brackets_result v first second) IsValidEntry
-brackets_keep (cell c) first second h = tt
-brackets_keep (table t) (key_given g) None h = item_keeps t.shape t g (shaped t h) refl
-brackets_keep (table t) (key_given g) (Some other) h = tt
-brackets_keep (table t) (span_given from to by) second h = tt
+-- what a table gives of what is reached
+pub picked_keeps : (t : Table) (reach : Reach) → IsShaped t → IsReach t reach → IfOk (picked_result t reach) IsValidEntry
+picked_keeps t reach s r = by reach.rows.single reach.columns.single refl
+  where
+    rows : List ℕ
+    rows = reach.rows.rows
 
-access_result_keeps : (v : Entry) (by : Accessor) (first : GivenSub) (second : Option GivenSub) → IsValidObject v → IfOk (access_result v by first second) IsValidEntry
-access_result_keeps (cell c) by first second h = tt
-access_result_keeps (table t) by first second h = access_keeps t.shape t (position_of by first second) h
+    places : List ℕ
+    places = reach.columns.rows
 
--- what is selected from a value
-pub select_result_keeps : (v : Entry) (way : Way) (first : GivenSub) (second : Option GivenSub) → IsValidObject v → IfOk (select_result v way first second) IsValidEntry
-select_result_keeps v plain first second h = brackets_keep v first second h
-select_result_keeps v (through by) first second h = access_result_keeps v by first second h
+    by : (a b : Bool) → reach.columns.single ≡ b → IfOk (shown_as a b (cut t rows places)) IsValidEntry
+    by true true e = cell_keeps (length (cut t rows places).labels) (cut t rows places).columns (cut_columns t rows places s r.columns)
+    by false true e = series_keeps t rows places s r.rows r.columns (r.one e)
+    by true false e = row_keeps (cut t rows places) (length (cut t rows places).labels) (cut_headed t rows places) (cut_columns t rows places s r.columns)
+    by false false e = frame_keeps t rows places s (r.frame e) r.rows r.columns
 
 -- the number of rows
 pub length_result_keeps : (v : Entry) → IfOk (length_result v) IsValidEntry

@@ -1,30 +1,35 @@
 -- Settings and removals leave valid tables.
-use Rattle.std.proofs.Common.{◌≡◌, ◌≢◌, ◌∙◌, refl, sym, subst, ℕ, ◌+◌, ◌*◌, ◌^◌, ◌<◌, ◌≤◌, ℤ, pos, List, [], ◌∷◌, length, arith}
-use Rattle.std.specs.Prelude.{Bool, true, false, not, ◌&&◌, nat_le, if◌then◌else◌, remove, replicate, Option, Some, None, IsSome, unwrap_or, Result, Ok, Err, IfOk, All}
-use Rattle.std.specs.List.{range_with_len}
+use Rattle.std.proofs.Common.{◌≡◌, ◌≢◌, ◌∙◌, ap, refl, sym, subst, ℕ, zero, suc, ◌+◌, ◌*◌, ◌%◌, ◌/◌, ◌^◌, ◌<◌, ◌≤◌, pos, nat_eq, List, [], ◌∷◌, length, map, arith}
+use Rattle.std.specs.Prelude.{Bool, true, false, not, ◌&&◌, ◌||◌, nat_le, if◌then◌else◌, remove, slice_index, Option, Some, None, option_map, IsSome, IfSome, unwrap_or, Result, Ok, Err, IfOk, All, AllPairs}
+use Rattle.std.specs.List.{range_with_len, list_any}
 use Rattle.std.proofs.lemmas.Bool.Decides.{nat_tests}
-use Rattle.std.proofs.lemmas.List.{length-map, length-set}
+use Rattle.std.proofs.lemmas.List.{length-map, length-append, length-set}
 use Rattle.std.proofs.lemmas.List.FromFn.{length-map-range_with_len}
 use Rattle.std.proofs.lemmas.List.Edits.{length-remove}
-use Rattle.std.proofs.lemmas.List.Elements.{All-set}
+use Rattle.std.proofs.lemmas.List.Elements.{All-nil, All-cons, All-head, All-tail, All-append, All-set}
 use Rattle.std.proofs.lemmas.List.Quantifiers.{all_pairs_remove}
 use Rattle.std.proofs.lemmas.Nat.{mul-le}
 use Rattle.cell_core.specs.declared.grid.Shape.{Shape}
 use Rattle.cell_core.specs.declared.grid.Shape.TheVariants.{Series, Frame}
 use Rattle.meaning.specs.Cell.{CellValue, na_cell, LabelValue, int, Int64, holds}
 use Rattle.meaning.specs.Operator.{cell_label, scalar_kind}
-use Rattle.meaning.specs.Fault.{FaultValue, wrong_kind, not_built, then_value}
+use Rattle.meaning.specs.Symbol.{Accessor, loc}
+use Rattle.meaning.specs.Fault.{FaultValue, wrong_kind, bad_value, no_columns, not_built, then_value}
 use Rattle.table_meaning.specs.Table.{ColumnOf, Table, column_at}
-use Rattle.table_meaning.specs.Change.{put_at, without_column, with_cell}
+use Rattle.table_meaning.specs.Change.{put_at, without_column, with_cell_at, with_cell, with_values_from, with_values}
 use Rattle.table_meaning.specs.Valid.{IsValid, within_limits}
-use Rattle.table_meaning.specs.Value.{Entry, cell, table, Given, GivenList, GivenSub, nothing, one, row, many, entries, key_given, span_given, scalar_in}
-use Rattle.form_meaning.specs.Binding.{each, is_scalar}
-use Rattle.form_meaning.specs.Finish.{default_labels, missing_column}
-use Rattle.form_meaning.specs.Infix.{same_tuples}
-use Rattle.form_meaning.specs.Select.{Way, plain, through, place_of_label, column_place, cells_of, row_place, position_of}
-use Rattle.form_meaning.specs.Set.{list_column, of_length, with_labelled, put_result, with_rows, has_no_rows, scalar_set, column_set, list_set, series_set, object_set, label_set, frame_set, item_set, with_series_cell, position_set, access_set, brackets_set, assign_result, label_removal, table_removal, removal_result}
+use Rattle.table_meaning.specs.Value.{Entry, cell, table, Given, GivenSub, nothing, one, row, many, entries, key_given, span_given}
+use Rattle.form_meaning.specs.Binding.{each, is_scalar, is_frame, same_label}
+use Rattle.form_meaning.specs.Finish.{limited_table, default_labels, missing_column, column_labels}
+use Rattle.form_meaning.specs.Infix.{same_tuple, same_tuples}
+use Rattle.form_meaning.specs.Select.{place_of_label, column_place, cells_of}
+use Rattle.form_meaning.specs.Set.{list_column, of_length}
+use Rattle.pick_meaning.specs.Keys.{Pick}
+use Rattle.select_meaning.specs.Keys.{columns_by, all_columns, only_column, may_stand_alone}
+use Rattle.select_meaning.specs.Select.{Way, plain, through}
+use Rattle.select_meaning.specs.Set.{SetValue, same, listed, aligned, set_value, with_labelled, put_result, with_rows, has_none, list_set, series_set, scalar_column, column_set, frame_set, Reached, picked, added_label, or_added, rows_set, columns_set, Target, target_of, target_by, lacks_columns, with_gap, with_row, values_for, kind_of_value, with_new_column, fit_from, filled_table, target_set, access_set, item_set, assign_result, removal_result}
 use Rattle.table_laws.specs.Validity.{IsValidObject, IsHeldCell, IsValidGiven}
-use Rattle.table_laws.proofs.ListLaws.{both_true, all_mapped, then_keeps, All-put_at, length-put_at, All-remove, of_length_keeps}
+use Rattle.table_laws.proofs.ListLaws.{both_true, all_made, all_mapped, then_keeps, All-put_at, length-put_at, All-remove, of_length_keeps}
 use Rattle.table_laws.proofs.CellLaws.{Held, na_held}
 use Rattle.table_laws.proofs.ColumnLaws.{IsColumn, list_keeps, spread_column}
 use Rattle.table_laws.proofs.TableLaws.{IsShaped, shaped, valid, limited_table_keeps, column_of_table, frame_headings, one_column}
@@ -66,11 +71,8 @@ rows_shaped t labels level_names s r = record {
   headings = s.headings;
 }
 
-scalar_set_keeps : (t : Table) (l : LabelValue) (c : CellValue) → IsShaped t → t.shape ≡ Frame → IsHeldCell c → IfOk (scalar_set t l c) IsValid
-scalar_set_keeps t l c s is h = put_keeps t l record { kind = scalar_kind Int64 c; cells = replicate (length t.labels) c } s is (spread_column (scalar_kind Int64 c) (length t.labels) c h)
-
-column_set_keeps : (t : Table) (l : LabelValue) (c : ColumnOf CellValue) → IsShaped t → t.shape ≡ Frame → IsColumn (length c.cells) c → IfOk (column_set t l c) IsValid
-column_set_keeps t l c s is h = by (has_no_rows t.labels && not (has_no_rows c.cells))
+list_set_keeps : (t : Table) (l : LabelValue) (c : ColumnOf CellValue) → IsShaped t → t.shape ≡ Frame → IsColumn (length c.cells) c → IfOk (list_set t l c) IsValid
+list_set_keeps t l c s is h = by (has_none t.labels && not (has_none c.cells))
   where
     by : (b : Bool) → IfOk (if b then put_result (with_rows t (default_labels (length c.cells)) (None ∷ [])) l c else of_length (length t.labels) (length c.cells) (put_result t l c)) IsValid
     by true =
@@ -79,21 +81,8 @@ column_set_keeps t l c s is h = by (has_no_rows t.labels && not (has_no_rows c.c
         is (subst (λ n. IsColumn n c) (sym (length_default (length c.cells))) h)
     by false = of_length_keeps IsValid (length t.labels) (length c.cells) (put_result t l c) (λ e. put_keeps t l c s is (subst (λ n. IsColumn n c) (sym e) h))
 
-list_set_keeps : (t : Table) (l : LabelValue) (parts : GivenList) → IsShaped t → t.shape ≡ Frame → IfOk (list_set t l parts) IsValid
-list_set_keeps t l parts s is = by (each is_scalar parts)
-  where
-    by : (b : Bool) → IfOk (if b then then_value (list_column (cells_of parts)) (column_set t l) else Err wrong_kind) IsValid
-    by true =
-        then_keeps (λ c. IsColumn (length c.cells) c) IsValid (list_column (cells_of parts)) (column_set t l) (own (list_column (cells_of parts)) (list_keeps (cells_of parts)))
-        (λ c h. column_set_keeps t l c s is h)
-      where
-        own : (r : Result (ColumnOf CellValue) FaultValue) → IfOk r (IsColumn (length (cells_of parts))) → IfOk r (λ c. IsColumn (length c.cells) c)
-        own (Ok c) h = record { filled = refl; held = h.held }
-        own (Err fault) h = tt
-    by false = tt
-
 series_set_keeps : (t : Table) (l : LabelValue) (u : Table) → IsShaped t → t.shape ≡ Frame → IsShaped u → u.shape ≡ Series → IfOk (series_set t l u) IsValid
-series_set_keeps t l u s is r is' = by (same_tuples t.labels u.labels) (has_no_rows t.labels) refl
+series_set_keeps t l u s is r is' = by (same_tuples t.labels u.labels) (has_none t.labels) refl
   where
     c : ColumnOf CellValue
     c = column_at u.columns 0
@@ -106,75 +95,246 @@ series_set_keeps t l u s is r is' = by (same_tuples t.labels u.labels) (has_no_r
     by false true e = put_keeps (with_rows t u.labels u.level_names) l c (rows_shaped t u.labels u.level_names s record { some = r.some; few = r.few; levels = r.levels }) is fits
     by false false e = tt
 
-object_set_keeps : (p : Shape) (t : Table) (l : LabelValue) (u : Table) → IsShaped t → t.shape ≡ Frame → IsShaped u → u.shape ≡ p → IfOk (object_set p t l u) IsValid
-object_set_keeps Series t l u s is r is' = series_set_keeps t l u s is r is'
-object_set_keeps Frame t l u s is r is' = tt
+-- the value of a setting is valid
+abbrev pub IsValidValue : SetValue → Type 0
+IsValidValue (same c) = IsHeldCell c
+IsValidValue (listed cells) = Unit {0}
+IsValidValue (aligned u) = IsValid u × (u.shape ≡ Series)
 
-label_set_keeps : (t : Table) (l : LabelValue) (g : Given) → IsShaped t → t.shape ≡ Frame → IsValidGiven g → IfOk (label_set t l g) IsValid
-label_set_keeps t l (one (cell c)) s is h = scalar_set_keeps t l c s is h
-label_set_keeps t l (one (table u)) s is h = object_set_keeps u.shape t l u s is (shaped u h) refl
-label_set_keeps t l (many parts) s is h = list_set_keeps t l parts s is
-label_set_keeps t l nothing s is h = tt
-label_set_keeps t l (row parts) s is h = tt
-label_set_keeps t l (entries pairs) s is h = tt
+object_value_valid : (u : Table) → IsValid u → (b : Bool) → is_frame u.shape ≡ b → IfOk (if b then Err wrong_kind else Ok (aligned u)) IsValidValue
+object_value_valid u v true e = tt
+object_value_valid u v false e = (v, is_series u.shape e)
+  where
+    is_series : (p : Shape) → is_frame p ≡ false → p ≡ Series
+    is_series Series e = refl
+    is_series Frame e = Prim.cc
 
-frame_set_keeps : (t : Table) (key g : Given) → IsShaped t → t.shape ≡ Frame → IsValidGiven g → IfOk (frame_set t key g) IsValid
-frame_set_keeps t (one (cell c)) g s is h = label_set_keeps t (cell_label c) g s is h
-frame_set_keeps t (one (table m)) g s is h = tt
-frame_set_keeps t nothing g s is h = tt
-frame_set_keeps t (row parts) g s is h = tt
-frame_set_keeps t (many parts) g s is h = tt
-frame_set_keeps t (entries pairs) g s is h = tt
+set_value_valid : (g : Given) → IsValidGiven g → IfOk (set_value g) IsValidValue
+set_value_valid (one (cell c)) h = h
+set_value_valid (one (table u)) h = object_value_valid u h (is_frame u.shape) refl
+set_value_valid (many parts) h = by (each is_scalar parts)
+  where
+    by : (b : Bool) → IfOk (if b then Ok (listed (cells_of parts)) else Err wrong_kind) IsValidValue
+    by true = tt
+    by false = tt
+set_value_valid nothing h = tt
+set_value_valid (row parts) h = tt
+set_value_valid (entries pairs) h = tt
 
-item_set_keeps : (p : Shape) (t : Table) (key g : Given) → IsShaped t → t.shape ≡ p → IsValidGiven g → IfOk (item_set p t key g) IsValid
-item_set_keeps Series t key g s is h = tt
-item_set_keeps Frame t key g s is h = frame_set_keeps t key g s is h
+own_column : (cells : List CellValue) (r : Result (ColumnOf CellValue) FaultValue) → IfOk r (IsColumn (length cells)) → IfOk r (λ c. IsColumn (length c.cells) c)
+own_column cells (Ok c) h = record { filled = refl; held = h.held }
+own_column cells (Err fault) h = tt
 
--- a cell of a Series
-cell_set_shaped : (t : Table) (c : CellValue) (place : ℕ) → IsShaped t → t.shape ≡ Series → Held (column_at t.columns 0).kind c → IsShaped (record t { columns = with_cell t.columns 0 place c })
-cell_set_shaped t c place s is h =
-    let old = column_at t.columns 0 in
-    let fits : IsColumn (length t.labels) old = column_of_table t s 0 (Prim.omega (arith, one_column t s is)) in
+column_set_keeps : (t : Table) (l : LabelValue) (value : SetValue) → IsShaped t → t.shape ≡ Frame → IsValidValue value → IfOk (column_set t l value) IsValid
+column_set_keeps t l (same c) s is h = put_keeps t l (scalar_column (length t.labels) c) s is (spread_column (scalar_kind Int64 c) (length t.labels) c h)
+column_set_keeps t l (listed cells) s is h =
+    then_keeps (λ c. IsColumn (length c.cells) c) IsValid (list_column cells) (list_set t l) (own_column cells (list_column cells) (list_keeps cells)) (λ c fits. list_set_keeps t l c s is fits)
+column_set_keeps t l (aligned u) s is h = series_set_keeps t l u s is (shaped u h.0) h.1
+
+frame_set_keeps : (t : Table) (k : GivenSub) (g : Given) → IsShaped t → t.shape ≡ Frame → IsValidGiven g → IfOk (frame_set t k g) IsValid
+frame_set_keeps t (key_given (one (cell c))) g s is h = then_keeps IsValidValue IsValid (set_value g) (column_set t (cell_label c)) (set_value_valid g h) (λ value v. column_set_keeps t (cell_label c) value s is v)
+frame_set_keeps t (key_given (one (table m))) g s is h = tt
+frame_set_keeps t (key_given nothing) g s is h = tt
+frame_set_keeps t (key_given (row parts)) g s is h = tt
+frame_set_keeps t (key_given (many parts)) g s is h = tt
+frame_set_keeps t (key_given (entries pairs)) g s is h = tt
+frame_set_keeps t (span_given from to by) g s is h = tt
+
+-- a cell that is set keeps every column's kind
+kind_kept : (cs : List (ColumnOf CellValue)) (place r : ℕ) (x : CellValue) (q : ℕ) → (column_at (with_cell cs place r x) q).kind ≡ (column_at cs q).kind
+kind_kept [] place r x q = refl
+kind_kept (c ∷ cs) zero r x zero = refl
+kind_kept (c ∷ cs) zero r x (suc q) = refl
+kind_kept (c ∷ cs) (suc place) r x zero = refl
+kind_kept (c ∷ cs) (suc place) r x (suc q) = kind_kept cs place r x q
+
+-- cells that fit their columns leave columns
+module _ (t : Table) (rows places : List ℕ) where
+  abbrev AreKinds : List (ColumnOf CellValue) → Type 0
+  AreKinds cs = (q : ℕ) → (column_at cs q).kind ≡ (column_at t.columns q).kind
+
+  cell_kept : (count : ℕ) (cs : List (ColumnOf CellValue)) (place r : ℕ) (x : CellValue) → All (IsColumn count) cs → holds (column_at cs place).kind x ≡ true → All (IsColumn count) (with_cell cs place r x)
+  cell_kept count [] place r x all fits = All-nil (IsColumn count)
+  cell_kept count (c ∷ cs) zero r x all fits =
+      let old = All-head (IsColumn count) c cs all in
+      All-cons (IsColumn count) (with_cell_at c r x) cs record { filled = length-set c.cells r x ∙ old.filled; held = All-set (Held c.kind) c.cells r x fits old.held } (All-tail (IsColumn count) c cs all)
+  cell_kept count (c ∷ cs) (suc place) r x all fits = All-cons (IsColumn count) c (with_cell cs place r x) (All-head (IsColumn count) c cs all) (cell_kept count cs place r x (All-tail (IsColumn count) c cs all) fits)
+
+  values_kept : (count k : ℕ) (cs : List (ColumnOf CellValue)) (values : List CellValue) → All (IsColumn count) cs → AreKinds cs → fit_from k t places values ≡ true → All (IsColumn count) (with_values_from k cs rows places values)
+  values_kept count k cs [] all kinds fits = all
+  values_kept count k cs (x ∷ xs) all kinds fits =
+      let place = slice_index places (k % length places) in
+      let r = slice_index rows (k / length places) in
+      let both = both_true (holds (column_at t.columns place).kind x) (fit_from (suc k) t places xs) fits in
+      values_kept count (suc k) (with_cell cs place r x) xs
+      (cell_kept count cs place r x all (ap (λ kind. holds kind x) (kinds place) ∙ both.0))
+      (λ q. kind_kept cs place r x q ∙ kinds q) both.1
+
+  values_count : (k : ℕ) (cs : List (ColumnOf CellValue)) (values : List CellValue) → length (with_values_from k cs rows places values) ≡ length cs
+  values_count k cs [] = refl
+  values_count k cs (x ∷ xs) = values_count (suc k) (with_cell cs (slice_index places (k % length places)) (slice_index rows (k / length places)) x) xs ∙ length-set cs _ _
+
+  filled_keeps : (values : List CellValue) → IsShaped t → IfOk (filled_table t rows places values) IsValid
+  filled_keeps values s = by (fit_from 0 t places values) refl
+    where
+      by : (b : Bool) → fit_from 0 t places values ≡ b → IfOk (if b then limited_table (with_values t rows places values) else Err wrong_kind) IsValid
+      by true e = limited_table_keeps (with_values t rows places values) record {
+        some = s.some;
+        few = s.few;
+        levels = s.levels;
+        headed = s.headed ∙ sym (values_count 0 t.columns values);
+        columns = values_kept (length t.labels) 0 t.columns values s.columns (λ q. refl) e;
+        headings = s.headings;
+      }
+      by false e = tt
+
+-- one more row
+gap_column : (count : ℕ) (c : ColumnOf CellValue) → IsColumn count c → IsColumn (count + 1) (with_gap c)
+gap_column count c h = record {
+  filled = length-append c.cells (na_cell ∷ []) ∙ ap (λ n. n + 1) h.filled;
+  held = All-append (Held c.kind) c.cells (na_cell ∷ []) h.held (All-cons (Held c.kind) na_cell [] (na_held c.kind) (All-nil (Held c.kind)));
+}
+
+row_shaped : (t : Table) (added : Option LabelValue) → IsShaped t → length t.level_names ≡ 1 → IsShaped (with_row t added)
+row_shaped t None s is = s
+row_shaped t (Some l) s is = record {
+  some = s.some;
+  few = s.few;
+  levels = All-append (λ tuple. length tuple ≡ length t.level_names) t.labels ((l ∷ []) ∷ []) s.levels
+      (All-cons (λ (tuple : List LabelValue). length tuple ≡ length t.level_names) (l ∷ []) [] (sym is) (All-nil (λ tuple. length tuple ≡ length t.level_names)));
+  headed = s.headed ∙ sym (length-map t.columns with_gap);
+  columns = subst (λ n. All (IsColumn n) (map with_gap t.columns)) (sym (length-append t.labels ((l ∷ []) ∷ [])))
+      (all_made (IsColumn (length t.labels)) (IsColumn (length t.labels + 1)) with_gap (gap_column (length t.labels)) t.columns s.columns);
+  headings = s.headings;
+}
+
+with_row_shape : (t : Table) (added : Option LabelValue) → (with_row t added).shape ≡ t.shape
+with_row_shape t None = refl
+with_row_shape t (Some l) = refl
+
+with_row_headings : (t : Table) (added : Option LabelValue) → (with_row t added).headings ≡ t.headings
+with_row_headings t None = refl
+with_row_headings t (Some l) = refl
+
+-- one more column, under a label that no column has
+abbrev pub IsNew : Table → Option LabelValue → Type 0
+IsNew t added = IfSome added (λ l. (t.shape ≡ Frame) × (place_of_label t.headings l ≡ None))
+
+or_end : (o : Option ℕ) (n : ℕ) → o ≡ None → unwrap_or o n ≡ n
+or_end o n e = ap (λ p. unwrap_or p n) e
+
+new_column_shaped : (t : Table) (added : Option LabelValue) (value : SetValue) → IsShaped t → IsNew t added → IfOk (with_new_column t added value) IsShaped
+new_column_shaped t None value s h = s
+new_column_shaped t (Some l) value s h =
+    then_keeps (λ kind. Unit {0}) IsShaped (kind_of_value value) _ (anything (kind_of_value value))
+    (λ kind k.
+    let c = missing_column kind (length t.labels) in
+    let fits : IsColumn (length t.labels) c = spread_column kind (length t.labels) na_cell (na_held kind) in
+    let apart = subst (λ n. AllPairs (λ a b. a ≢ b) (put_at t.headings n (Some l))) (or_end (place_of_label t.headings l) (length t.headings) h.1 ∙ s.headed) (put_heading t.headings l (s.headings.different h.0)) in
     record {
       some = s.some;
       few = s.few;
       levels = s.levels;
-      headed = s.headed ∙ sym (length-set t.columns 0 _);
-      columns = All-set (IsColumn (length t.labels)) t.columns 0 _ record { filled = length-set old.cells place c ∙ fits.filled; held = All-set (Held old.kind) old.cells place c h fits.held } s.columns;
-      headings = s.headings;
-    }
-
-series_cell_keeps : (t : Table) (c : CellValue) (place : ℕ) → IsValid t → t.shape ≡ Series → IfOk (with_series_cell t c place) IsValid
-series_cell_keeps t c place v is = by (holds (column_at t.columns 0).kind c) refl
+      headed = length-put_at t.headings t.columns (length t.columns) (Some l) c s.headed;
+      columns = All-put_at (IsColumn (length t.labels)) t.columns (length t.columns) c s.columns fits;
+      headings = frame_headings t.shape t.columns_name (put_at t.headings (length t.columns) (Some l)) h.0 (All-put_at IsSome t.headings (length t.columns) (Some l) (s.headings.labelled h.0) refl) apart;
+    })
   where
-    by : (b : Bool) → holds (column_at t.columns 0).kind c ≡ b → IfOk (if b then Ok record t { columns = with_cell t.columns 0 place c } else Err wrong_kind) IsValid
-    by true e = valid _ (cell_set_shaped t c place (shaped t v) is e) (subst (λ n. within_limits (length t.labels) n ≡ true) (sym (length-set t.columns 0 _)) v.limited)
-    by false e = tt
+    anything : {A : Type 0} (r : Result A FaultValue) → IfOk r (λ a. Unit {0})
+    anything (Ok a) = tt
+    anything (Err fault) = tt
 
-position_set_keeps : (t : Table) (k : Option ℤ) (c : Option CellValue) → IsValid t → t.shape ≡ Series → IfOk (position_set t k c) IsValid
-position_set_keeps t (Some k) (Some c) v is = by (row_place t k)
+-- the cells that a setting reaches
+target_keeps : (by : Accessor) (t : Table) (value : SetValue) (target : Target) → IsShaped t → length t.level_names ≡ 1 → IsNew t target.columns.added → IfOk (target_set by t value target) IsValid
+target_keeps by t value target s is new = go (lacks_columns t target)
   where
-    by : (r : Result ℕ FaultValue) → IfOk (then_value r (with_series_cell t c)) IsValid
-    by (Ok place) = series_cell_keeps t c place v is
-    by (Err fault) = tt
-position_set_keeps t None c v is = tt
-position_set_keeps t (Some k) None v is = tt
+    grown_new : (added : Option LabelValue) → IsNew t added → IsNew (with_row t target.rows.added) added
+    grown_new None h = tt
+    grown_new (Some l) h = (with_row_shape t target.rows.added ∙ h.0, ap (λ hs. place_of_label hs l) (with_row_headings t target.rows.added) ∙ h.1)
 
-access_set_keeps : (p : Shape) (t : Table) (k : Option ℤ) (c : Option CellValue) → IsValid t → t.shape ≡ p → IfOk (access_set p t k c) IsValid
-access_set_keeps Series t k c v is = position_set_keeps t k c v is
-access_set_keeps Frame t k c v is = tt
+    anything : {A : Type 0} (r : Result A FaultValue) → IfOk r (λ a. Unit {0})
+    anything (Ok a) = tt
+    anything (Err fault) = tt
 
-brackets_set_keep : (v : Entry) (first : GivenSub) (second : Option GivenSub) (g : Given) → IsValidObject v → IsValidGiven g → IfOk (brackets_set v first second g) IsValid
-brackets_set_keep (cell c) first second g h k = tt
-brackets_set_keep (table t) (key_given key) None g h k = item_set_keeps t.shape t key g (shaped t h) refl k
-brackets_set_keep (table t) (key_given key) (Some other) g h k = tt
-brackets_set_keep (table t) (span_given from to by) second g h k = tt
+    go : (b : Bool) → IfOk (if b then Err (bad_value no_columns) else then_value (values_for by t target value) (λ values.
+        then_value (with_new_column (with_row t target.rows.added) target.columns.added value) (λ grown.
+        filled_table grown target.rows.places target.columns.places values))) IsValid
+    go true = tt
+    go false =
+        then_keeps (λ values. Unit {0}) IsValid (values_for by t target value) _ (anything (values_for by t target value))
+        (λ values h. then_keeps IsShaped IsValid (with_new_column (with_row t target.rows.added) target.columns.added value) _
+        (new_column_shaped (with_row t target.rows.added) target.columns.added value (row_shaped t target.rows.added s is) (grown_new target.columns.added new))
+        (λ grown g. filled_keeps grown target.rows.places target.columns.places values g))
+
+-- a label that a key adds is new
+step_new : (b x : Bool) (o : Option ℕ) → (b && true) || x ≡ false → (x ≡ false → o ≡ None) → (if b then Some 0 else option_map suc o) ≡ None
+step_new true x o e f = Prim.cc
+step_new false x o e f = ap (option_map suc) (f e)
+
+abbrev no_label : Option LabelValue
+no_label = None
+
+none_there : (o : Option ℕ) → IsSome no_label → o ≡ None
+none_there o h = Prim.cc
+
+not_there : (hs : List (Option LabelValue)) (l : LabelValue) → All IsSome hs → list_any (same_tuple (l ∷ [])) (map (λ h. unwrap_or h (int (pos 0)) ∷ []) hs) ≡ false → place_of_label hs l ≡ None
+not_there [] l some e = refl
+not_there (None ∷ hs) l some e = none_there (place_of_label (None ∷ hs) l) (All-head IsSome None hs some)
+not_there (Some a ∷ hs) l some e =
+    step_new (same_label l a) (list_any (same_tuple (l ∷ [])) (map (λ h. unwrap_or h (int (pos 0)) ∷ []) hs)) (place_of_label hs l) e (λ rest. not_there hs l (All-tail IsSome (Some a) hs some) rest)
+
+picked_new : (t : Table) (pick : Result Pick FaultValue) → IfOk (then_value pick (λ p. Ok (picked p))) (λ r. IsNew t r.added)
+picked_new t (Ok p) = tt
+picked_new t (Err fault) = tt
+
+columns_new : (t : Table) (added : Option LabelValue) (pick : Result Pick FaultValue) → IsShaped t → t.shape ≡ Frame → IfOk (or_added added (column_labels t) pick) (λ r. IsNew t r.added)
+columns_new t None pick s is = picked_new t pick
+columns_new t (Some l) pick s is = by (list_any (same_tuple (l ∷ [])) (column_labels t)) refl
+  where
+    by : (b : Bool) → list_any (same_tuple (l ∷ [])) (column_labels t) ≡ b
+        → IfOk (if b then then_value pick (λ p. Ok (picked p)) else Ok record { places = length (column_labels t) ∷ []; added = Some l }) (λ (r : Reached). IsNew t r.added)
+    by true e = picked_new t pick
+    by false e = (is, not_there t.headings l (s.headings.labelled is) e)
+
+frame_target_new : (t : Table) (rows columns : Result Reached FaultValue) → IfOk columns (λ r. IsNew t r.added) → IfOk (target_of rows columns) (λ target. IsNew t target.columns.added)
+frame_target_new t (Err fault) columns h = tt
+frame_target_new t (Ok r) (Err fault) h = tt
+frame_target_new t (Ok r) (Ok c) h = h
+
+target_new : (p : Shape) (by : Accessor) (t : Table) (first : GivenSub) (second : Option GivenSub) → IsShaped t → t.shape ≡ p → IfOk (target_by p by t first second) (λ target. IsNew t target.columns.added)
+target_new Series by t first None s is = frame_target_new t (rows_set by t first) (Ok (picked only_column)) tt
+target_new Series by t first (Some second) s is = tt
+target_new Frame by t first None s is = alone (may_stand_alone by first)
+  where
+    alone : (b : Bool) → IfOk (if b then target_of (rows_set by t first) (Ok (picked (all_columns t))) else Err wrong_kind) (λ target. IsNew t target.columns.added)
+    alone true = frame_target_new t (rows_set by t first) (Ok (picked (all_columns t))) tt
+    alone false = tt
+target_new Frame by t first (Some second) s is = frame_target_new t (rows_set by t first) (columns_set by t second) (columns_new t (added_label by second) (columns_by by t second) s is)
+
+one_level : (n : ℕ) → nat_eq n 1 ≡ true → n ≡ 1
+one_level n e = Prim.grind (arith, nat_tests)
+
+access_set_keeps : (by : Accessor) (t : Table) (first : GivenSub) (second : Option GivenSub) (g : Given) → IsShaped t → IsValidGiven g → IfOk (access_set by t first second g) IsValid
+access_set_keeps by t first second g s h = go (nat_eq (length t.level_names) 1) refl
+  where
+    go : (b : Bool) → nat_eq (length t.level_names) 1 ≡ b
+        → IfOk (if b then then_value (set_value g) (λ value. then_value (target_by t.shape by t first second) (target_set by t value)) else Err not_built) IsValid
+    go true e =
+        then_keeps IsValidValue IsValid (set_value g) _ (set_value_valid g h)
+        (λ value v. then_keeps (λ target. IsNew t target.columns.added) IsValid (target_by t.shape by t first second) (target_set by t value) (target_new t.shape by t first second s refl)
+        (λ target new. target_keeps by t value target s (one_level (length t.level_names) e) new))
+    go false e = tt
+
+item_set_keeps : (p : Shape) (t : Table) (first : GivenSub) (second : Option GivenSub) (g : Given) → IsShaped t → t.shape ≡ p → IsValidGiven g → IfOk (item_set p t first second g) IsValid
+item_set_keeps Series t first second g s is h = access_set_keeps loc t first second g s h
+item_set_keeps Frame t first None g s is h = frame_set_keeps t first g s is h
+item_set_keeps Frame t first (Some second) g s is h = tt
 
 -- a setting
 pub assign_result_keeps : (v : Entry) (way : Way) (first : GivenSub) (second : Option GivenSub) (g : Given) → IsValidObject v → IsValidGiven g → IfOk (assign_result v way first second g) IsValid
-assign_result_keeps v plain first second g h k = brackets_set_keep v first second g h k
-assign_result_keeps (cell c) (through by) first second g h k = tt
-assign_result_keeps (table t) (through by) first second g h k = access_set_keeps t.shape t (position_of by first second) (scalar_in g) h refl
+assign_result_keeps (cell c) way first second g v h = tt
+assign_result_keeps (table t) plain first second g v h = item_set_keeps t.shape t first second g (shaped t v) refl h
+assign_result_keeps (table t) (through by) first second g v h = access_set_keeps by t first second g (shaped t v) h
 
 fewer : (a b m : ℕ) → a ≤ b → nat_le b m ≡ true → nat_le a m ≡ true
 fewer a b m le e = Prim.grind (arith, nat_tests)
@@ -189,7 +349,7 @@ within_fewer : (rows columns fewer_columns : ℕ) → fewer_columns ≤ columns 
 within_fewer rows columns fewer_columns le =
     three _ _ _ _ _ (fewer fewer_columns columns (2 ^ 16) le) (fewer (rows * fewer_columns) (rows * columns) (2 ^ 26) (mul-le rows fewer_columns rows columns (Prim.omega arith) le))
 
-label_removal_keeps : (t : Table) (l : LabelValue) → IsValid t → t.shape ≡ Frame → IfOk (label_removal t l) IsValid
+label_removal_keeps : (t : Table) (l : LabelValue) → IsValid t → t.shape ≡ Frame → IfOk (then_value (column_place t l) (λ place. Ok (without_column t place))) IsValid
 label_removal_keeps t l v is =
     then_keeps (λ place. place < length t.headings) IsValid (column_place t l) _ (column_place_found t l)
     (λ place lt.
@@ -205,12 +365,12 @@ label_removal_keeps t l v is =
       headings = frame_headings t.shape t.columns_name (remove t.headings place) is (All-remove IsSome t.headings place (s.headings.labelled is)) (all_pairs_remove (λ a b. a ≢ b) t.headings place lt (s.headings.different is));
     } (within_fewer (length t.labels) (length t.columns) (length (remove t.columns place)) (Prim.omega (arith, columns)) v.limited))
 
-table_removal_keeps : (p : Shape) (t : Table) (k : Entry) → IsValid t → t.shape ≡ p → IfOk (table_removal p t k) IsValid
-table_removal_keeps Series t k v is = tt
-table_removal_keeps Frame t (cell c) v is = label_removal_keeps t (cell_label c) v is
-table_removal_keeps Frame t (table m) v is = tt
-
 -- a removal
 pub removal_result_keeps : (v k : Entry) → IsValidObject v → IfOk (removal_result v k) IsValid
 removal_result_keeps (cell c) k h = tt
-removal_result_keeps (table t) k h = table_removal_keeps t.shape t k h refl
+removal_result_keeps (table t) (table m) h = tt
+removal_result_keeps (table t) (cell c) h = by t.shape refl
+  where
+    by : (p : Shape) → t.shape ≡ p → IfOk (if is_frame p then then_value (column_place t (cell_label c)) (λ place. Ok (without_column t place)) else Err wrong_kind) IsValid
+    by Series is = tt
+    by Frame is = label_removal_keeps t (cell_label c) h is

@@ -11,9 +11,9 @@ use Rattle.table_meaning.specs.Valid.{IsValid}
 use Rattle.table_meaning.specs.Value.{Entry, cell, table, NamedGiven, key_given}
 use Rattle.form_meaning.specs.declared.Function.TheVariants.{ReadCsv}
 use Rattle.form_meaning.specs.Signature.{function_named}
-use Rattle.form_meaning.specs.Select.{plain, through}
+use Rattle.select_meaning.specs.Select.{plain, through}
 use Rattle.form_meaning.specs.Functions.{make_result}
-use Rattle.form_meaning.specs.Set.{removal_result}
+use Rattle.select_meaning.specs.Set.{removal_result}
 use Rattle.method_meaning.specs.Calls as calls
 use Rattle.method_meaning.specs.Calls.{has_method, chain_result}
 use Rattle.method_meaning.specs.Readers.{reads_file, file_name_of, read_result}
@@ -23,7 +23,8 @@ use Rattle.script_meaning.specs.Expression.{named_by, value_of_name, is_minus, w
 use Rattle.script_meaning.specs.Statement.{Answer, refused, then_answer, with_value, set_answer, assigned, statement_result}
 use Rattle.table_laws.specs.Validity.{IsValidObject, IsValidEntry, IsValidGiven, IsValidState, LeavesValid, HasHeldLiterals, IsHeldArgument, IsHeldForm}
 use Rattle.table_laws.proofs.InfixLaws.{infix_result_keeps, sign_result_keeps}
-use Rattle.table_laws.proofs.SelectLaws.{select_result_keeps, length_result_keeps}
+use Rattle.table_laws.proofs.SelectLaws.{length_result_keeps}
+use Rattle.table_laws.proofs.ReachLaws.{select_result_keeps}
 use Rattle.table_laws.proofs.SetLaws.{assign_result_keeps, removal_result_keeps}
 use Rattle.table_laws.proofs.MethodLaws.{chain_result_keeps}
 use Rattle.table_laws.proofs.MakeLaws.{make_result_keeps}

@@ -1,4 +1,4 @@
-//! Tests of the crates from cells to tables and signatures: what no clause says, and what no script reaches.
+//! Tests of the crates from cells to tables, signatures and selections: what no clause says, and what no script reaches.
 #![tactic(auto)]
 
 #[cfg(test)]
@@ -9,6 +9,8 @@ mod axes;
 mod cells;
 #[cfg(test)]
 mod columns;
+#[cfg(test)]
+mod forms;
 #[cfg(test)]
 mod picks;
 #[cfg(test)]

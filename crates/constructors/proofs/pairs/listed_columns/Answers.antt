@@ -1,8 +1,7 @@
 use Rattle.std.proofs.Common.{◌≡◌, ◌∙◌, ◌∷◌, ◌++◌, [], ap, sym, rules}
 use Rattle.std.proofs.lemmas.Option.{slice_get-get_or}
 use Rattle.column_core.specs.Blocks.{CellBlock}
-use Rattle.frame_store.specs.Parts.{single_block}
-use Rattle.constructors.specs.Scalars.{table_column}
+use Rattle.frame_store.specs.Parts.{single_block, table_column}
 use Rattle.constructors.proofs.ColumnLaws.{columns_with, column_more, columns_single, place_below, rest_below}
 use Rattle.constructors.proofs.pairs.listed_columns.Goals as goal
 

@@ -1,16 +1,13 @@
 use Rattle.std.proofs.Common.{◌≡◌, ap, sym}
 use Rattle.table_meaning.specs.Table.{NumberedTable, table_value}
 use Rattle.method_meaning.specs.Methods.{each_column}
+use Rattle.frame_store.specs.World.{world}
 use Rattle.frame_store.specs.Objects.{tables, table_at, table_or}
-use Rattle.frame_store.proofs.Settling.{object_settled}
-use Rattle.frame_methods.proofs.AnswerLaws.{forms_so}
+use Rattle.frame_methods.proofs.AnswerLaws.{known_table, forms_so}
 use Rattle.frame_methods.proofs.calling.columns_placed.Goals as goal
 
 pub columns_table-table-requires-clause-known : goal.columns_table-table-requires-clause-known
-columns_table-table-requires-clause-known g c = record {
-  whole = c.read.ensures.whole;
-  given = object_settled c.args.dict.now (tables c.args.store.now) c.args.on.0 c.read.result c.read.ensures.table c.requires.settled;
-}
+columns_table-table-requires-clause-known g c = known_table (world c.args.store.now c.args.dict.now) c.args.on.0 c.read.result c.read.ensures.table c.read.ensures.whole c.requires.settled
 
 pub returns : goal.returns
 returns g c =

@@ -1,24 +1,37 @@
 use Rattle.std.proofs.Common.{◌∙◌, ap, subst, sym, length}
 use Rattle.std.specs.List.{range_with_len}
 use Rattle.table_meaning.specs.Table.{NumberedTable, table_value}
+use Rattle.table_meaning.specs.Valid.{IsWhole}
 use Rattle.form_meaning.specs.Finish.{limited}
 use Rattle.frame_store.specs.Objects.{tables, table_at}
 use Rattle.frame_store.specs.Shown.{shown, FormAnswers}
-use Rattle.selections.proofs.PickedLaws.{places_inside, places_count, read_is, all_columns}
-use Rattle.selections.proofs.AnswerLaws.{all_picked_is}
+use Rattle.selections.specs.Plans.{rows_in, AreTakenBelow}
+use Rattle.selections.proofs.PickedLaws.{places_inside, places_count, read_is}
+use Rattle.selections.proofs.CutLaws.{whole_chosen}
 use Rattle.selections.proofs.new_objects.headed_by.Goals as goal
 
-pub derived_within-requires-clause-columns : goal.derived_within-requires-clause-columns
-derived_within-requires-clause-columns c =
-    places_inside c.in_ok-places.places c.columns.result _ c.in_ok-places.ensures (all_columns (tables c.args.store.now c.args.on.0) c.read.result c.columns.result c.read.ensures.table c.columns.ensures)
+pub cut_within-requires-clause-taken : goal.cut_within-requires-clause-taken
+cut_within-requires-clause-taken c =
+    let t = table_at (tables c.args.store.now) c.args.on.0 in
+    let at = read_is _ c.read-source.result c.read-source.ensures.table in
+    let count = c.columns.ensures ∙ ap (λ (n : NumberedTable). length n.columns) at in
+    record {
+      rows_below = subst (λ (n : NumberedTable). AreTakenBelow (length n.labels) c.all_rows-rows.result) at c.all_rows-rows.ensures.below;
+      columns_below = places_inside c.in_ok-columns.columns c.columns.result (length t.columns) c.in_ok-columns.ensures count;
+      headed = c.requires.headed ∙ (subst IsWhole at c.read-source.ensures.whole).headed ∙ sym count ∙ sym (places_count c.in_ok-columns.columns c.columns.result c.in_ok-columns.ensures);
+      fit = c.requires.headings;
+    }
 
-pub derived_within-requires-clause-headed : goal.derived_within-requires-clause-headed
-derived_within-requires-clause-headed c =
-    c.requires.headed ∙ ap (λ (t : NumberedTable). length t.headings) (sym (read_is _ c.read.result c.read.ensures.table)) ∙ c.read.ensures.whole.headed ∙ sym c.columns.ensures ∙ sym (places_count c.in_ok-places.places c.columns.result c.in_ok-places.ensures)
+pub returns-clause-settled : goal.returns-clause-settled
+returns-clause-settled c = (c.cut_within.ensures c.args.dict.now c.requires.settled (c.requires.name, c.requires.labels)).2
 
 pub returns-clause-answers : goal.returns-clause-answers
 returns-clause-answers c =
-    subst (λ (t : NumberedTable). FormAnswers c.args.dict.now c.derived_within.result (limited (table_value c.args.dict.now t)) (shown c.args.dict.now (tables c.args.store.now)) (shown c.args.dict.now (tables c.derived_within.new.store)))
-    (all_picked_is c.args.shape c.args.headings c.in_ok-places.places (table_at (tables c.args.store.now) c.args.on.0)
-    (c.in_ok-places.ensures ∙ ap (range_with_len 0) (all_columns (tables c.args.store.now c.args.on.0) c.read.result c.columns.result c.read.ensures.table c.columns.ensures)))
-    c.derived_within.ensures.answers
+    let dict = c.args.dict.now in
+    let t = table_at (tables c.args.store.now) c.args.on.0 in
+    let at = read_is _ c.read-source.result c.read-source.ensures.table in
+    let rows = c.all_rows-rows.ensures.rows ∙ ap (λ (n : NumberedTable). range_with_len 0 (length n.labels)) at in
+    let columns = c.in_ok-columns.ensures ∙ ap (range_with_len 0) (c.columns.ensures ∙ ap (λ (n : NumberedTable). length n.columns) at) in
+    subst (λ (n : NumberedTable). FormAnswers dict c.cut_within.result (limited (table_value dict n)) (shown dict (tables c.args.store.now)) (shown dict (tables c.cut_within.new.store)))
+    (whole_chosen c.args.shape c.args.headings (rows_in c.all_rows-rows.result) c.in_ok-columns.columns t (subst IsWhole at c.read-source.ensures.whole) rows columns)
+    (c.cut_within.ensures dict c.requires.settled (c.requires.name, c.requires.labels)).0

@@ -8,10 +8,10 @@ use Rattle.meaning.specs.Operator.{cell_label}
 use Rattle.table_meaning.specs.Value.{Entry, cell, GivenSub, nothing, one, row, many, entries, key_given, span_given, more_given, more_entries, no_given, no_entries}
 use Rattle.form_meaning.specs.Signature.{function_named}
 use Rattle.form_meaning.specs.Infix.{infix_result, sign_result}
-use Rattle.form_meaning.specs.Select.{plain, through, select_result, length_result}
+use Rattle.form_meaning.specs.Select.{length_result}
+use Rattle.select_meaning.specs.Select.{plain, through, select_result}
 use Rattle.method_meaning.specs.Calls as calls
 use Rattle.method_meaning.specs.Calls.{has_method, chain_result}
-use Rattle.frame_store.proofs.Settling.{longer_self}
 use Rattle.frame_store.proofs.RowLaws.{item_of-Row, argument_of-Table}
 use Rattle.frame_store.specs.declared.arguments.Argument.TheVariants as argument
 use Rattle.frame_store.specs.declared.arguments.Item.TheVariants as item
@@ -33,7 +33,9 @@ use Rattle.script_session.proofs.Seconds.{seconds_stop, seconds, strides_stop, s
 use Rattle.script_session.proofs.Evaluations.{evaluates_by, runs_out, stops, goes_on, adds, makes, stays, as_value, forms, knows, knows_none, names_value, writes_out, value_if}
 use Rattle.script_session.proofs.Gathering.{gathered, gathers_next, gathers_none, gathers_out}
 use Rattle.script_session.proofs.Parts.{join_parts, join_pairs, parts_end, pairs_end, items_push, pairs_push, arguments_push, items_known, pairs_known, arguments_known, item_known, argument_known, nothing_known, many_known, tuple_known, key_known, span_known, row_known, table_known}
-use Rattle.script_session.proofs.FormFaults.{sign_result_fault, infix_result_fault, length_result_fault, select_result_fault, chain_result_fault}
+use Rattle.script_session.proofs.FormFaults.{sign_result_fault, infix_result_fault, length_result_fault}
+use Rattle.script_session.proofs.SelectFaults.{select_result_fault}
+use Rattle.script_session.proofs.MethodFaults.{chain_result_fault}
 use Rattle.meaning.specs.Text.{Text}
 use Rattle.frame_methods.specs.Calls.{chain_of}
 use Rattle.table_meaning.specs.Value.{NamedGiven}
@@ -188,7 +190,7 @@ evaluate-returns-in_ok-value-in-Len g t c =
     let v = c.in_ok-value-in-Len.value in
     as_value c.args.expr.now None
     (goes_on (λ fs s v. at_once (length_result v)) v c.in_ok-value-in-Len.ensures
-    (forms w w (length_result (entry_in (world_of w) v)) (length_result_fault (entry_in (world_of w) v)) refl c.length.result c.evaluated-in-Len.result c.evaluated-in-Len.ensures (c.length.ensures, longer_self w.dict, w.settled)))
+    (forms w w (length_result (entry_in (world_of w) v)) (length_result_fault (entry_in (world_of w) v)) refl c.length.result c.evaluated-in-Len.result c.evaluated-in-Len.ensures c.length.ensures))
     (ap (λ e. named_by (expr_of e)) c.in-Len.is)
     (λ fs. ap (λ e. value_of fs (state_in s) (expr_of e)) c.in-Len.is ∙ ap (λ e. then_read (value_of fs (state_in s) (expr_of e)) (λ v. at_once (length_result v))) (sym c.deref-in-Len.ensures))
 

@@ -1,7 +1,7 @@
 use Rattle.std.proofs.Common.{refl, [], ap, sym, ◌∙◌, false, Some, Ok, subst}
 use Rattle.std.specs.Prelude.{option_map}
 use Rattle.std.proofs.lemmas.Result.{err_from_is_err_and}
-use Rattle.form_meaning.specs.Set.{removal_result}
+use Rattle.select_meaning.specs.Set.{removal_result}
 use Rattle.script_meaning.specs.Reading.{at_once}
 use Rattle.script_meaning.specs.Expression.{value_of_name, value_of}
 use Rattle.script_meaning.specs.Statement.{done, then_answer, set_answer}
@@ -12,7 +12,7 @@ use Rattle.script_session.specs.Reads.{files_in}
 use Rattle.script_session.specs.Work.{names_in, world_of, state_in}
 use Rattle.script_session.proofs.States.{state_kept}
 use Rattle.script_session.proofs.Worlds.{keeps_both, value_seen, value_kept, set_failed}
-use Rattle.script_session.proofs.FormFaults.{removal_result_fault}
+use Rattle.script_session.proofs.SetFaults.{removal_result_fault}
 use Rattle.script_session.proofs.Rides.{then_gives, goes_by, goes_to, goes_value, halts_by, halts_first}
 use Rattle.script_session.proofs.Answering.{refusal, step_halts, set_state, set_refused, done_same, unnamed_answers}
 use Rattle.script_session.proofs.Settings.{set_apart}

@@ -6,8 +6,8 @@ use Rattle.script_session.specs.Work.{names_in, world_of, state_in}
 use Rattle.script_session.proofs.Answering.{named_answers, done_same}
 use Rattle.script_session.proofs.work.Work.drop_name.Goals as goal
 
-pub returns-clause-done : goal.returns-clause-done
-returns-clause-done c =
+pub returns-clause-answers : goal.returns-clause-answers
+returns-clause-answers c =
     let s = c.args.self.now in
     let n = c.args.name.now in
     λ files. named_answers (names_in s) (world_of s) n _ c.in_ok-named.ensures.found (λ v. at_once (done (without_name (state_in s) n) [] false))

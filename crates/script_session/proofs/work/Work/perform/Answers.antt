@@ -26,4 +26,4 @@ pub returns-in-DropName-clause-answers : goal.returns-in-DropName-clause-answers
 returns-in-DropName-clause-answers g c = λ held.
     let fs = files_in c.args.names.now held in
     performs_by _ (world_of c.drop_name.new.self).texts _ _ _ c.drop_name.result (ap (λ f. statement_result fs (state_in c.args.self.now) (form_of f)) c.in-DropName.is)
-    (performs_once (world_of c.drop_name.new.self).texts fs _ _ (state_in c.drop_name.new.self) c.drop_name.result (c.drop_name.ensures.done fs) (c.drop_name.ensures.refused fs))
+    (performs_once (world_of c.drop_name.new.self).texts fs _ _ (state_in c.drop_name.new.self) c.drop_name.result (c.drop_name.ensures.answers fs))

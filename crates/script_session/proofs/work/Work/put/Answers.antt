@@ -11,10 +11,11 @@ use Rattle.script_session.specs.Bindings.{IsOf, state_over}
 use Rattle.script_session.specs.Parts.{target_seen}
 use Rattle.script_session.specs.Reads.{files_in}
 use Rattle.frame_store.specs.World.{entry_in, Sets}
-use Rattle.script_session.specs.Work.{names_in, world_of, state_in, without}
+use Rattle.settings.specs.Assigned.{without}
+use Rattle.script_session.specs.Work.{names_in, world_of, state_in}
 use Rattle.script_session.proofs.States.{state_kept}
 use Rattle.script_session.proofs.Worlds.{keeps_both, value_seen, value_kept, argument_seen, argument_kept, set_failed}
-use Rattle.script_session.proofs.FormFaults.{assign_result_fault}
+use Rattle.script_session.proofs.SetFaults.{assign_result_fault}
 use Rattle.script_session.proofs.Rides.{serves_both, goes_by, goes_to, goes_both, goes_value, halts_by, halts_first, halts_later}
 use Rattle.script_session.proofs.Answering.{refusal, step_halts, set_state, set_refused, done_same}
 use Rattle.script_session.proofs.Settings.{set_apart}

@@ -1,7 +1,7 @@
-use Rattle.std.proofs.Common.{refl, ◌∙◌, ap, sym, Some, None, Option}
+use Rattle.std.proofs.Common.{refl, ◌∙◌, ap, None, Option}
 use Rattle.std.specs.Prelude.{Err, option_map}
 use Rattle.table_meaning.specs.Value.{GivenSub, key_given}
-use Rattle.form_meaning.specs.Select.{plain, through}
+use Rattle.select_meaning.specs.Select.{plain, through}
 use Rattle.frame_store.specs.declared.arguments.Selector.TheVariants as selector
 use Rattle.frame_store.specs.declared.arguments.Subscript.TheVariants as subscript
 use Rattle.script_meaning.specs.Reading.{gives}

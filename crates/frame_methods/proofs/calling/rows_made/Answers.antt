@@ -1,0 +1,125 @@
+use Rattle.std.proofs.Common.{◌≡◌, ◌∙◌, ap, sym, subst, refl, length, Err}
+use Rattle.std.proofs.lemmas.Result.{err_from_is_err_and}
+use Rattle.meaning.specs.Fault.{then_value}
+use Rattle.table_meaning.specs.Table.{NumberedTable, table_value}
+use Rattle.form_meaning.specs.Binding.{truth_in}
+use Rattle.form_meaning.specs.Make.{on}
+use Rattle.form_meaning.specs.Select.{column_places}
+use Rattle.form_meaning.specs.declared.Method.TheVariants as method
+use Rattle.form_parts.proofs.TableMade.{refused_on}
+use Rattle.method_meaning.specs.Rows.{dropna_result, duplicated_result, sort_values_result, sort_by_result, sorted_result, all_places, labels_in, subset_places}
+use Rattle.frame_store.specs.Objects.{tables, table_at, table_or}
+use Rattle.frame_store.specs.World.{world}
+use Rattle.frame_store.proofs.Settling.{object_settled}
+use Rattle.selections.specs.Selected.{as_it_is}
+use Rattle.selections.proofs.PickedLaws.{places_inside}
+use Rattle.frame_methods.specs.Built.{row_method}
+use Rattle.frame_methods.specs.Named.{first_in}
+use Rattle.frame_store.specs.Parts.{AreColumnsOf}
+use Rattle.frame_methods.specs.Rows.{duplicated_among}
+use Rattle.frame_methods.proofs.AnswerLaws.{known_table, makes_by}
+use Rattle.frame_methods.proofs.NamedLaws.{all_are}
+use Rattle.frame_methods.proofs.calling.rows_made.Goals as goal
+
+pub returns-in-Dropna : goal.returns-in-Dropna
+returns-in-Dropna c =
+    let w = world c.args.store.now c.args.dict.now in
+    let at : c.read-source.result ≡ table_at (tables c.args.store.now) c.args.on.0 = sym (ap table_or c.read-source.ensures.table) in
+    let settled = object_settled w.texts w.tables c.args.on.0 c.read-source.result c.read-source.ensures.table c.requires.settled in
+    makes_by w (row_method c.args.method) method.Dropna c.args.bound.now c.read-source.result _ c.dropna.result (λ a t. dropna_result t) _ at (ap row_method c.in-Dropna.is) c.requires.call.parameters (λ v. refl) refl
+    (c.dropna.ensures w.texts settled)
+
+-- the columns of a Series
+pub duplicated-requires-clause-known : goal.duplicated-requires-clause-known
+duplicated-requires-clause-known c = known_table (world c.args.store.now c.args.dict.now) c.args.on.0 c.read-source.result c.read-source.ensures.table c.read-source.ensures.whole c.requires.settled
+
+pub duplicated-requires-in-DuplicatedFrame-clause-known : goal.duplicated-requires-in-DuplicatedFrame-clause-known
+duplicated-requires-in-DuplicatedFrame-clause-known c = known_table (world c.args.store.now c.args.dict.now) c.args.on.0 c.read-source.result c.read-source.ensures.table c.read-source.ensures.whole c.requires.settled
+
+pub sort_values-requires-clause-known : goal.sort_values-requires-clause-known
+sort_values-requires-clause-known c = known_table (world c.args.store.now c.args.dict.now) c.args.on.0 c.read-source.result c.read-source.ensures.table c.read-source.ensures.whole c.requires.settled
+
+pub sort_values-requires-in-SortValuesFrame-clause-known : goal.sort_values-requires-in-SortValuesFrame-clause-known
+sort_values-requires-in-SortValuesFrame-clause-known c = known_table (world c.args.store.now c.args.dict.now) c.args.on.0 c.read-source.result c.read-source.ensures.table c.read-source.ensures.whole c.requires.settled
+
+pub sort_index-requires-clause-known : goal.sort_index-requires-clause-known
+sort_index-requires-clause-known c = known_table (world c.args.store.now c.args.dict.now) c.args.on.0 c.read-source.result c.read-source.ensures.table c.read-source.ensures.whole c.requires.settled
+
+pub duplicated-requires-clause-places : goal.duplicated-requires-clause-places
+duplicated-requires-clause-places c = places_inside c.in_ok-places-in-DuplicatedSeries.places c.columns.result (length c.read-source.result.columns) c.in_ok-places-in-DuplicatedSeries.ensures c.columns.ensures
+
+pub returns-in_ok-places-in-DuplicatedSeries : goal.returns-in_ok-places-in-DuplicatedSeries
+returns-in_ok-places-in-DuplicatedSeries c =
+    let w = world c.args.store.now c.args.dict.now in
+    let s = table_value w.texts c.read-source.result in
+    let at : c.read-source.result ≡ table_at w.tables c.args.on.0 = sym (ap table_or c.read-source.ensures.table) in
+    makes_by w (row_method c.args.method) method.DuplicatedSeries c.args.bound.now c.read-source.result _ c.duplicated.result (λ a t. duplicated_among t (all_places t)) _ at (ap row_method c.in-DuplicatedSeries.is) c.requires.call.parameters (λ v. refl)
+    (ap (duplicated_among s) (all_are w.texts c.read-source.result c.in_ok-places-in-DuplicatedSeries.places c.columns.result c.in_ok-places-in-DuplicatedSeries.ensures c.columns.ensures))
+    c.duplicated.ensures
+
+-- the columns that are named, or all
+pub returns-in_err-places-in-DuplicatedFrame : goal.returns-in_err-places-in-DuplicatedFrame
+returns-in_err-places-in-DuplicatedFrame c =
+    let w = world c.args.store.now c.args.dict.now in
+    let t = table_at w.tables c.args.on.0 in
+    let v = table_value w.texts t in
+    let p = err_from_is_err_and c.from_residual-in_err-places-in-DuplicatedFrame.result c.from_residual-in_err-places-in-DuplicatedFrame.ensures.1 in
+    rw (p.1, p.2)
+    (makes_by w (row_method c.args.method) method.DuplicatedFrame c.args.bound.now t t (Err c.in_err-places-in-DuplicatedFrame.field-0.0) (λ a t. duplicated_result t (a 0)) _ refl (ap row_method c.in-DuplicatedFrame.is) c.requires.call.parameters (λ v. refl) refl
+    (refused_on as_it_is w.texts (subset_places v (first_in w c.args.bound.now)) (duplicated_among v) c.subset_places.result c.in_err-places-in-DuplicatedFrame.field-0.0 c.in_err-places-in-DuplicatedFrame.was c.subset_places.ensures.0))
+
+pub duplicated-requires-in-DuplicatedFrame-clause-places : goal.duplicated-requires-in-DuplicatedFrame-clause-places
+duplicated-requires-in-DuplicatedFrame-clause-places c =
+    subst (λ (n : NumberedTable). AreColumnsOf n c.in_ok-places-in-DuplicatedFrame.places) (ap table_or c.read-source.ensures.table) c.in_ok-places-in-DuplicatedFrame.ensures.1
+
+pub returns-in_ok-places-in-DuplicatedFrame : goal.returns-in_ok-places-in-DuplicatedFrame
+returns-in_ok-places-in-DuplicatedFrame c =
+    let w = world c.args.store.now c.args.dict.now in
+    let s = table_value w.texts c.read-source.result in
+    let at : c.read-source.result ≡ table_at w.tables c.args.on.0 = sym (ap table_or c.read-source.ensures.table) in
+    makes_by w (row_method c.args.method) method.DuplicatedFrame c.args.bound.now c.read-source.result _ c.duplicated-in-DuplicatedFrame.result (λ a t. duplicated_result t (a 0)) _ at (ap row_method c.in-DuplicatedFrame.is) c.requires.call.parameters (λ v. refl)
+    (ap (λ r. then_value r (duplicated_among s)) (sym (ap (λ (n : NumberedTable). subset_places (table_value w.texts n) (first_in w c.args.bound.now)) at ∙ c.in_ok-places-in-DuplicatedFrame.ensures.0)))
+    c.duplicated-in-DuplicatedFrame.ensures
+
+-- in the order of their cells
+pub returns-in_ok-places-in-SortValuesSeries : goal.returns-in_ok-places-in-SortValuesSeries
+returns-in_ok-places-in-SortValuesSeries c =
+    let w = world c.args.store.now c.args.dict.now in
+    let s = table_value w.texts c.read-source.result in
+    let at : c.read-source.result ≡ table_at w.tables c.args.on.0 = sym (ap table_or c.read-source.ensures.table) in
+    makes_by w (row_method c.args.method) method.SortValuesSeries c.args.bound.now c.read-source.result _ c.sort_values.result (λ a t. on (truth_in (a 0)) (λ b. sort_values_result t b (all_places t))) _ at (ap row_method c.in-SortValuesSeries.is) c.requires.call.parameters (λ v. refl)
+    (ap (sort_values_result s c.truth.result) (all_are w.texts c.read-source.result c.in_ok-places-in-SortValuesSeries.places c.columns-in-SortValuesSeries.result c.in_ok-places-in-SortValuesSeries.ensures c.columns-in-SortValuesSeries.ensures)
+    ∙ ap (λ o. on o (λ b. sort_values_result s b (all_places s))) (c.truth.ensures w.tables w.texts))
+    c.sort_values.ensures
+
+pub returns-in_err-places-in-SortValuesFrame : goal.returns-in_err-places-in-SortValuesFrame
+returns-in_err-places-in-SortValuesFrame c =
+    let w = world c.args.store.now c.args.dict.now in
+    let t = table_at w.tables c.args.on.0 in
+    let v = table_value w.texts t in
+    let g = first_in w c.args.bound.now in
+    let p = err_from_is_err_and c.from_residual-in_err-places-in-SortValuesFrame.result c.from_residual-in_err-places-in-SortValuesFrame.ensures.1 in
+    rw (p.1, p.2)
+    (makes_by w (row_method c.args.method) method.SortValuesFrame c.args.bound.now t t (Err c.in_err-places-in-SortValuesFrame.field-0.0) (λ a t. on (truth_in (a 1)) (λ b. sort_by_result t b (a 0))) _ refl (ap row_method c.in-SortValuesFrame.is) c.requires.call.parameters (λ v. refl)
+    (ap (λ o. on o (λ b. sort_by_result v b g)) (c.truth-ascending.ensures w.tables w.texts))
+    (refused_on as_it_is w.texts (column_places v (labels_in g)) (sort_values_result v c.truth-ascending.result) c.named_places.result c.in_err-places-in-SortValuesFrame.field-0.0 c.in_err-places-in-SortValuesFrame.was c.named_places.ensures.0))
+
+pub returns-in_ok-places-in-SortValuesFrame : goal.returns-in_ok-places-in-SortValuesFrame
+returns-in_ok-places-in-SortValuesFrame c =
+    let w = world c.args.store.now c.args.dict.now in
+    let s = table_value w.texts c.read-source.result in
+    let at : c.read-source.result ≡ table_at w.tables c.args.on.0 = sym (ap table_or c.read-source.ensures.table) in
+    let g = first_in w c.args.bound.now in
+    makes_by w (row_method c.args.method) method.SortValuesFrame c.args.bound.now c.read-source.result _ c.sort_values-in-SortValuesFrame.result (λ a t. on (truth_in (a 1)) (λ b. sort_by_result t b (a 0))) _ at (ap row_method c.in-SortValuesFrame.is) c.requires.call.parameters (λ v. refl)
+    (ap (λ r. then_value r (sort_values_result s c.truth-ascending.result)) (sym (ap (λ (n : NumberedTable). column_places (table_value w.texts n) (labels_in g)) at ∙ c.in_ok-places-in-SortValuesFrame.ensures.0))
+    ∙ ap (λ o. on o (λ b. sort_by_result s b g)) (c.truth-ascending.ensures w.tables w.texts))
+    c.sort_values-in-SortValuesFrame.ensures
+
+pub returns-in-SortIndex : goal.returns-in-SortIndex
+returns-in-SortIndex c =
+    let w = world c.args.store.now c.args.dict.now in
+    let s = table_value w.texts c.read-source.result in
+    let at : c.read-source.result ≡ table_at w.tables c.args.on.0 = sym (ap table_or c.read-source.ensures.table) in
+    makes_by w (row_method c.args.method) method.SortIndex c.args.bound.now c.read-source.result _ c.sort_index.result (λ a t. on (truth_in (a 0)) (λ b. sorted_result t b t.labels)) _ at (ap row_method c.in-SortIndex.is) c.requires.call.parameters (λ v. refl)
+    (ap (λ o. on o (λ b. sorted_result s b s.labels)) (c.truth-in-SortIndex.ensures w.tables w.texts))
+    c.sort_index.ensures

@@ -1,0 +1,20 @@
+use Rattle.std.proofs.Common.{◌<◌, ◌≤◌, refl, sym, length, arith}
+use Rattle.std.specs.Prelude.{slice_index}
+use Rattle.std.proofs.lemmas.Option.{get_or_from_slice_get}
+use Rattle.cell_core.specs.declared.cell.Cell.TheVariants.{Na}
+use Rattle.frame_methods.proofs.DuplicateLaws.{numbered_more, numbers_more}
+use Rattle.frame_methods.proofs.duplicates.number_cells.Goals as goal
+
+pub loop-row-preserved : goal.loop-row-preserved
+loop-row-preserved c =
+    let lt : c.loop-row.row < length c.args.numbers.now = omega arith in
+    let cells = c.column-column.result.cells in
+    let stored = c.in_ok-next.ensures.stored in
+    numbered_more c.args.numbers.now cells c.loop-row.row c.in_ok-next.next (slice_index c.loop-row.numbers c.loop-row.row) c.cell.result c.loop-row.numbers _ c.loop-row.seen.keys c.insert_full.new.self.keys stored.0
+    c.loop-row.invariant lt refl (sym (get_or_from_slice_get cells c.loop-row.row c.cell.result Na c.cell.ensures.cell)) c.in_ok-next.ensures.keys stored.1 stored.2 c.in_ok-next.ensures.unique refl
+
+pub returns : goal.returns
+returns c =
+    let column = c.column-column.result in
+    let end : length c.args.on.now.labels ≤ c.loop-row.row = omega arith in
+    numbers_more c.args.on.now c.args.place c.loop-row.row record { kind = column.kind; cells = column.cells } c.args.numbers.now c.loop-row.numbers c.loop-row.seen.keys c.column-column.ensures.column end c.loop-row.invariant

@@ -1,0 +1,12 @@
+use Rattle.std.proofs.Common.{◌≡◌, [], ◌++◌, map, drop, nat_eq}
+use Rattle.cell_core.specs.declared.cell.Cell.TheVariants.{Bool}
+use Rattle.cell_core.specs.declared.cell.Kind.TheVariants.{Boolean}
+use Rattle.method_meaning.specs.Rows.{repeats}
+use Rattle.frame_methods.proofs.duplicates.repeats.Given as goal
+
+-- the marks so far, before the others
+abbrev pub invariant-loop-number : goal.invariant-loop-number
+invariant-loop-number l = record {
+  kind : l.marks.kind ≡ Boolean;
+  cells : l.marks.cells ++ map Bool (repeats nat_eq l.seen.keys (drop l.number-index l.numbers)) ≡ map Bool (repeats nat_eq [] l.numbers);
+}

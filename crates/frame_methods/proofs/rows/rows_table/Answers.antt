@@ -1,0 +1,24 @@
+use Rattle.std.proofs.Common.{◌≡◌, ◌∙◌, ap, sym, true, length, rules}
+use Rattle.std.specs.List.{range_with_len}
+use Rattle.cell_core.specs.declared.grid.Shape.{Shape}
+use Rattle.form_meaning.specs.Finish.{within_limits}
+use Rattle.frame_store.specs.Parts.{HeadingList}
+use Rattle.selections.specs.Chosen.{chosen}
+use Rattle.selections.proofs.PickedLaws.{places_inside, places_count}
+use Rattle.frame_methods.proofs.RowLaws.{rows_made}
+use Rattle.frame_methods.proofs.rows.rows_table.Goals as goal
+
+pub chosen_table-requires-clause-columns : goal.chosen_table-requires-clause-columns
+chosen_table-requires-clause-columns c = places_inside c.in_ok-columns.columns c.columns-2.result (length c.args.on.now.columns) c.in_ok-columns.ensures c.columns-2.ensures
+
+pub chosen_table-requires-clause-headed : goal.chosen_table-requires-clause-headed
+chosen_table-requires-clause-headed c =
+    ap (λ (h : HeadingList). length h.labels) c.in_ok-headings.ensures ∙ c.requires.whole.headed ∙ sym c.columns-2.ensures ∙ sym (places_count c.in_ok-columns.columns c.columns-2.result c.in_ok-columns.ensures)
+
+pub returns : goal.returns
+returns c = λ texts settled.
+    let t = c.args.on.now in
+    let within : within_limits (length c.args.rows.now) (length t.columns) ≡ true = search rules in
+    rows_made texts t c.in_ok-chosen_table.field-0 c.in_ok-headings.headings c.args.rows.now c.in_ok-columns.columns
+    c.in_ok-headings.ensures (c.in_ok-columns.ensures ∙ ap (range_with_len 0) c.columns-2.ensures)
+    (c.in_ok-chosen_table.ensures ∙ ap (λ (s : Shape). chosen s c.in_ok-headings.headings c.args.rows.now c.in_ok-columns.columns t) c.shape.ensures) within settled

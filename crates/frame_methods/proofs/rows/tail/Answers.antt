@@ -1,0 +1,19 @@
+use Rattle.std.proofs.Common.{◌∙◌, ◌-◌, ap}
+use Rattle.std.specs.Int.{w64}
+use Rattle.std.proofs.lemmas.Int.{to_z-of_z}
+use Rattle.frame_store.specs.Arguments.{object_value}
+use Rattle.frame_store.specs.Objects.{tables}
+use Rattle.pick_meaning.specs.Positions.{rows_before}
+use Rattle.frame_methods.proofs.AnswerLaws.{forms_so}
+use Rattle.frame_methods.proofs.RowLaws.{run, run_result, last_meant, rows_read}
+use Rattle.frame_methods.proofs.rows.tail.Goals as goal
+
+pub returns : goal.returns
+returns c = λ texts settled.
+    let t = object_value (tables c.args.store.now) texts c.args.on in
+    let count = c.count_taken-count.result in
+    let all = rows_read texts (tables c.args.store.now c.args.on.0) c.read.result c.rows-all.result c.read.ensures.table c.rows-all.ensures in
+    let counted = rw (to_z-of_z w64 c.args.n c.ranges.n) at c.count_taken-count.ensures.taken in
+    forms_so _ _ _ _ _
+    (ap (λ k. run_result t (run (k - count) count)) all ∙ last_meant t c.args.n count (counted ∙ ap (λ k. rows_before k c.args.n) all))
+    (c.sliced.ensures texts settled)

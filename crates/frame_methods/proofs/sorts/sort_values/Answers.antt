@@ -1,0 +1,9 @@
+use Rattle.frame_methods.proofs.SortLaws.{cells_counted, cells_of_row}
+use Rattle.frame_methods.proofs.sorts.sort_values.Goals as goal
+
+pub returns : goal.returns
+returns c =
+    c.sorted_table.ensures _ record {
+      count = cells_counted c.args.dict.now c.args.on.now c.args.places.now;
+      each = λ row lt. cells_of_row c.args.dict.now c.args.on.now c.args.places.now c.in_ok-columns_at.field-0.items row c.in_ok-columns_at.ensures lt;
+    }

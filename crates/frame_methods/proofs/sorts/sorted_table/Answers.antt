@@ -1,0 +1,22 @@
+use Rattle.std.proofs.Common.{◌∙◌, ap, List, ℕ, length}
+use Rattle.table_meaning.specs.Table.{table_value}
+use Rattle.form_meaning.specs.Finish.{limited}
+use Rattle.std.specs.List.{range_with_len}
+use Rattle.sorting.specs.Sorting.{in_order}
+use Rattle.select_meaning.specs.Select.{rows_taken}
+use Rattle.frame_methods.specs.Sorts.{keys_of, stands_before}
+use Rattle.frame_methods.proofs.RowLaws.{makes_so}
+use Rattle.frame_methods.proofs.SortLaws.{sorted_below, sorted_so}
+use Rattle.frame_methods.proofs.sorts.sorted_table.Goals as goal
+
+pub rows_table-requires-clause-rows : goal.rows_table-requires-clause-rows
+rows_table-requires-clause-rows c =
+    sorted_below (stands_before c.args.ascending (keys_of c.args.dict.now c.args.keys.now)) (length c.args.on.now.labels) c.in_ok-rows.rows (c.in_ok-rows.ensures ∙ ap (λ (n : ℕ). in_order (stands_before c.args.ascending (keys_of c.args.dict.now c.args.keys.now)) (range_with_len 0 n)) c.rows.ensures)
+
+pub returns : goal.returns
+returns c = λ all are.
+    let dict = c.args.dict.now in
+    let t = c.args.on.now in
+    makes_so dict c.rows_table.result _ _
+    (ap (λ (rows : List ℕ). limited (rows_taken (table_value dict t) rows)) (c.in_ok-rows.ensures ∙ ap (λ (n : ℕ). in_order (stands_before c.args.ascending (keys_of dict c.args.keys.now)) (range_with_len 0 n)) c.rows.ensures ∙ sorted_so dict c.args.keys.now c.args.ascending (length t.labels) all are))
+    (c.rows_table.ensures dict c.requires.given)

@@ -1,0 +1,34 @@
+-- Rows of a table: those without a missing cell, and numbers that tell rows apart.
+use Rattle.std.specs.Prelude.{◌≡◌, ℕ, ◌<◌, List, [], map, length, slice_index, nat_eq, Result}
+use Rattle.std.specs.Cmp.Lexicographic.{pointwise}
+use Rattle.std.specs.List.{list_all}
+use Rattle.cell_core.specs.declared.cell.Cell.{Cell}
+use Rattle.meaning.specs.Fault.{FaultValue}
+use Rattle.meaning.specs.Reduce.{is_present, same_cell}
+use Rattle.table_meaning.specs.Table.{NumberedTable, Table}
+use Rattle.table_meaning.specs.Value.{Entry}
+use Rattle.form_meaning.specs.Finish.{limited}
+use Rattle.pick_meaning.specs.Rows.{rows_where}
+use Rattle.method_meaning.specs.Rows.{all_places, cells_by_row, marks_series, repeats}
+use Rattle.nullable_array.specs.Marks.{same_number}
+use Rattle.selections.specs.Across.{cell_across}
+
+-- the cells of a row in the columns at these places
+abbrev pub row_cells : NumberedTable → List ℕ → ℕ → List Cell
+row_cells t places row = map (cell_across t row) places
+
+-- the rows in which no cell is missing
+abbrev pub complete : Table → List ℕ
+complete t = rows_where (list_all is_present) 0 (cells_by_row t (all_places t))
+
+-- whether an earlier row has the same cells in the columns at these places
+abbrev pub duplicated_among : Table → List ℕ → Result Entry FaultValue
+duplicated_among t places =
+    limited (marks_series t (repeats (pointwise same_cell) [] (cells_by_row t places)))
+
+-- a number for each row, equal exactly where all cells in the columns at these places are
+pub record AreNumbers (t : NumberedTable) (places numbers : List ℕ) : Type 0 where
+  pub count : length numbers ≡ length t.labels
+  pub equal : (i j : ℕ) → i < length t.labels → j < length t.labels
+      → nat_eq (slice_index numbers i) (slice_index numbers j)
+      ≡ pointwise same_number (row_cells t places i) (row_cells t places j)

@@ -1,0 +1,89 @@
+// The methods that answer the rows in another order.
+ghost use Rattle.std.specs.Prelude.{List, length};
+ghost use Rattle.table_meaning.specs.Table.{table_value};
+ghost use Rattle.multi_index.specs.Axes.{HaveLevels};
+ghost use Rattle.meaning.specs.Cell.{LabelValue};
+ghost use Rattle.method_meaning.specs.Rows as meant;
+ghost use Rattle.frame_store.specs.Shown.{Makes};
+ghost use Rattle.frame_store.specs.World.{IsKnownTable};
+ghost use Rattle.frame_store.specs.Parts.{AreColumnsOf};
+ghost use Rattle.frame_methods.specs.Sorts.{keys_of, stands_before, weak_by, AreKeys};
+
+use crate::rows::rows_table;
+use crate::sort_keys::{SortKeys, columns_at, compare_rows};
+use cell_core::{Grid, Places, TextDict};
+use frame_store::{ObjRef, OpFault, Table};
+use sorting::{RowOrder, sorted_rows};
+use std::alloc::Global;
+use std::cmp::Ordering;
+
+// The order of rows by their keys.
+#[derive(Clone, Copy)]
+struct ByKeys<'a> {
+    dict: &'a TextDict,
+    keys: &'a SortKeys<'a>,
+    ascending: bool,
+}
+
+impl RowOrder for ByKeys<'_> {
+    ghost less = { λ s. stands_before s.ascending (keys_of s.dict.now s.keys.now) };
+
+    ghost weak = { λ s. weak_by s.ascending (keys_of s.dict.now s.keys.now) };
+
+    fn compare(&self, i: usize, j: usize) -> Ordering {
+        compare_rows(self.dict, self.keys, self.ascending, i, j)
+    }
+}
+
+// The rows in the order of their keys.
+fn sorted_table(
+    alloc: Global,
+    dict: &TextDict,
+    on: &ObjRef<'_>,
+    keys: &SortKeys<'_>,
+    ascending: bool,
+) -> Result<Table, OpFault>
+    requires { IsKnownTable dict.now on.now }
+    ensures { (all : List (List LabelValue)) → AreKeys dict.now keys.now (length on.now.labels) all
+        → Makes dict.now result (meant.sorted_result (table_value dict.now on.now) ascending all) }
+{
+    let order = ByKeys {
+        dict,
+        keys,
+        ascending,
+    };
+    let rows = sorted_rows(alloc, on.rows(), &order)?;
+    rows_table(alloc, on, &rows)
+}
+
+// The rows in the order of their cells in these columns.
+pub(crate) fn sort_values(
+    alloc: Global,
+    dict: &TextDict,
+    on: &ObjRef<'_>,
+    places: &Places,
+    ascending: bool,
+) -> Result<Table, OpFault>
+    requires known { IsKnownTable dict.now on.now }
+    requires places { AreColumnsOf on.now places.now }
+    ensures { Makes dict.now result
+        (meant.sort_values_result (table_value dict.now on.now) ascending places.now) }
+{
+    let keys = SortKeys::Cells(columns_at(alloc, on, places)?);
+    sorted_table(alloc, dict, on, &keys, ascending)
+}
+
+// The rows in the order of their labels.
+pub(crate) fn sort_index(
+    alloc: Global,
+    dict: &TextDict,
+    on: &ObjRef<'_>,
+    ascending: bool,
+) -> Result<Table, OpFault>
+    requires known { IsKnownTable dict.now on.now }
+    requires levels { HaveLevels (length on.now.level_names) on.now.labels }
+    ensures { let t = table_value dict.now on.now in
+        Makes dict.now result (meant.sorted_result t ascending t.labels) }
+{
+    sorted_table(alloc, dict, on, &SortKeys::Labels(on.axis()), ascending)
+}

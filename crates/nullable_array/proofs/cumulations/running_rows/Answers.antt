@@ -1,0 +1,28 @@
+use Rattle.std.proofs.Common.{◌≡◌, ◌+◌, ap, sym, ◌∙◌, arith, Some, None, is_some, cond}
+use Rattle.std.proofs.lemmas.Grind.{common_steps}
+use Rattle.nullable_array.specs.Folds.{step_row, folded, running_row}
+use Rattle.nullable_array.proofs.FoldLaws.{folded_more}
+use Rattle.nullable_array.proofs.PairRows.{row_pushed}
+use Rattle.nullable_array.proofs.cumulations.running_rows.Goals as goal
+
+pub loop-row-preserved : goal.loop-row-preserved
+loop-row-preserved g c =
+    let step = g.F.Fold.step_of c.args.fold.now in
+    let row = g.A.Source.row_of c.args.a.now in
+    let i = c.loop-row.row in
+    let so_far = c.loop-row.invariant in
+    let more : c.next-so_far.result ≡ folded step None (i + 1) row
+    = c.next-so_far.ensures ∙ ap (λ o. step_row step c.loop-row.so_far o) c.get-x.ensures ∙ ap (λ s. step_row step s (row i)) so_far.so_far ∙ sym (folded_more step None i row) in
+    let value : running_row step row i ≡ c.kept-value.result
+    = sym (c.kept-value.ensures ∙ ap (λ b. cond b c.next-so_far.result None) (c.is_some-is_present.ensures ∙ ap is_some c.get-x.ensures) ∙ ap (λ s. cond (is_some (row i)) s None) more) in
+    record {
+      values = grind (arith, common_steps);
+      present = grind (arith, common_steps);
+      counted = grind (arith, common_steps);
+      marked = grind (arith, common_steps);
+      room = grind (arith, common_steps);
+      places = grind (arith, common_steps);
+      so_far = more;
+      written = rw (c.push_reserved.ensures.items, c.push_reserved-in-loop-row.ensures.items, c.unwrap_or.ensures, c.is_some.ensures)
+          (row_pushed (λ k. Some (running_row step row k)) i c.loop-row.values.items c.loop-row.present.items c.kept-value.result c.args.blank so_far.written so_far.values so_far.present (ap Some value));
+    }

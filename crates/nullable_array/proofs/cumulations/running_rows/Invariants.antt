@@ -1,0 +1,18 @@
+use Rattle.std.proofs.Common.{◌≡◌, ◌≤◌, length, Some, None}
+use Rattle.std.specs.Prelude.{vec_len, vec_capacity}
+use Rattle.nullable_array.specs.Folds.{folded, running_row}
+use Rattle.column_core.specs.Rows.{AreWritten}
+use Rattle.nullable_array.proofs.cumulations.running_rows.Given as goal
+
+-- what the rows so far come to, the rows that are written, and room for all
+abbrev pub invariant-loop-row : goal.invariant-loop-row
+invariant-loop-row g l = record {
+  values : length l.values.items ≡ l.row;
+  present : length l.present.items ≡ l.row;
+  counted : vec_len l.values ≡ l.row;
+  marked : vec_len l.present ≡ l.row;
+  room : g.A.Source.count_of l.a ≤ vec_capacity l.values;
+  places : g.A.Source.count_of l.a ≤ vec_capacity l.present;
+  so_far : l.so_far ≡ folded (g.F.Fold.step_of l.fold) None l.row (g.A.Source.row_of l.a);
+  written : AreWritten (λ k. Some (running_row (g.F.Fold.step_of l.fold) (g.A.Source.row_of l.a) k)) l.row l.values.items l.present.items;
+}

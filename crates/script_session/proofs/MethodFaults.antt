@@ -1,0 +1,121 @@
+-- No method has the fault that a file isn't there.
+use Rattle.std.specs.Prelude.{ℤ, Bool, true, false, List, [], ◌∷◌, Option, Some, None, Result, Ok, Err}
+use Rattle.cell_core.specs.declared.cell.Kind.{Kind}
+use Rattle.cell_core.specs.declared.grid.Shape.{Shape}
+use Rattle.cell_core.specs.declared.grid.Shape.TheVariants.{Series, Frame}
+use Rattle.meaning.specs.Text.{Text}
+use Rattle.meaning.specs.Cell.{CellValue, LabelValue}
+use Rattle.meaning.specs.Column.{ColumnFault}
+use Rattle.meaning.specs.Fault.{FaultValue}
+use Rattle.table_meaning.specs.Table.{ColumnOf, Table}
+use Rattle.table_meaning.specs.Value.{Entry, cell, table, Given, NamedGiven, nothing}
+use Rattle.form_meaning.specs.declared.Method.{Method}
+use Rattle.form_meaning.specs.declared.Method.TheVariants as method
+use Rattle.method_meaning.specs.Rows.{head_result, tail_result, labels_in, subset_places, duplicated_result, sort_by_result, drop_result}
+use Rattle.method_meaning.specs.Methods.{each_column, filled_column, Summary, reduced, distinct, made_cell, summary_cell, summary_as, summary_of, renamed_frame, csv_answer, answer_for}
+use Rattle.method_meaning.specs.Calls as call
+use Rattle.method_meaning.specs.Calls.{ChainValue, called, method_result, not_built_if, chain_result}
+use Rattle.script_session.specs.FormFault.{HasFormFault}
+use Rattle.script_session.proofs.FormFaults.{if_fault, then_value_fault, on_bound_fault, limited_fault, finished_fault, column_fault, made_column_fault, try_all_fault, column_places_fault, on_fault}
+
+-- cells, column by column
+each_column_fault : (f : ColumnOf CellValue → Result (ColumnOf CellValue) FaultValue) (t : Table) → ((c : ColumnOf CellValue) → HasFormFault (f c)) → HasFormFault (each_column f t)
+each_column_fault f t each = search (then_value_fault, try_all_fault, limited_fault)
+
+filled_column_fault : (value : CellValue) (c : ColumnOf CellValue) → HasFormFault (filled_column value c)
+filled_column_fault value c = search (if_fault)
+
+made_cell_fault : (r : Result CellValue ColumnFault) → HasFormFault (made_cell r)
+made_cell_fault (Ok c) = tt
+made_cell_fault (Err f) = column_fault f
+
+summary_cell_fault : (op : Summary) (c : ColumnOf CellValue) → HasFormFault (summary_cell op c)
+summary_cell_fault (reduced op) c = made_cell_fault _
+summary_cell_fault distinct c = tt
+
+summary_as_fault : (op : Summary) (kind : Kind) (c : ColumnOf CellValue) → HasFormFault (summary_as op kind c)
+summary_as_fault op kind c = search (if_fault, summary_cell_fault)
+
+summary_of_fault : (s : Shape) (op : Summary) (t : Table) → HasFormFault (summary_of s op t)
+summary_of_fault Series op t = then_value_fault _ _ (summary_cell_fault op _) (λ c. tt)
+summary_of_fault Frame op t = search (then_value_fault, try_all_fault, summary_as_fault, limited_fault)
+
+renamed_frame_fault : (t : Table) (pairs : List (LabelValue × Given)) → HasFormFault (renamed_frame t pairs)
+renamed_frame_fault t pairs = search (if_fault, finished_fault)
+
+csv_answer_fault : (index : Bool) (t : Table) → HasFormFault (csv_answer index t)
+csv_answer_fault index t = search (if_fault)
+
+-- rows, and columns by their labels
+head_fault : (t : Table) (n : ℤ) → HasFormFault (head_result t n)
+head_fault t n = search (limited_fault)
+
+tail_fault : (t : Table) (n : ℤ) → HasFormFault (tail_result t n)
+tail_fault t n = search (if_fault, limited_fault)
+
+subset_fault : (t : Table) (subset : Given) → HasFormFault (subset_places t subset)
+subset_fault t nothing = tt
+subset_fault t subset = column_places_fault t (labels_in subset)
+
+duplicated_fault : (t : Table) (subset : Given) → HasFormFault (duplicated_result t subset)
+duplicated_fault t subset = search (then_value_fault, subset_fault, limited_fault)
+
+sort_by_fault : (t : Table) (ascending : Bool) (by : Given) → HasFormFault (sort_by_result t ascending by)
+sort_by_fault t ascending by = search (then_value_fault, column_places_fault, limited_fault)
+
+drop_fault : (t : Table) (columns : Given) → HasFormFault (drop_result t columns)
+drop_fault t columns = search (then_value_fault, column_places_fault, finished_fault)
+
+ruleset methods = (on_fault, limited_fault, each_column_fault, filled_column_fault, made_column_fault, summary_of_fault, renamed_frame_fault, csv_answer_fault)
+
+ruleset picking = (on_fault, head_fault, tail_fault, duplicated_fault, limited_fault, sort_by_fault, drop_fault)
+
+answer_for_fault : (m : Method) (gs : List Given) (t : Table) → HasFormFault (answer_for m gs t)
+answer_for_fault method.Copy gs t = search methods
+answer_for_fault method.Head (n ∷ []) t = search picking
+answer_for_fault method.Tail (n ∷ []) t = search picking
+answer_for_fault method.Isna gs t = search methods
+answer_for_fault method.Notna gs t = search methods
+answer_for_fault method.Fillna (value ∷ []) t = search methods
+answer_for_fault method.Dropna gs t = search picking
+answer_for_fault method.Isin (values ∷ []) t = search methods
+answer_for_fault method.Astype (dtype ∷ []) t = search methods
+answer_for_fault method.DuplicatedSeries gs t = duplicated_fault t nothing
+answer_for_fault method.DuplicatedFrame (subset ∷ []) t = duplicated_fault t subset
+answer_for_fault method.Shift (periods ∷ []) t = search methods
+answer_for_fault method.Cumsum gs t = search methods
+answer_for_fault method.Cummin gs t = search methods
+answer_for_fault method.Cummax gs t = search methods
+answer_for_fault method.Sum gs t = search methods
+answer_for_fault method.Min gs t = search methods
+answer_for_fault method.Max gs t = search methods
+answer_for_fault method.Any gs t = search methods
+answer_for_fault method.All gs t = search methods
+answer_for_fault method.Count gs t = search methods
+answer_for_fault method.Nunique gs t = search methods
+answer_for_fault method.SortValuesSeries (ascending ∷ []) t = search picking
+answer_for_fault method.SortValuesFrame (by ∷ ascending ∷ []) t = search picking
+answer_for_fault method.SortIndex (ascending ∷ []) t = search picking
+answer_for_fault method.RenameSeries (name ∷ []) t = search methods
+answer_for_fault method.RenameFrame (columns ∷ []) t = search methods
+answer_for_fault method.DropColumns (columns ∷ []) t = drop_fault t columns
+answer_for_fault method.ToFrame gs t = search methods
+answer_for_fault method.ToCsv (index ∷ []) t = search methods
+answer_for_fault m gs t = tt
+
+-- calls of methods
+called_fault : (m : Option Method) (name : Text) (gs : List NamedGiven) (t : Table) → HasFormFault (called m name gs t)
+called_fault None name gs t = tt
+called_fault (Some m) name gs t = search (if_fault, on_bound_fault, answer_for_fault)
+
+method_result_fault : (v : Entry) (name : Text) (gs : List NamedGiven) → HasFormFault (method_result v name gs)
+method_result_fault (cell c) name gs = tt
+method_result_fault (table t) name gs = called_fault _ name gs t
+
+not_built_if_fault : (b : Bool) (name : Text) → HasFormFault (not_built_if b name)
+not_built_if_fault true name = tt
+not_built_if_fault false name = tt
+
+pub chain_result_fault : (v : Entry) (chain : ChainValue) (gs : List NamedGiven) → HasFormFault (chain_result v chain gs)
+chain_result_fault v (call.plain name) gs = method_result_fault v name gs
+chain_result_fault v (call.through name) gs = not_built_if_fault _ name

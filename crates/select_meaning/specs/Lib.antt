@@ -1,0 +1,3 @@
+pub mod Keys
+pub mod Select
+pub mod Set

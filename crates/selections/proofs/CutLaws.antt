@@ -1,0 +1,192 @@
+-- Rows and columns that are cut from a table, as they are seen.
+use Rattle.std.proofs.Common.{◌≡◌, ◌∙◌, refl, ap, sym, subst, arith, ℕ, suc, ◌+◌, ◌<◌, List, [], ◌∷◌, map, length, slice_index_or, All, Option, Some, None, Result, Err}
+use Rattle.std.specs.Prelude.{IsSome}
+use Rattle.std.specs.List.{range_with_len}
+use Rattle.std.proofs.lemmas.List.{length-map}
+use Rattle.std.proofs.lemmas.List.Elements.{All-nil, All-cons}
+use Rattle.cell_core.specs.Texts.{AreDistinct}
+use Rattle.cell_core.specs.declared.cell.Cell.{Cell}
+use Rattle.cell_core.specs.declared.cell.Cell.TheVariants.{Na}
+use Rattle.cell_core.specs.declared.cell.Label.{Label}
+use Rattle.cell_core.specs.declared.grid.Shape.{Shape}
+use Rattle.cell_core.specs.declared.grid.Shape.TheVariants.{Series, Frame}
+use Rattle.meaning.specs.Text.{Text}
+use Rattle.meaning.specs.Cell.{CellValue, na_cell, datum, LabelValue}
+use Rattle.meaning.specs.FaultOf.{fault_of}
+use Rattle.meaning.specs.Fault.{FaultValue}
+use Rattle.table_meaning.specs.Settled.{IsSettled}
+use Rattle.table_meaning.specs.Table.{ColumnOf, NumberedTable, Table, table_value, tuple_value, heading_value, column_at, no_column}
+use Rattle.table_meaning.specs.Valid.{AreHeadings, IsWhole}
+use Rattle.table_meaning.specs.Value.{Entry}
+use Rattle.form_meaning.specs.Finish.{first_repeated, unless_repeated, limited, finished}
+use Rattle.form_meaning.specs.Select.{heading_at, columns_frame}
+use Rattle.select_meaning.specs.Select.{column_rows, cut, as_series}
+use Rattle.frame_store.specs.Parts.{HeadingList, table_with}
+use Rattle.frame_store.specs.Shown.{headings_value}
+use Rattle.frame_store.specs.World.{world, IsSettledWorld, Forms}
+use Rattle.frame_store.specs.declared.store.Store.{Store}
+use Rattle.frame_store.specs.declared.fault.OpFault.{OpFault}
+use Rattle.frame_store.specs.declared.fault.OpFault.TheVariants.{Refused, NoMemory}
+use Rattle.frame_store.proofs.Settling.{longer_self, columns_name_part, headings_part}
+use Rattle.selections.specs.Selected.{heading_of, headings_at}
+use Rattle.selections.specs.Headings.{NamesRepeated, repeated_heading}
+use Rattle.selections.specs.Chosen.{cells_at, chosen, AreSettledHeadings}
+use Rattle.selections.specs.Picked.{headed_by}
+use Rattle.selections.specs.Plans.{AreTakenBelow, CanTake}
+use Rattle.selections.specs.declared.planning.Taken.{Taken}
+use Rattle.selections.proofs.AnswerLaws.{column_seen, own_name, own_labels}
+use Rattle.selections.proofs.HeadingLaws.{repeated_seen, different}
+use Rattle.selections.proofs.PickedLaws.{list_is, places_inside, places_count}
+use Rattle.selections.proofs.PlaceLaws.{heading_seen, heading_settled}
+use Rattle.selections.proofs.RefusalLaws.{repeated_settled}
+use Rattle.selections.proofs.TakenLaws.{labels_seen, columns_seen}
+
+-- the headings of columns
+headings_seen : (texts : List Text) (t : NumberedTable) (places : List ℕ) → headings_value texts (headings_at t places) ≡ map (heading_at (table_value texts t)) places
+headings_seen texts t [] = refl
+headings_seen texts t (p ∷ ps) = λ j. sym (heading_seen texts t.headings p) j ∷ headings_seen texts t ps j
+
+headings_settled : (texts : List Text) (t : NumberedTable) (places : List ℕ) → IsSettled headings_value texts t.headings → IsSettled headings_value texts (headings_at t places)
+headings_settled texts t [] settled = λ more. refl
+headings_settled texts t (p ∷ ps) settled = λ more j. heading_settled texts t.headings p (heading_of t p) refl settled more j ∷ headings_settled texts t ps settled more j
+
+all_labelled : (t : NumberedTable) (places : List ℕ) → All IsSome t.headings → All (λ p. p < length t.headings) places → All IsSome (headings_at t places)
+all_labelled t [] some below = All-nil IsSome
+all_labelled t (p ∷ ps) some below =
+    All-cons IsSome (heading_of t p) (headings_at t ps) (some p None (below 0 p (omega arith))) (all_labelled t ps some (λ k d lt. below (suc k) d (omega (arith, lt))))
+
+-- those of these columns, with a name of the columns or none
+abbrev pub headings_with : Option Label → NumberedTable → List ℕ → HeadingList
+headings_with name t places = record { columns_name = name; labels = headings_at t places }
+
+-- what is chosen is what is cut
+module _ (texts : List Text) (rows columns : List ℕ) (t : NumberedTable) where
+  cut_seen : (shape : Shape) (name : Option Label) → table_value texts (chosen shape (headings_with name t columns) rows columns t) ≡ record (cut (table_value texts t) rows columns) { shape = shape; columns_name = heading_value texts name }
+  cut_seen shape name = λ j. record {
+    shape = shape;
+    columns_name = heading_value texts name;
+    level_names = map (heading_value texts) t.level_names;
+    labels = labels_seen texts rows t.labels j;
+    headings = headings_seen texts t columns j;
+    columns = columns_seen texts rows columns t j;
+  }
+
+  pub series_seen : (headings : HeadingList) → headings ≡ headings_with None t columns → table_value texts (chosen Series headings rows columns t) ≡ as_series (cut (table_value texts t) rows columns)
+  series_seen headings is = ap (λ (h : HeadingList). table_value texts (chosen Series h rows columns t)) is ∙ cut_seen Series None
+
+  pub frame_seen : (headings : HeadingList) → headings ≡ headings_with t.columns_name t columns → t.shape ≡ Frame → table_value texts (chosen Frame headings rows columns t) ≡ cut (table_value texts t) rows columns
+  frame_seen headings is frame =
+      ap (λ (h : HeadingList). table_value texts (chosen Frame h rows columns t)) is
+      ∙ cut_seen Frame t.columns_name
+      ∙ ap (λ (s : Shape). record (cut (table_value texts t) rows columns) { shape = s }) (sym frame)
+
+-- all rows of some columns
+rows_all : {C : Type 0} (d : C) (n : ℕ) (c : ColumnOf C) → length c.cells ≡ n → record { kind = c.kind; cells = map (λ row. slice_index_or c.cells row d) (range_with_len 0 n) } ≡ c
+rows_all {C} d n c is =
+    let cell : ℕ → C = λ row. slice_index_or c.cells row d in
+    ap (λ (cells : List C). record { kind = c.kind; cells = cells })
+    (ap (λ (m : ℕ). map cell (range_with_len 0 m)) (sym is) ∙ list_is cell c.cells 0 d (λ k lt. let e : 0 + k ≡ k = omega arith in ap cell e))
+
+each_all : (n : ℕ) (cs : List (ColumnOf CellValue)) → All (λ c. length c.cells ≡ n) cs → map (column_rows (range_with_len 0 n)) cs ≡ cs
+each_all n [] filled = refl
+each_all n (c ∷ cs) filled = λ j. rows_all na_cell n c (filled 0 c (omega arith)) j ∷ each_all n cs (λ k d lt. filled (suc k) d (omega arith)) j
+
+columns_filled : (texts : List Text) (t : NumberedTable) (columns : List ℕ) → IsWhole t → All (λ place. place < length t.columns) columns
+    → All (λ c. length c.cells ≡ length t.labels) (map (column_at (table_value texts t).columns) columns)
+columns_filled texts t [] whole below = All-nil (λ (c : ColumnOf CellValue). length c.cells ≡ length t.labels)
+columns_filled texts t (p ∷ ps) whole below =
+    All-cons (λ (c : ColumnOf CellValue). length c.cells ≡ length t.labels) (column_at (table_value texts t).columns p) (map (column_at (table_value texts t).columns) ps)
+    (ap (λ (c : ColumnOf CellValue). length c.cells) (column_seen texts t.columns p) ∙ length-map (column_at t.columns p).cells (datum texts) ∙ whole.filled p no_column (below 0 p (omega arith)))
+    (columns_filled texts t ps whole (λ k d lt. below (suc k) d (omega arith)))
+
+pub all_rows_cut : (texts : List Text) (t : NumberedTable) (rows columns : List ℕ) → IsWhole t → All (λ place. place < length t.columns) columns → rows ≡ range_with_len 0 (length t.labels)
+    → cut (table_value texts t) rows columns ≡ columns_frame (table_value texts t) columns
+all_rows_cut texts t rows columns whole below all =
+    let T = table_value texts t in
+    let count : length t.labels ≡ length T.labels = sym (length-map t.labels (tuple_value texts)) in
+    let label : ℕ → List LabelValue = λ row. slice_index_or T.labels row [] in
+    let labels : map label (range_with_len 0 (length t.labels)) ≡ T.labels = ap (λ (n : ℕ). map label (range_with_len 0 n)) count ∙ list_is label T.labels 0 [] (λ k lt. let e : 0 + k ≡ k = omega arith in ap label e) in
+    ap (λ (l : List ℕ). cut T l columns) all
+    ∙ (λ j. record (columns_frame T columns) { labels = labels j; columns = each_all (length t.labels) (map (column_at T.columns) columns) (columns_filled texts t columns whole below) j })
+
+-- all rows and columns under other headings
+pub whole_chosen : (shape : Shape) (headings : HeadingList) (rows columns : List ℕ) (t : NumberedTable) → IsWhole t → rows ≡ range_with_len 0 (length t.labels) → columns ≡ range_with_len 0 (length t.columns)
+    → chosen shape headings rows columns t ≡ headed_by shape headings t
+whole_chosen shape headings rows columns t whole all each =
+    let label : ℕ → List Label = λ row. slice_index_or t.labels row [] in
+    let labels : map label (range_with_len 0 (length t.labels)) ≡ t.labels = list_is label t.labels 0 [] (λ k lt. let e : 0 + k ≡ k = omega arith in ap label e) in
+    let column : ℕ → ColumnOf Cell = λ place. cells_at (range_with_len 0 (length t.labels)) (column_at t.columns place) in
+    let columns_are : map column (range_with_len 0 (length t.columns)) ≡ t.columns =
+    list_is column t.columns 0 no_column (λ k lt. let e : 0 + k ≡ k = omega arith in ap column e ∙ rows_all Na (length t.labels) (column_at t.columns k) (whole.filled k no_column lt)) in
+    (λ j. chosen shape headings (all j) (each j) t)
+    ∙ (λ j. table_with shape record { tuples = labels j; names = t.level_names } headings (columns_are j))
+
+-- a table's own headings
+abbrev pub own_headings : NumberedTable → HeadingList
+own_headings t = record { columns_name = t.columns_name; labels = t.headings }
+
+-- each may be taken
+pub series_taken : (t : NumberedTable) (rows : Taken) (columns : List ℕ) (headings : HeadingList) → AreTakenBelow (length t.labels) rows → All (λ place. place < length t.columns) columns → length columns ≡ 1
+    → headings ≡ headings_with None t columns → CanTake Series headings rows columns t
+series_taken t rows columns headings rows_below columns_below one is =
+    let count : length (headings_at t columns) ≡ length columns = length-map columns (heading_of t) in
+    record {
+      rows_below = rows_below;
+      columns_below = columns_below;
+      headed = ap (λ (h : HeadingList). length h.labels) is ∙ count;
+      fit = subst (λ (h : HeadingList). AreHeadings Series h.columns_name h.labels) (sym is) (record { single = λ e. count ∙ one; nameless = λ e. refl; labelled = λ e. cc; different = λ e. cc });
+    }
+
+pub frame_taken : (t : NumberedTable) (rows : Taken) (columns : List ℕ) (headings : HeadingList) → IsWhole t → t.shape ≡ Frame → AreTakenBelow (length t.labels) rows → All (λ place. place < length t.columns) columns
+    → headings ≡ headings_with t.columns_name t columns → repeated_heading (headings_at t columns) ≡ None → CanTake Frame headings rows columns t
+frame_taken t rows columns headings whole frame rows_below columns_below is none =
+    let below : All (λ p. p < length t.headings) columns = subst (λ (n : ℕ). All (λ p. p < n) columns) (sym whole.headed) columns_below in
+    let some : All IsSome (headings_at t columns) = all_labelled t columns (whole.headings.labelled frame) below in
+    record {
+      rows_below = rows_below;
+      columns_below = columns_below;
+      headed = ap (λ (h : HeadingList). length h.labels) is ∙ length-map columns (heading_of t);
+      fit = subst (λ (h : HeadingList). AreHeadings Frame h.columns_name h.labels) (sym is) (record { single = λ e. cc; nameless = λ e. cc; labelled = λ e. some; different = λ e. different (headings_at t columns) some none });
+    }
+
+pub all_taken : (shape : Shape) (t : NumberedTable) (rows : Taken) (columns : List ℕ) (headings : HeadingList) → shape ≡ t.shape → IsWhole t → AreTakenBelow (length t.labels) rows → headings ≡ own_headings t → columns ≡ range_with_len 0 (length t.columns)
+    → CanTake shape headings rows columns t
+all_taken shape t rows columns headings same whole rows_below own all =
+    record {
+      rows_below = rows_below;
+      columns_below = places_inside columns (length t.columns) (length t.columns) all refl;
+      headed = ap (λ (h : HeadingList). length h.labels) own ∙ whole.headed ∙ sym (places_count columns (length t.columns) all);
+      fit = subst (λ (h : HeadingList). AreHeadings shape h.columns_name h.labels) (sym own) (subst (λ (s : Shape). AreHeadings s t.columns_name t.headings) (sym same) whole.headings);
+    }
+
+-- each has headings whose texts were given
+pub series_given : (texts : List Text) (t : NumberedTable) (columns : List ℕ) (headings : HeadingList) → headings ≡ headings_with None t columns → IsSettled table_value texts t → AreSettledHeadings texts headings
+series_given texts t columns headings is settled = subst (AreSettledHeadings texts) (sym is) (λ more. refl, headings_settled texts t columns (headings_part texts t settled))
+
+pub frame_given : (texts : List Text) (t : NumberedTable) (columns : List ℕ) (headings : HeadingList) → headings ≡ headings_with t.columns_name t columns → IsSettled table_value texts t → AreSettledHeadings texts headings
+frame_given texts t columns headings is settled = subst (AreSettledHeadings texts) (sym is) (columns_name_part texts t settled, headings_settled texts t columns (headings_part texts t settled))
+
+pub own_given : (texts : List Text) (t : NumberedTable) (headings : HeadingList) → headings ≡ own_headings t → IsSettled table_value texts t → AreSettledHeadings texts headings
+own_given texts t headings own settled = (own_name texts t headings own settled, own_labels texts t headings own settled)
+
+-- unless a heading stands again, by numbers
+abbrev unless_again : Table → Option LabelValue → Result Entry FaultValue
+unless_again t o = unless_repeated o (limited t)
+
+finished_is : (texts : List Text) (t : NumberedTable) (rows columns : List ℕ) (found : Option Label) → AreDistinct texts → IsSettled headings_value texts t.headings → repeated_heading (headings_at t columns) ≡ found
+    → finished (cut (table_value texts t) rows columns) ≡ unless_again (cut (table_value texts t) rows columns) (heading_value texts found)
+finished_is texts t rows columns found distinct settled is =
+    ap (unless_again (cut (table_value texts t) rows columns))
+    (ap first_repeated (sym (headings_seen texts t columns)) ∙ sym (repeated_seen texts (headings_at t columns) distinct (headings_settled texts t columns settled)) ∙ ap (heading_value texts) is)
+
+pub frame_meant : (texts : List Text) (t : NumberedTable) (rows columns : List ℕ) (headings : HeadingList) → AreDistinct texts → IsSettled headings_value texts t.headings → t.shape ≡ Frame → headings ≡ headings_with t.columns_name t columns
+    → repeated_heading (headings_at t columns) ≡ None → limited (table_value texts (chosen Frame headings rows columns t)) ≡ finished (cut (table_value texts t) rows columns)
+frame_meant texts t rows columns headings distinct settled frame is none = ap limited (frame_seen texts rows columns t headings is frame) ∙ sym (finished_is texts t rows columns None distinct settled none)
+
+pub frame_refused : (texts : List Text) (store : Store) (t : NumberedTable) (rows columns : List ℕ) (why : OpFault) → AreDistinct texts → IsSettled headings_value texts t.headings → NamesRepeated why (repeated_heading (headings_at t columns))
+    → IsSettledWorld (world store texts) → Forms (Err why) (finished (cut (table_value texts t) rows columns)) (world store texts) (world store texts)
+frame_refused texts store t rows columns (Refused code) distinct settled named left =
+    let meant = finished_is texts t rows columns (Some named.0) distinct settled named.1 ∙ ap (λ c. Err (fault_of texts c)) (sym named.2) in
+    let given = repeated_settled texts code (headings_at t columns) named.0 named.1 named.2 (headings_settled texts t columns settled) in
+    (((meant, given), refl), longer_self texts, left)
+frame_refused texts store t rows columns NoMemory distinct settled named left = (refl, longer_self texts, left)

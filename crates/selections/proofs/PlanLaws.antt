@@ -1,0 +1,107 @@
+-- Plans of selections.
+use Rattle.std.proofs.Common.{◌≡◌, ◌∙◌, ap, sym, subst, arith, ℕ, suc, ◌+◌, ◌-◌, ◌*◌, ◌<◌, ℤ, pos, negsuc, List, [], ◌∷◌, map, length, slice_index_or, All, Option, Some, Result, Ok, Err, nat_eq, if◌then◌else◌}
+use Rattle.std.specs.Prelude.{IfSome, slice_get}
+use Rattle.std.specs.List.{range_with_len}
+use Rattle.std.proofs.lemmas.List.{length-map}
+use Rattle.std.proofs.lemmas.List.FromFn.{length-range_with_len}
+use Rattle.std.proofs.lemmas.Option.{get_or_from_slice_get}
+use Rattle.cell_core.specs.Grids.{AreRowsBelow, place_from}
+use Rattle.cell_core.specs.declared.cell.Label.{Label}
+use Rattle.cell_core.specs.declared.grid.Rows.{Rows}
+use Rattle.column_core.proofs.MoveLaws.{get_or-tabulate}
+use Rattle.indexers.specs.Picks.{AreSpan}
+use Rattle.indexers.specs.declared.keys.Picked.{Picked}
+use Rattle.indexers.proofs.SpanLaws.{all_listed}
+use Rattle.multi_index.specs.Axes.{AxisValue, taken_axis}
+use Rattle.pick_meaning.specs.Rows.{rows_of}
+use Rattle.meaning.specs.Text.{Text}
+use Rattle.meaning.specs.Fault.{FaultValue, not_built, then_value}
+use Rattle.table_meaning.specs.Table.{NumberedTable, table_value, heading_value}
+use Rattle.select_meaning.specs.Keys.{Reach, on_one_level}
+use Rattle.select_meaning.specs.Select.{picked_result, shown_as, cut}
+use Rattle.selections.specs.Plans.{rows_in, AreTakenBelow, has_single_row, has_single_column, reach_of_plan, IsPlanFor}
+use Rattle.selections.specs.declared.reaching.Reach.{Reach as CodeReach}
+use Rattle.selections.specs.declared.planning.Taken.{Taken}
+use Rattle.selections.specs.declared.planning.Form.{Form}
+use Rattle.selections.specs.declared.planning.Plan.{Plan}
+use Rattle.selections.specs.Reaches.{PicksBelow, ReachesWithin, reach_value}
+use Rattle.selections.proofs.PickedLaws.{list_is}
+
+-- a slice that was picked is the rows that were picked
+pub taken_span : (count : ℕ) (picked : Picked) (span : Rows) → picked.span ≡ Some span → PicksBelow count picked → (rows_of span ≡ picked.places) × AreRowsBelow span count
+taken_span count picked span is picks =
+    let spaced : AreSpan count picked.places span = subst (λ (o : Option Rows). IfSome o (AreSpan count picked.places)) is picks.spanned in
+    (spaced.listed, spaced.below)
+
+pub taken_list : (count : ℕ) (picked : Picked) → PicksBelow count picked → All (λ row. row < count) picked.places
+taken_list count picked picks = picks.below
+
+-- all rows of an axis are the axis
+pub whole_axis : (axis : AxisValue) (rows : Rows) → rows.start ≡ 0 → rows.step ≡ pos 1 → rows.count ≡ length axis.tuples → taken_axis axis (rows_of rows) ≡ axis
+whole_axis axis rows start step count =
+    let listed : rows_of rows ≡ range_with_len 0 (length axis.tuples) =
+    (λ j. rows_of record { start = start j; step = step j; count = rows.count }) ∙ sym (all_listed (length axis.tuples) rows.count count) in
+    ap (taken_axis axis) listed
+    ∙ ap (λ (l : List (List Label)). record axis { tuples = l }) (list_is (λ place. slice_index_or axis.tuples place []) axis.tuples 0 [] (λ k lt. let e : 0 + k ≡ k = omega arith in ap (λ (p : ℕ). slice_index_or axis.tuples p []) e))
+
+-- the only row of a slice, and of a list
+first_place : (start : ℕ) (step : ℤ) → place_from start step 0 ≡ start
+first_place start (pos n) = let e : start + 0 * n ≡ start = omega arith in e
+first_place start (negsuc n) = let e : start - 0 * suc n ≡ start = omega arith in e
+
+pub only_row : (rows : Rows) → length (rows_of rows) ≡ 1 → rows_of rows ≡ rows.start ∷ []
+only_row rows one =
+    let count : rows.count ≡ 1 = sym (length-map (range_with_len 0 rows.count) (place_from rows.start rows.step) ∙ length-range_with_len 0 rows.count) ∙ one in
+    ap (λ (n : ℕ). map (place_from rows.start rows.step) (range_with_len 0 n)) count ∙ ap (λ (n : ℕ). n ∷ []) (first_place rows.start rows.step)
+
+pub only_place : (places : List ℕ) (place : ℕ) → length places ≡ 1 → slice_get places 0 ≡ Some place → places ≡ place ∷ []
+only_place [] place one at = cc
+only_place (p ∷ []) place one at = ap (λ (n : ℕ). n ∷ []) (get_or_from_slice_get (p ∷ []) 0 place 0 at)
+only_place (p ∷ (q ∷ ps)) place one at = cc
+
+-- the rows of a slice lie below its limit
+pub spaced_below : (rows : Rows) (places : List ℕ) (n : ℕ) → AreRowsBelow rows n → places ≡ rows_of rows → All (λ place. place < n) places
+spaced_below rows places n below all = subst (λ (l : List ℕ). All (λ place. place < n) l) (sym all) each
+  where
+    each : All (λ place. place < n) (rows_of rows)
+    each k d lt =
+        let inside : k < rows.count = subst (λ (m : ℕ). k < m) (length-map (range_with_len 0 rows.count) (place_from rows.start rows.step) ∙ length-range_with_len 0 rows.count) lt in
+        subst (λ (m : ℕ). m < n) (sym (get_or-tabulate rows.count (place_from rows.start rows.step) k d inside)) (below.below k inside)
+
+pub first_of : (places : List ℕ) → length places ≡ 1 → 0 < length places
+first_of places one = omega (arith, one)
+
+pub span_count : (rows : Rows) → rows.count ≡ length (rows_of rows)
+span_count rows = sym (length-map (range_with_len 0 rows.count) (place_from rows.start rows.step) ∙ length-range_with_len 0 rows.count)
+
+-- a plan takes what is reached
+module _ (reach : CodeReach) (taken : Taken) (form : Form) (row : has_single_row form ≡ reach.rows.single) (column : has_single_column form ≡ reach.columns.single)
+    (taken_is : (count : ℕ) → PicksBelow count reach.rows → (rows_in taken ≡ reach.rows.places) × AreTakenBelow count taken) (t : NumberedTable) (within : ReachesWithin t reach) where
+  abbrev plan : Plan
+  plan = record { rows = taken; columns = reach.columns.places; form = form }
+
+  pub plan_is : (texts : List Text) → picked_result (table_value texts t) (reach_of_plan plan) ≡ picked_result (table_value texts t) (reach_value texts reach)
+  plan_is texts =
+      let here = (taken_is (length t.labels) within.rows).0 in
+      λ j. shown_as (row j) (column j) (cut (table_value texts t) (here j) reach.columns.places)
+
+  pub plan_whole : length t.level_names ≡ 1 → IsPlanFor t plan
+  plan_whole one_level =
+      let here = taken_is (length t.labels) within.rows in
+      record {
+        rows = here.1;
+        columns = within.columns.below;
+        one_row = λ single. ap (λ (l : List ℕ). length l) here.0 ∙ within.rows.one (sym row ∙ single);
+        one_level = λ single. one_level;
+        one_column = λ single. within.columns.one (sym column ∙ single);
+        frame = λ several. within.frame (sym column ∙ several);
+      }
+
+-- on one level, what is reached is what is taken
+pub reached_plan : (texts : List Text) (t : NumberedTable) (meant_reach : Result Reach FaultValue) (reach : CodeReach) (plan : Plan) → length t.level_names ≡ 1 → meant_reach ≡ Ok (reach_value texts reach)
+    → picked_result (table_value texts t) (reach_of_plan plan) ≡ picked_result (table_value texts t) (reach_value texts reach)
+    → then_value (on_one_level (table_value texts t) meant_reach) (picked_result (table_value texts t)) ≡ picked_result (table_value texts t) (reach_of_plan plan)
+reached_plan texts t meant_reach reach plan one_level is same =
+    let T = table_value texts t in
+    ap (λ (n : ℕ). then_value (if nat_eq n 1 then meant_reach else Err not_built) (picked_result T)) (length-map t.level_names (heading_value texts) ∙ one_level)
+    ∙ ap (λ r. then_value r (picked_result T)) is ∙ sym same

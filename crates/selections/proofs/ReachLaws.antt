@@ -1,0 +1,372 @@
+-- The rows and columns that keys reach are those that are meant.
+use Rattle.std.proofs.Common.{◌≡◌, ◌∙◌, refl, ap, sym, subst, arith, ℕ, suc, ◌+◌, ◌<◌, pos, Bool, true, false, not, ◌&&◌, nat_eq, List, [], ◌∷◌, ◌++◌, map, take, length, slice_index_or, All, Option, Some, None, Result, Ok, Err, if◌then◌else◌, unwrap_or}
+use Rattle.std.specs.Prelude.{slice_get, IsSome}
+use Rattle.std.specs.List.{range_with_len}
+use Rattle.std.specs.Option.{is_some}
+use Rattle.cell_core.specs.declared.grid.Shape.{Shape}
+use Rattle.cell_core.specs.declared.grid.Shape.TheVariants.{Series, Frame}
+use Rattle.meaning.specs.Symbol.{Accessor}
+use Rattle.std.specs.Cmp.Lexicographic.{pointwise}
+use Rattle.std.proofs.lemmas.List.{length-map, map-append, take_more}
+use Rattle.std.proofs.lemmas.Simd.{map-map}
+use Rattle.std.proofs.lemmas.List.Elements.{All-nil, All-cons}
+use Rattle.std.proofs.lemmas.List.FromFn.{length-range_with_len}
+use Rattle.std.proofs.lemmas.Option.{get_or_from_slice_get}
+use Rattle.std.proofs.Math.ListN.{get_or-map}
+use Rattle.std.proofs.Math.Seq.{take-length}
+use Rattle.cell_core.specs.declared.cell.Cell.{Cell}
+use Rattle.cell_core.specs.declared.cell.Cell.TheVariants as code_cell
+use Rattle.cell_core.specs.declared.cell.Kind.TheVariants.{Boolean}
+use Rattle.cell_core.specs.declared.cell.Label.{Label}
+use Rattle.cell_core.specs.Texts.{AreDistinct}
+use Rattle.meaning.specs.Text.{Text}
+use Rattle.meaning.specs.Cell.{CellValue, na_cell, datum, LabelValue, int}
+use Rattle.meaning.specs.Fault.{FaultValue, wrong_kind, not_built, bad_value, repeated, then_value}
+use Rattle.column_core.specs.Columns.{CellColumn}
+use Rattle.table_meaning.specs.Settled.{IsSettled}
+use Rattle.table_meaning.specs.Table.{ColumnOf, NumberedTable, Table, table_value, tuple_value, heading_value, column_value, column_at, no_column, row_of}
+use Rattle.table_meaning.specs.Value.{GivenSub, key_given, span_given, nothing, one, row, many, entries, cell, table}
+use Rattle.form_meaning.specs.Binding.{is_frame}
+use Rattle.form_meaning.specs.Finish.{column_labels}
+use Rattle.form_meaning.specs.Infix.{same_tuple, is_boolean}
+use Rattle.form_parts.specs.Makes.{MakesBy}
+use Rattle.frame_store.specs.Parts.{axis_of}
+use Rattle.frame_store.specs.Shown.{headings_value, columns_value}
+use Rattle.frame_store.specs.declared.fault.OpFault.{OpFault}
+use Rattle.frame_store.specs.declared.fault.OpFault.TheVariants.{Refused, NoMemory}
+use Rattle.index_core.specs.Labels.{same_number}
+use Rattle.index_core.specs.Picks.{as_it_is}
+use Rattle.indexers.specs.Masks.{is_true}
+use Rattle.indexers.specs.Picks.{PicksBy, pick_of}
+use Rattle.indexers.specs.declared.keys.LocKey.{LocKey}
+use Rattle.indexers.specs.declared.keys.LocKey.TheVariants as key
+use Rattle.indexers.specs.declared.keys.Picked.{Picked}
+use Rattle.indexers.specs.declared.keys.KeyFault.{KeyFault}
+use Rattle.multi_index.specs.Axes.{AxisValue, HaveLevels}
+use Rattle.pick_meaning.specs.Keys.{one_key, Pick, listed_pick, single_pick}
+use Rattle.pick_meaning.specs.Masks.{is_kept, masked_rows}
+use Rattle.pick_meaning.proofs.SeenLaws.{masked_rows-map}
+use Rattle.select_meaning.specs.Keys as meant
+use Rattle.select_meaning.specs.Keys.{found_pick, found_labels, once, Reach}
+use Rattle.selections.specs.Reaches.{label_key_value, tuples_value, pick_value, found_result, object_key, heading_tuple, columns_axis, is_row, is_series}
+use Rattle.selections.proofs.AnswerLaws.{column_seen}
+use Rattle.selections.proofs.PickedLaws.{list_is}
+use Rattle.selections.proofs.SeenKeys.{IsGivenTuple, tuples_given, tuples_same, mask_in, found_seen}
+
+-- a refusal before the last step
+pub refused_then : {X Y A B : Type 0} (v : List Text → X → A) (w : List Text → Y → B) (texts : List Text) (why : OpFault) (m : Result A FaultValue) (go : A → Result B FaultValue)
+    → MakesBy v texts (Err why) m → MakesBy w texts (Err why) (then_value m go)
+refused_then v w texts (Refused code) m go h = (ap (λ r. then_value r go) h.0, h.1)
+refused_then v w texts NoMemory m go h = tt
+
+-- a key that is settled has settled labels
+abbrev ok_or : {A : Type 0} → A → Result A FaultValue → A
+ok_or d (Ok a) = a
+ok_or d (Err f) = d
+
+pub key_settled : (texts : List Text) (sub : List Text → GivenSub) (k : LocKey) → ((ts : List Text) → meant.label_key 1 (sub ts) ≡ Ok (label_key_value ts k)) → ((more : List Text) → sub (texts ++ more) ≡ sub texts)
+    → IsSettled label_key_value texts k
+key_settled texts sub k is settled = λ more. ap (ok_or (label_key_value texts k)) (sym (is (texts ++ more)) ∙ ap (meant.label_key 1) (settled more) ∙ is texts)
+
+pub whole_settled : (texts : List Text) (sub : List Text → GivenSub) (label : List Label) → ((ts : List Text) → meant.whole_key 1 (sub ts) ≡ Ok (tuple_value ts label)) → ((more : List Text) → sub (texts ++ more) ≡ sub texts)
+    → IsGivenTuple texts label
+whole_settled texts sub label is settled = λ more. ap (ok_or (tuple_value texts label)) (sym (is (texts ++ more)) ∙ ap (meant.whole_key 1) (settled more) ∙ is texts)
+
+-- the rows of a label of `at`
+module _ (texts : List Text) (t : NumberedTable) (axis : AxisValue) (sub : List Text → GivenSub) (label copy : List Label) (one_level : length t.level_names ≡ 1) (same_axis : axis ≡ axis_of t)
+    (is : (ts : List Text) → meant.whole_key 1 (sub ts) ≡ Ok (tuple_value ts label)) (copied : copy ≡ label) (settled : (more : List Text) → sub (texts ++ more) ≡ sub texts) where
+  abbrev found_at : List Label → AxisValue → Result Pick FaultValue
+  found_at l a = found_labels 1 (tuples_value texts a.tuples) (label_key_value texts (key.One l))
+
+  at_is : meant.at_rows (table_value texts t) (sub texts) ≡ then_value (found_at copy axis) (once (tuple_value texts label))
+  at_is =
+      ap (λ (n : ℕ). then_value (meant.whole_key n (sub texts)) (λ k. then_value (found_labels n (tuples_value texts t.labels) (one_key k)) (once k))) (length-map t.level_names (heading_value texts) ∙ one_level)
+      ∙ ap (λ r. then_value r (λ k. then_value (found_labels 1 (tuples_value texts t.labels) (one_key k)) (once k))) (is texts)
+      ∙ (λ j. then_value (found_at (sym copied j) (sym same_axis j)) (once (tuple_value texts label)))
+
+  given_copy : IsSettled label_key_value texts (key.One copy)
+  given_copy = subst (λ (l : List Label). IsSettled label_key_value texts (key.One l)) (sym copied) (λ more. ap (λ l. one_key l) (whole_settled texts sub label is settled more))
+
+  pub at_refused : (why : OpFault) → (IsSettled label_key_value texts (key.One copy) → MakesBy pick_value texts (Err why) (found_at copy axis)) → MakesBy pick_value texts (Err why) (meant.at_rows (table_value texts t) (sub texts))
+  at_refused why found = subst (MakesBy pick_value texts (Err why)) (sym at_is) (refused_then pick_value pick_value texts why (found_at copy axis) (once (tuple_value texts label)) (found given_copy))
+
+  abbrev once_of : Picked → Bool → Result Pick FaultValue
+  once_of picked b = if b then Ok (pick_of picked) else Err (bad_value (repeated (tuple_value texts label)))
+
+  pub at_found : (picked : Picked) → picked.single ≡ true → (IsSettled label_key_value texts (key.One copy) → found_at copy axis ≡ Ok (pick_of picked)) → meant.at_rows (table_value texts t) (sub texts) ≡ Ok (pick_of picked)
+  at_found picked single found = at_is ∙ ap (λ r. then_value r (once (tuple_value texts label))) (found given_copy) ∙ ap (once_of picked) single
+
+  pub at_repeated : (picked : Picked) → picked.single ≡ false → (IsSettled label_key_value texts (key.One copy) → found_at copy axis ≡ Ok (pick_of picked))
+      → (meant.at_rows (table_value texts t) (sub texts) ≡ Err (bad_value (repeated (tuple_value texts label)))) × ((more : List Text) → bad_value (repeated (tuple_value (texts ++ more) label)) ≡ bad_value (repeated (tuple_value texts label)))
+  at_repeated picked single found = (
+    at_is ∙ ap (λ r. then_value r (once (tuple_value texts label))) (found given_copy) ∙ ap (once_of picked) single,
+    λ more. ap (λ l. bad_value (repeated l)) (whole_settled texts sub label is settled more),
+  )
+
+-- a key that is a mask, and one that isn't
+some_is : {A : Type 0} (a b : A) → Some a ≡ Some b → a ≡ b
+some_is a b e = cc
+
+pub loc_mask : (t : Table) (sub : GivenSub) (m : Table) → Some m ≡ object_key sub → meant.loc_rows t sub ≡ meant.mask_pick t m
+loc_mask t (key_given (one (table n))) m e = ap (meant.mask_pick t) (sym (some_is m n e))
+loc_mask t (key_given (one (cell c))) m e = cc
+loc_mask t (key_given nothing) m e = cc
+loc_mask t (key_given (row parts)) m e = cc
+loc_mask t (key_given (many parts)) m e = cc
+loc_mask t (key_given (entries pairs)) m e = cc
+loc_mask t (span_given from to by) m e = cc
+
+loc_other : (t : Table) (sub : GivenSub) → None ≡ object_key sub → meant.loc_rows t sub ≡ meant.label_pick (length t.level_names) t.labels sub
+loc_other t (key_given (one (table n))) e = cc
+loc_other t (key_given (one (cell c))) e = refl
+loc_other t (key_given nothing) e = refl
+loc_other t (key_given (row parts)) e = refl
+loc_other t (key_given (many parts)) e = refl
+loc_other t (key_given (entries pairs)) e = refl
+loc_other t (span_given from to by) e = refl
+
+pub loc_is : (texts : List Text) (t : NumberedTable) (sub : GivenSub) → length t.level_names ≡ 1 → None ≡ object_key sub → meant.loc_rows (table_value texts t) sub ≡ meant.label_pick 1 (tuples_value texts t.labels) sub
+loc_is texts t sub one_level none =
+    loc_other (table_value texts t) sub none ∙ ap (λ (n : ℕ). meant.label_pick n (tuples_value texts t.labels) sub) (length-map t.level_names (heading_value texts) ∙ one_level)
+
+pub loc_found : (texts : List Text) (t : NumberedTable) (axis : AxisValue) (sub : List Text → GivenSub) (k : LocKey) (out : Result Picked OpFault) → length t.level_names ≡ 1 → axis ≡ axis_of t → None ≡ object_key (sub texts)
+    → ((ts : List Text) → meant.label_key 1 (sub ts) ≡ Ok (label_key_value ts k)) → ((more : List Text) → sub (texts ++ more) ≡ sub texts)
+    → (IsSettled label_key_value texts k → MakesBy pick_value texts out (found_labels 1 (tuples_value texts axis.tuples) (label_key_value texts k))) → MakesBy pick_value texts out (meant.loc_rows (table_value texts t) (sub texts))
+loc_found texts t axis sub k out one_level same_axis none is settled found =
+    subst (MakesBy pick_value texts out)
+    (ap (λ (a : AxisValue). found_labels 1 (tuples_value texts a.tuples) (label_key_value texts k)) same_axis ∙ ap (λ r. then_value r (found_labels 1 (tuples_value texts t.labels))) (sym (is texts)) ∙ sym (loc_is texts t (sub texts) one_level none))
+    (found (key_settled texts sub k is settled))
+
+-- masks
+kept_is : (texts : List Text) (c : Cell) → is_kept (datum texts c) ≡ is_true c
+kept_is texts code_cell.Na = refl
+kept_is texts (code_cell.Int z) = refl
+kept_is texts (code_cell.Bool b) = refl
+kept_is texts (code_cell.Text id) = refl
+
+cell_seen : (texts : List Text) (columns : List (ColumnOf Cell)) (k : ℕ)
+    → is_kept (slice_index_or (map (λ c. slice_index_or c.cells k na_cell) (columns_value texts columns)) 0 na_cell) ≡ slice_index_or (map is_true (column_at columns 0).cells) k false
+cell_seen texts columns k =
+    ap is_kept (get_or-map (λ (c : ColumnOf CellValue). slice_index_or c.cells k na_cell) (columns_value texts columns) 0 no_column)
+    ∙ ap (λ (c : ColumnOf CellValue). is_kept (slice_index_or c.cells k na_cell)) (column_seen texts columns 0)
+    ∙ ap is_kept (get_or-map (datum texts) (column_at columns 0).cells k code_cell.Na)
+    ∙ kept_is texts (slice_index_or (column_at columns 0).cells k code_cell.Na)
+    ∙ sym (get_or-map is_true (column_at columns 0).cells k code_cell.Na)
+
+marks_seen : (texts : List Text) (m : NumberedTable) → length (column_at m.columns 0).cells ≡ length m.labels → meant.marks_of (table_value texts m) ≡ map is_true (column_at m.columns 0).cells
+marks_seen texts m filled =
+    let marks = map is_true (column_at m.columns 0).cells in
+    let mark : ℕ → Bool = λ k. is_kept (slice_index_or (row_of na_cell (table_value texts m) k).cells 0 na_cell) in
+    let count : length (map (tuple_value texts) m.labels) ≡ length marks = length-map m.labels (tuple_value texts) ∙ sym filled ∙ sym (length-map (column_at m.columns 0).cells is_true) in
+    map-map (λ r. is_kept (slice_index_or r.cells 0 na_cell)) (row_of na_cell (table_value texts m)) (range_with_len 0 (length (map (tuple_value texts) m.labels)))
+    ∙ ap (λ n. map mark (range_with_len 0 n)) count
+    ∙ list_is mark marks 0 false (λ k lt. let e : 0 + k ≡ k = omega arith in ap mark e ∙ cell_seen texts m.columns k)
+
+abbrev mask_rows : List Text → NumberedTable → NumberedTable → List Bool → Result (List ℕ) FaultValue
+mask_rows texts t m marks = found_pick (masked_rows same_tuple (tuples_value texts t.labels) (tuples_value texts m.labels) marks)
+
+abbrev listed : Result (List ℕ) FaultValue → Result Pick FaultValue
+listed r = then_value r (λ rows. Ok (listed_pick rows))
+
+mask_is : (texts : List Text) (t m : NumberedTable) → is_frame m.shape ≡ false → (column_at m.columns 0).kind ≡ Boolean → length m.level_names ≡ 1 → length (column_at m.columns 0).cells ≡ length m.labels
+    → meant.mask_pick (table_value texts t) (table_value texts m) ≡ listed (mask_rows texts t m (map is_true (column_at m.columns 0).cells))
+mask_is texts t m shape kind one_level filled =
+    let T = table_value texts t in
+    let M = table_value texts m in
+    let boolean : is_boolean (column_at (columns_value texts m.columns) 0).kind ≡ true = ap (λ (c : ColumnOf CellValue). is_boolean c.kind) (column_seen texts m.columns 0) ∙ ap is_boolean kind in
+    ap (λ b. if b then meant.on_one_level M (listed (mask_rows texts t m (meant.marks_of M))) else Err wrong_kind) (λ j. not (shape j) && boolean j)
+    ∙ ap (λ (n : ℕ). if nat_eq n 1 then listed (mask_rows texts t m (meant.marks_of M)) else Err not_built) (length-map m.level_names (heading_value texts) ∙ one_level)
+    ∙ ap (λ marks. listed (mask_rows texts t m marks)) (marks_seen texts m filled)
+
+module _ (texts : List Text) (t m : NumberedTable) (axis mask_axis : AxisValue) (column : CellColumn) (r : Result (List ℕ) KeyFault) (distinct : AreDistinct texts)
+    (given : IsSettled tuples_value texts t.labels) (mask_given : IsSettled tuples_value texts m.labels) (shape : is_frame m.shape ≡ false) (boolean : column.kind ≡ Boolean) (one_level : length m.level_names ≡ 1)
+    (same_axis : axis ≡ axis_of t) (mask_same : mask_axis ≡ axis_of m) (at : column_at m.columns 0 ≡ record { kind = column.kind; cells = column.cells }) (filled : length column.cells ≡ length m.labels)
+    (picks : PicksBy as_it_is r (masked_rows (pointwise same_number) axis.tuples mask_axis.tuples (map is_true column.cells))) where
+  abbrev marks : List Bool
+  marks = map is_true column.cells
+
+  by_number : PicksBy as_it_is r (masked_rows (pointwise same_number) t.labels m.labels marks)
+  by_number = subst (λ (a : AxisValue). PicksBy as_it_is r (masked_rows (pointwise same_number) t.labels a.tuples marks)) mask_same
+      (subst (λ (a : AxisValue). PicksBy as_it_is r (masked_rows (pointwise same_number) a.tuples mask_axis.tuples marks)) same_axis picks)
+
+  seen : MakesBy (λ (ts : List Text). as_it_is) texts (found_result r) (mask_rows texts t m marks)
+  seen =
+      let all = tuples_given texts t.labels given in
+      found_seen texts as_it_is r (masked_rows (pointwise same_number) t.labels m.labels marks) (masked_rows same_tuple (tuples_value texts t.labels) (tuples_value texts m.labels) marks) by_number
+      (masked_rows-map (IsGivenTuple texts) same_tuple (pointwise same_number) (tuple_value texts) (tuples_same texts distinct) t.labels m.labels marks all (tuples_given texts m.labels mask_given))
+      (mask_in (IsGivenTuple texts) (pointwise same_number) t.labels m.labels marks all)
+
+  this : meant.mask_pick (table_value texts t) (table_value texts m) ≡ listed (mask_rows texts t m marks)
+  this =
+      let kind : (column_at m.columns 0).kind ≡ Boolean = ap (λ (c : ColumnOf Cell). c.kind) at ∙ boolean in
+      let count : length (column_at m.columns 0).cells ≡ length m.labels = ap (λ (c : ColumnOf Cell). length c.cells) at ∙ filled in
+      mask_is texts t m shape kind one_level count ∙ ap (λ (c : ColumnOf Cell). listed (mask_rows texts t m (map is_true c.cells))) at
+
+  pub mask_refused : (mask : Table) (out : Result (List ℕ) OpFault) (why : OpFault) → mask ≡ table_value texts m → out ≡ found_result r → out ≡ Err why → MakesBy pick_value texts (Err why) (meant.mask_pick (table_value texts t) mask)
+  mask_refused mask out why same is err =
+      subst (λ (l : Table). MakesBy pick_value texts (Err why) (meant.mask_pick (table_value texts t) l)) (sym same)
+      (subst (MakesBy pick_value texts (Err why)) (sym this)
+      (refused_then (λ (ts : List Text). as_it_is) pick_value texts why (mask_rows texts t m marks) (λ rows. Ok (listed_pick rows))
+      (subst (λ (o : Result (List ℕ) OpFault). MakesBy (λ (ts : List Text). as_it_is) texts o (mask_rows texts t m marks)) (sym is ∙ err) seen)))
+
+  pub mask_found : (mask : Table) (out : Result (List ℕ) OpFault) (places : List ℕ) → mask ≡ table_value texts m → out ≡ found_result r → out ≡ Ok places → meant.mask_pick (table_value texts t) mask ≡ Ok (listed_pick places)
+  mask_found mask out places same is ok =
+      ap (meant.mask_pick (table_value texts t)) same ∙ this
+      ∙ ap listed (subst (λ (o : Result (List ℕ) OpFault). MakesBy (λ (ts : List Text). as_it_is) texts o (mask_rows texts t m marks)) (sym is ∙ ok) seen)
+
+-- the labels of the columns as rows
+one_label : (h : Option Label) → IsSome h → length (heading_tuple h) ≡ 1
+one_label None some = cc
+one_label (Some l) some = refl
+
+pub axis_levels : (headings : List (Option Label)) (places : List ℕ) → All IsSome headings → All (λ place. place < length headings) places → HaveLevels 1 (map (λ place. heading_tuple (slice_index_or headings place None)) places)
+axis_levels headings [] some below = All-nil (λ tuple. length tuple ≡ 1)
+axis_levels headings (p ∷ ps) some below =
+    All-cons (λ (tuple : List Label). length tuple ≡ 1) (heading_tuple (slice_index_or headings p None)) (map (λ place. heading_tuple (slice_index_or headings place None)) ps)
+    (one_label (slice_index_or headings p None) (some p None (below 0 p (omega arith)))) (axis_levels headings ps some (λ k d lt. below (suc k) d (omega arith)))
+
+pub heading_more : (headings : List (Option Label)) (places : List ℕ) (k place : ℕ) (made made' : List (List Label)) (label : Label) (tuple : List Label) → k < length places → slice_get places k ≡ Some place
+    → slice_index_or headings place None ≡ Some label → tuple ≡ label ∷ [] → made ≡ map (λ place. heading_tuple (slice_index_or headings place None)) (take k places) → made' ≡ made ++ tuple ∷ []
+    → made' ≡ map (λ place. heading_tuple (slice_index_or headings place None)) (take (k + 1) places)
+heading_more headings places k place made made' label tuple lt at here is before pushed =
+    let tuple_at : ℕ → List Label = λ place. heading_tuple (slice_index_or headings place None) in
+    pushed
+    ∙ (λ j. before j ++ (is ∙ ap heading_tuple (sym here)) j ∷ [])
+    ∙ ap (λ (p : ℕ). map tuple_at (take k places) ++ tuple_at p ∷ []) (sym (get_or_from_slice_get places k place 0 at))
+    ∙ sym (map-append tuple_at (take k places) (slice_index_or places k 0 ∷ []))
+    ∙ ap (map tuple_at) (sym (take_more places k 0 lt))
+
+abbrev label_tuple : Option LabelValue → List LabelValue
+label_tuple None = []
+label_tuple (Some l) = l ∷ []
+
+tuple_seen : (texts : List Text) (h : Option Label) → tuple_value texts (heading_tuple h) ≡ label_tuple (heading_value texts h)
+tuple_seen texts None = refl
+tuple_seen texts (Some l) = refl
+
+axis_seen : (texts : List Text) (headings : List (Option Label)) (places : List ℕ)
+    → tuples_value texts (map (λ place. heading_tuple (slice_index_or headings place None)) places) ≡ map (λ place. label_tuple (slice_index_or (headings_value texts headings) place None)) places
+axis_seen texts headings [] = refl
+axis_seen texts headings (p ∷ ps) =
+    λ j. (tuple_seen texts (slice_index_or headings p None) ∙ ap label_tuple (sym (get_or-map (heading_value texts) headings p None))) j ∷ axis_seen texts headings ps j
+
+pub axis_given : (texts : List Text) (headings : List (Option Label)) (places : List ℕ) → IsSettled headings_value texts headings → IsSettled tuples_value texts (map (λ place. heading_tuple (slice_index_or headings place None)) places)
+axis_given texts headings places settled =
+    λ more. axis_seen (texts ++ more) headings places ∙ ap (λ hs. map (λ place. label_tuple (slice_index_or hs place None)) places) (settled more) ∙ sym (axis_seen texts headings places)
+
+labels_are : (texts : List Text) (headings : List (Option Label)) → All IsSome headings → map label_tuple (headings_value texts headings) ≡ map (λ h. unwrap_or h (int (pos 0)) ∷ []) (headings_value texts headings)
+labels_are texts [] some = refl
+labels_are texts (h ∷ hs) some = λ j. here h (some 0 h (omega arith)) j ∷ labels_are texts hs (λ k d lt. some (suc k) d (omega arith)) j
+  where
+    here : (h : Option Label) → IsSome h → label_tuple (heading_value texts h) ≡ unwrap_or (heading_value texts h) (int (pos 0)) ∷ []
+    here None some = cc
+    here (Some l) some = refl
+
+pub all_labels : (texts : List Text) (t : NumberedTable) (places : List ℕ) → All IsSome t.headings → places ≡ range_with_len 0 (length t.headings)
+    → tuples_value texts (map (λ place. heading_tuple (slice_index_or t.headings place None)) places) ≡ column_labels (table_value texts t)
+all_labels texts t places some all =
+    let seen = headings_value texts t.headings in
+    let count : length t.headings ≡ length seen = sym (length-map t.headings (heading_value texts)) in
+    axis_seen texts t.headings places
+    ∙ ap (map (λ place. label_tuple (slice_index_or seen place None))) (all ∙ ap (range_with_len 0) count)
+    ∙ sym (map-map label_tuple (λ place. slice_index_or seen place None) (range_with_len 0 (length seen)))
+    ∙ ap (map label_tuple) (list_is (λ place. slice_index_or seen place None) seen 0 None (λ k lt. let e : 0 + k ≡ k = omega arith in ap (λ (p : ℕ). slice_index_or seen p None) e))
+    ∙ labels_are texts t.headings some
+
+-- the columns of a key that isn't a tuple
+loc_columns_is : (t : Table) (sub : GivenSub) → is_row sub ≡ false → meant.loc_columns t sub ≡ meant.label_pick 1 (column_labels t) sub
+loc_columns_is t (key_given (row parts)) e = cc
+loc_columns_is t (key_given (one v)) e = refl
+loc_columns_is t (key_given nothing) e = refl
+loc_columns_is t (key_given (many parts)) e = refl
+loc_columns_is t (key_given (entries pairs)) e = refl
+loc_columns_is t (span_given from to by) e = refl
+
+pub loc_columns_row : (t : Table) (sub : GivenSub) → is_row sub ≡ true → meant.loc_columns t sub ≡ Err wrong_kind
+loc_columns_row t (key_given (row parts)) e = refl
+loc_columns_row t (key_given (one v)) e = cc
+loc_columns_row t (key_given nothing) e = cc
+loc_columns_row t (key_given (many parts)) e = cc
+loc_columns_row t (key_given (entries pairs)) e = cc
+loc_columns_row t (span_given from to by) e = cc
+
+pub loc_columns_refused : (texts : List Text) (t : Table) (sub : GivenSub) (why : OpFault) → is_row sub ≡ false → MakesBy label_key_value texts (Err why) (meant.label_key 1 sub) → MakesBy pick_value texts (Err why) (meant.loc_columns t sub)
+loc_columns_refused texts t sub why other refused =
+    subst (MakesBy pick_value texts (Err why)) (sym (loc_columns_is t sub other)) (refused_then label_key_value pick_value texts why (meant.label_key 1 sub) (found_labels 1 (column_labels t)) refused)
+
+pub columns_found : (texts : List Text) (t : NumberedTable) (axis : AxisValue) (places : List ℕ) (sub : List Text → GivenSub) (k : LocKey) (out : Result Picked OpFault) → All IsSome t.headings → places ≡ range_with_len 0 (length t.headings)
+    → axis ≡ columns_axis t places → is_row (sub texts) ≡ false → ((ts : List Text) → meant.label_key 1 (sub ts) ≡ Ok (label_key_value ts k)) → ((more : List Text) → sub (texts ++ more) ≡ sub texts)
+    → (IsSettled label_key_value texts k → MakesBy pick_value texts out (found_labels 1 (tuples_value texts axis.tuples) (label_key_value texts k))) → MakesBy pick_value texts out (meant.loc_columns (table_value texts t) (sub texts))
+columns_found texts t axis places sub k out some all same_axis other is settled found =
+    subst (MakesBy pick_value texts out)
+    (ap (λ (a : AxisValue). found_labels 1 (tuples_value texts a.tuples) (label_key_value texts k)) same_axis
+    ∙ ap (λ tuples. found_labels 1 tuples (label_key_value texts k)) (all_labels texts t places some all)
+    ∙ ap (λ r. then_value r (found_labels 1 (column_labels (table_value texts t)))) (sym (is texts))
+    ∙ sym (loc_columns_is (table_value texts t) (sub texts) other))
+    (found (key_settled texts sub k is settled))
+
+-- what isn't a Series is a frame
+pub no_series : (shape : Shape) → is_series shape ≡ false → shape ≡ Frame
+no_series Series e = cc
+no_series Frame e = refl
+
+-- what one key reaches
+module _ (texts : List Text) (t : NumberedTable) (by : Accessor) (sub : GivenSub) (second : Option GivenSub) (rows columns : Picked) (none : second ≡ None) (reached : meant.rows_by by (table_value texts t) sub ≡ Ok (pick_of rows))
+    (places : columns.places ≡ range_with_len 0 (length t.columns)) (single : columns.single ≡ is_series t.shape) (sliced : (columns.dropped ≡ 0) × (is_some columns.span ≡ not columns.single)) where
+  abbrev reached_of : Pick → Pick → Reach
+  reached_of r c = record { rows = r; columns = c }
+
+  pub reach_series : t.shape ≡ Series → length t.columns ≡ 1 → meant.reach_by t.shape by (table_value texts t) sub second ≡ Ok (reached_of (pick_of rows) (pick_of columns))
+  reach_series series one_column =
+      let this : single_pick 0 ≡ pick_of columns =
+      λ j. record {
+        rows = sym (places ∙ ap (range_with_len 0) one_column) j;
+        single = sym (single ∙ ap is_series series) j;
+        dropped = sym sliced.0 j;
+        sliced = sym (sliced.1 ∙ ap not (single ∙ ap is_series series)) j;
+      } in
+      (λ j. meant.reach_by (series j) by (table_value texts t) sub (none j))
+      ∙ ap (λ r. then_value r (λ p. Ok (reached_of p (single_pick 0)))) reached
+      ∙ ap (λ c. Ok (reached_of (pick_of rows) c)) this
+
+  pub reach_frame : t.shape ≡ Frame → meant.may_stand_alone by sub ≡ true → meant.reach_by t.shape by (table_value texts t) sub second ≡ Ok (reached_of (pick_of rows) (pick_of columns))
+  reach_frame frame alone =
+      let count : length (map (column_value texts) t.columns) ≡ length t.columns = length-map t.columns (column_value texts) in
+      let this : meant.all_columns (table_value texts t) ≡ pick_of columns =
+      λ j. record {
+        rows = (ap (range_with_len 0) count ∙ sym places) j;
+        single = sym (single ∙ ap is_series frame) j;
+        dropped = sym sliced.0 j;
+        sliced = sym (sliced.1 ∙ ap not (single ∙ ap is_series frame)) j;
+      } in
+      (λ j. meant.reach_by (frame j) by (table_value texts t) sub (none j))
+      ∙ ap (λ b. if b then meant.reach_of (meant.rows_by by (table_value texts t) sub) (Ok (meant.all_columns (table_value texts t))) else Err wrong_kind) alone
+      ∙ ap (λ r. then_value r (λ p. Ok (reached_of p (meant.all_columns (table_value texts t))))) reached
+      ∙ ap (λ c. Ok (reached_of (pick_of rows) c)) this
+
+-- the loop of the labels
+pub no_heading : {G : Type 0} (h : Option Label) → IsSome h → h ≡ None → G
+no_heading None some is = cc
+no_heading (Some l) some is = cc
+
+pub loop_done : (headings : List (Option Label)) (places : List ℕ) (k : ℕ) (made : List (List Label)) → k ≡ length places → made ≡ map (λ place. heading_tuple (slice_index_or headings place None)) (take k places)
+    → made ≡ map (λ place. heading_tuple (slice_index_or headings place None)) places
+loop_done headings places k made all is = is ∙ ap (map (λ place. heading_tuple (slice_index_or headings place None))) (ap (λ (n : ℕ). take n places) all ∙ take-length places)
+
+pub axis_count : (headings : List (Option Label)) (places : List ℕ) (n : ℕ) → places ≡ range_with_len 0 n → length (map (λ place. heading_tuple (slice_index_or headings place None)) places) ≡ n
+axis_count headings places n all = length-map places (λ place. heading_tuple (slice_index_or headings place None)) ∙ ap (λ (l : List ℕ). length l) all ∙ length-range_with_len 0 n
+
+-- what a mask reaches
+pub mask_reached : (texts : List Text) (t : NumberedTable) (m : Table) (rows columns : Picked) → t.shape ≡ Frame → meant.mask_pick (table_value texts t) m ≡ Ok (pick_of rows) → columns.places ≡ range_with_len 0 (length t.columns)
+    → columns.single ≡ is_series t.shape → (columns.dropped ≡ 0) × (is_some columns.span ≡ not columns.single)
+    → meant.reach_of (meant.mask_pick (table_value texts t) m) (Ok (meant.all_columns (table_value texts t))) ≡ Ok record { rows = pick_of rows; columns = pick_of columns }
+mask_reached texts t m rows columns frame reached places single sliced =
+    let count : length (map (column_value texts) t.columns) ≡ length t.columns = length-map t.columns (column_value texts) in
+    let this : meant.all_columns (table_value texts t) ≡ pick_of columns =
+    λ j. record {
+      rows = (ap (range_with_len 0) count ∙ sym places) j;
+      single = sym (single ∙ ap is_series frame) j;
+      dropped = sym sliced.0 j;
+      sliced = sym (sliced.1 ∙ ap not (single ∙ ap is_series frame)) j;
+    } in
+    ap (λ r. meant.reach_of r (Ok (meant.all_columns (table_value texts t)))) reached ∙ ap (λ (c : Pick). Ok record { rows = pick_of rows; columns = c }) this

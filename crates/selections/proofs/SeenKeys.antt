@@ -1,0 +1,352 @@
+-- Keys pick by texts what they pick by numbers, and a fault names a label whose text was given its number.
+use Rattle.std.proofs.Common.{◌≡◌, ◌∙◌, refl, ap, sym, subst, arith, ◌<◌, ℕ, ℤ, pos, negsuc, zero, suc, ◌+◌, Bool, true, false, ◌&&◌, nat_eq, nat_lt, List, [], ◌∷◌, ◌++◌, map, length, All, Option, Some, None, Result, Ok, Err, if◌then◌else◌}
+use Rattle.std.specs.Prelude.{IfSome, IfOk}
+use Rattle.std.specs.List.{range_with_len}
+use Rattle.std.specs.Option.{option_map}
+use Rattle.std.specs.Ordering.{is_eq, ordering_then}
+use Rattle.std.specs.declared.cmp.Ordering.{Ordering}
+use Rattle.std.specs.Cmp.Lexicographic.{pointwise}
+use Rattle.std.proofs.lemmas.List.{length-map}
+use Rattle.std.proofs.lemmas.List.Elements.{All-nil, All-cons}
+use Rattle.std.proofs.lemmas.List.FromFn.{length-range_with_len, get_or-range_with_len}
+use Rattle.cell_core.specs.Grids.{AreRowsBelow}
+use Rattle.indexers.proofs.SpanLaws.{all_listed}
+use Rattle.meaning.specs.Place.{place_of}
+use Rattle.selections.proofs.PickedLaws.{all_rows_below}
+use Rattle.cell_core.specs.declared.cell.Label.{Label}
+use Rattle.cell_core.specs.Texts.{AreDistinct}
+use Rattle.meaning.specs.Text.{Text}
+use Rattle.meaning.specs.Cell.{LabelValue, label_datum, label_cmp}
+use Rattle.meaning.specs.Fault.{FaultValue, no_key}
+use Rattle.meaning.specs.Fault as meant
+use Rattle.table_meaning.specs.Settled.{IsSettled}
+use Rattle.table_meaning.specs.Table.{tuple_value}
+use Rattle.form_meaning.specs.Binding.{same_label}
+use Rattle.form_meaning.specs.Infix.{same_tuple}
+use Rattle.form_parts.specs.Makes.{MakesBy}
+use Rattle.form_parts.proofs.LabelLaws.{same_by_number}
+use Rattle.index_core.specs.Labels.{same_number, order_in}
+use Rattle.indexers.specs.Picks.{PicksBy, pick_of, IsSpanned}
+use Rattle.indexers.specs.declared.keys.PosKey.TheVariants as position
+use Rattle.indexers.specs.declared.keys.PosKey.{PosKey}
+use Rattle.indexers.specs.declared.keys.Picked.{Picked}
+use Rattle.frame_store.specs.declared.fault.OpFault.{OpFault}
+use Rattle.meaning.specs.Fault.{then_value}
+use Rattle.indexers.specs.Keys.{label_key, place_key}
+use Rattle.indexers.specs.declared.keys.LocKey.{LocKey}
+use Rattle.indexers.specs.declared.keys.LocKey.TheVariants as key
+use Rattle.indexers.specs.declared.keys.KeyFault.{KeyFault}
+use Rattle.indexers.specs.declared.keys.KeyFault.TheVariants as fault
+use Rattle.pick_meaning.specs.Faults.{PickFault, not_there, bound_not_unique, out_of_range, no_mask_label, step_zero, then_pick, pick_seen}
+use Rattle.pick_meaning.specs.Rows.{rows_where, rows_between, only_row, rows_of}
+use Rattle.pick_meaning.specs.Positions.{row_or_fault, row_at, rows_at, slice_with_step, step_or_one, position_slice}
+use Rattle.cell_core.specs.declared.grid.Rows.{Rows}
+use Rattle.pick_meaning.specs.Leading.{leads, leading_cmp}
+use Rattle.pick_meaning.specs.Labels.{unless_none, rows_of_key, rows_of_keys}
+use Rattle.pick_meaning.specs.Slices.{is_in_order, sorted_slice, one_row, row_of_bound, first_row, end_row, unsorted_slice, label_slice}
+use Rattle.pick_meaning.specs.Masks.{cell_or_fault, cell_of_label, kept_by_label, kept_rows, masked_rows}
+use Rattle.pick_meaning.specs.Keys.{LabelKey, one_key, each_key, between, Pick, has_one, listed_pick, sliced_pick, single_pick, key_pick, picked_by_label, PlaceKey, one_place, each_place, place_slice, picked_by_place}
+use Rattle.pick_meaning.proofs.SeenLaws.{then_seen, rows_of_key-map, rows_of_keys-map, label_slice-map}
+use Rattle.select_meaning.specs.Keys.{found_pick, found_labels}
+use Rattle.selections.specs.Reaches.{label_key_value, tuples_value, pick_value, found_result, PicksBelow}
+use Rattle.selections.proofs.HeadingLaws.{label_decides, head_settled, rest_settled}
+
+-- a fault's key, where it has one
+abbrev pub KeyIn : {K : Type 0} → (K → Type 0) → PickFault K → Type 0
+KeyIn P (not_there k) = P k
+KeyIn P (bound_not_unique k) = P k
+KeyIn P (out_of_range z count) = Unit {0}
+KeyIn P (no_mask_label k) = P k
+KeyIn P step_zero = Unit {0}
+
+abbrev pub FaultIn : {A K : Type 0} → (K → Type 0) → Result A (PickFault K) → Type 0
+FaultIn P (Ok a) = Unit {0}
+FaultIn P (Err fault) = KeyIn P fault
+
+module _ {K : Type 0} (P : K → Type 0) where
+  then_in : {A B : Type 0} (r : Result A (PickFault K)) (go : A → Result B (PickFault K)) → FaultIn P r → ((a : A) → FaultIn P (go a)) → FaultIn P (then_pick r go)
+  then_in (Ok a) go first later = later a
+  then_in (Err fault) go first later = first
+
+  unless_in : (key : K) (rows : List ℕ) → P key → FaultIn P (unless_none key rows)
+  unless_in key [] given = given
+  unless_in key (row ∷ rows) given = tt
+
+  keys_in : {X : Type 0} (meets : K → X → Bool) (xs : List X) (keys : List K) → All P keys → FaultIn P (rows_of_keys meets xs keys)
+  keys_in meets xs [] given = tt
+  keys_in meets xs (key ∷ keys) given =
+      then_in (rows_of_key meets xs key) (λ rows. then_pick (rows_of_keys meets xs keys) (λ more. Ok (rows ++ more))) (unless_in key (rows_where (meets key) 0 xs) (given 0 key (omega arith)))
+      (λ rows. then_in (rows_of_keys meets xs keys) (λ more. Ok (rows ++ more)) (keys_in meets xs keys (λ k d lt. given (suc k) d (omega arith))) (λ more. tt))
+
+  one_row_in : (bound : K) (rows : List ℕ) → P bound → FaultIn P (one_row bound rows)
+  one_row_in bound [] given = given
+  one_row_in bound (row ∷ []) given = tt
+  one_row_in bound (row ∷ (other ∷ rows)) given = given
+
+  first_in : (cmp : K → K → Ordering) (xs : List K) (bound : Option K) → IfSome bound P → FaultIn P (first_row cmp xs bound)
+  first_in cmp xs None given = tt
+  first_in cmp xs (Some b) given = one_row_in b (rows_where (λ x. is_eq (cmp x b)) 0 xs) given
+
+  end_in : (cmp : K → K → Ordering) (xs : List K) (bound : Option K) → IfSome bound P → FaultIn P (end_row cmp xs bound)
+  end_in cmp xs None given = tt
+  end_in cmp xs (Some b) given = then_in (row_of_bound cmp xs b) (λ row. Ok (row + 1)) (one_row_in b (rows_where (λ x. is_eq (cmp x b)) 0 xs) given) (λ row. tt)
+
+  slice_in : (cmp : K → K → Ordering) (lower upper : Option K) (xs : List K) → IfSome lower P → IfSome upper P → FaultIn P (label_slice cmp lower upper xs)
+  slice_in cmp lower upper xs low up = go (is_in_order cmp xs)
+    where
+      go : (b : Bool) → FaultIn P (if b then Ok (sorted_slice cmp lower upper xs) else unsorted_slice cmp lower upper xs)
+      go true = tt
+      go false = then_in (first_row cmp xs lower) (λ first. then_pick (end_row cmp xs upper) (λ end. Ok (rows_between first end))) (first_in cmp xs lower low)
+          (λ first. then_in (end_row cmp xs upper) (λ end. Ok (rows_between first end)) (end_in cmp xs upper up) (λ end. tt))
+
+  cell_in : (x : K) (mask : List Bool) (row : Option ℕ) → P x → FaultIn P (cell_or_fault x mask row)
+  cell_in x mask None given = given
+  cell_in x mask (Some row) given = tt
+
+  kept_in : (same : K → K → Bool) (labels : List K) (mask : List Bool) (row : ℕ) (xs : List K) → All P xs → FaultIn P (kept_by_label same labels mask row xs)
+  kept_in same labels mask row [] given = tt
+  kept_in same labels mask row (x ∷ xs) given =
+      then_in (cell_of_label same labels mask x) (λ kept. then_pick (kept_by_label same labels mask (row + 1) xs) (λ rows. Ok (if kept then row ∷ rows else rows)))
+      (cell_in x mask (only_row (rows_where (same x) 0 labels)) (given 0 x (omega arith)))
+      (λ kept. then_in (kept_by_label same labels mask (row + 1) xs) (λ rows. Ok (if kept then row ∷ rows else rows)) (kept_in same labels mask (row + 1) xs (λ k d lt. given (suc k) d (omega arith))) (λ rows. tt))
+
+  pub mask_in : (same : K → K → Bool) (xs labels : List K) (mask : List Bool) → All P xs → FaultIn P (masked_rows same xs labels mask)
+  mask_in same xs labels mask given = go (pointwise same xs labels)
+    where
+      go : (b : Bool) → FaultIn P (if b then Ok (kept_rows mask) else kept_by_label same labels mask 0 xs)
+      go true = tt
+      go false = kept_in same labels mask 0 xs given
+
+-- labels whose texts were given their numbers
+abbrev pub IsGivenTuple : List Text → List Label → Type 0
+IsGivenTuple texts tuple = IsSettled tuple_value texts tuple
+
+pub tuples_given : (texts : List Text) (tuples : List (List Label)) → IsSettled (λ ts. map (tuple_value ts)) texts tuples → All (IsGivenTuple texts) tuples
+tuples_given texts [] settled = All-nil (IsGivenTuple texts)
+tuples_given texts (t ∷ ts) settled = All-cons (IsGivenTuple texts) t ts (head_settled tuple_value texts t ts settled) (tuples_given texts ts (rest_settled tuple_value texts t ts settled))
+
+-- the parts of a key
+abbrev one_of : LabelKey (List LabelValue) → List LabelValue
+one_of (one_key k) = k
+one_of k = []
+
+abbrev each_of : LabelKey (List LabelValue) → List (List LabelValue)
+each_of (each_key ks) = ks
+each_of k = []
+
+abbrev lower_of : LabelKey (List LabelValue) → Option (List LabelValue)
+lower_of (between lower upper) = lower
+lower_of k = None
+
+abbrev upper_of : LabelKey (List LabelValue) → Option (List LabelValue)
+upper_of (between lower upper) = upper
+upper_of k = None
+
+abbrev tuple_or : Option (List LabelValue) → List LabelValue
+tuple_or None = []
+tuple_or (Some t) = t
+
+bound_given : (texts : List Text) (bound : Option (List Label)) → ((more : List Text) → option_map (tuple_value (texts ++ more)) bound ≡ option_map (tuple_value texts) bound) → IfSome bound (IsGivenTuple texts)
+bound_given texts None settled = tt
+bound_given texts (Some t) settled = λ more. ap tuple_or (settled more)
+
+key_given : (texts : List Text) (k : List Label) → IsSettled label_key_value texts (key.One k) → IsGivenTuple texts k
+key_given texts k settled = λ more. ap one_of (settled more)
+
+keys_given : (texts : List Text) (ks : List (List Label)) → IsSettled label_key_value texts (key.Many ks) → All (IsGivenTuple texts) ks
+keys_given texts ks settled = tuples_given texts ks (λ more. ap each_of (settled more))
+
+-- the fault of a key names a label of the key
+pub key_in : (texts : List Text) (tuples : List (List Label)) (k : LocKey) → IsSettled label_key_value texts k → FaultIn (IsGivenTuple texts) (picked_by_label same_number (order_in texts) 1 tuples (label_key k))
+key_in texts tuples key.All settled = tt
+key_in texts tuples (key.One k) settled =
+    then_in (IsGivenTuple texts) (rows_of_key (leads same_number) tuples k) (λ rows. Ok (key_pick 1 k rows)) (unless_in (IsGivenTuple texts) k (rows_where (leads same_number k) 0 tuples) (key_given texts k settled)) (λ rows. tt)
+key_in texts tuples (key.Many ks) settled =
+    then_in (IsGivenTuple texts) (rows_of_keys (leads same_number) tuples ks) (λ rows. Ok (listed_pick rows)) (keys_in (IsGivenTuple texts) (leads same_number) tuples ks (keys_given texts ks settled)) (λ rows. tt)
+key_in texts tuples (key.Span lower upper) settled =
+    then_in (IsGivenTuple texts) (label_slice (leading_cmp (order_in texts)) lower upper tuples) (λ rows. Ok (sliced_pick rows))
+    (slice_in (IsGivenTuple texts) (leading_cmp (order_in texts)) lower upper tuples (bound_given texts lower (λ more. ap lower_of (settled more))) (bound_given texts upper (λ more. ap upper_of (settled more)))) (λ rows. tt)
+
+module _ (texts : List Text) (distinct : AreDistinct texts) where
+  same_is : (a b : Label) → IsSettled label_datum texts a → IsSettled label_datum texts b → same_label (label_datum texts a) (label_datum texts b) ≡ same_number a b
+  same_is a b f g = sym (same_by_number texts a b (same_number a b) distinct f g (label_decides a b))
+
+  leads_is : (key tuple : List Label) → IsGivenTuple texts key → IsGivenTuple texts tuple → leads same_label (tuple_value texts key) (tuple_value texts tuple) ≡ leads same_number key tuple
+  leads_is [] tuple f g = refl
+  leads_is (k ∷ ks) [] f g = refl
+  leads_is (k ∷ ks) (l ∷ ls) f g =
+      λ j. same_is k l (head_settled label_datum texts k ks f) (head_settled label_datum texts l ls g) j && leads_is ks ls (rest_settled label_datum texts k ks f) (rest_settled label_datum texts l ls g) j
+
+  pub tuples_same : (a b : List Label) → IsGivenTuple texts a → IsGivenTuple texts b → same_tuple (tuple_value texts a) (tuple_value texts b) ≡ pointwise same_number a b
+  tuples_same [] [] f g = refl
+  tuples_same [] (l ∷ ls) f g = refl
+  tuples_same (k ∷ ks) [] f g = refl
+  tuples_same (k ∷ ks) (l ∷ ls) f g =
+      λ j. same_is k l (head_settled label_datum texts k ks f) (head_settled label_datum texts l ls g) j && tuples_same ks ls (rest_settled label_datum texts k ks f) (rest_settled label_datum texts l ls g) j
+
+  order_is : (tuple bound : List Label) → leading_cmp label_cmp (tuple_value texts tuple) (tuple_value texts bound) ≡ leading_cmp (order_in texts) tuple bound
+  order_is tuple [] = refl
+  order_is [] (b ∷ bs) = refl
+  order_is (l ∷ ls) (b ∷ bs) = ap (ordering_then (order_in texts l b)) (order_is ls bs)
+
+  -- a key's pick
+  key_pick_seen : (key : List Label) (rows : List ℕ) → key_pick 1 (tuple_value texts key) rows ≡ key_pick 1 key rows
+  key_pick_seen key rows =
+      ap (λ (n : ℕ). record { rows = rows; single = nat_eq n 1 && has_one rows; dropped = if nat_lt n 1 then n else 0; sliced = false }) (length-map key (label_datum texts))
+
+  pub picked_is : (tuples : List (List Label)) (k : LocKey) → All (IsGivenTuple texts) tuples → IsSettled label_key_value texts k
+      → picked_by_label same_label label_cmp 1 (map (tuple_value texts) tuples) (label_key_value texts k) ≡ pick_seen (tuple_value texts) (picked_by_label same_number (order_in texts) 1 tuples (label_key k))
+  picked_is tuples key.All all settled = ap (λ (n : ℕ). Ok (sliced_pick (range_with_len 0 n))) (length-map tuples (tuple_value texts))
+  picked_is tuples (key.One k) all settled =
+      let given : IsGivenTuple texts k = key_given texts k settled in
+      ap (λ r. then_pick r (λ rows. Ok (key_pick 1 (tuple_value texts k) rows))) (rows_of_key-map (IsGivenTuple texts) (leads same_label) (leads same_number) (tuple_value texts) (tuple_value texts) k (λ x there. leads_is k x given there) tuples all)
+      ∙ then_seen (tuple_value texts) (rows_of_key (leads same_number) tuples k) (λ rows. Ok (key_pick 1 k rows)) (λ rows. Ok (key_pick 1 (tuple_value texts k) rows)) (λ rows. ap (λ (p : Pick). Ok p) (key_pick_seen k rows))
+  picked_is tuples (key.Many ks) all settled =
+      let given : All (IsGivenTuple texts) ks = keys_given texts ks settled in
+      ap (λ r. then_pick r (λ rows. Ok (listed_pick rows))) (rows_of_keys-map (IsGivenTuple texts) (IsGivenTuple texts) (leads same_label) (leads same_number) (tuple_value texts) (tuple_value texts) (λ k x f g. leads_is k x f g) tuples all ks given)
+      ∙ then_seen (tuple_value texts) (rows_of_keys (leads same_number) tuples ks) (λ rows. Ok (listed_pick rows)) (λ rows. Ok (listed_pick rows)) (λ rows. refl)
+  picked_is tuples (key.Span lower upper) all settled =
+      ap (λ r. then_pick r (λ rows. Ok (sliced_pick rows))) (label_slice-map (leading_cmp label_cmp) (leading_cmp (order_in texts)) (tuple_value texts) order_is lower upper tuples)
+      ∙ then_seen (tuple_value texts) (label_slice (leading_cmp (order_in texts)) lower upper tuples) (λ rows. Ok (sliced_pick rows)) (λ rows. Ok (sliced_pick rows)) (λ rows. refl)
+
+-- the same places, whatever the keys are
+place_seen : {K J : Type 0} (f : K → J) (count : ℕ) (z : ℤ) (row : Option ℕ) → row_or_fault count z row ≡ pick_seen f (row_or_fault count z row)
+place_seen f count z None = refl
+place_seen f count z (Some row) = refl
+
+places_seen : {K J : Type 0} (f : K → J) (count : ℕ) (zs : List ℤ) → rows_at count zs ≡ pick_seen f (rows_at count zs)
+places_seen f count [] = refl
+places_seen {K} {J} f count (z ∷ zs) =
+    ap (λ (r : Result ℕ (PickFault J)). then_pick r (λ row. then_pick (rows_at count zs) (λ rows. Ok (row ∷ rows)))) (place_seen f count z (place_of z count))
+    ∙ then_seen f (row_at count z) (λ row. then_pick (rows_at count zs) (λ rows. Ok (row ∷ rows))) (λ row. then_pick (rows_at count zs) (λ rows. Ok (row ∷ rows)))
+    (λ row. ap (λ (r : Result (List ℕ) (PickFault J)). then_pick r (λ rows. Ok (row ∷ rows))) (places_seen f count zs) ∙ then_seen f (rows_at count zs) (λ rows. Ok (row ∷ rows)) (λ rows. Ok (row ∷ rows)) (λ rows. refl))
+
+step_seen : {K J : Type 0} (f : K → J) (count : ℕ) (from to : Option ℤ) (step : ℤ) → slice_with_step count from to step ≡ pick_seen f (slice_with_step count from to step)
+step_seen f count from to (pos zero) = refl
+step_seen f count from to (pos (suc n)) = refl
+step_seen f count from to (negsuc n) = refl
+
+pub by_place_seen : {K J : Type 0} (f : K → J) (count : ℕ) (k : PlaceKey) → picked_by_place count k ≡ pick_seen f (picked_by_place count k)
+by_place_seen {K} {J} f count (one_place z) =
+    ap (λ (r : Result ℕ (PickFault J)). then_pick r (λ row. Ok (single_pick row))) (place_seen f count z (place_of z count)) ∙ then_seen f (row_at count z) (λ row. Ok (single_pick row)) (λ row. Ok (single_pick row)) (λ row. refl)
+by_place_seen {K} {J} f count (each_place zs) =
+    ap (λ (r : Result (List ℕ) (PickFault J)). then_pick r (λ rows. Ok (listed_pick rows))) (places_seen f count zs) ∙ then_seen f (rows_at count zs) (λ rows. Ok (listed_pick rows)) (λ rows. Ok (listed_pick rows)) (λ rows. refl)
+by_place_seen {K} {J} f count (place_slice from to step) =
+    ap (λ (r : Result Rows (PickFault J)). then_pick r (λ rows. Ok (sliced_pick (rows_of rows)))) (step_seen f count from to (step_or_one step))
+    ∙ then_seen f (position_slice count from to step) (λ rows. Ok (sliced_pick (rows_of rows))) (λ rows. Ok (sliced_pick (rows_of rows))) (λ rows. refl)
+
+-- and their faults have no key
+module _ {K : Type 0} (P : K → Type 0) (count : ℕ) where
+  place_in : (z : ℤ) (row : Option ℕ) → FaultIn P (row_or_fault count z row)
+  place_in z None = tt
+  place_in z (Some row) = tt
+
+  places_in : (zs : List ℤ) → FaultIn P (rows_at count zs)
+  places_in [] = tt
+  places_in (z ∷ zs) =
+      then_in P (row_at count z) (λ row. then_pick (rows_at count zs) (λ rows. Ok (row ∷ rows))) (place_in z (place_of z count)) (λ row. then_in P (rows_at count zs) (λ rows. Ok (row ∷ rows)) (places_in zs) (λ rows. tt))
+
+  step_in : (from to : Option ℤ) (step : ℤ) → FaultIn P (slice_with_step count from to step)
+  step_in from to (pos zero) = tt
+  step_in from to (pos (suc n)) = tt
+  step_in from to (negsuc n) = tt
+
+  pub by_place_in : (k : PlaceKey) → FaultIn P (picked_by_place count k)
+  by_place_in (one_place z) = then_in P (row_at count z) (λ row. Ok (single_pick row)) (place_in z (place_of z count)) (λ row. tt)
+  by_place_in (each_place zs) = then_in P (rows_at count zs) (λ rows. Ok (listed_pick rows)) (places_in zs) (λ rows. tt)
+  by_place_in (place_slice from to step) = then_in P (position_slice count from to step) (λ rows. Ok (sliced_pick (rows_of rows))) (step_in from to (step_or_one step)) (λ rows. tt)
+
+-- what is found is what is meant, seen through the texts
+pub found_seen : {A B : Type 0} (texts : List Text) (view : A → B) (r : Result A KeyFault) (by_number : Result B (PickFault (List Label))) (seen : Result B (PickFault (List LabelValue)))
+    → PicksBy view r by_number → seen ≡ pick_seen (tuple_value texts) by_number → FaultIn (IsGivenTuple texts) by_number → MakesBy (λ (ts : List Text). view) texts (found_result r) (found_pick seen)
+found_seen texts view (Ok made) by_number seen is same given = ap found_pick (same ∙ ap (pick_seen (tuple_value texts)) is)
+found_seen texts view (Err (fault.NotThere k)) by_number seen is same given =
+    let settled : IsGivenTuple texts k = subst (FaultIn (IsGivenTuple texts)) is given in
+    (ap found_pick (same ∙ ap (pick_seen (tuple_value texts)) is), λ more. ap no_key (settled more))
+found_seen texts view (Err (fault.BoundNotUnique k)) by_number seen is same given =
+    let settled : IsGivenTuple texts k = subst (FaultIn (IsGivenTuple texts)) is given in
+    (ap found_pick (same ∙ ap (pick_seen (tuple_value texts)) is), λ more. ap no_key (settled more))
+found_seen texts view (Err (fault.OutOfRange z count)) by_number seen is same given = (ap found_pick (same ∙ ap (pick_seen (tuple_value texts)) is), λ more. refl)
+found_seen texts view (Err (fault.NoMaskLabel k)) by_number seen is same given =
+    let settled : IsGivenTuple texts k = subst (FaultIn (IsGivenTuple texts)) is given in
+    (ap found_pick (same ∙ ap (pick_seen (tuple_value texts)) is), λ more. ap meant.no_mask_label (settled more))
+found_seen texts view (Err fault.StepZero) by_number seen is same given = (ap found_pick (same ∙ ap (pick_seen (tuple_value texts)) is), λ more. refl)
+found_seen texts view (Err fault.NoMemory) by_number seen is same given = tt
+
+pub places_found : (texts : List Text) (count : ℕ) (k : PosKey) (r : Result Picked KeyFault) (out : Result Picked OpFault) (m : Result PlaceKey FaultValue)
+    → out ≡ found_result r → PicksBy pick_of r (picked_by_place count (place_key k)) → m ≡ Ok (place_key k) → MakesBy pick_value texts out (then_value m (λ key. found_pick (picked_by_place count key)))
+places_found texts count k r out m is picks here =
+    let seen = found_seen texts pick_of r (picked_by_place count (place_key k)) (picked_by_place count (place_key k)) picks (by_place_seen (tuple_value texts) count (place_key k)) (by_place_in (IsGivenTuple texts) count (place_key k)) in
+    subst (λ (o : Result Picked OpFault). MakesBy pick_value texts o (then_value m (λ key. found_pick (picked_by_place count key)))) (sym is)
+    (subst (λ (l : Result PlaceKey FaultValue). MakesBy pick_value texts (found_result r) (then_value l (λ key. found_pick (picked_by_place count key)))) (sym here) seen)
+
+pub labels_found : (texts : List Text) (tuples : List (List Label)) (k : LocKey) (r : Result Picked KeyFault) (out : Result Picked OpFault)
+    → AreDistinct texts → IsSettled tuples_value texts tuples → IsSettled label_key_value texts k → out ≡ found_result r → PicksBy pick_of r (picked_by_label same_number (order_in texts) 1 tuples (label_key k))
+    → MakesBy pick_value texts out (found_labels 1 (tuples_value texts tuples) (label_key_value texts k))
+labels_found texts tuples k r out distinct given settled is picks =
+    let seen = found_seen texts pick_of r (picked_by_label same_number (order_in texts) 1 tuples (label_key k)) (picked_by_label same_label label_cmp 1 (tuples_value texts tuples) (label_key_value texts k)) picks
+    (picked_is texts distinct tuples k (tuples_given texts tuples given) settled) (key_in texts tuples k settled) in
+    subst (λ (o : Result Picked OpFault). MakesBy pick_value texts o (found_labels 1 (tuples_value texts tuples) (label_key_value texts k))) (sym is) seen
+
+-- all of so many places
+pub range_below : (n : ℕ) → All (λ place. place < n) (range_with_len 0 n)
+range_below n k d lt =
+    let count : length (range_with_len 0 n) ≡ n = length-range_with_len 0 n in
+    let inside : k < n = subst (λ (m : ℕ). k < m) count lt in
+    subst (λ (m : ℕ). m < n) (sym (get_or-range_with_len 0 n k d inside)) (let here : 0 + k < n = omega (arith, inside) in here)
+
+pub columns_within : (places : List ℕ) (count n : ℕ) → count ≡ n → places ≡ range_with_len 0 count → PicksBelow n record { places = places; single = false; dropped = 0; span = Some record { start = 0; step = pos 1; count = count } }
+columns_within places count n is all =
+    record {
+      below = subst (λ (l : List ℕ). All (λ place. place < n) l) (sym (all ∙ ap (range_with_len 0) is)) (range_below n);
+      spanned = record { listed = sym (all ∙ all_listed count count refl); below = subst (λ (m : ℕ). AreRowsBelow record { start = 0; step = pos 1; count = count } m) is (all_rows_below count) };
+      one = λ single. cc;
+    }
+
+pub column_within : (places : List ℕ) (count n : ℕ) → count ≡ n → n ≡ 1 → places ≡ range_with_len 0 count → PicksBelow n record { places = places; single = true; dropped = 0; span = None }
+column_within places count n is one_column all = record { one = λ single. ap (λ (l : List ℕ). length l) all ∙ length-range_with_len 0 count ∙ is ∙ one_column; below = subst (λ (l : List ℕ). All (λ place. place < n) l) (sym (all ∙ ap (range_with_len 0) is)) (range_below n); spanned = tt }
+
+-- a single pick is one row
+one_listed : (rows : List ℕ) → has_one rows ≡ true → length rows ≡ 1
+one_listed [] e = cc
+one_listed (row ∷ []) e = refl
+one_listed (row ∷ (other ∷ rows)) e = cc
+
+second_so : (a b : Bool) → (a && b) ≡ true → b ≡ true
+second_so true b e = e
+second_so false b e = cc
+
+abbrev IsOne : {K : Type 0} → Result Pick (PickFault K) → Type 0
+IsOne (Ok p) = p.single ≡ true → length p.rows ≡ 1
+IsOne (Err f) = Unit {0}
+
+then_one : {A K : Type 0} (r : Result A (PickFault K)) (go : A → Pick) → ((a : A) → (go a).single ≡ true → length (go a).rows ≡ 1) → IsOne (then_pick r (λ a. Ok (go a)))
+then_one (Ok a) go h = h a
+then_one (Err f) go h = tt
+
+one_by_label : (texts : List Text) (tuples : List (List Label)) (k : LocKey) → IsOne (picked_by_label same_number (order_in texts) 1 tuples (label_key k))
+one_by_label texts tuples key.All = λ e. cc
+one_by_label texts tuples (key.One k) = then_one (rows_of_key (leads same_number) tuples k) (key_pick 1 k) (λ rows e. one_listed rows (second_so (nat_eq (length k) 1) (has_one rows) e))
+one_by_label texts tuples (key.Many ks) = then_one (rows_of_keys (leads same_number) tuples ks) listed_pick (λ rows e. cc)
+one_by_label texts tuples (key.Span lower upper) = then_one (label_slice (leading_cmp (order_in texts)) lower upper tuples) sliced_pick (λ rows e. cc)
+
+one_by_place : (count : ℕ) (k : PosKey) → IsOne {K = List Label} (picked_by_place count (place_key k))
+one_by_place count (position.One z) = then_one (row_at count z) single_pick (λ row e. refl)
+one_by_place count (position.Many zs) = then_one (rows_at count zs) listed_pick (λ rows e. cc)
+one_by_place count (position.Span from to step) = then_one (position_slice count from to step) (λ rows. sliced_pick (rows_of rows)) (λ rows e. cc)
+
+-- what is found lies below
+pub found_within : (count : ℕ) (r : Result Picked KeyFault) (out : Result Picked OpFault) (meant_pick : Result Pick (PickFault (List Label))) → out ≡ found_result r → PicksBy pick_of r meant_pick → IsOne meant_pick
+    → IfOk r (IsSpanned count) → IfOk r (λ picked. All (λ row. row < count) picked.places) → IfOk out (PicksBelow count)
+found_within count (Ok picked) out meant_pick is picks one spanned inside =
+    subst (λ (o : Result Picked OpFault). IfOk o (PicksBelow count)) (sym is) record { below = inside; spanned = spanned; one = subst IsOne picks one }
+found_within count (Err f) out meant_pick is picks one spanned inside = subst (λ (o : Result Picked OpFault). IfOk o (PicksBelow count)) (sym is) tt
+
+pub places_within : (count : ℕ) (k : PosKey) (r : Result Picked KeyFault) (out : Result Picked OpFault) → out ≡ found_result r → PicksBy pick_of r (picked_by_place count (place_key k))
+    → IfOk r (IsSpanned count) → IfOk r (λ picked. All (λ row. row < count) picked.places) → IfOk out (PicksBelow count)
+places_within count k r out is picks spanned inside = found_within count r out (picked_by_place count (place_key k)) is picks (one_by_place count k) spanned inside
+
+pub labels_within : (texts : List Text) (tuples : List (List Label)) (k : LocKey) (r : Result Picked KeyFault) (out : Result Picked OpFault) → out ≡ found_result r → PicksBy pick_of r (picked_by_label same_number (order_in texts) 1 tuples (label_key k))
+    → IfOk r (IsSpanned (length tuples)) → IfOk r (λ picked. All (λ row. row < length tuples) picked.places) → IfOk out (PicksBelow (length tuples))
+labels_within texts tuples k r out is picks spanned inside =
+    found_within (length tuples) r out (picked_by_label same_number (order_in texts) 1 tuples (label_key k)) is picks (one_by_label texts tuples k) spanned inside

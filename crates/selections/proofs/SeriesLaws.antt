@@ -1,0 +1,116 @@
+-- A row across columns as a Series.
+use Rattle.std.proofs.Common.{◌≡◌, ◌∙◌, refl, ap, sym, arith, ℕ, suc, ◌<◌, pos, Bool, true, false, ◌&&◌, List, [], ◌∷◌, map, length, slice_index_or, All, Option, Some, None, Ok, Err, if◌then◌else◌, unwrap_or}
+use Rattle.std.specs.Prelude.{IsSome}
+use Rattle.std.specs.List.{list_all}
+use Rattle.std.proofs.lemmas.List.{length-map}
+use Rattle.std.proofs.Math.ListN.{get_or-map}
+use Rattle.cell_core.specs.declared.cell.Kind.{Kind}
+use Rattle.cell_core.specs.declared.cell.Cell.TheVariants.{Na}
+use Rattle.cell_core.specs.declared.cell.Label.{Label}
+use Rattle.cell_core.specs.declared.cell.Label.TheVariants as label
+use Rattle.cell_core.specs.declared.grid.Shape.TheVariants.{Series}
+use Rattle.meaning.specs.Text.{Text}
+use Rattle.meaning.specs.Cell.{CellValue, na_cell, datum, label_datum, int}
+use Rattle.meaning.specs.Fault.{wrong_kind, limit, then_value}
+use Rattle.multi_index.specs.Axes.{HaveLevels}
+use Rattle.table_meaning.specs.Settled.{IsSettled}
+use Rattle.table_meaning.specs.Table.{ColumnOf, NumberedTable, table_value, tuple_value, heading_value, column_at}
+use Rattle.table_meaning.specs.Value as value
+use Rattle.table_meaning.specs.Value.{Entry}
+use Rattle.form_meaning.specs.Finish.{same_kind, limited, within_limits}
+use Rattle.form_meaning.specs.Select.{heading_at}
+use Rattle.select_meaning.specs.Select.{kind_across, one_kind, column_rows, cut, first_cell, row_name, row_series, row_result}
+use Rattle.form_parts.specs.Makes.{MakesBy}
+use Rattle.frame_store.specs.Parts.{HeadingList, table_with}
+use Rattle.frame_store.specs.Shown.{Makes}
+use Rattle.frame_store.specs.declared.fault.OpFault.{OpFault}
+use Rattle.frame_store.specs.declared.fault.OpFault.TheVariants.{Refused, NoMemory}
+use Rattle.frame_store.proofs.Settling.{settled_by}
+use Rattle.selections.specs.Across.{cell_across}
+use Rattle.selections.specs.Reaches.{columns_axis, heading_tuple, tuples_value}
+use Rattle.selections.specs.Selected.{as_it_is}
+use Rattle.selections.proofs.AnswerLaws.{column_seen}
+use Rattle.selections.proofs.PlaceLaws.{heading_seen}
+
+-- rows have the kinds of their columns
+kinds_all : (rows : List ℕ) (kind : Kind) (cs : List (ColumnOf CellValue)) → list_all (λ c. same_kind c.kind kind) (map (column_rows rows) cs) ≡ list_all (λ c. same_kind c.kind kind) cs
+kinds_all rows kind [] = refl
+kinds_all rows kind (c ∷ cs) = ap (λ b. same_kind c.kind kind && b) (kinds_all rows kind cs)
+
+kind_first : (rows : List ℕ) (cs : List (ColumnOf CellValue)) → kind_across (map (column_rows rows) cs) ≡ kind_across cs
+kind_first rows [] = refl
+kind_first rows (c ∷ cs) = refl
+
+one_kind_rows : (rows : List ℕ) (cs : List (ColumnOf CellValue)) → one_kind (map (column_rows rows) cs) ≡ one_kind cs
+one_kind_rows rows cs =
+    ap (λ kind. if list_all (λ c. same_kind c.kind kind) (map (column_rows rows) cs) then Ok kind else Err wrong_kind) (kind_first rows cs)
+    ∙ ap (λ b. if b then Ok (kind_across cs) else Err wrong_kind) (kinds_all rows (kind_across cs) cs)
+
+-- the parts of the Series
+label_seen : (texts : List Text) (h : Option Label) → IsSome h → unwrap_or (heading_value texts h) (int (pos 0)) ∷ [] ≡ tuple_value texts (heading_tuple h)
+label_seen texts None some = cc
+label_seen texts (Some l) some = refl
+
+labels_seen : (texts : List Text) (t : NumberedTable) (places : List ℕ) → All IsSome t.headings → All (λ place. place < length t.headings) places
+    → map (λ h. unwrap_or h (int (pos 0)) ∷ []) (map (heading_at (table_value texts t)) places) ≡ tuples_value texts (columns_axis t places).tuples
+labels_seen texts t [] some below = refl
+labels_seen texts t (p ∷ ps) some below =
+    λ j. (ap (λ h. unwrap_or h (int (pos 0)) ∷ []) (heading_seen texts t.headings p) ∙ label_seen texts (slice_index_or t.headings p None) (some p None (below 0 p (omega arith)))) j
+    ∷ labels_seen texts t ps some (λ k d lt. below (suc k) d (omega arith)) j
+
+cells_seen : (texts : List Text) (t : NumberedTable) (row : ℕ) (places : List ℕ)
+    → map first_cell (map (column_rows (row ∷ [])) (map (column_at (table_value texts t).columns) places)) ≡ map (datum texts) (map (cell_across t row) places)
+cells_seen texts t row [] = refl
+cells_seen texts t row (p ∷ ps) =
+    λ j. (ap (λ (c : ColumnOf CellValue). slice_index_or c.cells row na_cell) (column_seen texts t.columns p) ∙ get_or-map (datum texts) (column_at t.columns p).cells row Na) j ∷ cells_seen texts t row ps j
+
+name_of : (texts : List Text) (tuple : List Label) → length tuple ≡ 1 → row_name (tuple_value texts tuple) ≡ Some (label_datum texts (slice_index_or tuple 0 label.Na))
+name_of texts [] one = cc
+name_of texts (l ∷ []) one = refl
+name_of texts (l ∷ (m ∷ ls)) one = cc
+
+-- the Series of a row
+abbrev pub row_heading : NumberedTable → ℕ → HeadingList
+row_heading t row = record { columns_name = None; labels = Some (slice_index_or (slice_index_or t.labels row []) 0 label.Na) ∷ [] }
+
+abbrev pub row_table : NumberedTable → ℕ → Kind → List ℕ → NumberedTable
+row_table t row kind places = table_with Series (columns_axis t places) (row_heading t row) (record { kind = kind; cells = map (cell_across t row) places } ∷ [])
+
+module _ (t : NumberedTable) (row : ℕ) (kind : Kind) (places : List ℕ) (some : All IsSome t.headings) (below : All (λ place. place < length t.headings) places) (levels : HaveLevels 1 t.labels) (inside : row < length t.labels) where
+  series_seen : (texts : List Text) → row_series (cut (table_value texts t) (row ∷ []) places) kind ≡ table_value texts (row_table t row kind places)
+  series_seen texts =
+      let name = ap row_name (get_or-map (tuple_value texts) t.labels row []) ∙ name_of texts (slice_index_or t.labels row []) (levels row [] inside) in
+      λ j. record {
+        shape = Series;
+        columns_name = None;
+        level_names = heading_value texts t.columns_name ∷ [];
+        labels = labels_seen texts t places some below j;
+        headings = name j ∷ [];
+        columns = record { kind = kind; cells = cells_seen texts t row places j } ∷ [];
+      }
+
+  row_limited : (texts : List Text) (b : Bool) → within_limits (length places) 1 ≡ b → limited (table_value texts (row_table t row kind places)) ≡ then_value (if b then Ok (table_value texts (row_table t row kind places)) else Err limit) (λ t. Ok (value.table t))
+  row_limited texts b is =
+      ap (λ b. then_value (if b then Ok (table_value texts (row_table t row kind places)) else Err limit) (λ t. Ok (value.table t)))
+      (ap (λ (n : ℕ). within_limits n 1) (length-map (columns_axis t places).tuples (tuple_value texts) ∙ length-map places (λ place. heading_tuple (slice_index_or t.headings place None))) ∙ is)
+
+  row_is : (texts : List Text) → one_kind (map (column_at (table_value texts t).columns) places) ≡ Ok kind → row_result (cut (table_value texts t) (row ∷ []) places) ≡ limited (table_value texts (row_table t row kind places))
+  row_is texts one =
+      ap (λ r. then_value r (λ k. limited (row_series (cut (table_value texts t) (row ∷ []) places) k))) (one_kind_rows (row ∷ []) (map (column_at (table_value texts t).columns) places) ∙ one)
+      ∙ ap limited (series_seen texts)
+
+  pub row_made : (texts : List Text) (made : NumberedTable) → one_kind (map (column_at (table_value texts t).columns) places) ≡ Ok kind → within_limits (length places) 1 ≡ true → made ≡ row_table t row kind places → IsSettled table_value texts t
+      → (row_result (cut (table_value texts t) (row ∷ []) places) ≡ Ok (value.table (table_value texts made))) × IsSettled table_value texts made
+  row_made texts made one within is settled = (
+    row_is texts one ∙ row_limited texts true within ∙ ap (λ (m : NumberedTable). Ok (value.table (table_value texts m))) (sym is),
+    settled_by table_value table_value (λ T. row_series (cut T (row ∷ []) places) kind) texts t made (λ ts. series_seen ts ∙ ap (table_value ts) (sym is)) settled,
+  )
+
+  pub row_beyond : (texts : List Text) → one_kind (map (column_at (table_value texts t).columns) places) ≡ Ok kind → within_limits (length places) 1 ≡ false → row_result (cut (table_value texts t) (row ∷ []) places) ≡ Err limit
+  row_beyond texts one beyond = row_is texts one ∙ row_limited texts false beyond
+
+pub row_refused : (texts : List Text) (t : NumberedTable) (row : ℕ) (places : List ℕ) (why : OpFault) → MakesBy as_it_is texts (Err why) (one_kind (map (column_at (table_value texts t).columns) places))
+    → Makes texts (Err why) (row_result (cut (table_value texts t) (row ∷ []) places))
+row_refused texts t row places (Refused code) h =
+    (ap (λ r. then_value r (λ k. limited (row_series (cut (table_value texts t) (row ∷ []) places) k))) (one_kind_rows (row ∷ []) (map (column_at (table_value texts t).columns) places) ∙ h.0), h.1)
+row_refused texts t row places NoMemory h = tt

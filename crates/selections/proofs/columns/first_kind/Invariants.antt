@@ -1,8 +1,0 @@
-use Rattle.std.proofs.Common.{◌≡◌, List}
-use Rattle.meaning.specs.Text.{Text}
-use Rattle.selections.proofs.ColumnLaws.{kind_from}
-use Rattle.selections.proofs.columns.first_kind.Given as goal
-
--- no cell so far is present
-abbrev pub invariant-loop-k : goal.invariant-loop-k
-invariant-loop-k l = (texts : List Text) → kind_from texts l.cells l.k ≡ kind_from texts l.cells 0

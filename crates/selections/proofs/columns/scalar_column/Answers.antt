@@ -1,8 +1,0 @@
-use Rattle.std.proofs.Common.{◌∙◌, sym}
-use Rattle.std.proofs.lemmas.Result.{IfOk-weaker}
-use Rattle.selections.proofs.ColumnLaws.{scalar_is}
-use Rattle.selections.proofs.columns.scalar_column.Goals as goal
-
-pub returns-clause-seen : goal.returns-clause-seen
-returns-clause-seen c =
-    IfOk-weaker c.repeat.result _ _ (λ m h texts. scalar_is texts c.unwrap_or-kind.result _ c.args.rows c.args.cell m h (c.present_kind.ensures.kind texts ∙ sym c.unwrap_or-kind.ensures)) c.repeat.ensures

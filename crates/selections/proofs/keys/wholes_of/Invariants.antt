@@ -1,0 +1,11 @@
+use Rattle.std.proofs.Common.{◌≡◌, List, drop}
+use Rattle.meaning.specs.Text.{Text}
+use Rattle.form_meaning.specs.Finish.{try_all}
+use Rattle.select_meaning.specs.Keys.{whole_cell}
+use Rattle.frame_store.specs.Shown.{cells_value}
+use Rattle.selections.proofs.PlaceLaws.{made_after}
+use Rattle.selections.proofs.keys.wholes_of.Given as goal
+
+-- the numbers so far, before those of the other cells
+abbrev pub invariant-loop-k : goal.invariant-loop-k
+invariant-loop-k l = (texts : List Text) → made_after whole_cell l.numbers (drop l.k (cells_value texts l.cells)) ≡ try_all whole_cell (cells_value texts l.cells)

@@ -1,0 +1,10 @@
+use Rattle.std.proofs.Common.{◌≡◌, drop, List}
+use Rattle.meaning.specs.Text.{Text}
+use Rattle.frame_store.specs.Objects.{Tables}
+use Rattle.frame_store.specs.Arguments.{items_of}
+use Rattle.selections.specs.Selected.{each_truth}
+use Rattle.selections.proofs.planning.are_truths.Given as goal
+
+-- the parts so far are truth values
+abbrev pub invariant-loop-item : goal.invariant-loop-item
+invariant-loop-item l = (live : Tables) (texts : List Text) → each_truth (items_of live texts (drop l.item-index l.items)) ≡ each_truth (items_of live texts l.items)

@@ -1,0 +1,9 @@
+use Rattle.selections.proofs.SeenKeys.{labels_found, labels_within}
+use Rattle.selections.proofs.reaching.labelled.Goals as goal
+
+pub returns-clause-rows : goal.returns-clause-rows
+returns-clause-rows c = λ settled.
+    labels_found c.args.dict.now c.args.axis.now.tuples c.args.key.now c.loc_places.result c.found.result c.len.ensures.distinct c.requires.given settled c.found.ensures c.loc_places.ensures.picked
+
+pub returns-clause-within : goal.returns-clause-within
+returns-clause-within c = labels_within c.args.dict.now c.args.axis.now.tuples c.args.key.now c.loc_places.result c.found.result c.found.ensures c.loc_places.ensures.picked c.loc_places.ensures.span c.loc_places.ensures.inside

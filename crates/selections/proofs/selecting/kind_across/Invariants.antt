@@ -1,0 +1,10 @@
+use Rattle.std.proofs.Common.{◌≡◌, drop}
+use Rattle.selections.proofs.RowLaws.{first_kind, kind_after, all_of}
+use Rattle.selections.proofs.selecting.kind_across.Given as goal
+
+-- the columns so far are of the first one's kind
+abbrev pub invariant-loop-k : goal.invariant-loop-k
+invariant-loop-k l = record {
+  kind : l.kind ≡ kind_after l.k l.on l.columns;
+  all : all_of (first_kind l.on l.columns) l.on (drop l.k l.columns) ≡ all_of (first_kind l.on l.columns) l.on l.columns;
+}

@@ -1,0 +1,35 @@
+use Rattle.std.proofs.Common.{◌≡◌, ◌∙◌, ap, subst, length}
+use Rattle.std.specs.List.{range_with_len}
+use Rattle.cell_core.specs.declared.grid.Shape.{Shape}
+use Rattle.pick_meaning.specs.Rows.{rows_of}
+use Rattle.table_meaning.specs.Table.{NumberedTable, Table, table_value}
+use Rattle.table_meaning.specs.Valid.{IsWhole}
+use Rattle.form_meaning.specs.Finish.{limited}
+use Rattle.frame_store.specs.Objects.{tables, table_at}
+use Rattle.frame_store.specs.World.{world, Forms}
+use Rattle.selections.specs.Chosen.{chosen}
+use Rattle.selections.specs.declared.planning.Taken.TheVariants.{Slice}
+use Rattle.selections.proofs.AnswerLaws.{table_is_settled}
+use Rattle.selections.proofs.PickedLaws.{read_is}
+use Rattle.selections.proofs.CutLaws.{own_headings, all_taken, own_given}
+use Rattle.selections.proofs.TakenLaws.{chosen_rows}
+use Rattle.selections.proofs.selecting.sliced.Goals as goal
+
+pub cut_within-requires-clause-taken : goal.cut_within-requires-clause-taken
+cut_within-requires-clause-taken c =
+    let t = table_at (tables c.args.store.now) c.args.on.0 in
+    let at = read_is _ c.read-source.result c.read-source.ensures.table in
+    let own : c.in_ok-headings.headings ≡ own_headings t = c.in_ok-headings.ensures ∙ ap own_headings at in
+    let all = c.in_ok-columns.ensures ∙ ap (range_with_len 0) (c.columns.ensures ∙ ap (λ (n : NumberedTable). length n.columns) at) in
+    all_taken c.shape-shape.result t (Slice c.args.rows) c.in_ok-columns.columns c.in_ok-headings.headings (c.shape-shape.ensures ∙ ap (λ (n : NumberedTable). n.shape) at) (subst IsWhole at c.read-source.ensures.whole) c.requires.rows own all
+
+pub returns : goal.returns
+returns c = λ texts settled.
+    let t = table_at (tables c.args.store.now) c.args.on.0 in
+    let at = read_is _ c.read-source.result c.read-source.ensures.table in
+    let own : c.in_ok-headings.headings ≡ own_headings t = c.in_ok-headings.ensures ∙ ap own_headings at in
+    let all = c.in_ok-columns.ensures ∙ ap (range_with_len 0) (c.columns.ensures ∙ ap (λ (n : NumberedTable). length n.columns) at) in
+    let same = c.shape-shape.ensures ∙ ap (λ (n : NumberedTable). n.shape) at in
+    subst (λ (v : Table). Forms c.cut_within.result (limited v) (world c.args.store.now texts) (world c.cut_within.new.store texts))
+    (ap (λ (s : Shape). table_value texts (chosen s c.in_ok-headings.headings (rows_of c.args.rows) c.in_ok-columns.columns t)) same ∙ chosen_rows texts c.in_ok-headings.headings (rows_of c.args.rows) c.in_ok-columns.columns t own all)
+    (c.cut_within.ensures texts settled (own_given texts t c.in_ok-headings.headings own (table_is_settled texts (tables c.args.store.now) c.args.on.0 c.requires.live settled)))

@@ -1,0 +1,8 @@
+use Rattle.std.proofs.Common.{◌≡◌, map}
+use Rattle.std.specs.List.{range_with_len}
+use Rattle.cell_core.specs.Grids.{place_from}
+use Rattle.selections.proofs.selecting.sliced_axis.Given as goal
+
+-- the places so far
+abbrev pub invariant-loop-row : goal.invariant-loop-row
+invariant-loop-row l = l.places ≡ map (place_from l.rows.start l.rows.step) (range_with_len 0 l.row)

@@ -1,0 +1,57 @@
+use Rattle.std.proofs.Common.{◌∙◌, ◌<◌, ap, subst, sym, length, List, Option, All}
+use Rattle.std.proofs.lemmas.Result.{err_from_is_err_and}
+use Rattle.cell_core.specs.declared.cell.Label.{Label}
+use Rattle.meaning.specs.Fault.{FaultValue}
+use Rattle.std.specs.Prelude.{Result}
+use Rattle.table_meaning.specs.Table.{NumberedTable}
+use Rattle.table_meaning.specs.Valid.{IsWhole}
+use Rattle.table_meaning.specs.Value.{Entry}
+use Rattle.frame_store.specs.Objects.{tables, table_at}
+use Rattle.frame_store.specs.World.{world, Forms}
+use Rattle.frame_store.proofs.Settling.{headings_part}
+use Rattle.selections.specs.Headings.{NamesRepeated, repeated_heading}
+use Rattle.selections.specs.Plans.{rows_in}
+use Rattle.selections.proofs.AnswerLaws.{table_is_settled}
+use Rattle.selections.proofs.PickedLaws.{read_is}
+use Rattle.selections.proofs.CutLaws.{frame_taken, frame_given, frame_meant, frame_refused}
+use Rattle.selections.proofs.CarryLaws.{gathered, gathered_with}
+use Rattle.selections.proofs.selecting.take_frame.Goals as goal
+
+pub headings_at-requires : goal.headings_at-requires
+headings_at-requires c =
+    subst (λ (t : NumberedTable). All (λ place. place < length t.columns) c.args.plan.now.columns) (sym (read_is _ c.read-source.result c.read-source.ensures.table)) c.requires.plan.columns
+
+pub returns-in_err-headings : goal.returns-in_err-headings
+returns-in_err-headings c =
+    let dict = c.args.dict.now in
+    let plan = c.args.plan.now in
+    let t = table_at (tables c.args.store.now) c.args.on.0 in
+    let labels = gathered c.read-source.result t plan.columns c.deref.result.now c.in_ok-labels.labels.items (read_is _ c.read-source.result c.read-source.ensures.table) c.deref.ensures.value c.in_ok-labels.ensures in
+    let settled = headings_part dict t (table_is_settled dict (tables c.args.store.now) c.args.on.0 c.requires.live c.requires.settled) in
+    let why = c.in_err-headings.field-0.0 in
+    let named = subst (λ (l : List (Option Label)). NamesRepeated why (repeated_heading l)) labels c.in_err-headings.ensures.refused in
+    let p = err_from_is_err_and c.from_residual-in_err-headings.result c.from_residual-in_err-headings.ensures.1 in
+    rw (p.1, p.2) (frame_refused dict c.args.store.now t (rows_in plan.rows) plan.columns why c.len.ensures.distinct settled named c.requires.settled)
+
+pub cut_within-requires-clause-taken : goal.cut_within-requires-clause-taken
+cut_within-requires-clause-taken c =
+    let plan = c.args.plan.now in
+    let t = table_at (tables c.args.store.now) c.args.on.0 in
+    let at = read_is _ c.read-source.result c.read-source.ensures.table in
+    let labels = gathered c.read-source.result t plan.columns c.deref.result.now c.in_ok-labels.labels.items at c.deref.ensures.value c.in_ok-labels.ensures in
+    let headed = gathered_with c.read-source.result t plan.columns c.columns_name.result c.deref.result.now c.in_ok-headings.headings at c.columns_name.ensures labels c.in_ok-headings.ensures.made in
+    frame_taken t plan.rows plan.columns c.in_ok-headings.headings (subst IsWhole at c.read-source.ensures.whole) (c.requires.plan.frame c.requires.several) c.requires.plan.rows c.requires.plan.columns headed
+    (ap repeated_heading (sym labels) ∙ c.in_ok-headings.ensures.different)
+
+pub returns : goal.returns
+returns c =
+    let dict = c.args.dict.now in
+    let plan = c.args.plan.now in
+    let t = table_at (tables c.args.store.now) c.args.on.0 in
+    let at = read_is _ c.read-source.result c.read-source.ensures.table in
+    let labels = gathered c.read-source.result t plan.columns c.deref.result.now c.in_ok-labels.labels.items at c.deref.ensures.value c.in_ok-labels.ensures in
+    let headed = gathered_with c.read-source.result t plan.columns c.columns_name.result c.deref.result.now c.in_ok-headings.headings at c.columns_name.ensures labels c.in_ok-headings.ensures.made in
+    let settled = table_is_settled dict (tables c.args.store.now) c.args.on.0 c.requires.live c.requires.settled in
+    subst (λ (m : Result Entry FaultValue). Forms c.cut_within.result m (world c.args.store.now dict) (world c.cut_within.new.store dict))
+    (frame_meant dict t (rows_in plan.rows) plan.columns c.in_ok-headings.headings c.len.ensures.distinct (headings_part dict t settled) (c.requires.plan.frame c.requires.several) headed (ap repeated_heading (sym labels) ∙ c.in_ok-headings.ensures.different))
+    (c.cut_within.ensures dict c.requires.settled (frame_given dict t plan.columns c.in_ok-headings.headings headed settled))

@@ -1,0 +1,11 @@
+use Rattle.std.proofs.Common.{◌≡◌, map, take, All}
+use Rattle.frame_store.specs.Parts.{block_column, IsSingle}
+use Rattle.selections.specs.Chosen.{columns_at}
+use Rattle.selections.proofs.taking.chosen_blocks.Given as goal
+
+-- the columns so far
+abbrev pub invariant-loop-k : goal.invariant-loop-k
+invariant-loop-k l = record {
+  columns : map block_column l.blocks ≡ columns_at l.rows (take l.k l.columns) l.on;
+  single : All IsSingle l.blocks;
+}

@@ -1,0 +1,42 @@
+use Rattle.std.proofs.Common.{◌≡◌, ◌<◌, ◌∙◌, ℕ, ap, sym, subst, All, IfOk}
+use Rattle.cell_core.specs.declared.cell.Kind.TheVariants.{Int64, Boolean, Text}
+use Rattle.column_core.specs.Columns.{CellColumn, number_cell, truth_cell, text_cell}
+use Rattle.column_core.specs.Lanes.{lane_row}
+use Rattle.column_core.specs.Views.{borrowed_column}
+use Rattle.column_core.proofs.ColumnLaws.{length-column}
+use Rattle.selections.specs.Chosen.{cells_by_place}
+use Rattle.selections.proofs.TakeLaws.{chosen_seen}
+use Rattle.selections.proofs.taking.chosen_column.Goals as goal
+
+pub chosen_lane-requires : goal.chosen_lane-requires
+chosen_lane-requires c = subst (λ (n : ℕ). All (λ place. place < n) c.args.rows.now) (sym (length-column _ _ _ _ (ap borrowed_column (sym c.in-Ints.is) ∙ c.a.view_is))) c.requires
+
+pub returns-in-Ints : goal.returns-in-Ints
+returns-in-Ints c =
+    let lane = c.in-Ints.lane in
+    let row = lane_row lane.values.now lane.present.now lane.start lane.stride lane.back in
+    let seen = ap borrowed_column (sym c.in-Ints.is) ∙ c.a.view_is in
+    let below = subst (λ (n : ℕ). All (λ place. place < n) c.args.rows.now) (sym (length-column _ _ _ _ seen)) c.requires in
+    subst (λ (x : CellColumn). IfOk c.chosen_lane.result (λ made. made ≡ x)) (chosen_seen Int64 number_cell lane.count row c.args.rows.now below ∙ ap (cells_by_place c.args.rows.now) seen) c.chosen_lane.ensures
+
+pub chosen_lane-requires-in-Truths : goal.chosen_lane-requires-in-Truths
+chosen_lane-requires-in-Truths c = subst (λ (n : ℕ). All (λ place. place < n) c.args.rows.now) (sym (length-column _ _ _ _ (ap borrowed_column (sym c.in-Truths.is) ∙ c.a.view_is))) c.requires
+
+pub returns-in-Truths : goal.returns-in-Truths
+returns-in-Truths c =
+    let lane = c.in-Truths.lane in
+    let row = lane_row lane.values.now lane.present.now lane.start lane.stride lane.back in
+    let seen = ap borrowed_column (sym c.in-Truths.is) ∙ c.a.view_is in
+    let below = subst (λ (n : ℕ). All (λ place. place < n) c.args.rows.now) (sym (length-column _ _ _ _ seen)) c.requires in
+    subst (λ (x : CellColumn). IfOk c.chosen_lane-in-Truths.result (λ made. made ≡ x)) (chosen_seen Boolean truth_cell lane.count row c.args.rows.now below ∙ ap (cells_by_place c.args.rows.now) seen) c.chosen_lane-in-Truths.ensures
+
+pub chosen_lane-requires-in-Texts : goal.chosen_lane-requires-in-Texts
+chosen_lane-requires-in-Texts c = subst (λ (n : ℕ). All (λ place. place < n) c.args.rows.now) (sym (length-column _ _ _ _ (ap borrowed_column (sym c.in-Texts.is) ∙ c.a.view_is))) c.requires
+
+pub returns-in-Texts : goal.returns-in-Texts
+returns-in-Texts c =
+    let lane = c.in-Texts.lane in
+    let row = lane_row lane.values.now lane.present.now lane.start lane.stride lane.back in
+    let seen = ap borrowed_column (sym c.in-Texts.is) ∙ c.a.view_is in
+    let below = subst (λ (n : ℕ). All (λ place. place < n) c.args.rows.now) (sym (length-column _ _ _ _ seen)) c.requires in
+    subst (λ (x : CellColumn). IfOk c.chosen_lane-in-Texts.result (λ made. made ≡ x)) (chosen_seen Text text_cell lane.count row c.args.rows.now below ∙ ap (cells_by_place c.args.rows.now) seen) c.chosen_lane-in-Texts.ensures

@@ -1,0 +1,12 @@
+use Rattle.std.proofs.Common.{◌≡◌, refl, subst, length, IfOk}
+use Rattle.std.specs.Prelude.{slice_index}
+use Rattle.column_core.specs.Columns.{CellColumn}
+use Rattle.column_core.proofs.CellRows.{same_column}
+use Rattle.selections.proofs.taking.chosen_lane.Goals as goal
+
+pub returns-in-Some : goal.returns-in-Some
+returns-in-Some g c =
+    let places = c.args.places.now in
+    subst (λ (x : CellColumn). IfOk c.chosen_rows.result (λ made. made ≡ x))
+    (same_column g.T.Value.kind g.T.Value.cell (length places) (length places) _ _ refl (λ k lt. c.in-Some.ensures.rows (slice_index places k) (c.requires k 0 lt)))
+    c.chosen_rows.ensures

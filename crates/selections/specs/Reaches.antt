@@ -1,0 +1,131 @@
+-- Keys and what they pick, as they are meant.
+use Rattle.std.specs.Prelude.{◌≡◌, ℕ, ℤ, ◌<◌, nat_eq, Bool, true, false, List, [], ◌∷◌, length, map, slice_index_or, Option, Some, None, option_map, Result, Ok, Err, All, ⊤}
+use Rattle.std.specs.Option.{is_some}
+use Rattle.cell_core.specs.declared.cell.Label.{Label}
+use Rattle.cell_core.specs.declared.grid.Shape.{Shape}
+use Rattle.cell_core.specs.declared.grid.Shape.TheVariants.{Series, Frame}
+use Rattle.cell_core.specs.declared.code.Code.TheVariants as code
+use Rattle.cell_core.specs.declared.code.Reason.TheVariants as reason
+use Rattle.meaning.specs.Text.{Text}
+use Rattle.meaning.specs.Cell.{CellValue, LabelValue}
+use Rattle.meaning.specs.Fault.{FaultValue, wrong_kind}
+use Rattle.meaning.specs.Symbol.{Accessor, loc, iloc, at, iat}
+use Rattle.table_meaning.specs.Table.{NumberedTable, Table, tuple_value}
+use Rattle.table_meaning.specs.Value.{GivenList, GivenSub, no_given, more_given, key_given, span_given, scalar_in, object_in, tuple_in}
+use Rattle.multi_index.specs.Axes.{AxisValue, HaveLevels}
+use Rattle.pick_meaning.specs.Keys.{LabelKey, all_rows, one_key, each_key, between, PlaceKey, Pick}
+use Rattle.select_meaning.specs.Keys.{Reach}
+use Rattle.frame_store.specs.declared.arguments.Selector.{Selector}
+use Rattle.frame_store.specs.declared.arguments.Selector.TheVariants as selector
+use Rattle.frame_store.specs.declared.fault.OpFault.{OpFault}
+use Rattle.frame_store.specs.declared.fault.OpFault.TheVariants as op
+use Rattle.indexers.specs.declared.keys.LocKey.{LocKey}
+use Rattle.indexers.specs.declared.keys.LocKey.TheVariants as key
+use Rattle.indexers.specs.declared.keys.PosKey.{PosKey}
+use Rattle.indexers.specs.declared.keys.Picked.{Picked}
+use Rattle.indexers.specs.declared.keys.KeyFault.{KeyFault}
+use Rattle.indexers.specs.declared.keys.KeyFault.TheVariants as fault
+use Rattle.indexers.specs.Keys.{place_key}
+use Rattle.indexers.specs.Picks.{pick_of, IsSpanned}
+use Rattle.frame_store.specs.World.{IsKnownTable}
+use Rattle.selections.specs.declared.reaching.Reach.{Reach as CodeReach}
+
+-- a key by label, whose texts are the texts themselves
+abbrev pub label_key_value : List Text → LocKey → LabelKey (List LabelValue)
+label_key_value texts key.All = all_rows
+label_key_value texts (key.One k) = one_key (tuple_value texts k)
+label_key_value texts (key.Many ks) = each_key (map (tuple_value texts) ks)
+label_key_value texts (key.Span lower upper) = between (option_map (tuple_value texts) lower) (option_map (tuple_value texts) upper)
+
+abbrev pub bound_value : List Text → Option (List Label) → Option (List LabelValue)
+bound_value texts bound = option_map (tuple_value texts) bound
+
+abbrev pub tuples_value : List Text → List (List Label) → List (List LabelValue)
+tuples_value texts tuples = map (tuple_value texts) tuples
+
+-- the scalar of a list of one
+abbrev pub one_scalar : GivenList → Option CellValue
+one_scalar (more_given g no_given) = scalar_in g
+one_scalar parts = None
+
+-- a whole number, or what the lack of one is
+abbrev pub whole_or_fault : Option ℤ → Result ℤ FaultValue
+whole_or_fault None = Err wrong_kind
+whole_or_fault (Some z) = Ok z
+
+-- a key by position, which has no texts
+abbrev pub place_key_value : List Text → PosKey → PlaceKey
+place_key_value texts k = place_key k
+
+-- the accessor that a selector is; of a Series, brackets alone are `loc`
+abbrev pub accessor_of : Selector → Accessor
+accessor_of selector.Plain = loc
+accessor_of selector.Loc = loc
+accessor_of selector.Iloc = iloc
+accessor_of selector.At = at
+accessor_of selector.Iat = iat
+
+-- what is picked
+abbrev pub pick_value : List Text → Picked → Pick
+pick_value texts picked = pick_of picked
+
+abbrev pub reach_value : List Text → CodeReach → Reach
+reach_value texts reach = record { rows = pick_of reach.rows; columns = pick_of reach.columns }
+
+-- places among so many, which the span lists too where there is one; a single one is one
+pub record PicksBelow (count : ℕ) (picked : Picked) : Type 0 where
+  pub below : All (λ place. place < count) picked.places
+  pub spanned : IsSpanned count picked
+  pub one : picked.single ≡ true → length picked.places ≡ 1
+
+-- rows and columns of a table, of which a Series has a single one
+pub record ReachesWithin (t : NumberedTable) (reach : CodeReach) : Type 0 where
+  pub rows : PicksBelow (length t.labels) reach.rows
+  pub columns : PicksBelow (length t.columns) reach.columns
+  pub frame : reach.columns.single ≡ false → t.shape ≡ Frame
+
+-- a table of one level whose parts fit, and whose texts were given their numbers
+pub record CanPick (texts : List Text) (t : NumberedTable) : Type 0 where
+  pub known : IsKnownTable texts t
+  pub one : length t.level_names ≡ 1
+  pub levels : HaveLevels 1 t.labels
+
+-- one level, or the refusal of a table of several
+abbrev pub ExpectsOne : Result ⊤ OpFault → ℕ → Type 0
+ExpectsOne (Ok done) levels = levels ≡ 1
+ExpectsOne (Err why) levels = (why ≡ op.Refused code.NotBuilt) × (nat_eq levels 1 ≡ false)
+
+abbrev pub is_series : Shape → Bool
+is_series Series = true
+is_series Frame = false
+
+-- a tuple as a key
+abbrev pub is_row : GivenSub → Bool
+is_row (key_given g) = is_some (tuple_in g)
+is_row (span_given from to by) = false
+
+-- the object that a key is
+abbrev pub object_key : GivenSub → Option Table
+object_key (key_given g) = object_in g
+object_key (span_given from to by) = None
+
+-- the labels of the columns at these places, one to each row
+abbrev pub heading_tuple : Option Label → List Label
+heading_tuple None = []
+heading_tuple (Some l) = l ∷ []
+
+abbrev pub columns_axis : NumberedTable → List ℕ → AxisValue
+columns_axis t places = record { tuples = map (λ place. heading_tuple (slice_index_or t.headings place None)) places; names = t.columns_name ∷ [] }
+
+-- why a key picks nothing, as the refusal of a form
+abbrev pub refusal_of : KeyFault → OpFault
+refusal_of (fault.NotThere k) = op.Refused (code.NoKey k)
+refusal_of (fault.BoundNotUnique k) = op.Refused (code.NoKey k)
+refusal_of (fault.OutOfRange position count) = op.Refused (code.OutOfRange position count)
+refusal_of (fault.NoMaskLabel k) = op.Refused (code.NoMaskLabel k)
+refusal_of fault.StepZero = op.Refused (code.BadValue reason.Argument)
+refusal_of fault.NoMemory = op.NoMemory
+
+abbrev pub found_result : {A : Type 0} → Result A KeyFault → Result A OpFault
+found_result (Ok a) = Ok a
+found_result (Err why) = Err (refusal_of why)

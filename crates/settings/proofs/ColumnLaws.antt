@@ -1,0 +1,114 @@
+-- Columns of scalars.
+use Rattle.std.proofs.Common.{◌≡◌, ◌∙◌, ℕ, zero, suc, ◌+◌, ◌<◌, Bool, true, false, ◌&&◌, List, [], ◌∷◌, ◌++◌, length, take, drop, map, replicate, refl, ap, sym, arith, if◌then◌else◌, Option, Some, None, Result, Ok, Err}
+use Rattle.std.specs.Prelude.{slice_get, slice_index_or, unwrap_or}
+use Rattle.std.specs.List.{list_all}
+use Rattle.std.proofs.lemmas.List.{map-append, take_more}
+use Rattle.std.proofs.Math.Seq.{drop-cons, drop-length}
+use Rattle.std.proofs.lemmas.Option.{get_or_from_slice_get}
+use Rattle.cell_core.specs.declared.cell.Cell.{Cell}
+use Rattle.cell_core.specs.declared.cell.Cell.TheVariants.{Na}
+use Rattle.cell_core.specs.declared.cell.Kind.{Kind}
+use Rattle.cell_core.specs.declared.cell.Kind.TheVariants.{Int64}
+use Rattle.meaning.specs.Text.{Text}
+use Rattle.meaning.specs.Cell.{CellValue, datum, holds}
+use Rattle.meaning.specs.Block.{filled_with}
+use Rattle.meaning.specs.Fault.{FaultValue, wrong_kind}
+use Rattle.column_core.specs.Blocks.{CellBlock}
+use Rattle.column_core.specs.Columns.{CellColumn}
+use Rattle.table_meaning.specs.Table.{ColumnOf, column_at, no_column}
+use Rattle.form_meaning.specs.Set.{first_kind, list_column}
+use Rattle.frame_store.specs.Parts.{block_column, single_block, IsSingle}
+use Rattle.frame_store.specs.Shown.{cells_value}
+use Rattle.frame_store.proofs.PartLaws.{single_made, column_made}
+use Rattle.settings.specs.Assigned.{column_seen, missing_cells}
+
+-- the kind of the first cell that is present
+abbrev pub kind_from : List Text → List Cell → ℕ → Kind
+kind_from texts cells k = first_kind (cells_value texts (drop k cells))
+
+from_kind : (texts : List Text) (cells : List Cell) (k : ℕ) (c : Cell) (found : Option Kind) → k < length cells → slice_get cells k ≡ Some c
+    → ((texts : List Text) (rest : List CellValue) → first_kind (datum texts c ∷ rest) ≡ unwrap_or found (first_kind rest)) → kind_from texts cells k ≡ unwrap_or found (kind_from texts cells (suc k))
+from_kind texts cells k c found lt at first =
+    ap (λ l. first_kind (cells_value texts l)) (drop-cons cells k Na lt)
+    ∙ ap (λ x. first_kind (datum texts x ∷ cells_value texts (drop (suc k) cells))) (get_or_from_slice_get cells k c Na at)
+    ∙ first texts (cells_value texts (drop (suc k) cells))
+
+pub kind_met : (texts : List Text) (cells : List Cell) (k : ℕ) (c : Cell) (kind whole : Kind) → k < length cells → slice_get cells k ≡ Some c
+    → ((texts : List Text) (rest : List CellValue) → first_kind (datum texts c ∷ rest) ≡ kind) → kind_from texts cells k ≡ whole → kind ≡ whole
+kind_met texts cells k c kind whole lt at first before = sym (from_kind texts cells k c (Some kind) lt at first) ∙ before
+
+pub kind_passed : (texts : List Text) (cells : List Cell) (k : ℕ) (c : Cell) (whole : Kind) → k < length cells → slice_get cells k ≡ Some c
+    → ((texts : List Text) (rest : List CellValue) → first_kind (datum texts c ∷ rest) ≡ first_kind rest) → kind_from texts cells k ≡ whole → kind_from texts cells (k + 1) ≡ whole
+kind_passed texts cells k c whole lt at first before =
+    let next : k + 1 ≡ suc k = omega arith in
+    ap (kind_from texts cells) next ∙ sym (from_kind texts cells k c None lt at first) ∙ before
+
+pub no_kind : (texts : List Text) (cells : List Cell) (k : ℕ) (whole : Kind) → k ≡ length cells → kind_from texts cells k ≡ whole → Int64 ≡ whole
+no_kind texts cells k whole end before = sym (ap (λ l. first_kind (cells_value texts l)) (ap (λ n. drop n cells) end ∙ drop-length cells)) ∙ before
+
+-- a cell of those that all pass a test
+both : (a b : Bool) → (a && b) ≡ true → (a ≡ true) × (b ≡ true)
+both true b e = (refl, e)
+both false b e = cc
+
+pub cell_passes : (test : CellValue → Bool) (texts : List Text) (cells : List Cell) (k : ℕ) (c : Cell) → k < length cells → slice_get cells k ≡ Some c → list_all test (cells_value texts cells) ≡ true → test (datum texts c) ≡ true
+cell_passes test texts cells k c lt at all = ap (λ x. test (datum texts x)) (sym (get_or_from_slice_get cells k c Na at)) ∙ go cells k lt all
+  where
+    go : (cs : List Cell) (j : ℕ) → j < length cs → list_all test (cells_value texts cs) ≡ true → test (datum texts (slice_index_or cs j Na)) ≡ true
+    go [] j lt h = absurd (omega (arith, lt))
+    go (x ∷ xs) zero lt h = (both (test (datum texts x)) (list_all test (cells_value texts xs)) h).0
+    go (x ∷ xs) (suc j) lt h = go xs j (omega (arith, lt)) (both (test (datum texts x)) (list_all test (cells_value texts xs)) h).1
+
+-- the column of a list
+abbrev listed_if : Kind → List CellValue → Bool → Result (ColumnOf CellValue) FaultValue
+listed_if kind cells b = if b then Ok record { kind = kind; cells = cells } else Err wrong_kind
+
+list_is : (texts : List Text) (cells : List Cell) (kind : Kind) (b : Bool) → kind ≡ first_kind (cells_value texts cells) → b ≡ list_all (holds kind) (cells_value texts cells) → list_column (cells_value texts cells) ≡ listed_if kind (cells_value texts cells) b
+list_is texts cells kind b is same =
+    (λ j. listed_if (sym is j) (cells_value texts cells) (list_all (holds (sym is j)) (cells_value texts cells))) ∙ ap (listed_if kind (cells_value texts cells)) (sym same)
+
+pub list_refused : (texts : List Text) (cells : List Cell) (kind : Kind) (b : Bool) → kind ≡ first_kind (cells_value texts cells) → b ≡ list_all (holds kind) (cells_value texts cells) → b ≡ false → list_column (cells_value texts cells) ≡ Err wrong_kind
+list_refused texts cells kind b is same other = list_is texts cells kind b is same ∙ ap (listed_if kind (cells_value texts cells)) other
+
+pub list_made : (texts : List Text) (cells : List Cell) (kind : Kind) (b : Bool) (c : CellColumn) → kind ≡ first_kind (cells_value texts cells) → b ≡ list_all (holds kind) (cells_value texts cells) → b ≡ true → c ≡ record { kind = kind; cells = cells }
+    → list_column (cells_value texts cells) ≡ Ok (column_seen texts c)
+list_made texts cells kind b c is same is_so made = list_is texts cells kind b is same ∙ ap (listed_if kind (cells_value texts cells)) is_so ∙ ap (λ v. Ok (column_seen texts v)) (sym made)
+
+-- one cell in each row
+pub map-replicate : (texts : List Text) (n : ℕ) (c : Cell) → map (datum texts) (replicate n c) ≡ replicate n (datum texts c)
+map-replicate texts zero c = refl
+map-replicate texts (suc n) c = ap (λ l. datum texts c ∷ l) (map-replicate texts n c)
+
+pub scalar_is : (texts : List Text) (kind meant : Kind) (rows : ℕ) (c : Cell) (made : CellColumn) → made ≡ record { kind = kind; cells = replicate rows c } → meant ≡ kind → column_seen texts made ≡ record { kind = meant; cells = replicate rows (datum texts c) }
+scalar_is texts kind meant rows c made is same = ap (column_seen texts) is ∙ (λ j. record { kind = sym same j; cells = map-replicate texts rows c j })
+
+pub cells_are : (kind : Kind) (cells : List Cell) (made : CellColumn) → made ≡ record { kind = kind; cells = cells } → made.cells ≡ cells
+cells_are kind cells made is = ap (λ (c : CellColumn). c.cells) is
+
+-- columns of missing cells
+pub length-replicate : (n : ℕ) (c : Cell) → length (replicate n c) ≡ n
+length-replicate zero c = refl
+length-replicate (suc n) c = ap suc (length-replicate n c)
+
+missing_block : (rows : ℕ) (kind : Kind) (block : CellBlock) → block ≡ record { kind = kind; rows = rows; columns = filled_with Na 1 rows } → block ≡ single_block record { kind = kind; cells = replicate rows Na }
+missing_block rows kind block is = is ∙ (λ j. record { kind = kind; rows = sym (length-replicate rows Na) j; columns = replicate rows Na ∷ [] })
+
+pub one_missing : (columns : List (ColumnOf Cell)) (rows place : ℕ) (kind : Kind) (block : CellBlock) (made made' : List CellBlock) → place < length columns → kind ≡ (column_at columns place).kind
+    → block ≡ record { kind = kind; rows = rows; columns = filled_with Na 1 rows } → made' ≡ made ++ block ∷ [] → map block_column made ≡ map (missing_cells rows) (take place columns)
+    → map block_column made' ≡ map (missing_cells rows) (take (place + 1) columns)
+one_missing columns rows place kind block made made' lt at is pushed before =
+    let column : block_column block ≡ missing_cells rows (column_at columns place) =
+    column_made block _ (missing_block rows kind block is) ∙ ap (λ (k : Kind). record { kind = k; cells = replicate rows Na }) at in
+    ap (map block_column) pushed ∙ map-append block_column made (block ∷ [])
+    ∙ (λ j. before j ++ column j ∷ [])
+    ∙ sym (ap (map (missing_cells rows)) (take_more columns place no_column lt) ∙ map-append (missing_cells rows) (take place columns) (column_at columns place ∷ []))
+
+pub missing_single : (rows : ℕ) (kind : Kind) (block : CellBlock) → block ≡ record { kind = kind; rows = rows; columns = filled_with Na 1 rows } → IsSingle block
+missing_single rows kind block is = single_made block _ (missing_block rows kind block is)
+
+-- one more cell
+pub one_pushed : (kind : Kind) (cells : List Cell) (k : ℕ) (c : Cell) (before after : CellColumn) → k < length cells → slice_get cells k ≡ Some c → before ≡ record { kind = kind; cells = take k cells } → after ≡ record { kind = before.kind; cells = before.cells ++ c ∷ [] }
+    → after ≡ record { kind = kind; cells = take (k + 1) cells }
+one_pushed kind cells k c before after lt at was pushed =
+    pushed ∙ ap (λ (v : CellColumn). record { kind = v.kind; cells = v.cells ++ c ∷ [] }) was
+    ∙ ap (λ (l : List Cell). record { kind = kind; cells = l }) (ap (λ x. take k cells ++ x ∷ []) (sym (get_or_from_slice_get cells k c Na at)) ∙ sym (take_more cells k Na lt))

@@ -1,0 +1,9 @@
+pub mod CellLaws
+pub mod ColumnLaws
+pub mod FillLaws
+pub mod GrowLaws
+pub mod MoveLaws
+pub mod PutCases
+pub mod PutLaws
+pub mod SetLaws
+pub mod TargetLaws

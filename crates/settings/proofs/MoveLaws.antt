@@ -1,0 +1,83 @@
+-- Columns that move, with which a Series ends.
+use Rattle.std.proofs.Common.{◌≡◌, ◌∙◌, ℕ, Bool, true, false, List, length, refl, ap, sym, nat_eq, if◌then◌else◌, Option, Some, None, Ok, Err}
+use Rattle.std.specs.Prelude.{is_some, IsSome, IfSome}
+use Rattle.cell_core.specs.declared.grid.Shape.{Shape}
+use Rattle.cell_core.specs.declared.grid.Shape.TheVariants.{Series, Frame}
+use Rattle.cell_core.specs.declared.cell.Cell.{Cell}
+use Rattle.cell_core.specs.declared.cell.Label.{Label}
+use Rattle.meaning.specs.Text.{Text}
+use Rattle.meaning.specs.Cell.{LabelValue, CellValue, label_datum}
+use Rattle.meaning.specs.Fault.{wrong_kind, then_value}
+use Rattle.column_core.specs.Columns.{CellColumn}
+use Rattle.table_meaning.specs.Settled.{IsSettled}
+use Rattle.table_meaning.specs.Table.{ColumnOf, NumberedTable, Table, table_value, column_at, no_column}
+use Rattle.table_meaning.specs.Change.{with_column}
+use Rattle.table_meaning.specs.Valid.{IsWhole}
+use Rattle.table_meaning.specs.Value.{one, table}
+use Rattle.form_meaning.specs.Binding.{is_frame}
+use Rattle.form_meaning.specs.Infix.{same_tuples}
+use Rattle.select_meaning.specs.Set.{SetValue, aligned, column_set, put_result, series_set, set_value}
+use Rattle.frame_store.specs.Objects.{Tables, with_object}
+use Rattle.frame_store.specs.Shown.{labels_value, headings_value}
+use Rattle.frame_store.specs.declared.object.ObjId.{ObjId}
+use Rattle.frame_store.proofs.Settling.{columns_given, columns_part}
+use Rattle.settings.specs.Assigned.{put_place}
+use Rattle.settings.specs.Changes.{ended, MayEnd}
+use Rattle.settings.proofs.PutCases.{first_column, has_column, series_fits}
+use Rattle.settings.proofs.PutLaws.{kept_there, nat_same, put_meant, put_refused_of, put_settled, put_there}
+
+-- what a Series is as a value
+series_if : (shape : Shape) (s : Table) (v : SetValue) → (if is_frame shape then Err wrong_kind else Ok (aligned s)) ≡ Ok v → (shape ≡ Series) × (v ≡ aligned s)
+series_if Series s v is = (refl, cc)
+series_if Frame s v is = cc
+
+pub series_shape : (s : Table) (v : SetValue) → set_value (one (table s)) ≡ Ok v → s.shape ≡ Series
+series_shape s v is = (series_if s.shape s v is).0
+
+pub column_moves : (t s : Table) (l : LabelValue) (v : SetValue) → set_value (one (table s)) ≡ Ok v → column_set t l v ≡ series_set t l s
+column_moves t s l v is = ap (column_set t l) (series_if s.shape s v is).1
+
+-- its column, as one of a kernel
+abbrev pub kernel_column : ColumnOf Cell → CellColumn
+kernel_column c = record { kind = c.kind; cells = c.cells }
+
+pub move_meant : (texts : List Text) (t s : NumberedTable) (label : Label) (place rows : ℕ) → IsWhole t → rows ≡ length t.labels → same_tuples (labels_value texts t.labels) (labels_value texts s.labels) ≡ true
+    → put_place rows (headings_value texts t.headings) (label_datum texts label) ≡ Ok place
+    → series_set (table_value texts t) (label_datum texts label) (table_value texts s) ≡ Ok (table_value texts (with_column t place (Some label) (column_at s.columns 0)))
+move_meant texts t s label place rows whole count same placed =
+    series_fits texts t s (label_datum texts label) same
+    ∙ ap (λ (c : ColumnOf CellValue). put_result (table_value texts t) (label_datum texts label) c) (first_column texts s.columns)
+    ∙ put_meant texts t place rows label (kernel_column (column_at s.columns 0)) (with_column t place (Some label) (column_at s.columns 0)) whole count placed refl
+
+pub move_refused : (texts : List Text) (t s : NumberedTable) (label : Label) (rows : ℕ) → IsWhole t → rows ≡ length t.labels → same_tuples (labels_value texts t.labels) (labels_value texts s.labels) ≡ true
+    → then_value (put_place rows (headings_value texts t.headings) (label_datum texts label)) (put_there (table_value texts t) (label_datum texts label) (column_at (table_value texts s).columns 0))
+    ≡ series_set (table_value texts t) (label_datum texts label) (table_value texts s)
+move_refused texts t s label rows whole count same =
+    put_refused_of texts t rows label (column_at (table_value texts s).columns 0) whole count ∙ sym (series_fits texts t s (label_datum texts label) same)
+
+pub move_settled : (texts : List Text) (t s : NumberedTable) (label : Label) (place : ℕ) → IsSettled table_value texts t → IsSettled label_datum texts label → IsWhole s → s.shape ≡ Series → IsSettled table_value texts s
+    → IsSettled table_value texts (with_column t place (Some label) (column_at s.columns 0))
+move_settled texts t s label place settled named whole series given =
+    put_settled texts t place label (column_at s.columns 0) settled named (columns_given texts s.columns (columns_part texts s given) 0 no_column (has_column s whole series))
+
+-- an object ends beside one that is set
+other_kept : (old new : Tables) (on : ObjId) (t : NumberedTable) (id : ObjId) → MayEnd old on id → new ≡ with_object old on.0 (Some t) → IsSome (new id.0)
+other_kept old new on t id may put = ap is_some (kept_there old new on.0 id.0 t put (λ e. may.1 (sym e))) ∙ may.0
+
+pub others_kept : (old new : Tables) (on : ObjId) (t : NumberedTable) (ends : Option ObjId) → IfSome ends (MayEnd old on) → new ≡ with_object old on.0 (Some t) → IfSome ends (λ id. IsSome (new id.0))
+others_kept old new on t None may put = tt
+others_kept old new on t (Some id) may put = other_kept old new on t id may put
+
+either_first : {X : Type 0} (a b : Bool) (x y z : X) → (a ≡ true → b ≡ true → ⊥) → (if a then x else (if b then y else z)) ≡ (if b then y else (if a then x else z))
+either_first true true x y z apart = absurd (apart refl refl)
+either_first true false x y z apart = refl
+either_first false b x y z apart = refl
+
+pub ended_beside : (old new new' : Tables) (on : ObjId) (t : NumberedTable) (ends : Option ObjId) → IfSome ends (MayEnd old on) → new ≡ with_object old on.0 (Some t) → new' ≡ ended ends new → new' ≡ with_object (ended ends old) on.0 (Some t)
+ended_beside old new new' on t None may put end = end ∙ put
+ended_beside old new new' on t (Some id) may put end = end ∙ (λ j other. (at other) j)
+  where
+    at : (other : ℕ) → (if nat_eq id.0 other then None else new other) ≡ (if nat_eq on.0 other then Some t else (if nat_eq id.0 other then None else old other))
+    at other =
+        ap (λ (f : Tables). if nat_eq id.0 other then None else f other) put
+        ∙ either_first (nat_eq id.0 other) (nat_eq on.0 other) None (Some t) (old other) (λ a b. may.1 (nat_same on.0 other b ∙ sym (nat_same id.0 other a)))

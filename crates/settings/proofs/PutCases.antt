@@ -1,0 +1,202 @@
+-- Columns for the rows of a frame, and rows that a frame gets with a column.
+use Rattle.std.proofs.Common.{◌≡◌, ◌∙◌, ℕ, zero, suc, pos, ◌<◌, Bool, true, false, ◌&&◌, List, [], ◌∷◌, ◌++◌, length, map, replicate, refl, ap, sym, subst, arith, nat_eq, if◌then◌else◌, Option, Some, None, Result, Ok, Err}
+use Rattle.std.specs.Prelude.{◌≢◌, not}
+use Rattle.std.specs.List.{range_with_len}
+use Rattle.std.proofs.lemmas.Bool.Decides.{nat_tests}
+use Rattle.std.proofs.lemmas.List.{length-map}
+use Rattle.std.proofs.lemmas.List.FromFn.{length-map-range_with_len}
+use Rattle.std.proofs.lemmas.List.Elements.{All-cons, All-nil}
+use Rattle.cell_core.specs.declared.cell.Cell.{Cell}
+use Rattle.cell_core.specs.declared.cell.Label.{Label}
+use Rattle.meaning.specs.Text.{Text}
+use Rattle.meaning.specs.Cell.{CellValue, LabelValue, int, datum, label_datum, na_cell, IsGiven, AreGiven}
+use Rattle.meaning.specs.Fault.{FaultValue, bad_value, length_of, not_built, then_value}
+use Rattle.index_core.specs.Ranges.{number_label}
+use Rattle.multi_index.specs.Axes.{AxisValue, range_axis, single_tuples}
+use Rattle.column_core.specs.Columns.{CellColumn}
+use Rattle.table_meaning.specs.Settled.{IsSettled}
+use Rattle.table_meaning.specs.Table.{ColumnOf, NumberedTable, Table, table_value, heading_value, tuple_value, column_value, column_at, no_column}
+use Rattle.table_meaning.specs.Change.{with_column}
+use Rattle.table_meaning.specs.Valid.{IsWhole}
+use Rattle.form_meaning.specs.Finish.{default_labels}
+use Rattle.form_meaning.specs.Infix.{same_tuple, same_tuples}
+use Rattle.form_meaning.specs.Set.{of_length}
+use Rattle.select_meaning.specs.Set.{put_result, with_rows, has_none, list_set, series_set}
+use Rattle.frame_store.specs.Shown.{labels_value, headings_value, columns_value}
+use Rattle.frame_store.proofs.Settling.{cell_given, cells_given, columns_given, columns_part}
+use Rattle.cell_core.specs.declared.grid.Shape.TheVariants.{Series}
+use Rattle.select_meaning.specs.Set as meant
+use Rattle.frame_store.specs.Objects.{Tables}
+use Rattle.settings.specs.declared.values.SetValue.{SetValue}
+use Rattle.settings.specs.declared.values.SetValue.TheVariants.{Same, Listed}
+use Rattle.settings.specs.Values.{value_in}
+use Rattle.settings.specs.Assigned.{table_column, column_seen, put_place, with_axis}
+use Rattle.settings.proofs.PutLaws.{put_by, put_there, put_settled, rows_seen, rows_settled, column_put}
+
+-- the cells of a column were given
+pub column_is_given : (texts : List Text) (t : NumberedTable) (place : ℕ) (c copy : CellColumn) → IsSettled table_value texts t → place < length t.columns → column_at t.columns place ≡ record { kind = c.kind; cells = c.cells } → copy ≡ c → AreGiven texts copy.cells
+column_is_given texts t place c copy settled lt is same =
+    subst (λ (v : CellColumn). AreGiven texts v.cells) (sym same)
+    (subst (λ (v : ColumnOf Cell). AreGiven texts v.cells) is (columns_given texts t.columns (columns_part texts t settled) place no_column lt))
+
+pub filled_given : (texts : List Text) (n : ℕ) (c : Cell) (cells : List Cell) → IsSettled datum texts c → cells ≡ replicate n c → AreGiven texts cells
+filled_given texts n c cells settled is = subst (AreGiven texts) (sym is) (go n)
+  where
+    here : IsGiven texts c
+    here = cell_given texts c settled
+
+    go : (n : ℕ) → AreGiven texts (replicate n c)
+    go zero = All-nil (IsGiven texts)
+    go (suc n) = All-cons (IsGiven texts) c (replicate n c) here (go n)
+
+-- the labels 0, 1 and so on
+range_from : (texts : List Text) (ns : List ℕ) → labels_value texts (single_tuples (map number_label ns)) ≡ map (λ k. int (pos k) ∷ []) ns
+range_from texts [] = refl
+range_from texts (n ∷ ns) = λ j. (int (pos n) ∷ []) ∷ range_from texts ns j
+
+pub range_seen : (texts : List Text) (n : ℕ) (axis : AxisValue) → axis ≡ range_axis n → labels_value texts axis.tuples ≡ default_labels n
+range_seen texts n axis is = ap (λ (a : AxisValue). labels_value texts a.tuples) is ∙ range_from texts (range_with_len 0 n)
+
+pub range_names : (texts : List Text) (n : ℕ) (axis : AxisValue) → axis ≡ range_axis n → headings_value texts axis.names ≡ None ∷ []
+range_names texts n axis is = ap (λ (a : AxisValue). headings_value texts a.names) is
+
+pub range_settled : (texts : List Text) (n : ℕ) (axis : AxisValue) → axis ≡ range_axis n → IsSettled labels_value texts axis.tuples
+range_settled texts n axis is = λ more. range_seen (texts ++ more) n axis is ∙ sym (range_seen texts n axis is)
+
+default_count : (n : ℕ) → length (default_labels n) ≡ n
+default_count n = length-map-range_with_len (λ k. int (pos k) ∷ []) 0 n
+
+pub range_count : (n : ℕ) (axis : AxisValue) → axis ≡ range_axis n → length axis.tuples ≡ n
+range_count n axis is = sym (length-map axis.tuples (tuple_value [])) ∙ ap (λ (l : List (List LabelValue)). length l) (range_seen [] n axis is) ∙ default_count n
+
+-- a column for a frame that gets rows, by its place
+pub rows_put : (texts : List Text) (t : NumberedTable) (labels : List (List LabelValue)) (names : List (Option LabelValue)) (label : Label) (c : ColumnOf CellValue) (rows : ℕ) → IsWhole t → rows ≡ length labels
+    → then_value (put_place rows (headings_value texts t.headings) (label_datum texts label)) (put_there (with_rows (table_value texts t) labels names) (label_datum texts label) c) ≡ put_result (with_rows (table_value texts t) labels names) (label_datum texts label) c
+rows_put texts t labels names label c rows whole is =
+    let u = with_rows (table_value texts t) labels names in
+    let headed : length u.headings ≡ length u.columns =
+    length-map t.headings (heading_value texts) ∙ whole.headed ∙ sym (length-map t.columns (column_value texts)) ∙ sym (length-map (columns_value texts t.columns) _) in
+    ap (λ n. then_value (put_place n (headings_value texts t.headings) (label_datum texts label)) (put_there u (label_datum texts label) c)) is ∙ sym (put_by u (label_datum texts label) c headed)
+
+pub default_rows : (n : ℕ) → n ≡ length (default_labels n)
+default_rows n = sym (default_count n)
+
+-- rows that are the same are as many
+both : (a b : Bool) → (a && b) ≡ true → b ≡ true
+both true b e = e
+both false b e = cc
+
+pub as_many : (a b : List (List LabelValue)) → same_tuples a b ≡ true → length b ≡ length a
+as_many [] [] e = refl
+as_many [] (b ∷ bs) e = cc
+as_many (a ∷ as') [] e = cc
+as_many (a ∷ as') (b ∷ bs) e = ap suc (as_many as' bs (both (same_tuple a b) (same_tuples as' bs) e))
+
+pub rows_as_many : (texts : List Text) (a b : List (List Label)) (r : Bool) → r ≡ same_tuples (labels_value texts a) (labels_value texts b) → r ≡ true → length b ≡ length a
+rows_as_many texts a b r same is = sym (length-map b (tuple_value texts)) ∙ as_many (labels_value texts a) (labels_value texts b) (sym same ∙ is) ∙ length-map a (tuple_value texts)
+
+-- a list goes by rows, and gives a frame without rows its own
+none_of : {A B : Type 0} (f : A → B) (xs : List A) → length xs ≡ 0 → has_none (map f xs) ≡ true
+none_of f [] e = refl
+none_of f (x ∷ xs) e = absurd (omega (arith, e))
+
+some_of : {A B : Type 0} (f : A → B) (xs : List A) → 0 < length xs → has_none (map f xs) ≡ false
+some_of f [] lt = absurd (omega (arith, lt))
+some_of f (x ∷ xs) lt = refl
+
+abbrev list_or : Table → LabelValue → ColumnOf CellValue → Bool → Result Table FaultValue
+list_or t l c b = if b then put_result (with_rows t (default_labels (length c.cells)) (None ∷ [])) l c else of_length (length t.labels) (length c.cells) (put_result t l c)
+
+pub list_rows : (texts : List Text) (t : NumberedTable) (l : LabelValue) (c : CellColumn) → length t.labels ≡ 0 → 0 < length c.cells
+    → list_set (table_value texts t) l (column_seen texts c) ≡ put_result (with_rows (table_value texts t) (default_labels (length c.cells)) (None ∷ [])) l (column_seen texts c)
+list_rows texts t l c none some =
+    (λ j. list_or (table_value texts t) l (column_seen texts c) (none_of (tuple_value texts) t.labels none j && not (some_of (datum texts) c.cells some j)))
+    ∙ ap (λ n. put_result (with_rows (table_value texts t) (default_labels n) (None ∷ [])) l (column_seen texts c)) (length-map c.cells (datum texts))
+
+other_rows : (texts : List Text) (ls : List (List Label)) (cs : List Cell) → (length ls ≡ 0 → 0 < length cs → ⊥) → (has_none (labels_value texts ls) && not (has_none (map (datum texts) cs))) ≡ false
+other_rows texts [] [] unless = refl
+other_rows texts [] (c ∷ cs) unless = absurd (unless refl (omega arith))
+other_rows texts (l ∷ ls) cs unless = refl
+
+list_by_rows : (texts : List Text) (t : NumberedTable) (l : LabelValue) (c : CellColumn) → (length t.labels ≡ 0 → 0 < length c.cells → ⊥)
+    → list_set (table_value texts t) l (column_seen texts c) ≡ of_length (length t.labels) (length c.cells) (put_result (table_value texts t) l (column_seen texts c))
+list_by_rows texts t l c unless =
+    ap (list_or (table_value texts t) l (column_seen texts c)) (other_rows texts t.labels c.cells unless)
+    ∙ (λ j. of_length (length-map t.labels (tuple_value texts) j) (length-map c.cells (datum texts) j) (put_result (table_value texts t) l (column_seen texts c)))
+
+same_count : (m n : ℕ) → m ≡ n → nat_eq m n ≡ true
+same_count m n e = grind (arith, nat_tests)
+
+other_count : (m n : ℕ) → m ≢ n → nat_eq m n ≡ false
+other_count m n e = grind (arith, nat_tests)
+
+pub list_fits : (texts : List Text) (t : NumberedTable) (l : LabelValue) (c : CellColumn) → (length t.labels ≡ 0 → 0 < length c.cells → ⊥) → length t.labels ≡ length c.cells
+    → put_result (table_value texts t) l (column_seen texts c) ≡ list_set (table_value texts t) l (column_seen texts c)
+list_fits texts t l c unless same =
+    sym (list_by_rows texts t l c unless ∙ ap (λ b. if b then put_result (table_value texts t) l (column_seen texts c) else Err (bad_value (length_of (length t.labels) (length c.cells)))) (same_count (length t.labels) (length c.cells) same))
+
+pub list_misfits : (texts : List Text) (t : NumberedTable) (l : LabelValue) (c : CellColumn) → (length t.labels ≡ 0 → 0 < length c.cells → ⊥) → length t.labels ≢ length c.cells
+    → list_set (table_value texts t) l (column_seen texts c) ≡ Err (bad_value (length_of (length t.labels) (length c.cells)))
+list_misfits texts t l c unless other =
+    list_by_rows texts t l c unless ∙ ap (λ b. if b then put_result (table_value texts t) l (column_seen texts c) else Err (bad_value (length_of (length t.labels) (length c.cells)))) (other_count (length t.labels) (length c.cells) other)
+
+-- a Series goes by rows, and gives a frame without rows its own
+abbrev series_or : Table → LabelValue → Table → Bool → Result Table FaultValue
+series_or t l s b = if b then put_result (with_rows t s.labels s.level_names) l (column_at s.columns 0) else Err not_built
+
+series_others : (texts : List Text) (t s : NumberedTable) (l : LabelValue) → same_tuples (labels_value texts t.labels) (labels_value texts s.labels) ≡ false
+    → series_set (table_value texts t) l (table_value texts s) ≡ series_or (table_value texts t) l (table_value texts s) (has_none (labels_value texts t.labels))
+series_others texts t s l other = ap (λ b. if b then put_result (table_value texts t) l (column_at (columns_value texts s.columns) 0) else series_or (table_value texts t) l (table_value texts s) (has_none (labels_value texts t.labels))) other
+
+pub series_fits : (texts : List Text) (t s : NumberedTable) (l : LabelValue) → same_tuples (labels_value texts t.labels) (labels_value texts s.labels) ≡ true
+    → series_set (table_value texts t) l (table_value texts s) ≡ put_result (table_value texts t) l (column_at (columns_value texts s.columns) 0)
+series_fits texts t s l same = ap (λ b. if b then put_result (table_value texts t) l (column_at (columns_value texts s.columns) 0) else series_or (table_value texts t) l (table_value texts s) (has_none (labels_value texts t.labels))) same
+
+pub series_rows : (texts : List Text) (t s : NumberedTable) (l : LabelValue) → same_tuples (labels_value texts t.labels) (labels_value texts s.labels) ≡ false → length t.labels ≡ 0
+    → series_set (table_value texts t) l (table_value texts s) ≡ put_result (with_rows (table_value texts t) (labels_value texts s.labels) (headings_value texts s.level_names)) l (column_at (columns_value texts s.columns) 0)
+series_rows texts t s l other none = series_others texts t s l other ∙ ap (series_or (table_value texts t) l (table_value texts s)) (none_of (tuple_value texts) t.labels none)
+
+pub series_misfits : (texts : List Text) (t s : NumberedTable) (l : LabelValue) → same_tuples (labels_value texts t.labels) (labels_value texts s.labels) ≡ false → 0 < length t.labels
+    → series_set (table_value texts t) l (table_value texts s) ≡ Err not_built
+series_misfits texts t s l other some = series_others texts t s l other ∙ ap (series_or (table_value texts t) l (table_value texts s)) (some_of (tuple_value texts) t.labels some)
+
+-- the frame with the rows of an axis and a column
+pub rows_meant : (texts : List Text) (t : NumberedTable) (axis : AxisValue) (place rows : ℕ) (label : Label) (c : CellColumn) (u : NumberedTable) → IsWhole t → rows ≡ length axis.tuples
+    → put_place rows (headings_value texts t.headings) (label_datum texts label) ≡ Ok place → u ≡ with_column (with_axis t axis) place (Some label) (table_column c)
+    → put_result (with_rows (table_value texts t) (labels_value texts axis.tuples) (headings_value texts axis.names)) (label_datum texts label) (column_seen texts c) ≡ Ok (table_value texts u)
+rows_meant texts t axis place rows label c u whole is placed made =
+    sym (rows_put texts t (labels_value texts axis.tuples) (headings_value texts axis.names) label (column_seen texts c) rows whole (is ∙ sym (length-map axis.tuples (tuple_value texts))))
+    ∙ ap (λ r. then_value r (put_there (with_rows (table_value texts t) (labels_value texts axis.tuples) (headings_value texts axis.names)) (label_datum texts label) (column_seen texts c))) placed
+    ∙ ap (λ (v : Table). Ok (with_column v place (Some (label_datum texts label)) (column_seen texts c))) (rows_seen texts t axis)
+    ∙ ap (λ (v : Table). Ok v) (column_put texts (with_axis t axis) place label c ∙ ap (table_value texts) (sym made))
+
+pub rows_given : (texts : List Text) (t : NumberedTable) (axis : AxisValue) (place : ℕ) (label : Label) (c : CellColumn) (u : NumberedTable) → IsSettled table_value texts t → IsSettled labels_value texts axis.tuples → IsSettled headings_value texts axis.names
+    → IsSettled label_datum texts label → AreGiven texts c.cells → u ≡ with_column (with_axis t axis) place (Some label) (table_column c) → IsSettled table_value texts u
+rows_given texts t axis place label c u settled tuples names named given made =
+    subst (IsSettled table_value texts) (sym made) (put_settled texts (with_axis t axis) place label (table_column c) (rows_settled texts t axis settled tuples names) named given)
+
+-- the column of a Series
+pub first_column : (texts : List Text) (columns : List (ColumnOf Cell)) → column_at (columns_value texts columns) 0 ≡ column_value texts (column_at columns 0)
+first_column texts [] = refl
+first_column texts (c ∷ cs) = refl
+
+pub series_column : (texts : List Text) (s : NumberedTable) (c copy : CellColumn) → column_at s.columns 0 ≡ record { kind = c.kind; cells = c.cells } → copy ≡ c → column_at (columns_value texts s.columns) 0 ≡ column_seen texts copy
+series_column texts s c copy is same = first_column texts s.columns ∙ ap (column_value texts) is ∙ ap (column_seen texts) (sym same)
+
+pub has_column : (s : NumberedTable) → IsWhole s → s.shape ≡ Series → 0 < length s.columns
+has_column s whole series = omega (arith, whole.headings.single series, whole.headed)
+
+-- the value of a setting, whose texts were given
+abbrev same_in : meant.SetValue → CellValue
+same_in (meant.same c) = c
+same_in v = na_cell
+
+abbrev listed_in : meant.SetValue → List CellValue
+listed_in (meant.listed cells) = cells
+listed_in v = []
+
+pub same_settled : (live : Tables) (texts : List Text) (v : SetValue) (c : Cell) → v ≡ Same c → IsSettled (value_in live) texts v → IsSettled datum texts c
+same_settled live texts v c is settled = λ more. ap same_in (ap (value_in live (texts ++ more)) (sym is) ∙ settled more ∙ ap (value_in live texts) is)
+
+pub listed_given : (live : Tables) (texts : List Text) (v : SetValue) (cells : List Cell) → v ≡ Listed cells → IsSettled (value_in live) texts v → AreGiven texts cells
+listed_given live texts v cells is settled = cells_given texts cells (λ more. ap listed_in (ap (value_in live (texts ++ more)) (sym is) ∙ settled more ∙ ap (value_in live texts) is))

@@ -1,0 +1,209 @@
+-- What settings make of the table of an object.
+use Rattle.std.proofs.Common.{◌≡◌, ◌∙◌, ℕ, ◌<◌, Bool, true, false, List, ◌++◌, length, refl, ap, sym, subst, arith, nat_eq, if◌then◌else◌, Option, Some, None, Result, Ok, Err}
+use Rattle.std.specs.Prelude.{◌≢◌, is_some, option_map, IsSome, IfSome}
+use Rattle.std.proofs.lemmas.Bool.Decides.{nat_tests}
+use Rattle.std.proofs.lemmas.List.Quantifiers.{all_pairs_remove}
+use Rattle.cell_core.specs.declared.grid.Shape.TheVariants.{Series, Frame}
+use Rattle.cell_core.specs.declared.cell.Cell.{Cell}
+use Rattle.cell_core.specs.declared.cell.Label.{Label}
+use Rattle.meaning.specs.Text.{Text}
+use Rattle.meaning.specs.Cell.{CellValue, na_cell, LabelValue, datum, label_datum}
+use Rattle.meaning.specs.Operator.{cell_label}
+use Rattle.meaning.specs.Fault.{FaultValue, wrong_kind, then_value}
+use Rattle.table_meaning.specs.Settled.{IsSettled}
+use Rattle.table_meaning.specs.Table.{NumberedTable, Table, table_value, heading_value, column_value}
+use Rattle.table_meaning.specs.Change.{without_column}
+use Rattle.table_meaning.specs.Valid.{AreHeadings, IsWhole}
+use Rattle.table_meaning.specs.Value.{Entry, cell, table}
+use Rattle.form_meaning.specs.Binding.{is_frame}
+use Rattle.form_meaning.specs.Select.{column_place}
+use Rattle.select_meaning.specs.Set.{removal_result}
+use Rattle.form_parts.specs.Makes.{MakesBy}
+use Rattle.frame_store.specs.declared.arguments.Value.{Value}
+use Rattle.frame_store.specs.declared.arguments.Value.TheVariants.{Object, Scalar}
+use Rattle.frame_store.specs.declared.object.ObjId.{ObjId}
+use Rattle.frame_store.specs.declared.fault.OpFault.{OpFault}
+use Rattle.frame_store.specs.declared.fault.OpFault.TheVariants.{Refused, NoMemory}
+use Rattle.frame_store.specs.Objects.{Tables, with_object, table_or, table_at}
+use Rattle.frame_store.specs.Arguments.{entry_of}
+use Rattle.frame_store.specs.Shown.{Shown, shown, with_shown, table_in, Changes}
+use Rattle.frame_store.specs.World.{World, Sets}
+use Rattle.frame_store.proofs.ColumnLaws.{map-remove, All-remove}
+use Rattle.frame_store.proofs.Settling.{longer_self, shown_with, settled_by, settled_with, object_settled}
+use Rattle.selections.proofs.PlaceLaws.{label_settled}
+use Rattle.cell_core.specs.declared.code.Code.{Code}
+use Rattle.meaning.specs.FaultOf.{fault_of}
+use Rattle.settings.specs.declared.changes.Change.{Change}
+use Rattle.settings.specs.declared.changes.Setting.{Setting}
+use Rattle.settings.specs.declared.values.NewValue.{NewValue}
+use Rattle.settings.specs.declared.values.NewValue.TheVariants.{Copied, Moved}
+use Rattle.std.proofs.lemmas.List.{length-map}
+use Rattle.meaning.specs.Symbol.{Accessor, loc}
+use Rattle.meaning.specs.Fault.{not_built}
+use Rattle.meaning.specs.Cell.{na}
+use Rattle.table_meaning.specs.Value.{Given, GivenSub, key_given, span_given, nothing, one, row, many, entries}
+use Rattle.select_meaning.specs.Select.{Way}
+use Rattle.select_meaning.specs.Set.{SetValue, access_set, added_label, assign_result, column_set, frame_set, set_value, table_set, target_by, target_set}
+use Rattle.frame_store.specs.Arguments.{subscript_of}
+use Rattle.frame_store.specs.declared.arguments.Subscript.{Subscript}
+use Rattle.settings.specs.Assigned.{moved_object, without, IsLiveNew, IsOther}
+use Rattle.settings.specs.Changes.{ended, table_after, ChangesBy, GivesBy, RefusesBy, SetsBy, MayEnd, changed as changed_by}
+
+nat_eq_self : (n : ℕ) → nat_eq n n ≡ true
+nat_eq_self n = grind (arith, nat_tests)
+
+-- an object has got another table
+pub changed : (texts : List Text) (tables tables' : Tables) (on : ObjId) (t : NumberedTable) (meant : Result Table FaultValue) → IsSettled shown texts tables → tables' ≡ with_object tables on.0 (Some t) → meant ≡ Ok (table_value texts t)
+    → Changes texts (Ok tt) (Object on) meant (shown texts tables) (shown texts tables')
+changed texts tables tables' on t meant settled put here =
+    let grown : shown texts tables' ≡ with_shown (shown texts tables) on.0 (Some (table_value texts t)) = shown_with texts texts tables tables' on.0 t (longer_self texts) settled put in
+    let at : shown texts tables' on.0 ≡ Some (table_value texts t) =
+    ap (λ (f : Shown). f on.0) grown ∙ ap (λ b. if b then Some (table_value texts t) else shown texts tables on.0) (nat_eq_self on.0) in (
+      here ∙ ap (λ o. Ok (table_in o)) (sym at),
+      ap is_some at,
+      grown ∙ ap (with_shown (shown texts tables) on.0) (sym at),
+    )
+
+abbrev pub in_world : List Text → Tables → World
+in_world texts tables = record { tables = tables; texts = texts }
+
+pub set_made : (texts : List Text) (tables tables' : Tables) (on : ObjId) (t : NumberedTable) (meant : Result Table FaultValue) → IsSettled shown texts tables → IsSettled table_value texts t → tables' ≡ with_object tables on.0 (Some t)
+    → meant ≡ Ok (table_value texts t) → Sets (Ok tt) (Object on) meant (in_world texts tables) (in_world texts tables')
+set_made texts tables tables' on t meant settled here put is =
+    (changed texts tables tables' on t meant settled put is, longer_self texts, settled_with texts tables tables' on.0 t settled here put)
+
+-- or it hasn't
+pub set_refused : (texts : List Text) (tables : Tables) (on : Value) (meant : Result Table FaultValue) (fault : OpFault) → IsSettled shown texts tables → RefusesBy texts fault meant
+    → Sets (Err fault) on meant (in_world texts tables) (in_world texts tables)
+set_refused texts tables on meant (Refused code) settled refused = ((refused, refl), longer_self texts, settled)
+set_refused texts tables on meant NoMemory settled refused = (refl, longer_self texts, settled)
+
+pub set_left : (texts : List Text) (tables tables' : Tables) (on : Value) (meant : Result Table FaultValue) → IsSettled shown texts tables → tables' ≡ tables → Sets (Err NoMemory) on meant (in_world texts tables) (in_world texts tables')
+set_left texts tables tables' on meant settled same = (ap (shown texts) same, longer_self texts, subst (IsSettled shown texts) (sym same) settled)
+
+-- a part that is refused, and another name for what is meant
+pub part_refused : {X Y : Type 0} (view : List Text → X → Y) (texts : List Text) (meant : Result Y FaultValue) (go : Y → Result Table FaultValue) (fault : OpFault) → MakesBy view texts (Err fault) meant
+    → RefusesBy texts fault (then_value meant go)
+part_refused view texts meant go (Refused code) makes = (ap (λ (r : Result _ FaultValue). then_value r go) makes.0, makes.1)
+part_refused view texts meant go NoMemory makes = tt
+
+pub gives_so : {X : Type 0} (to : X → NumberedTable) (texts : List Text) (result : Result X OpFault) (meant meant' : Result Table FaultValue) → meant ≡ meant' → GivesBy to texts result meant → GivesBy to texts result meant'
+gives_so to texts result meant meant' is gives = subst (λ (m : Result Table FaultValue). GivesBy to texts result m) is gives
+
+pub changes_so : (texts : List Text) (t : NumberedTable) (result : Result Change OpFault) (meant meant' : Result Table FaultValue) → meant ≡ meant' → ChangesBy texts t result meant → ChangesBy texts t result meant'
+changes_so texts t result meant meant' is changes = gives_so (changed_by t) texts result meant meant' is changes
+
+pub refuses_so : (texts : List Text) (fault : OpFault) (meant meant' : Result Table FaultValue) → meant ≡ meant' → RefusesBy texts fault meant → RefusesBy texts fault meant'
+refuses_so texts fault meant meant' is refused = subst (λ (m : Result Table FaultValue). RefusesBy texts fault m) is refused
+
+-- a column is removed
+pub removed_is : (texts : List Text) (t : NumberedTable) (place : ℕ) → without_column (table_value texts t) place ≡ table_value texts (without_column t place)
+removed_is texts t place = λ j. record (table_value texts t) { headings = sym (map-remove (heading_value texts) t.headings place) j; columns = sym (map-remove (column_value texts) t.columns place) j }
+
+pub removed_settled : (texts : List Text) (t : NumberedTable) (place : ℕ) → IsSettled table_value texts t → IsSettled table_value texts (without_column t place)
+removed_settled texts t place settled = settled_by table_value table_value (λ (v : Table). without_column v place) texts t (without_column t place) (λ ts. removed_is ts t place) settled
+
+pub removed_headed : (t : NumberedTable) (place : ℕ) → IsWhole t → t.shape ≡ Frame → place < length t.columns → AreHeadings t.shape t.columns_name (without_column t place).headings
+removed_headed t place whole frame inside =
+    let other : t.shape ≡ Series → ⊥ = λ e. let wrong : Series ≡ Frame = sym e ∙ frame in cc in
+    record {
+      single = λ e. absurd (other e);
+      nameless = λ e. absurd (other e);
+      labelled = λ e. All-remove IsSome t.headings place (whole.headings.labelled e);
+      different = λ e. all_pairs_remove (λ a b. a ≢ b) t.headings place (omega (arith, whole.headed, inside)) (whole.headings.different e);
+    }
+
+removal_or : (texts : List Text) (t : NumberedTable) (l : LabelValue) (place : ℕ) (b : Bool) → b ≡ true → column_place (table_value texts t) l ≡ Ok place
+    → (if b then then_value (column_place (table_value texts t) l) (λ place. Ok (without_column (table_value texts t) place)) else Err wrong_kind) ≡ Ok (table_value texts (without_column t place))
+removal_or texts t l place true so is = ap (λ r. then_value r (λ place. Ok (without_column (table_value texts t) place))) is ∙ ap (λ (v : Table). Ok v) (removed_is texts t place)
+removal_or texts t l place false so is = cc
+
+pub removal_set : (texts : List Text) (tables tables' : Tables) (on v : Value) (id : ObjId) (c : Cell) (t : NumberedTable) (l : Label) (place : ℕ) → on ≡ Object id → v ≡ Scalar c → tables id.0 ≡ Some t → t.shape ≡ Frame
+    → label_datum texts l ≡ cell_label (datum texts c) → IsSettled shown texts tables → column_place (table_value texts t) (label_datum texts l) ≡ Ok place → tables' ≡ with_object tables id.0 (Some (without_column (table_at tables id.0) place))
+    → Sets (Ok tt) on (removal_result (entry_of tables texts on) (entry_of tables texts v)) (in_world texts tables) (in_world texts tables')
+removal_set texts tables tables' on v id c t l place on_is v_is there frame seen settled placed put =
+    let at : table_at tables id.0 ≡ t = ap table_or there in
+    let put' : tables' ≡ with_object tables id.0 (Some (without_column t place)) = put ∙ ap (λ (u : NumberedTable). with_object tables id.0 (Some (without_column u place))) at in
+    let place_is : column_place (table_value texts t) (cell_label (datum texts c)) ≡ Ok place = ap (column_place (table_value texts t)) (sym seen) ∙ placed in
+    let is : removal_result (table (table_value texts t)) (cell (datum texts c)) ≡ Ok (table_value texts (without_column t place)) =
+    removal_or texts t (cell_label (datum texts c)) place (is_frame t.shape) (ap is_frame frame) place_is in
+    let here : Sets (Ok tt) (Object id) (removal_result (table (table_value texts (table_at tables id.0))) (cell (datum texts c))) (in_world texts tables) (in_world texts tables') =
+    set_made texts tables tables' id (without_column t place) (removal_result (table (table_value texts (table_at tables id.0))) (cell (datum texts c))) settled
+    (removed_settled texts t place (object_settled texts tables id.0 t there settled)) put' (ap (λ (u : NumberedTable). removal_result (table (table_value texts u)) (cell (datum texts c))) at ∙ is) in
+    subst (λ (o : Value). Sets (Ok tt) o (removal_result (entry_of tables texts o) (entry_of tables texts v)) (in_world texts tables) (in_world texts tables')) (sym on_is)
+    (subst (λ (w : Value). Sets (Ok tt) (Object id) (removal_result (entry_of tables texts (Object id)) (entry_of tables texts w)) (in_world texts tables) (in_world texts tables')) (sym v_is) here)
+
+-- the label that a settled scalar is
+abbrev cell_in : Entry → CellValue
+cell_in (cell c) = c
+cell_in (table t) = na_cell
+
+pub entry_label_settled : (live : Tables) (texts : List Text) (v : Value) (c : Cell) (label : Label) → v ≡ Scalar c → ((texts : List Text) → label_datum texts label ≡ cell_label (datum texts c)) → IsSettled (entry_of live) texts v → IsSettled label_datum texts label
+entry_label_settled live texts v c label is seen settled =
+    label_settled texts label c seen (λ more. ap cell_in (ap (entry_of live (texts ++ more)) (sym is) ∙ settled more ∙ ap (entry_of live texts) is))
+
+-- a setting is carried out, with which an object may end
+pub ended_settled : (texts : List Text) (ends : Option ObjId) (tables : Tables) → IsSettled shown texts tables → IsSettled shown texts (ended ends tables)
+ended_settled texts None tables settled = settled
+ended_settled texts (Some id) tables settled = λ more j other. at more other (nat_eq id.0 other) j
+  where
+    at : (more : List Text) (other : ℕ) (b : Bool) → option_map (table_value (texts ++ more)) (if b then None else tables other) ≡ option_map (table_value texts) (if b then None else tables other)
+    at more other true = refl
+    at more other false = λ j. settled more j other
+
+pub assign_set : (texts : List Text) (live live' : Tables) (on : Value) (id : ObjId) (t : NumberedTable) (setting : Setting) (ends : Option ObjId) (way : Way) (first : GivenSub) (second : Option GivenSub) (g : Given) → on ≡ Object id → live id.0 ≡ Some t → IsSettled shown texts live
+    → SetsBy live texts t (Ok setting) (table_set way (table_value texts t) first second g) → live' ≡ with_object (ended ends live) id.0 (Some (table_after live (table_at live id.0) setting))
+    → Sets (Ok tt) on (assign_result (entry_of live texts on) way first second g) (without (Ok tt) ends (in_world texts live)) (in_world texts live')
+assign_set texts live live' on id t setting ends way first second g on_is there settled sets put =
+    let at : table_at live id.0 ≡ t = ap table_or there in
+    let put' : live' ≡ with_object (ended ends live) id.0 (Some (table_after live t setting)) = put ∙ ap (λ (u : NumberedTable). with_object (ended ends live) id.0 (Some (table_after live u setting))) at in
+    let is : table_set way (table_value texts (table_at live id.0)) first second g ≡ Ok (table_value texts (table_after live t setting)) = ap (λ (u : NumberedTable). table_set way (table_value texts u) first second g) at ∙ sets.0 in
+    subst (λ (o : Value). Sets (Ok tt) o (assign_result (entry_of live texts o) way first second g) (in_world texts (ended ends live)) (in_world texts live')) (sym on_is)
+    (set_made texts (ended ends live) live' id (table_after live t setting) _ (ended_settled texts ends live settled) sets.1 put' is)
+
+pub may_end : (live : Tables) (on : Value) (id : ObjId) (value : NewValue) → on ≡ Object id → IsLiveNew live value → IfSome (moved_object value) (IsOther on) → IfSome (moved_object value) (MayEnd live id)
+may_end live on id (Copied a) is alive other = tt
+may_end live on id (Moved series) is alive other = (alive, subst (λ (o : Value). IsOther o series) is other)
+
+-- a setting behind an accessor, of a table of one level
+one_level : (texts : List Text) (t : NumberedTable) → length t.level_names ≡ 1 → nat_eq (length (table_value texts t).level_names) 1 ≡ true
+one_level texts t single = ap (λ n. nat_eq n 1) (length-map t.level_names (heading_value texts) ∙ single)
+
+pub access_is : (texts : List Text) (t : NumberedTable) (by : Accessor) (first : GivenSub) (second : Option GivenSub) (g : Given) (v : SetValue) → length t.level_names ≡ 1 → set_value g ≡ Ok v
+    → access_set by (table_value texts t) first second g ≡ then_value (target_by t.shape by (table_value texts t) first second) (target_set by (table_value texts t) v)
+access_is texts t by first second g v single is =
+    let go : SetValue → Result Table FaultValue = λ value. then_value (target_by t.shape by (table_value texts t) first second) (target_set by (table_value texts t) value) in
+    ap (λ b. if b then then_value (set_value g) go else Err not_built) (one_level texts t single) ∙ ap (λ r. then_value r go) is
+
+-- the label that a settled scalar key is
+abbrev label_in : Option LabelValue → LabelValue
+label_in (Some l) = l
+label_in None = na
+
+pub key_label_settled : (live : Tables) (texts : List Text) (key : Subscript) (label : Label) → ((live : Tables) (texts : List Text) → Some (label_datum texts label) ≡ added_label loc (subscript_of live texts key)) → IsSettled (subscript_of live) texts key
+    → IsSettled label_datum texts label
+key_label_settled live texts key label is settled = λ more. ap label_in (is live (texts ++ more) ∙ ap (added_label loc) (settled more) ∙ sym (is live texts))
+
+-- a whole column, by its label
+abbrev frame_or : Table → Given → Option LabelValue → Result Table FaultValue
+frame_or t g None = Err wrong_kind
+frame_or t g (Some l) = then_value (set_value g) (column_set t l)
+
+frame_by : (t : Table) (k : GivenSub) (g : Given) → frame_set t k g ≡ frame_or t g (added_label loc k)
+frame_by t (key_given (one (cell c))) g = refl
+frame_by t (key_given (one (table m))) g = refl
+frame_by t (key_given nothing) g = refl
+frame_by t (key_given (row parts)) g = refl
+frame_by t (key_given (many parts)) g = refl
+frame_by t (key_given (entries pairs)) g = refl
+frame_by t (span_given from to by) g = refl
+
+pub frame_is : (t : Table) (k : GivenSub) (g : Given) (l : LabelValue) → Some l ≡ added_label loc k → frame_set t k g ≡ then_value (set_value g) (column_set t l)
+frame_is t k g l is = frame_by t k g ∙ ap (frame_or t g) (sym is)
+
+pub frame_refused : (t : Table) (k : GivenSub) (g : Given) → None ≡ added_label loc k → frame_set t k g ≡ Err wrong_kind
+frame_refused t k g is = frame_by t k g ∙ ap (frame_or t g) (sym is)
+
+-- a refusal by a code
+pub refused_by : (texts : List Text) (meant : Result Table FaultValue) (code : Code) (fault : OpFault) → fault ≡ Refused code → meant ≡ Err (fault_of texts code) → IsSettled fault_of texts code → RefusesBy texts fault meant
+refused_by texts meant code fault is so settled = subst (λ (f : OpFault). RefusesBy texts f meant) (sym is) (so, settled)

@@ -1,0 +1,234 @@
+-- What a setting reaches: keys whose label isn't there.
+use Rattle.std.proofs.Common.{◌≡◌, ◌∙◌, ℕ, suc, ◌+◌, pos, Bool, true, false, ◌&&◌, List, [], ◌∷◌, ◌++◌, length, map, refl, ap, sym, subst, arith, if◌then◌else◌, All, Option, Some, None, option_map, Result, Ok, Err}
+use Rattle.std.specs.Prelude.{◌||◌, ◌≢◌, not, unwrap_or, IfOk}
+use Rattle.std.specs.List.{list_any}
+use Rattle.std.proofs.lemmas.List.{length-map}
+use Rattle.std.proofs.lemmas.List.Elements.{All-nil, All-cons}
+use Rattle.cell_core.specs.declared.cell.Label.{Label}
+use Rattle.meaning.specs.Text.{Text}
+use Rattle.meaning.specs.Cell.{LabelValue, int, label_datum}
+use Rattle.meaning.specs.Operator.{cell_label}
+use Rattle.meaning.specs.Symbol.{Accessor, loc, iloc, at, iat}
+use Rattle.meaning.specs.Fault.{FaultValue, no_key, bad_value, repeated, then_value}
+use Rattle.multi_index.specs.Axes.{HaveLevels}
+use Rattle.table_meaning.specs.Table.{NumberedTable, Table, table_value, tuple_value, heading_value}
+use Rattle.table_meaning.specs.Value.{GivenSub, key_given, span_given, nothing, one, row, many, entries, cell, table}
+use Rattle.form_meaning.specs.Binding.{same_label}
+use Rattle.form_meaning.specs.Finish.{column_labels}
+use Rattle.form_meaning.specs.Infix.{same_tuple}
+use Rattle.pick_meaning.specs.Faults.{then_pick}
+use Rattle.pick_meaning.specs.Keys.{Pick, key_pick, one_key}
+use Rattle.pick_meaning.specs.Labels.{unless_none}
+use Rattle.pick_meaning.specs.Leading.{leads}
+use Rattle.pick_meaning.specs.Rows.{rows_where, are_some}
+use Rattle.select_meaning.specs.Keys.{found_pick, rows_by, columns_by, once, whole_key, found_labels}
+use Rattle.select_meaning.specs.Set.{Reached, picked, added_label, or_added}
+use Rattle.frame_store.specs.Shown.{labels_value, headings_value}
+use Rattle.cell_core.specs.declared.grid.Shape.TheVariants.{Frame}
+use Rattle.cell_core.specs.declared.code.Code.TheVariants.{NoKey}
+use Rattle.table_meaning.specs.Valid.{IsWhole}
+use Rattle.form_parts.specs.Makes.{MakesBy}
+use Rattle.form_parts.proofs.LabelLaws.{value_decides}
+use Rattle.frame_store.specs.declared.fault.OpFault.{OpFault}
+use Rattle.frame_store.specs.declared.fault.OpFault.TheVariants.{Refused}
+use Rattle.indexers.specs.declared.keys.Picked.{Picked as CodePicked}
+use Rattle.selections.specs.Reaches.{pick_value}
+use Rattle.settings.specs.declared.targets.Reached.{Reached as CodeReached}
+use Rattle.table_meaning.specs.Settled.{IsSettled}
+use Rattle.frame_store.specs.Arguments.{subscript_of}
+use Rattle.frame_store.specs.Objects.{Tables}
+use Rattle.frame_store.specs.declared.arguments.Subscript.{Subscript}
+use Rattle.settings.specs.Values.{reached_value, target_value, is_no_key, IsFreshIn, TellsAbsence}
+
+-- a row is found where a label stands
+any_row : {X : Type 0} (p : X → Bool) (first : ℕ) (xs : List X) → are_some (rows_where p first xs) ≡ list_any p xs
+any_row p first [] = refl
+any_row p first (x ∷ xs) = go (any_row p (first + 1) xs) (p x)
+  where
+    go : are_some (rows_where p (first + 1) xs) ≡ list_any p xs → (b : Bool) → are_some (if b then first ∷ rows_where p (first + 1) xs else rows_where p (first + 1) xs) ≡ (b || list_any p xs)
+    go later true = refl
+    go later false = later
+
+alike : (l : LabelValue) (tuple : List LabelValue) → length tuple ≡ 1 → leads same_label (l ∷ []) tuple ≡ same_tuple (l ∷ []) tuple
+alike l [] single = refl
+alike l (x ∷ []) single = refl
+alike l (x ∷ (y ∷ ys)) single = absurd (omega (arith, single))
+
+any_alike : (l : LabelValue) (tuples : List (List LabelValue)) → All (λ tuple. length tuple ≡ 1) tuples → list_any (leads same_label (l ∷ [])) tuples ≡ list_any (same_tuple (l ∷ [])) tuples
+any_alike l [] single = refl
+any_alike l (t ∷ ts) single = λ j. alike l t (single 0 t (omega arith)) j || any_alike l ts (λ k d lt. single (suc k) d (omega (arith, lt))) j
+
+-- the rows of a label
+of_rows : (levels : ℕ) (key : List LabelValue) (rows : List ℕ) → is_no_key (found_pick (then_pick (unless_none key rows) (λ rows. Ok (key_pick levels key rows)))) ≡ not (are_some rows)
+of_rows levels key [] = refl
+of_rows levels key (r ∷ rows) = refl
+
+not_no_key : (b : Bool) (p : Pick) (key : List LabelValue) → is_no_key (if b then Ok p else Err (bad_value (repeated key))) ≡ false
+not_no_key true p key = refl
+not_no_key false p key = refl
+
+of_one : (levels : ℕ) (key : List LabelValue) (rows : List ℕ) → is_no_key (then_value (found_pick (then_pick (unless_none key rows) (λ rows. Ok (key_pick levels key rows)))) (once key)) ≡ not (are_some rows)
+of_one levels key [] = refl
+of_one levels key (r ∷ rows) = not_no_key (key_pick levels key (r ∷ rows)).single (key_pick levels key (r ∷ rows)) key
+
+there : (l : LabelValue) (tuples : List (List LabelValue)) → All (λ tuple. length tuple ≡ 1) tuples → not (are_some (rows_where (leads same_label (l ∷ [])) 0 tuples)) ≡ not (list_any (same_tuple (l ∷ [])) tuples)
+there l tuples single = ap not (any_row (leads same_label (l ∷ [])) 0 tuples ∙ any_alike l tuples single)
+
+label_tells : (levels : ℕ) (l : LabelValue) (tuples : List (List LabelValue)) → All (λ tuple. length tuple ≡ 1) tuples → TellsAbsence (Some l) tuples (found_labels levels tuples (one_key (l ∷ [])))
+label_tells levels l tuples single = of_rows levels (l ∷ []) (rows_where (leads same_label (l ∷ [])) 0 tuples) ∙ there l tuples single
+
+once_tells : (levels : ℕ) (l : LabelValue) (tuples : List (List LabelValue)) → All (λ tuple. length tuple ≡ 1) tuples → TellsAbsence (Some l) tuples (then_value (found_labels levels tuples (one_key (l ∷ []))) (once (l ∷ [])))
+once_tells levels l tuples single = of_one levels (l ∷ []) (rows_where (leads same_label (l ∷ [])) 0 tuples) ∙ there l tuples single
+
+single_labels : (t : Table) → All (λ tuple. length tuple ≡ 1) (column_labels t)
+single_labels t = go t.headings
+  where
+    go : (hs : List (Option LabelValue)) → All (λ tuple. length tuple ≡ 1) (map (λ h. unwrap_or h (int (pos 0)) ∷ []) hs)
+    go [] = All-nil (λ tuple. length tuple ≡ 1)
+    go (h ∷ hs) = All-cons (λ tuple. length tuple ≡ 1) (unwrap_or h (int (pos 0)) ∷ []) (map (λ h. unwrap_or h (int (pos 0)) ∷ []) hs) refl (go hs)
+
+-- what an accessor's key tells of its rows and of its columns
+pub rows_tell : (by : Accessor) (t : Table) (k : GivenSub) → length t.level_names ≡ 1 → All (λ tuple. length tuple ≡ 1) t.labels → TellsAbsence (added_label by k) t.labels (rows_by by t k)
+rows_tell iloc t k levels single = tt
+rows_tell iat t k levels single = tt
+rows_tell loc t (key_given (one (cell c))) levels single = label_tells (length t.level_names) (cell_label c) t.labels single
+rows_tell loc t (key_given (one (table m))) levels single = tt
+rows_tell loc t (key_given nothing) levels single = tt
+rows_tell loc t (key_given (row parts)) levels single = tt
+rows_tell loc t (key_given (many parts)) levels single = tt
+rows_tell loc t (key_given (entries pairs)) levels single = tt
+rows_tell loc t (span_given from to by) levels single = tt
+rows_tell at t (key_given (one (cell c))) levels single =
+    subst (λ n. TellsAbsence (Some (cell_label c)) t.labels (then_value (whole_key n (key_given (one (cell c)))) (λ key. then_value (found_labels n t.labels (one_key key)) (once key)))) (sym levels)
+    (once_tells 1 (cell_label c) t.labels single)
+rows_tell at t (key_given (one (table m))) levels single = tt
+rows_tell at t (key_given nothing) levels single = tt
+rows_tell at t (key_given (row parts)) levels single = tt
+rows_tell at t (key_given (many parts)) levels single = tt
+rows_tell at t (key_given (entries pairs)) levels single = tt
+rows_tell at t (span_given from to by) levels single = tt
+
+pub columns_tell : (by : Accessor) (t : Table) (k : GivenSub) → TellsAbsence (added_label by k) (column_labels t) (columns_by by t k)
+columns_tell iloc t k = tt
+columns_tell iat t k = tt
+columns_tell loc t (key_given (one (cell c))) = label_tells 1 (cell_label c) (column_labels t) (single_labels t)
+columns_tell loc t (key_given (one (table m))) = tt
+columns_tell loc t (key_given nothing) = tt
+columns_tell loc t (key_given (row parts)) = tt
+columns_tell loc t (key_given (many parts)) = tt
+columns_tell loc t (key_given (entries pairs)) = tt
+columns_tell loc t (span_given from to by) = tt
+columns_tell at t (key_given (one (cell c))) = label_tells 1 (cell_label c) (column_labels t) (single_labels t)
+columns_tell at t (key_given (one (table m))) = tt
+columns_tell at t (key_given nothing) = tt
+columns_tell at t (key_given (row parts)) = tt
+columns_tell at t (key_given (many parts)) = tt
+columns_tell at t (key_given (entries pairs)) = tt
+columns_tell at t (span_given from to by) = tt
+
+-- what was picked, or one more
+pub as_picked : (o : Option LabelValue) (tuples : List (List LabelValue)) (pick : Result Pick FaultValue) (p : Pick) → pick ≡ Ok p → TellsAbsence o tuples pick → or_added o tuples pick ≡ Ok (picked p)
+as_picked None tuples pick p is tells = ap (λ r. then_value r (λ p. Ok (picked p))) is
+as_picked (Some l) tuples pick p is tells = ap (or_added (Some l) tuples) is ∙ go (list_any (same_tuple (l ∷ [])) tuples) (ap is_no_key (sym is) ∙ tells)
+  where
+    go : (b : Bool) → false ≡ not b → (if b then then_value (Ok p) (λ p. Ok (picked p)) else Ok record { places = length tuples ∷ []; added = Some l }) ≡ Ok (picked p)
+    go true e = refl
+    go false e = cc
+
+pub as_added : (l : LabelValue) (tuples : List (List LabelValue)) (pick : Result Pick FaultValue) (key : List LabelValue) (count : ℕ) → pick ≡ Err (no_key key) → TellsAbsence (Some l) tuples pick → length tuples ≡ count
+    → or_added (Some l) tuples pick ≡ Ok record { places = count ∷ []; added = Some l }
+as_added l tuples pick key count is tells as_many = go (list_any (same_tuple (l ∷ [])) tuples) (ap is_no_key (sym is) ∙ tells)
+  where
+    go : (b : Bool) → true ≡ not b → (if b then then_value pick (λ p. Ok (picked p)) else Ok record { places = length tuples ∷ []; added = Some l }) ≡ Ok record { places = count ∷ []; added = Some l }
+    go true e = cc
+    go false e = λ j. Ok record { places = as_many j ∷ []; added = Some l }
+
+pub as_refused : (o : Option LabelValue) (tuples : List (List LabelValue)) (pick : Result Pick FaultValue) (fault : FaultValue) → pick ≡ Err fault → is_no_key (Err fault) ≡ false → TellsAbsence o tuples pick → or_added o tuples pick ≡ Err fault
+as_refused None tuples pick fault is other tells = ap (λ r. then_value r (λ p. Ok (picked p))) is
+as_refused (Some l) tuples pick fault is other tells = ap (or_added (Some l) tuples) is ∙ go (list_any (same_tuple (l ∷ [])) tuples) (sym other ∙ ap is_no_key (sym is) ∙ tells)
+  where
+    go : (b : Bool) → false ≡ not b → (if b then then_value (Err fault) (λ p. Ok (picked p)) else Ok record { places = length tuples ∷ []; added = Some l }) ≡ Err fault
+    go true e = refl
+    go false e = cc
+
+-- a key that isn't there, where no label may be added
+pub as_nothing : (texts : List Text) (label : Option Label) (rows : Result CodePicked OpFault) (key : List Label) (tuples : List (List LabelValue)) (pick : Result Pick FaultValue) → label ≡ None → rows ≡ Err (Refused (NoKey key))
+    → MakesBy pick_value texts rows pick → MakesBy reached_value texts (Err (Refused (NoKey key))) (or_added (option_map (label_datum texts) label) tuples pick)
+as_nothing texts label rows key tuples pick none is makes =
+    let refused : MakesBy pick_value texts (Err (Refused (NoKey key))) pick = subst (λ (r : Result CodePicked OpFault). MakesBy pick_value texts r pick) is makes in
+    subst (λ (o : Option Label). MakesBy reached_value texts (Err (Refused (NoKey key))) (or_added (option_map (label_datum texts) o) tuples pick)) (sym none)
+    (ap (λ r. then_value r (λ p. Ok (picked p))) refused.0, refused.1)
+
+-- the tuples of rows on one level
+pub single_rows : (texts : List Text) (labels : List (List Label)) → HaveLevels 1 labels → All (λ tuple. length tuple ≡ 1) (labels_value texts labels)
+single_rows texts [] single = All-nil (λ tuple. length tuple ≡ 1)
+single_rows texts (t ∷ ts) single =
+    All-cons (λ tuple. length tuple ≡ 1) (tuple_value texts t) (labels_value texts ts) (length-map t (label_datum texts) ∙ single 0 t (omega arith)) (single_rows texts ts (λ k d lt. single (suc k) d (omega (arith, lt))))
+
+pub column_count : (texts : List Text) (t : NumberedTable) → IsWhole t → length (column_labels (table_value texts t)) ≡ length t.columns
+column_count texts t whole = length-map (headings_value texts t.headings) (λ h. unwrap_or h (int (pos 0)) ∷ []) ∙ length-map t.headings (heading_value texts) ∙ whole.headed
+
+-- a label that is added stands in no column
+abbrev added_in : Result Reached FaultValue → Option LabelValue
+added_in (Ok r) = r.added
+added_in (Err fault) = None
+
+added_of : {A : Type 0} (pick : Result Pick FaultValue) (r : Reached) (l : LabelValue) → then_value pick (λ p. Ok (picked p)) ≡ Ok r → r.added ≡ Some l → A
+added_of (Ok p) r l is some =
+    let none : None ≡ r.added = ap (λ (x : Result Reached FaultValue). added_in x) is in
+    let wrong : None ≡ Some l = none ∙ some in
+    cc
+added_of (Err fault) r l is some = cc
+
+added_absent : (o : Option LabelValue) (tuples : List (List LabelValue)) (pick : Result Pick FaultValue) (r : Reached) (l : LabelValue) → or_added o tuples pick ≡ Ok r → r.added ≡ Some l → list_any (same_tuple (l ∷ [])) tuples ≡ false
+added_absent None tuples pick r l is some = added_of pick r l is some
+added_absent (Some l') tuples pick r l is some = go (list_any (same_tuple (l' ∷ [])) tuples) refl is
+  where
+    go : (b : Bool) → list_any (same_tuple (l' ∷ [])) tuples ≡ b → (if b then then_value pick (λ p. Ok (picked p)) else Ok record { places = length tuples ∷ []; added = Some l' }) ≡ Ok r → list_any (same_tuple (l ∷ [])) tuples ≡ false
+    go true e made = added_of pick r l made some
+    go false e made =
+        let both : Some l' ≡ Some l = ap (λ (x : Result Reached FaultValue). added_in x) made ∙ some in
+        let same : l' ≡ l = cc in
+        ap (λ x. list_any (same_tuple (x ∷ [])) tuples) (sym same) ∙ e
+
+or_false : (a b : Bool) → (a || b) ≡ false → (a ≡ false) × (b ≡ false)
+or_false true b e = cc
+or_false false b e = (refl, e)
+
+absent_headings : (texts : List Text) (headings : List (Option Label)) (label : Label) → list_any (same_tuple (label_datum texts label ∷ [])) (map (λ h. unwrap_or h (int (pos 0)) ∷ []) (headings_value texts headings)) ≡ false
+    → All (λ heading. heading ≢ Some label) headings
+absent_headings texts [] label none = All-nil (λ heading. heading ≢ Some label)
+absent_headings texts (h ∷ hs) label none =
+    let both = or_false (same_tuple (label_datum texts label ∷ []) (unwrap_or (heading_value texts h) (int (pos 0)) ∷ [])) (list_any (same_tuple (label_datum texts label ∷ [])) (map (λ h. unwrap_or h (int (pos 0)) ∷ []) (headings_value texts hs))) none in
+    let apart : h ≢ Some label = λ e.
+    let met : same_tuple (label_datum texts label ∷ []) (unwrap_or (heading_value texts h) (int (pos 0)) ∷ []) ≡ true =
+    ap (λ (o : Option Label). same_tuple (label_datum texts label ∷ []) (unwrap_or (heading_value texts o) (int (pos 0)) ∷ [])) e ∙ ap (λ b. b && true) ((value_decides (label_datum texts label) (label_datum texts label)).1 refl) in
+    let wrong : true ≡ false = sym met ∙ both.0 in
+    cc in
+    All-cons (λ heading. heading ≢ Some label) h hs apart (absent_headings texts hs label both.1)
+
+pub fresh_reached : (texts : List Text) (t : NumberedTable) (o : Option LabelValue) (pick : Result Pick FaultValue) (r : Result CodeReached OpFault) → t.shape ≡ Frame → MakesBy reached_value texts r (or_added o (column_labels (table_value texts t)) pick)
+    → IfOk r (λ reached. IsFreshIn t reached.added)
+fresh_reached texts t o pick (Err fault) frame makes = tt
+fresh_reached texts t o pick (Ok reached) frame makes = go reached.added refl
+  where
+    go : (a : Option Label) → reached.added ≡ a → IsFreshIn t a
+    go None e = tt
+    go (Some label) e = (frame, absent_headings texts t.headings label (added_absent o (column_labels (table_value texts t)) pick (reached_value texts reached) (label_datum texts label) makes (ap (option_map (label_datum texts)) e)))
+
+-- texts of what is reached were given
+pub added_settled : (texts : List Text) (label : Option Label) (l : Label) (count : ℕ) (r : CodeReached) → label ≡ Some l → r ≡ record { places = count ∷ []; added = Some l } → IsSettled heading_value texts label → IsSettled reached_value texts r
+added_settled texts label l count r some made settled = λ more.
+    ap (reached_value (texts ++ more)) made
+    ∙ (λ j. record { places = count ∷ []; added = (ap (heading_value (texts ++ more)) (sym some) ∙ settled more ∙ ap (heading_value texts) some) j })
+    ∙ sym (ap (reached_value texts) made)
+
+pub picked_settled : (texts : List Text) (places : List ℕ) (r : CodeReached) → r ≡ record { places = places; added = None } → IsSettled reached_value texts r
+picked_settled texts places r made = λ more. ap (reached_value (texts ++ more)) made ∙ sym (ap (reached_value texts) made)
+
+pub label_settled : (texts : List Text) (live : Tables) (by : Accessor) (key : Subscript) (label : Option Label) → ((live : Tables) (texts : List Text) → option_map (label_datum texts) label ≡ added_label by (subscript_of live texts key))
+    → IsSettled (subscript_of live) texts key → IsSettled heading_value texts label
+label_settled texts live by key label seen settled = λ more. seen live (texts ++ more) ∙ ap (added_label by) (settled more) ∙ sym (seen live texts)
+
+pub target_settled : (texts : List Text) (rows columns : CodeReached) → IsSettled reached_value texts rows → IsSettled reached_value texts columns → IsSettled target_value texts record { rows = rows; columns = columns }
+target_settled texts rows columns f g = λ more j. record { rows = f more j; columns = g more j }

@@ -1,0 +1,77 @@
+use Rattle.std.proofs.Common.{◌∙◌, refl, ap, sym, subst, Ok, Err}
+use Rattle.std.proofs.lemmas.Result.{err_from_is_err_and}
+use Rattle.cell_core.specs.declared.code.Code.TheVariants.{Limit, WrongKind}
+use Rattle.table_meaning.specs.Settled.{IsSettled}
+use Rattle.table_meaning.specs.Table.{NumberedTable, table_value}
+use Rattle.select_meaning.specs.Set as meant
+use Rattle.frame_store.specs.Objects.{tables}
+use Rattle.frame_store.specs.Shown.{cells_value}
+use Rattle.selections.specs.Reaches.{accessor_of}
+use Rattle.settings.specs.Grown.{grown_table}
+use Rattle.settings.specs.Values.{target_value, value_in}
+use Rattle.settings.proofs.CellLaws.{cells_then, fit_held, grown_settled, has_kinds, not_lacking, set_beyond, set_filled, set_given, set_misfits, set_within}
+use Rattle.settings.proofs.SetLaws.{changes_so, part_refused, refused_by}
+use Rattle.settings.proofs.assigning.cells_change.Goals as goal
+
+pub returns-in_err-values-clause-change : goal.returns-in_err-values-clause-change
+returns-in_err-values-clause-change c =
+    let texts = c.args.dict.now in
+    let t = c.args.on.now in
+    let by = accessor_of c.args.by in
+    let value = value_in (tables c.args.store.now) texts c.args.value in
+    let p = err_from_is_err_and c.from_residual.result c.from_residual.ensures.1 in
+    rw (p.1, p.2)
+    (changes_so texts t (Err c.in_err-values.field-0.0) _ _ (sym (not_lacking texts t c.args.target by value c.lacks_columns.result c.lacks_columns.ensures c.if-lacks_columns.false))
+    (part_refused cells_value texts (meant.values_for by (table_value texts t) (target_value texts c.args.target) value) (cells_then (table_value texts t) (target_value texts c.args.target) value) c.in_err-values.field-0.0 c.in_err-values.ensures.values))
+
+pub returns-in_err-expect_fit-clause-change : goal.returns-in_err-expect_fit-clause-change
+returns-in_err-expect_fit-clause-change c =
+    let texts = c.args.dict.now in
+    let t = c.args.on.now in
+    let target = c.args.target in
+    let kind = c.in_ok-kind.kind in
+    let values = c.in_ok-values.values in
+    let grown = table_value texts (grown_table t target kind) in
+    let test = c.in_err-expect_fit.ensures texts grown (has_kinds texts t target kind c.requires.target.columns) in
+    let p = err_from_is_err_and c.from_residual-in_err-expect_fit.result c.from_residual-in_err-expect_fit.ensures.1 in
+    rw (p.1, p.2)
+    (refused_by texts _ WrongKind c.in_err-expect_fit.field-0.0 test.1
+    (set_filled texts t target (accessor_of c.args.by) (value_in (tables c.args.store.now) texts c.args.value) c.lacks_columns.result kind values c.lacks_columns.ensures c.if-lacks_columns.false c.in_ok-values.ensures.values (c.in_ok-kind.ensures texts)
+    ∙ set_misfits grown target.rows.places target.columns.places (cells_value texts values) test.0) (λ more. refl))
+
+pub returns-in_err-expect_room-clause-change : goal.returns-in_err-expect_room-clause-change
+returns-in_err-expect_room-clause-change c =
+    let texts = c.args.dict.now in
+    let t = c.args.on.now in
+    let target = c.args.target in
+    let kind = c.in_ok-kind.kind in
+    let values = c.in_ok-values.values in
+    let fits = c.in_ok-expect_fit.ensures texts (table_value texts (grown_table t target kind)) (has_kinds texts t target kind c.requires.target.columns) in
+    let p = err_from_is_err_and c.from_residual-in_err-expect_room.result c.from_residual-in_err-expect_room.ensures.1 in
+    rw (p.1, p.2)
+    (refused_by texts _ Limit c.in_err-expect_room.field-0.0 c.in_err-expect_room.ensures.1
+    (set_filled texts t target (accessor_of c.args.by) (value_in (tables c.args.store.now) texts c.args.value) c.lacks_columns.result kind values c.lacks_columns.ensures c.if-lacks_columns.false c.in_ok-values.ensures.values (c.in_ok-kind.ensures texts)
+    ∙ set_beyond texts t target kind target.rows.places target.columns.places values fits c.in_err-expect_room.ensures.0) (λ more. refl))
+
+pub filled-requires-clause-held : goal.filled-requires-clause-held
+filled-requires-clause-held c = λ k lt texts.
+    let t = c.args.on.now in
+    let kind = c.in_ok-kind.kind in
+    let grown = grown_table t c.args.target kind in
+    fit_held texts grown c.args.target.columns.places c.in_ok-values.values k (c.in_ok-expect_fit.ensures texts (table_value texts grown) (has_kinds texts t c.args.target kind c.requires.target.columns)) lt
+
+pub returns-clause-change : goal.returns-clause-change
+returns-clause-change c =
+    let texts = c.args.dict.now in
+    let t = c.args.on.now in
+    let target = c.args.target in
+    let kind = c.in_ok-kind.kind in
+    let values = c.in_ok-values.values in
+    let grown = grown_table t target kind in
+    let fits = c.in_ok-expect_fit.ensures texts (table_value texts grown) (has_kinds texts t target kind c.requires.target.columns) in
+    let made = c.in_ok-filled.ensures.made in (
+      set_filled texts t target (accessor_of c.args.by) (value_in (tables c.args.store.now) texts c.args.value) c.lacks_columns.result kind values c.lacks_columns.ensures c.if-lacks_columns.false c.in_ok-values.ensures.values (c.in_ok-kind.ensures texts)
+          ∙ set_within texts t target kind target.rows.places target.columns.places values fits c.in_ok-expect_room.ensures
+          ∙ ap (λ (u : NumberedTable). Ok (table_value texts u)) (sym made),
+      subst (IsSettled table_value texts) (sym made) (set_given texts grown target.rows.places target.columns.places values (grown_settled texts t target kind c.requires.table.known.given c.requires.given) c.in_ok-values.ensures.given),
+    )

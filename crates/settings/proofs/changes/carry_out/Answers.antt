@@ -1,0 +1,17 @@
+use Rattle.std.proofs.Common.{◌∙◌, ap, sym, Some}
+use Rattle.frame_store.specs.Objects.{tables, table_at, with_object}
+use Rattle.settings.specs.Changes.{changed, ended, table_after}
+use Rattle.settings.specs.declared.changes.Setting.{Setting}
+use Rattle.settings.proofs.MoveLaws.{ended_beside, others_kept}
+use Rattle.settings.proofs.changes.carry_out.Goals as goal
+
+pub end-requires : goal.end-requires
+end-requires c =
+    let old = tables c.args.store.now in
+    others_kept old (tables c.carry_change.new.store) c.args.on (changed (table_at old c.args.on.0) c.in-Change.change) c.args.ends c.requires.ends c.in_ok-carry_change-in-Change.ensures.ok
+
+pub returns-in_ok-carry_change-in-Change-clause-ok : goal.returns-in_ok-carry_change-in-Change-clause-ok
+returns-in_ok-carry_change-in-Change-clause-ok c =
+    let old = tables c.args.store.now in
+    ended_beside old (tables c.carry_change.new.store) (tables c.end.new.store) c.args.on (changed (table_at old c.args.on.0) c.in-Change.change) c.args.ends c.requires.ends c.in_ok-carry_change-in-Change.ensures.ok c.end.ensures
+    ∙ ap (λ (s : Setting). with_object (ended c.args.ends old) c.args.on.0 (Some (table_after old (table_at old c.args.on.0) s))) (sym c.in-Change.is)

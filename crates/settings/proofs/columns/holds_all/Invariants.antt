@@ -1,0 +1,9 @@
+use Rattle.std.proofs.Common.{◌≡◌, List}
+use Rattle.meaning.specs.Text.{Text}
+use Rattle.meaning.specs.Cell.{holds}
+use Rattle.selections.proofs.SubscriptLaws.{all_from}
+use Rattle.settings.proofs.columns.holds_all.Given as goal
+
+-- the kind holds all so far
+abbrev pub invariant-loop-k : goal.invariant-loop-k
+invariant-loop-k l = (texts : List Text) → all_from (holds l.kind) texts l.cells l.k ≡ all_from (holds l.kind) texts l.cells 0

@@ -1,0 +1,11 @@
+use Rattle.std.proofs.Common.{◌≡◌, map, take, All}
+use Rattle.frame_store.specs.Parts.{block_column, IsSingle}
+use Rattle.settings.specs.Assigned.{missing_cells}
+use Rattle.settings.proofs.columns.missing_columns.Given as goal
+
+-- the columns so far
+abbrev pub invariant-loop-place : goal.invariant-loop-place
+invariant-loop-place l = record {
+  columns : map block_column l.made ≡ map (missing_cells l.rows) (take l.place l.on.columns);
+  single : All IsSingle l.made;
+}

@@ -1,0 +1,13 @@
+use Rattle.std.proofs.Common.{◌≡◌, List, drop}
+use Rattle.meaning.specs.Text.{Text}
+use Rattle.table_meaning.specs.Table.{Table}
+use Rattle.select_meaning.specs.Set.{fit_from}
+use Rattle.frame_store.specs.Shown.{cells_value}
+use Rattle.settings.specs.Values.{HasKinds}
+use Rattle.settings.proofs.filling.expect_fit.Given as goal
+
+-- whether the values from this one on fit
+abbrev pub invariant-loop-k : goal.invariant-loop-k
+invariant-loop-k l =
+    (texts : List Text) (grown : Table) → HasKinds grown l.on l.added l.columns
+    → fit_from l.k grown l.columns (cells_value texts (drop l.k l.values)) ≡ fit_from 0 grown l.columns (cells_value texts l.values)

@@ -1,0 +1,14 @@
+use Rattle.std.proofs.Common.{sym, subst}
+use Rattle.select_meaning.specs.Set.{kind_of_value}
+use Rattle.form_parts.specs.Makes.{MakesBy}
+use Rattle.frame_store.specs.Objects.{tables}
+use Rattle.selections.specs.Selected.{as_it_is}
+use Rattle.settings.specs.Values.{value_in}
+use Rattle.settings.specs.declared.values.SetValue.{SetValue}
+use Rattle.settings.proofs.FillLaws.{kind_listed}
+use Rattle.settings.proofs.filling.kind_for.Goals as goal
+
+pub returns-in-Listed : goal.returns-in-Listed
+returns-in-Listed c = λ texts.
+    subst (λ (v : SetValue). MakesBy as_it_is texts c.list_kind.result (kind_of_value (value_in (tables c.args.store.now) texts v))) (sym c.in-Listed.is)
+    (kind_listed texts _ c.list_kind.result _ (c.list_kind.ensures.answer texts))

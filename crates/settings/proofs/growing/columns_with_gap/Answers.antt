@@ -1,0 +1,23 @@
+use Rattle.std.proofs.Common.{◌≡◌, ◌∙◌, ◌<◌, length, map, ap, arith}
+use Rattle.settings.specs.Grown.{with_gap}
+use Rattle.settings.proofs.FillLaws.{take_whole}
+use Rattle.settings.proofs.GrowLaws.{gap_more, gap_single}
+use Rattle.settings.proofs.growing.columns_with_gap.Goals as goal
+
+pub loop-place-preserved : goal.loop-place-preserved
+loop-place-preserved c =
+    let lt : c.loop-place.place < length c.args.on.now.columns = omega arith in
+    record {
+      columns = gap_more c.args.on.now.columns c.loop-place.place c.column.result c.in_ok-column.column c.push.new.self c.into_block.result c.loop-place.blocks c.push-in-loop-place.new.self lt c.column.ensures.column c.in_ok-column.ensures
+          c.in_ok-push.ensures.ok c.into_block.ensures c.in_ok-push-2.ensures.ok c.loop-place.invariant.columns;
+      single = gap_single c.column.result c.in_ok-column.column c.push.new.self c.into_block.result c.loop-place.blocks c.push-in-loop-place.new.self c.loop-place.invariant.single c.in_ok-column.ensures c.in_ok-push.ensures.ok c.into_block.ensures
+          c.in_ok-push-2.ensures.ok;
+    }
+
+pub returns-clause-columns : goal.returns-clause-columns
+returns-clause-columns c =
+    let end : c.loop-place.place ≡ length c.args.on.now.columns = omega arith in
+    c.loop-place.invariant.columns ∙ ap (map with_gap) (take_whole c.args.on.now.columns c.loop-place.place end)
+
+pub returns-clause-single : goal.returns-clause-single
+returns-clause-single c = c.loop-place.invariant.single

@@ -1,0 +1,8 @@
+use Rattle.std.proofs.Common.{◌≡◌, map, take, All}
+use Rattle.frame_store.specs.Parts.{block_column, IsSingle}
+use Rattle.settings.specs.Grown.{with_gap}
+use Rattle.settings.proofs.growing.columns_with_gap.Given as goal
+
+-- the columns so far
+abbrev pub invariant-loop-place : goal.invariant-loop-place
+invariant-loop-place l = record { columns : map block_column l.blocks ≡ map with_gap (take l.place l.on.columns); single : All IsSingle l.blocks }

@@ -1,0 +1,52 @@
+use Rattle.std.proofs.Common.{◌∙◌, ap, sym, subst, Err, Result}
+use Rattle.std.proofs.lemmas.Result.{err_from_is_err_and}
+use Rattle.meaning.specs.Cell.{AreGiven, CellValue, label_datum}
+use Rattle.meaning.specs.Fault.{FaultValue, then_value}
+use Rattle.table_meaning.specs.Table.{ColumnOf, table_value}
+use Rattle.form_meaning.specs.Set.{list_column}
+use Rattle.select_meaning.specs.Set.{column_set, list_set}
+use Rattle.frame_store.specs.Objects.{tables}
+use Rattle.frame_store.specs.Shown.{cells_value}
+use Rattle.frame_store.proofs.Settling.{object_settled}
+use Rattle.settings.specs.Assigned.{column_seen}
+use Rattle.settings.specs.Values.{value_in}
+use Rattle.settings.specs.declared.values.SetValue.{SetValue}
+use Rattle.settings.proofs.PutCases.{filled_given, listed_given, same_settled}
+use Rattle.settings.proofs.SetLaws.{changes_so, part_refused}
+use Rattle.settings.proofs.putting.column_change.Goals as goal
+
+pub put_change-requires-clause-given : goal.put_change-requires-clause-given
+put_change-requires-clause-given c =
+    filled_given c.args.dict.now c.rows.result c.in-Same.cell c.in_ok-column-in-Same.column.cells (same_settled (tables c.args.store.now) c.args.dict.now c.args.value c.in-Same.cell c.in-Same.is c.requires.value) c.in_ok-column-in-Same.ensures.cells
+
+pub returns-in_err-column-in-Listed-clause-change : goal.returns-in_err-column-in-Listed-clause-change
+returns-in_err-column-in-Listed-clause-change c =
+    let texts = c.args.dict.now in
+    let t = c.args.on.now in
+    let l = label_datum texts c.args.label in
+    let fault = c.in_err-column-in-Listed.field-0.0 in
+    let p = err_from_is_err_and c.from_residual-in_err-column-in-Listed.result c.from_residual-in_err-column-in-Listed.ensures.1 in
+    rw (p.1, p.2)
+    (changes_so texts t (Err fault) _ _ (sym (ap (λ (v : SetValue). column_set (table_value texts t) l (value_in (tables c.args.store.now) texts v)) c.in-Listed.is))
+    (part_refused column_seen texts (list_column (cells_value texts c.in-Listed.cells)) (list_set (table_value texts t) l) fault (c.in_err-column-in-Listed.ensures.answer texts)))
+
+pub list_change-requires-clause-given : goal.list_change-requires-clause-given
+list_change-requires-clause-given c =
+    subst (AreGiven c.args.dict.now) (sym c.in_ok-column-in-Listed.ensures.cells) (listed_given (tables c.args.store.now) c.args.dict.now c.args.value c.in-Listed.cells c.in-Listed.is c.requires.value)
+
+pub series_change-requires-clause-series : goal.series_change-requires-clause-series
+series_change-requires-clause-series c =
+    record {
+      whole = c.read.ensures.whole;
+      given = object_settled c.args.dict.now (tables c.args.store.now) c.in-Aligned.id.0 c.read.result c.read.ensures.table c.requires.settled;
+    }
+
+pub returns-in_ok-column-in-Listed-clause-change : goal.returns-in_ok-column-in-Listed-clause-change
+returns-in_ok-column-in-Listed-clause-change c =
+    let texts = c.args.dict.now in
+    let t = c.args.on.now in
+    let l = label_datum texts c.args.label in
+    changes_so texts t c.list_change.result _ _
+    (sym (ap (λ (v : SetValue). column_set (table_value texts t) l (value_in (tables c.args.store.now) texts v)) c.in-Listed.is
+    ∙ ap (λ (r : Result (ColumnOf CellValue) FaultValue). then_value r (list_set (table_value texts t) l)) (c.in_ok-column-in-Listed.ensures.answer texts)))
+    c.list_change.ensures.change

@@ -1,0 +1,71 @@
+use Rattle.std.proofs.Common.{◌≡◌, ◌∙◌, ◌<◌, ◌++◌, ap, sym, arith, length, None, [], ◌∷◌, Err}
+use Rattle.std.proofs.lemmas.Result.{err_from_is_err_and}
+use Rattle.meaning.specs.Cell.{label_datum}
+use Rattle.table_meaning.specs.Table.{table_value}
+use Rattle.form_meaning.specs.Finish.{default_labels}
+use Rattle.select_meaning.specs.Set.{put_result, with_rows}
+use Rattle.column_core.specs.Columns.{CellColumn}
+use Rattle.frame_store.specs.Shown.{headings_value}
+use Rattle.selections.specs.Selected.{as_it_is}
+use Rattle.settings.specs.Assigned.{column_seen, put_place}
+use Rattle.settings.specs.Changes.{changed}
+use Rattle.settings.proofs.PutCases.{default_rows, list_fits, list_rows, range_count, range_names, range_seen, range_settled, rows_given, rows_meant, rows_put}
+use Rattle.settings.proofs.PutLaws.{put_there}
+use Rattle.settings.proofs.SetLaws.{changes_so, part_refused}
+use Rattle.settings.proofs.putting.list_change.Goals as goal
+use Rattle.settings.proofs.putting.list_change.Goals.{else-rows-eq0-via-then-rows-eq0+else-count-gt0, else-rows-eq0-via-else-rows-eq0}
+
+pub returns-in_err-place-clause-change : goal.returns-in_err-place-clause-change
+returns-in_err-place-clause-change c =
+    let texts = c.args.dict.now in
+    let t = c.args.on.now in
+    let l = label_datum texts c.args.label in
+    let seen = column_seen texts c.args.column in
+    let n = length c.args.column.cells in
+    let count : c.len-count.result ≡ n = c.len-count.ensures ∙ ap (λ (v : CellColumn). length v.cells) c.as_ref.ensures in
+    let none : length t.labels ≡ 0 = omega (arith, c.rows.ensures) in
+    let some : 0 < n = omega (arith, count) in
+    let frame = with_rows (table_value texts t) (default_labels n) (None ∷ []) in
+    let p = err_from_is_err_and c.from_residual.result c.from_residual.ensures.1 in
+    rw (p.1, p.2)
+    (changes_so texts t (Err c.in_err-place.field-0.0) _ _
+    (rows_put texts t (default_labels n) (None ∷ []) c.args.label seen c.len-count.result c.requires.known.whole (count ∙ default_rows n) ∙ sym (list_rows texts t l c.args.column none some))
+    (part_refused as_it_is texts (put_place c.len-count.result (headings_value texts t.headings) l) (put_there frame l seen) c.in_err-place.field-0.0 c.in_err-place.ensures.answer))
+
+pub rows_change-requires-clause-rows : goal.rows_change-requires-clause-rows
+rows_change-requires-clause-rows c =
+    let count : c.len-count.result ≡ length c.args.column.cells = c.len-count.ensures ∙ ap (λ (v : CellColumn). length v.cells) c.as_ref.ensures in
+    sym (range_count c.len-count.result c.in_ok-axis.axis c.in_ok-axis.ensures ∙ count)
+
+pub returns-then-count-gt0-clause-change : goal.returns-then-count-gt0-clause-change
+returns-then-count-gt0-clause-change c =
+    let texts = c.args.dict.now in
+    let t = c.args.on.now in
+    let l = label_datum texts c.args.label in
+    let seen = column_seen texts c.args.column in
+    let n = length c.args.column.cells in
+    let rows = c.len-count.result in
+    let axis = c.in_ok-axis.axis in
+    let count : rows ≡ n = c.len-count.ensures ∙ ap (λ (v : CellColumn). length v.cells) c.as_ref.ensures in
+    let none : length t.labels ≡ 0 = omega (arith, c.rows.ensures) in
+    let some : 0 < n = omega (arith, count) in
+    let made = c.in_ok-rows_change.ensures.made in (
+      list_rows texts t l c.args.column none some
+          ∙ (λ j. put_result (with_rows (table_value texts t) (sym (range_seen texts rows axis c.in_ok-axis.ensures ∙ ap default_labels count) j) (sym (range_names texts rows axis c.in_ok-axis.ensures) j)) l seen)
+          ∙ rows_meant texts t axis c.in_ok-place.place rows c.args.label c.args.column (changed t c.in_ok-rows_change.field-0) c.requires.known.whole (sym (range_count rows axis c.in_ok-axis.ensures)) c.in_ok-place.ensures.answer made,
+      rows_given texts t axis c.in_ok-place.place c.args.label c.args.column (changed t c.in_ok-rows_change.field-0) c.requires.known.given (range_settled texts rows axis c.in_ok-axis.ensures)
+          (λ more. range_names (texts ++ more) rows axis c.in_ok-axis.ensures ∙ sym (range_names texts rows axis c.in_ok-axis.ensures)) c.requires.label c.requires.given made,
+    )
+
+pub returns-clause-change : goal.returns-clause-change
+returns-clause-change c =
+    let texts = c.args.dict.now in
+    let t = c.args.on.now in
+    let count : c.len-count.result ≡ length c.args.column.cells = c.len-count.ensures ∙ ap (λ (v : CellColumn). length v.cells) c.as_ref.ensures in
+    let unless : length t.labels ≡ 0 → 0 < length c.args.column.cells → ⊥ = λ none some.
+    elim c.else-rows-eq0.branch [
+      | else-rows-eq0-via-then-rows-eq0+else-count-gt0 w ↦ omega (arith, count, none, some, c.rows.ensures)
+      | else-rows-eq0-via-else-rows-eq0 w ↦ omega (arith, count, none, some, c.rows.ensures)
+    ] in
+    let same : length t.labels ≡ length c.args.column.cells = omega (arith, count, c.rows-2.ensures, c.if-rows-count.false) in
+    changes_so texts t c.put_change.result _ _ (list_fits texts t (label_datum texts c.args.label) c.args.column unless same) c.put_change.ensures.change

@@ -1,0 +1,20 @@
+use Rattle.std.proofs.Common.{◌≡◌, ap, sym, subst, Some}
+use Rattle.cell_core.specs.declared.cell.Cell.{Cell}
+use Rattle.meaning.specs.Cell.{AreGiven}
+use Rattle.table_meaning.specs.Change.{with_column}
+use Rattle.table_meaning.specs.Table.{ColumnOf}
+use Rattle.frame_store.specs.Parts.{block_column}
+use Rattle.settings.specs.Assigned.{table_column}
+use Rattle.settings.proofs.PutLaws.{put_meant, put_settled}
+use Rattle.settings.proofs.putting.put_change.Goals as goal
+
+pub returns-clause-change : goal.returns-clause-change
+returns-clause-change c =
+    let texts = c.args.dict.now in
+    let t = c.args.on.now in
+    let place = c.in_ok-place.place in
+    let block = c.into_block.result in
+    let column : block_column block ≡ table_column c.args.column = ap block_column c.into_block.ensures in (
+      put_meant texts t place c.rows.result c.args.label c.args.column (with_column t place (Some c.args.label) (block_column block)) c.requires.known.whole c.rows.ensures c.in_ok-place.ensures.answer (ap (with_column t place (Some c.args.label)) column),
+      put_settled texts t place c.args.label (block_column block) c.requires.known.given c.requires.label (subst (λ (k : ColumnOf Cell). AreGiven texts k.cells) (sym column) c.requires.given),
+    )

@@ -1,0 +1,39 @@
+use Rattle.std.proofs.Common.{◌≡◌, ◌∙◌, ◌<◌, length, ap, sym, subst, rules}
+use Rattle.std.proofs.lemmas.Result.{err_from_is_err_and}
+use Rattle.cell_core.specs.declared.grid.Shape.TheVariants.{Frame}
+use Rattle.select_meaning.specs.Set.{removal_result}
+use Rattle.table_meaning.specs.Table.{NumberedTable}
+use Rattle.frame_store.specs.Arguments.{entry_of}
+use Rattle.frame_store.specs.Objects.{tables, table_at, table_or}
+use Rattle.frame_store.proofs.Settling.{headings_part, object_settled}
+use Rattle.settings.proofs.SetLaws.{entry_label_settled, removal_set, removed_headed, set_left}
+use Rattle.table_meaning.specs.Valid.{IsWhole}
+use Rattle.settings.proofs.removing.remove.Goals as goal
+
+pub column_place-requires-clause-settled : goal.column_place-requires-clause-settled
+column_place-requires-clause-settled c =
+    headings_part c.args.dict.now c.read-source.result (object_settled c.args.dict.now (tables c.args.store.now) c.in-Object-Scalar.id.0 c.read-source.result c.read-source.ensures.table c.requires.settled)
+
+pub column_place-requires-clause-label : goal.column_place-requires-clause-label
+column_place-requires-clause-label c =
+    entry_label_settled (tables c.args.store.now) c.args.dict.now c.args.label c.in-Object-Scalar.cell c.label_of.result c.in-Object-Scalar.is-1 c.label_of.ensures.seen c.requires.label.given
+
+pub remove_column-requires-clause-headings : goal.remove_column-requires-clause-headings
+remove_column-requires-clause-headings c =
+    let t = table_at (tables c.args.store.now) c.in-Object-Scalar.id.0 in
+    let at : c.read-source.result ≡ t = sym (ap table_or c.read-source.ensures.table) in
+    let frame : c.read-source.result.shape ≡ Frame = search rules in
+    removed_headed t c.in_ok-place.place (subst IsWhole at c.read-source.ensures.whole) (sym (ap (λ (u : NumberedTable). u.shape) at) ∙ frame)
+    (subst (λ (u : NumberedTable). c.in_ok-place.place < length u.columns) at c.in_ok-place.ensures.inside)
+
+pub returns-in_err-remove_column : goal.returns-in_err-remove_column
+returns-in_err-remove_column c =
+    let live = tables c.args.store.now in
+    let p = err_from_is_err_and c.from_residual-in_err-remove_column.result c.from_residual-in_err-remove_column.ensures.1 in
+    rw (p.1, p.2) (set_left c.args.dict.now live (tables c.remove_column.new.self) c.args.on (removal_result (entry_of live c.args.dict.now c.args.on) (entry_of live c.args.dict.now c.args.label)) c.requires.settled c.in_err-remove_column.ensures.err)
+
+pub returns : goal.returns
+returns c =
+    let frame : c.read-source.result.shape ≡ Frame = search rules in
+    removal_set c.args.dict.now (tables c.args.store.now) (tables c.remove_column.new.self) c.args.on c.args.label c.in-Object-Scalar.id c.in-Object-Scalar.cell c.read-source.result c.label_of.result c.in_ok-place.place
+    c.in-Object-Scalar.is-0 c.in-Object-Scalar.is-1 c.read-source.ensures.table frame (c.label_of.ensures.seen c.args.dict.now) c.requires.settled c.in_ok-place.ensures.answer c.in_ok-remove_column.ensures.ok

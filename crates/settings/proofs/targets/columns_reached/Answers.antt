@@ -1,0 +1,35 @@
+use Rattle.std.proofs.Common.{◌≡◌, ◌∙◌, sym, subst, length, Option}
+use Rattle.meaning.specs.Cell.{LabelValue}
+use Rattle.table_meaning.specs.Table.{table_value}
+use Rattle.form_meaning.specs.Finish.{column_labels}
+use Rattle.select_meaning.specs.Keys.{columns_by}
+use Rattle.select_meaning.specs.Set.{or_added, added_label}
+use Rattle.form_parts.specs.Makes.{MakesBy}
+use Rattle.frame_store.specs.Arguments.{subscript_of}
+use Rattle.selections.specs.Reaches.{accessor_of}
+use Rattle.settings.specs.Values.{reached_value, TellsAbsence}
+use Rattle.settings.proofs.TargetLaws.{columns_tell, column_count, fresh_reached, label_settled}
+use Rattle.settings.proofs.targets.columns_reached.Goals as goal
+
+pub returns-clause-columns : goal.returns-clause-columns
+returns-clause-columns c = λ live settled.
+    let texts = c.args.dict.now in
+    let t = table_value texts c.args.on.now in
+    let k = subscript_of live texts c.args.key.now in
+    let by = accessor_of c.args.by in
+    let many : length (column_labels t) ≡ c.columns.result = column_count texts c.args.on.now c.requires.table.known.whole ∙ sym c.columns.ensures in
+    subst (λ (o : Option LabelValue). MakesBy reached_value texts c.picked_or_added.result (or_added o (column_labels t) (columns_by by t k))) (c.label_to_add.ensures live texts)
+    (c.picked_or_added.ensures.reached texts (column_labels t) (columns_by by t k) many (c.columns_by-columns.ensures.columns live settled)
+    (subst (λ (o : Option LabelValue). TellsAbsence o (column_labels t) (columns_by by t k)) (sym (c.label_to_add.ensures live texts)) (columns_tell by t k)))
+
+pub returns-clause-fresh : goal.returns-clause-fresh
+returns-clause-fresh c = λ live settled.
+    let texts = c.args.dict.now in
+    let t = table_value texts c.args.on.now in
+    let k = subscript_of live texts c.args.key.now in
+    let by = accessor_of c.args.by in
+    fresh_reached texts c.args.on.now (added_label by k) (columns_by by t k) c.picked_or_added.result c.requires.shape (returns-clause-columns c live settled)
+
+pub returns-clause-given : goal.returns-clause-given
+returns-clause-given c = λ live settled.
+    c.picked_or_added.ensures.given c.args.dict.now (label_settled c.args.dict.now live (accessor_of c.args.by) c.args.key.now c.label_to_add.result c.label_to_add.ensures settled)

@@ -1,0 +1,14 @@
+use Rattle.std.proofs.Common.{rules}
+use Rattle.frame_store.specs.Objects.{tables}
+use Rattle.frame_store.specs.World.{world, IsKnownSubscript}
+use Rattle.settings.proofs.TargetLaws.{picked_settled, target_settled}
+use Rattle.settings.proofs.targets.target_of.Goals as goal
+
+pub returns-in_ok-all_columns-in-None-clause-given : goal.returns-in_ok-all_columns-in-None-clause-given
+returns-in_ok-all_columns-in-None-clause-given c =
+    target_settled c.args.dict.now c.in_ok-rows-in-None.rows c.picked-columns.result c.in_ok-rows-in-None.ensures.given (picked_settled c.args.dict.now _ c.picked-columns.result c.picked-columns.ensures)
+
+pub returns-in_ok-columns-in-Some-clause-given : goal.returns-in_ok-columns-in-Some-clause-given
+returns-in_ok-columns-in-Some-clause-given c =
+    let known : IsKnownSubscript (world c.args.store.now c.args.dict.now) c.in-Some.key.now = search rules in
+    target_settled c.args.dict.now c.in_ok-rows-in-Some.rows c.in_ok-columns-in-Some.columns c.in_ok-rows-in-Some.ensures.given (c.in_ok-columns-in-Some.ensures.given (tables c.args.store.now) known.given)

@@ -1,0 +1,4 @@
+pub mod Assigned
+pub mod Values
+pub mod Changes
+pub mod Grown

@@ -1,0 +1,32 @@
+//! Settings of Series and frames.
+//!
+//! [`assign`] sets what stands in brackets or behind an accessor, and [`remove`] takes a column
+//! away. Both change the table of one object in place, and no other; a value that is
+//! [`NewValue::Moved`] ends with the setting. A setting is read into one change (`changes`),
+//! which is tested whole before the first cell: the form of the value (`values`), the places that
+//! the keys reach (`targets`), and the cells for them (`filling`) or a whole column (`putting`).
+//! A table that grows is made anew and takes the old one's place at the end, so that a refusal
+//! leaves all as it was and ends no object.
+//!
+//! ```text
+//! // `f["price"] = 7`: `price` is a key, the text
+//! let value = NewValue::Copied(&seven);
+//! assign(alloc, &mut store, &mut dict, frame, Selector::Plain, &price, None, value)?;
+//! // `del f["price"]`
+//! remove(alloc, &mut store, &dict, frame, Value::Scalar(Cell::Text(name)))?;
+//! ```
+#![tactic(auto)]
+
+mod assigning;
+mod changes;
+mod columns;
+mod filling;
+mod growing;
+mod putting;
+mod removing;
+mod targets;
+mod values;
+
+pub use assigning::assign;
+pub use removing::remove;
+pub use values::NewValue;
