@@ -7,15 +7,14 @@ PROGRAM is the built `pdscript`. The script makes a frame of two columns of whol
 2^20 bytes that a script may have, runs 200 operators and methods on it, and prints a cell of each fifth answer. The
 same text is run by the Python that runs this, behind `import pandas as pd`, and with the kind that the program
 infers given to the constructor, since pandas would take numpy's. A second script has half the rows. Both runs must
-print the same. A line for each script gives the medians in milliseconds, the ratio to pandas, and the ratio to half the
-rows; the last line gives the most memory that each held.
+print the same. A line for each script gives the time of the processor in milliseconds, the least of the runs, then the
+ratio to pandas, the same ratio where the start of both is left out, and the ratio to half the rows; the last line
+gives the most memory that each held.
 """
 import os
-import statistics
 import subprocess
 import sys
 import tempfile
-import time
 
 MOST_BYTES = 1 << 20
 CALLS = 200
@@ -60,28 +59,30 @@ def for_pandas(text):
     return "import pandas as pd\n" + head + "}, dtype='Int64')\n" + rest
 
 
-def median(command, runs):
+def least(command, runs):
     times, printed, most = [], None, 0
     for _ in range(runs):
-        begun = time.perf_counter()
         done = subprocess.Popen(command, stdout=subprocess.PIPE)
         printed = done.stdout.read()
         _, status, used = os.wait4(done.pid, 0)
         done.returncode = os.waitstatus_to_exitcode(status)
-        times.append(time.perf_counter() - begun)
+        times.append(used.ru_utime + used.ru_stime)
         most = max(most, used.ru_maxrss)
         if done.returncode != 0:
             sys.exit("%s ended with %d" % (" ".join(command), done.returncode))
-    return 1000 * statistics.median(times), printed, most / 1024
+    return 1000 * min(times), printed, most / 1024
 
 
 def main():
     program = os.path.abspath(sys.argv[1])
     runs = int(sys.argv[sys.argv.index("--runs") + 1]) if "--runs" in sys.argv else 7
     rows = (MOST_BYTES - len(script(0)) - 2) // 10
-    print("%-12s %10s %10s %10s %8s %8s" % ("cells", "bytes", "pdscript", "pandas", "ratio", "to half"))
+    print("%-12s %10s %10s %10s %8s %8s %8s" % ("cells", "bytes", "pdscript", "pandas", "ratio", "started", "to half"))
     before = None
     with tempfile.TemporaryDirectory() as folder:
+        path = os.path.join(folder, "empty.pds")
+        open(path, "w").close()
+        start, start_there = least([program, path], runs)[0], least([sys.executable, "-c", "import pandas"], runs)[0]
         for count in (rows // 2, rows):
             text = script(count)
             path = os.path.join(folder, "report.pds")
@@ -90,12 +91,13 @@ def main():
                 out.write(text)
             with open(other, "w") as out:
                 out.write(for_pandas(text))
-            ours, printed, held = median([program, path], runs)
-            theirs, wanted, held_there = median([sys.executable, other], runs)
+            ours, printed, held = least([program, path], runs)
+            theirs, wanted, held_there = least([sys.executable, other], runs)
             if printed != wanted:
                 sys.exit("the two print different texts")
             growth = "" if before is None else "%.2f" % (ours / before)
-            print("%-12d %10d %10.2f %10.2f %8.2f %8s" % (2 * count, len(text), ours, theirs, ours / theirs, growth))
+            started = (ours - start) / (theirs - start_there)
+            print("%-12d %10d %10.2f %10.2f %8.2f %8.2f %8s" % (2 * count, len(text), ours, theirs, ours / theirs, started, growth))
             before = ours
     print("memory: %.0f MiB, pandas %.0f MiB" % (held, held_there))
 

@@ -8,16 +8,16 @@ numbers; one in eleven cells is missing in each column but the first. The script
 there are and the sum of the last column. The same is done by the Python that runs this, which needs pandas, with
 nullable kinds that are named for all columns and with the kinds that pandas finds, by data.table of R where it is
 installed, and by gawk, which splits lines at commas and keeps the sum alone. All must print the same. A file of ten
-rows shows the time from start to end without much to read. A line for each gives the median of the runs in
-milliseconds, the most memory that a process held, and the time of the program as a part of this one. Less memory than
-this script holds itself, about 11 MiB, can't be told.
+rows shows the start without much to read. A line for each gives the time of the processor in milliseconds, the least of
+the runs, the most memory that a process held, the time of the program as a part of this one, and the same where the
+start is left out. The time of each thread counts, of which data.table has several. Less memory than this script holds
+itself, about 11 MiB, can't be told.
 """
 import os
 import shutil
 import subprocess
 import sys
 import tempfile
-import time
 
 ROWS = (10, 100000, 1000000)
 
@@ -55,27 +55,27 @@ def has_data_table():
 
 
 def once(command):
-    """The time of a run in milliseconds, the most memory that it held in MiB, and what it printed."""
-    begun = time.perf_counter()
+    """The time of the processor in milliseconds, the most memory that it held in MiB, and what it printed."""
     with subprocess.Popen(command, stdout=subprocess.PIPE) as child:
         printed = child.stdout.read()
         _, status, used = os.wait4(child.pid, 0)
         child.returncode = os.waitstatus_to_exitcode(status)
     if child.returncode:
         sys.exit("%s ended with %d" % (command[0], child.returncode))
-    return 1000 * (time.perf_counter() - begun), used.ru_maxrss / 1024, printed
+    return 1000 * (used.ru_utime + used.ru_stime), used.ru_maxrss / 1024, printed
 
 
-def median(command, runs):
-    """The median time, the most memory, and what the last run printed."""
+def least(command, runs):
+    """The least time, the most memory, and what the last run printed."""
     done = [once(command) for _ in range(runs)]
-    return sorted(took for took, _, _ in done)[runs // 2], max(held for _, held, _ in done), done[-1][2]
+    return min(took for took, _, _ in done), max(held for _, held, _ in done), done[-1][2]
 
 
 def main():
     program = os.path.abspath(sys.argv[1])
     runs = int(sys.argv[sys.argv.index("--runs") + 1]) if "--runs" in sys.argv else 5
-    print("%-10s %12s %-16s %10s %8s %8s" % ("rows", "bytes", "by", "ms", "MiB", "ratio"))
+    print("%-10s %12s %-16s %10s %8s %8s %8s" % ("rows", "bytes", "by", "ms", "MiB", "ratio", "started"))
+    starts = {}
     with tempfile.TemporaryDirectory() as folder:
         table, script = os.path.join(folder, "t.csv"), os.path.join(folder, "s.pds")
         with open(script, "w") as out:
@@ -92,11 +92,13 @@ def main():
         for rows in ROWS:
             size, ours, wanted = write_table(table, rows), None, None
             for name, command in commands.items():
-                took, held, printed = median(command, runs)
-                ours, wanted = ours or took, wanted or printed
+                took, held, printed = least(command, runs)
+                work = took - starts.setdefault(name, took)
+                ours, wanted = ours or (took, work), wanted or printed
                 if printed != wanted:
                     sys.exit("%s prints %r in place of %r" % (name, printed, wanted))
-                print("%-10d %12d %-16s %10.2f %8.1f %8.3f" % (rows, size, name, took, held, ours / took))
+                started = "%.3f" % (ours[1] / work) if work > 0 else ""
+                print("%-10d %12d %-16s %10.2f %8.1f %8.3f %8s" % (rows, size, name, took, held, ours[0] / took, started))
 
 
 if __name__ == "__main__":

@@ -7,16 +7,16 @@ PROGRAM is the built `pdscript`. Each script is made here and written into a fol
 scripts of the first part are run by both, by the program as they stand and by python3 as the same
 statements on lists. Those of the second part are only read: their first statement is refused, or they are
 no scripts, so the program reads them whole and does nothing; beside it `compile` of python3 reads the same
-text. A line for each script gives the medians in milliseconds, the ratio to python3, and the ratio to the
-same kind of script of half its size. Times vary with the machine; the ratios of one run are what
+text. A line for each script gives the time of the processor in milliseconds, the least of the runs, then the ratio to
+python3, the same ratio where the start of both is left out, unless python3 does little else than start, and the ratio to
+the same kind of script of half its size. Times vary with the machine; the ratios of one run are what
 docs/PERFORMANCE.md quotes.
 """
 import os
-import statistics
+import resource
 import subprocess
 import sys
 import tempfile
-import time
 
 MOST_BYTES = 1 << 20
 
@@ -108,28 +108,33 @@ def on_lists(script):
 COMPILE = "import sys\ntry: compile(open(sys.argv[1]).read(), 's', 'exec')\nexcept (SyntaxError, MemoryError, RecursionError): pass"
 
 
-def median(command, runs, check=True):
+def spent():
+    """The processor time of all processes that have ended, in milliseconds."""
+    used = resource.getrusage(resource.RUSAGE_CHILDREN)
+    return 1000 * (used.ru_utime + used.ru_stime)
+
+
+def least(command, runs, check=True):
     times = []
     for _ in range(runs):
-        begun = time.perf_counter()
+        before = spent()
         subprocess.run(command, stdout=subprocess.DEVNULL, stderr=subprocess.DEVNULL, check=check)
-        times.append(time.perf_counter() - begun)
-    return 1000 * statistics.median(times)
+        times.append(spent() - before)
+    return min(times)
 
 
 def main():
     program = os.path.abspath(sys.argv[1])
     runs = int(sys.argv[sys.argv.index("--runs") + 1]) if "--runs" in sys.argv else 15
     scripts = [
-        ("empty script", "", None),
         ("one list, 2^19 bytes", one_list(MOST_BYTES // 2), None),
-        ("one list, 2^20 bytes", one_list(MOST_BYTES), 1),
+        ("one list, 2^20 bytes", one_list(MOST_BYTES), 0),
         ("lines of 2,000 bytes, 2^19 bytes", long_lines(MOST_BYTES // 2), None),
-        ("lines of 2,000 bytes, 2^20 bytes", long_lines(MOST_BYTES), 3),
+        ("lines of 2,000 bytes, 2^20 bytes", long_lines(MOST_BYTES), 2),
         ("5,000 statements", statements(5000), None),
-        ("10,000 statements", statements(10000), 5),
+        ("10,000 statements", statements(10000), 4),
         ("5,000 bindings, half anew", rebindings(5000), None),
-        ("10,000 bindings, half anew", rebindings(10000), 7),
+        ("10,000 bindings, half anew", rebindings(10000), 6),
     ]
     readings = [
         ("ordinary statements, 2^19 bytes", ordinary(MOST_BYTES // 2), None),
@@ -143,16 +148,23 @@ def main():
         ("pairs of brackets, 2^19 bytes", "[]" * (MOST_BYTES // 4), None),
         ("pairs of brackets, 2^20 bytes", "[]" * (MOST_BYTES // 2), 8),
     ]
-    print("/bin/true %.2f ms, python3 -c '' %.2f ms" % (median(["/bin/true"], runs), median(["python3", "-c", ""], runs)))
+    starts = start_of(program, runs), least(["python3", "-c", ""], runs)
+    print("Start: pdscript %.2f, python3 %.2f" % starts)
     print("Run:")
-    measure(program, scripts, runs, lambda path: ["python3", path + ".py"], True)
+    measure(program, scripts, runs, starts, lambda path: ["python3", path + ".py"], True)
     print("Read:")
-    measure(program, readings, runs, lambda path: ["python3", "-c", COMPILE, path], False)
+    measure(program, readings, runs, starts, lambda path: ["python3", "-c", COMPILE, path], False)
 
 
-def measure(program, scripts, runs, other, check):
+def start_of(program, runs):
+    """The time of a script without a statement."""
+    with tempfile.NamedTemporaryFile() as empty:
+        return least([program, empty.name], runs)
+
+
+def measure(program, scripts, runs, starts, other, check):
     """A line for each script."""
-    print("%-34s %10s %10s %10s %8s %8s" % ("script", "bytes", "pdscript", "python3", "ratio", "to half"))
+    print("%-34s %10s %10s %10s %8s %8s %8s" % ("script", "bytes", "pdscript", "python3", "ratio", "started", "to half"))
     done = []
     with tempfile.TemporaryDirectory() as folder:
         for name, script, half in scripts:
@@ -161,10 +173,12 @@ def measure(program, scripts, runs, other, check):
                 out.write(script)
             with open(path + ".py", "w") as out:
                 out.write(on_lists(script))
-            ours, theirs = median([program, path], runs, check), median(other(path), runs)
+            ours, theirs = least([program, path], runs, check), least(other(path), runs)
             done.append(ours)
+            work, work_there = ours - starts[0], theirs - starts[1]
+            started = "%.2f" % (work / work_there) if work_there > starts[1] / 2 else ""
             growth = "" if half is None else "%.2f" % (ours / done[half])
-            print("%-34s %10d %10.2f %10.2f %8.2f %8s" % (name, len(script), ours, theirs, ours / theirs, growth))
+            print("%-34s %10d %10.2f %10.2f %8.2f %8s %8s" % (name, len(script), ours, theirs, ours / theirs, started, growth))
 
 
 if __name__ == "__main__":

@@ -26,7 +26,15 @@ except ImportError:
     pandas = None
 
 KINDS = {"a": "Int64", "b": "Int64", "k": "Int64", "d": "Int64", "w": "string"}
-LABELS, MOST_COLUMNS, MOST_STATEMENTS, MEBI = 100000, 65536, 10000, 1024
+# A process keeps the peak of memory of the one that began it. So a small Python begins the program, and not this one, which
+# has read tables.
+MEASURED = """
+import os, subprocess, sys
+begun = subprocess.Popen(sys.argv[1:], stdout=subprocess.DEVNULL)
+_, status, used = os.wait4(begun.pid, 0)
+print(os.waitstatus_to_exitcode(status), 1000 * (used.ru_utime + used.ru_stime), used.ru_maxrss / 1024)
+"""
+LABELS, MOST_COLUMNS, MOST_STATEMENTS = 100000, 65536, 10000
 
 
 def option(name, default):
@@ -76,11 +84,11 @@ class Program:
         script = os.path.join(self.folder, "s.pds")
         with open(script, "w") as out:
             out.write(text)
-        begun = subprocess.Popen([self.program, script, "t=" + table], stdout=subprocess.DEVNULL)
-        _, status, used = os.wait4(begun.pid, 0)
-        if status:
-            sys.exit("%s ended with %d at\n%s" % (self.program, os.waitstatus_to_exitcode(status), text[:300]))
-        return 1000 * (used.ru_utime + used.ru_stime), used.ru_maxrss / MEBI
+        told = subprocess.check_output([sys.executable, "-c", MEASURED, self.program, script, "t=" + table], text=True)
+        status, took, held = told.split()
+        if int(status):
+            sys.exit("%s ended with %s at\n%s" % (self.program, status, text[:300]))
+        return float(took), float(held)
 
     def least(self, head, rest, table):
         """The script with the rest, less the same without it; and the script with it, with its memory."""

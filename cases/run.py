@@ -3,7 +3,7 @@
 
     python3 cases/run.py PROGRAM [FILE ..]
 
-A FILE is Markdown: by default each one of cases/, and the documents of docs/ that have examples. A fenced block
+A FILE is Markdown: by default each one of cases/, README.md and the documents of docs/ that have examples. A fenced block
 `pdscript` is a script, and begins a case; its name is the heading above it. `csv NAME` before a script is a file that it
 is given by the word NAME=NAME, and the blocks behind it say how its run ends:
 
@@ -15,6 +15,10 @@ is given by the word NAME=NAME, and the blocks behind it say how its run ends:
 
 `pdscript PATH` stands for a script with another path, and `scripts` for many: each line, without its end, is a script of its
 own, and all end alike. Where `bytes` is the last word of a fence, the block is an expression of Python for its bytes.
+
+A table whose first column is `You wrote` has cases too, each behind the lines of the script that stands last before it.
+Each code of that column is a case, which ends with the fault under `Here`, or with a syntax error where there is no such
+column. The codes of a row under `Write instead` are the lines of one case, which ends without a fault, whatever it prints.
 
 Where no FILE is given each script examples/NAME.pds is run too, with a word FILE.csv=FILE.csv for each file
 examples/FILE.csv; it writes NAME.out and NAME.err, and nothing on a stream whose file isn't there.
@@ -34,12 +38,15 @@ import tempfile
 HERE = os.path.dirname(os.path.abspath(__file__))
 TOP = os.path.dirname(HERE)
 SECONDS = 120
-DOCUMENTS = ("LANGUAGE", "METHODS", "FORMATS", "FROM_PANDAS")
-PART = re.compile(r"^#+ (?P<title>.*)$|^```(?P<fence>\w.*)\n(?P<body>(?:.*\n)*?)```$", re.M)
+DOCUMENTS = ("README", "docs/GUIDE", "docs/FROM_PANDAS", "docs/LANGUAGE", "docs/METHODS", "docs/FORMATS")
+PART = re.compile(
+    r"^#+ (?P<title>.*)$|^```(?P<fence>\w.*)\n(?P<body>(?:.*\n)*?)```$|^(?P<table>\| You wrote \|.*\n(?:\|.*\n)+)", re.M
+)
+CODE = re.compile(r"`([^`]+)`")
 
 
 class Case:
-    """A script with its files, and how each run of it ends."""
+    """A script with its files, and how each run of it ends. Where the output is None it isn't looked at."""
 
     def __init__(self, place, script, files, path="script.pds"):
         self.place, self.path, self.files = place, path, {**files, path: script}
@@ -57,6 +64,16 @@ class Case:
         else:
             sys.exit("%s: no such block: %s" % (self.place, kind))
 
+    def then(self, place, lines):
+        """A case of the same files, with more lines of script."""
+        files = {name: body for name, body in self.files.items() if name != self.path}
+        return Case(place, self.files[self.path] + "".join(line + "\n" for line in lines).encode(), files, self.path)
+
+    def refuse(self, fault):
+        """Ends with a fault of the script's last line."""
+        self.errors = b"line %d: %s\n" % (self.files[self.path].count(b"\n"), fault.encode())
+        self.status = 3 if fault == "SyntaxError" else 1
+
     def failures(self, program):
         """How the runs of the case end, where that is otherwise."""
         with tempfile.TemporaryDirectory() as folder:
@@ -65,7 +82,8 @@ class Case:
                     out.write(body)
             for words in self.words:
                 ended = run([program, *words], folder)
-                if ended != (self.output, self.errors, self.status):
+                output = ended[0] if self.output is None else self.output
+                if ended != (output, self.errors, self.status):
                     yield "%s: %s: ended with %s" % (self.place, shlex.join(words), told(ended))
 
 
@@ -89,21 +107,40 @@ def told(ended):
     return "output %.500r, errors %.500r, status %s" % (output, errors, status)
 
 
+def rows_of(page, line, table, script):
+    """The cases of a table that begins on a line, behind the lines of a script."""
+    head, _, *rows = [re.split(r"(?<!\\)\|", row)[1:-1] for row in table.splitlines()]
+    for number, row in enumerate(rows, line + 2):
+        codes = {title.strip(): CODE.findall(cell.replace("\\|", "|")) for title, cell in zip(head, row)}
+        for code in codes["You wrote"]:
+            case = script.then("%s:%d: %s" % (page, number, code), [code])
+            case.refuse(*codes.get("Here", ["SyntaxError"]))
+            yield case
+        instead = codes.get("Write instead")
+        if instead:
+            case = script.then("%s:%d: instead" % (page, number), instead)
+            case.output = None
+            yield case
+
+
 def cases_of(name):
     """The cases of a file of Markdown."""
     with open(name, encoding="utf-8", newline="") as file:
         text = file.read()
-    files, latest, title = {}, [], ""
+    page, files, latest, title = os.path.relpath(name, TOP), {}, [], ""
     for part in PART.finditer(text):
         if part["title"]:
             title = part["title"]
+            continue
+        line = text.count("\n", 0, part.start()) + 1
+        if part["table"]:
+            yield from rows_of(page, line, part["table"], latest[-1])
             continue
         kind, *rest = part["fence"].split()
         body = part["body"].encode()
         if rest and rest[-1] == "bytes":
             rest, body = rest[:-1], eval(body)
-        line = text.count("\n", 0, part.start()) + 1
-        place = "%s:%d: %s" % (os.path.relpath(name, TOP), line, title)
+        place = "%s:%d: %s" % (page, line, title)
         if kind == "csv":
             files[rest[0]] = body
         elif kind in ("pdscript", "scripts"):
@@ -139,7 +176,7 @@ def examples_of(folder):
 def main():
     program, names = os.path.abspath(sys.argv[1]), sys.argv[2:]
     stored = sorted(glob.glob(HERE + "/*.md")) or [HERE + "/*.md"]
-    pages = names or stored + ["%s/docs/%s.md" % (TOP, name) for name in DOCUMENTS]
+    pages = names or stored + ["%s/%s.md" % (TOP, name) for name in DOCUMENTS]
     cases = {name: list(cases_of(name)) for name in pages}
     if not names:
         cases[TOP + "/examples"] = list(examples_of(TOP + "/examples"))

@@ -1,0 +1,4 @@
+pub mod Faults
+pub mod Joins
+pub mod Targets
+pub mod OuterJoin

@@ -1,0 +1,10 @@
+pub mod SameLaws
+mod Example
+pub mod EntryLaws
+pub mod JoinedLaws
+pub mod OrderLaws
+pub mod OuterLaws
+pub mod OuterJoinLaws
+pub mod LawOfJoins
+pub mod MatchedLaws
+pub mod TargetLaws

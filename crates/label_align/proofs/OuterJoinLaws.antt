@@ -1,0 +1,179 @@
+-- The entries of both sides' keys in order are an outer join.
+use Rattle.std.proofs.Common.{◌≡◌, ◌∙◌, ◌<◌, ◌||◌, ◌++◌, ℕ, zero, suc, Bool, true, false, not, cond, List, [], ◌∷◌, filter, length, refl, ap, sym, slice_index_or, arith, All}
+use Rattle.std.specs.Bool.{Decides}
+use Rattle.std.specs.Cmp.{IsStrictWeakOrder}
+use Rattle.std.specs.List.{flat_map, list_any}
+use Rattle.std.proofs.lemmas.Bool.{false≢true}
+use Rattle.std.proofs.lemmas.List.{append-nil}
+use Rattle.std.proofs.lemmas.List.Elements.{All-nil, All-cons, All-head, All-tail, All-map, filter-append}
+use Rattle.meaning.specs.Reduce.{distinct}
+use Rattle.sorting.specs.Sorting.{put_in, in_order}
+use Rattle.sorting.proofs.SortLaws.{irreflexive}
+use Rattle.align_meaning.specs.Joins.{Entry, or_gap, entry, entries_with, entries_of, outer_entries, lists_of}
+use Rattle.align_meaning.specs.OuterJoin.{IsOuterJoin, rows_of_key}
+use Rattle.label_align.proofs.EntryLaws.{length-entries_of}
+
+all_append : {X : Type 0} (P : X → Type 0) (xs ys : List X) → All P xs → All P ys → All P (xs ++ ys)
+all_append P [] ys px py = py
+all_append P (x ∷ xs) ys px py = All-cons P x (xs ++ ys) (All-head P x xs px) (all_append P xs ys (All-tail P x xs px) py)
+
+all_flat : {X Y : Type 0} (P : Y → Type 0) (Q : X → Type 0) (f : X → List Y) → ((x : X) → Q x → All P (f x)) → (xs : List X) → All Q xs → All P (flat_map f xs)
+all_flat P Q f each [] all = All-nil P
+all_flat P Q f each (x ∷ xs) all = all_append P (f x) (flat_map f xs) (each x (All-head Q x xs all)) (all_flat P Q f each xs (All-tail Q x xs all))
+
+filter_all : {X : Type 0} (p : X → Bool) (xs : List X) → All (λ x. p x ≡ true) xs → filter p xs ≡ xs
+filter_all p [] all = refl
+filter_all p (x ∷ xs) all = ap (λ b. cond b (x ∷ filter p xs) (filter p xs)) (All-head (λ x. p x ≡ true) x xs all) ∙ ap (λ l. x ∷ l) (filter_all p xs (All-tail (λ x. p x ≡ true) x xs all))
+
+filter_none : {X : Type 0} (p : X → Bool) (xs : List X) → All (λ x. p x ≡ false) xs → filter p xs ≡ []
+filter_none p [] all = refl
+filter_none p (x ∷ xs) all = ap (λ b. cond b (x ∷ filter p xs) (filter p xs)) (All-head (λ x. p x ≡ false) x xs all) ∙ filter_none p xs (All-tail (λ x. p x ≡ false) x xs all)
+
+-- each entry of a key has the key
+keyed : {K : Type 0} (key : K) (lefts rights : List ℕ) → All (λ e. e.key ≡ key) (entries_of key lefts rights)
+keyed key lefts rights =
+    all_flat (λ e. e.key ≡ key) (λ l. Unit {0}) (entries_with key rights)
+    (λ l h. All-map (λ e. e.key ≡ key) (entry key l) (or_gap rights) (λ k d lt. refl)) (or_gap lefts) (λ k d lt. tt)
+
+module _ {X : Type 0} (less : X → X → Bool) where
+  -- none stands before a lesser one
+  abbrev Rises : List X → Type 0
+  Rises [] = Unit {0}
+  Rises (x ∷ xs) = All (λ y. less y x ≡ false) xs × Rises xs
+
+  rises_at : (xs : List X) → Rises xs → (i j : ℕ) (d : X) → i < j → j < length xs → less (slice_index_or xs j d) (slice_index_or xs i d) ≡ false
+  rises_at [] up i j d lt inside = absurd (omega (arith, inside))
+  rises_at (x ∷ xs) up zero zero d lt inside = absurd (omega (arith, lt))
+  rises_at (x ∷ xs) up zero (suc j) d lt inside = up.0 j d (omega (arith, inside))
+  rises_at (x ∷ xs) up (suc i) zero d lt inside = absurd (omega (arith, lt))
+  rises_at (x ∷ xs) up (suc i) (suc j) d lt inside = rises_at xs up.1 i j d (omega (arith, lt)) (omega (arith, inside))
+
+  all_put_in : (P : X → Type 0) (x : X) (ys : List X) → P x → All P ys → All P (put_in less x ys)
+  all_put_in P x [] px ps = All-cons P x [] px ps
+  all_put_in P x (y ∷ ys) px ps =
+      elim (less y x) as (λ b. All P (cond b (y ∷ put_in less x ys) (x ∷ y ∷ ys))) [
+        | true ↦ All-cons P y (put_in less x ys) (All-head P y ys ps) (all_put_in P x ys px (All-tail P y ys ps))
+        | false ↦ All-cons P x (y ∷ ys) px ps
+      ]
+
+  module _ (weak : IsStrictWeakOrder less) where
+    put_in_rises : (x : X) (ys : List X) → Rises ys → Rises (put_in less x ys)
+    put_in_rises x [] up = (All-nil (λ y. less y x ≡ false), tt)
+    put_in_rises x (y ∷ ys) up =
+        elim (less y x) as (λ b. less y x ≡ b → Rises (cond b (y ∷ put_in less x ys) (x ∷ y ∷ ys))) [
+          | true ↦ λ h. (all_put_in (λ w. less w y ≡ false) x ys (weak.one_way y x h) up.0, put_in_rises x ys up.1)
+          | false ↦ λ h. (All-cons (λ w. less w x ≡ false) y ys h (λ k d lt. weak.chain _ y x (up.0 k d lt) h), up)
+        ] refl
+
+    in_order_rises : (xs : List X) → Rises (in_order less xs)
+    in_order_rises [] = tt
+    in_order_rises (x ∷ xs) = put_in_rises x (in_order less xs) (in_order_rises xs)
+
+module _ {K : Type 0} (same less : K → K → Bool) (decides : (a b : K) → Decides (same a b) (a ≡ b)) (weak : IsStrictWeakOrder less) (left right : List K) where
+  abbrev of_key : K → List (Entry K)
+  of_key key = entries_of key (rows_of_key same left key) (rows_of_key same right key)
+
+  abbrev less_key : Entry K → Entry K → Bool
+  less_key e f = less e.key f.key
+
+  -- the entries of keys that rise
+  block_rises : (key : K) (es rest : List (Entry K)) → All (λ e. e.key ≡ key) es → All (λ e. less e.key key ≡ false) rest → Rises less_key rest → Rises less_key (es ++ rest)
+  block_rises key [] rest are above up = up
+  block_rises key (e ∷ es) rest are above up =
+      let here : e.key ≡ key = All-head (λ e. e.key ≡ key) e es are in
+      let later = All-tail (λ e. e.key ≡ key) e es are in (
+        all_append (λ f. less f.key e.key ≡ false) es rest
+            (λ k d lt. (λ i. less (later k d lt i) (here i)) ∙ irreflexive less weak key)
+            (λ k d lt. ap (less (slice_index_or rest k d).key) here ∙ above k d lt),
+        block_rises key es rest later above up,
+      )
+
+  entries_rise : (keys : List K) → Rises less keys → Rises less_key (flat_map of_key keys)
+  entries_rise [] up = tt
+  entries_rise (key ∷ keys) up =
+      block_rises key (of_key key) (flat_map of_key keys) (keyed key (rows_of_key same left key) (rows_of_key same right key))
+      (all_flat (λ e. less e.key key ≡ false) (λ k. less k key ≡ false) of_key (λ k h. λ n d lt. ap (λ x. less x key) (keyed k (rows_of_key same left k) (rows_of_key same right k) n d lt) ∙ h) keys up.0)
+      (entries_rise keys up.1)
+
+  module _ (key : K) where
+    abbrev has_key : Entry K → Bool
+    has_key e = same key e.key
+
+    -- the entries of one key among those of keys
+    entries_apart : (keys : List K) → filter has_key (flat_map of_key keys) ≡ flat_map of_key (filter (same key) keys)
+    entries_apart [] = refl
+    entries_apart (k ∷ keys) =
+        let are = keyed k (rows_of_key same left k) (rows_of_key same right k) in
+        filter-append has_key (of_key k) (flat_map of_key keys)
+        ∙ (elim (same key k) as (λ b. same key k ≡ b → filter has_key (of_key k) ++ filter has_key (flat_map of_key keys) ≡ flat_map of_key (cond b (k ∷ filter (same key) keys) (filter (same key) keys))) [
+          | true ↦ λ h. (λ i. filter_all has_key (of_key k) (λ n d lt. ap (same key) (are n d lt) ∙ h) i ++ entries_apart keys i)
+          | false ↦ λ h. ap (λ l. l ++ filter has_key (flat_map of_key keys)) (filter_none has_key (of_key k) (λ n d lt. ap (same key) (are n d lt) ∙ h)) ∙ entries_apart keys
+        ] refl)
+
+    swap : (x y : K) (zs : List K) → cond (same key y) (y ∷ cond (same key x) (x ∷ zs) zs) (cond (same key x) (x ∷ zs) zs) ≡ cond (same key x) (x ∷ cond (same key y) (y ∷ zs) zs) (cond (same key y) (y ∷ zs) zs)
+    swap x y zs =
+        elim (same key x) as (λ b. same key x ≡ b → cond (same key y) (y ∷ cond b (x ∷ zs) zs) (cond b (x ∷ zs) zs) ≡ cond b (x ∷ cond (same key y) (y ∷ zs) zs) (cond (same key y) (y ∷ zs) zs)) [
+          | true ↦ λ h. elim (same key y) as (λ b. same key y ≡ b → cond b (y ∷ x ∷ zs) (x ∷ zs) ≡ x ∷ cond b (y ∷ zs) zs) [
+            | true ↦ λ k. let e : y ≡ x = sym ((decides key y).0 k) ∙ (decides key x).0 h in λ i. e i ∷ sym e i ∷ zs
+            | false ↦ λ k. refl
+          ] refl
+          | false ↦ λ h. refl
+        ] refl
+
+    put_in_keeps : (x : K) (ys : List K) → filter (same key) (put_in less x ys) ≡ filter (same key) (x ∷ ys)
+    put_in_keeps x [] = refl
+    put_in_keeps x (y ∷ ys) =
+        elim (less y x) as (λ b. filter (same key) (cond b (y ∷ put_in less x ys) (x ∷ y ∷ ys)) ≡ filter (same key) (x ∷ y ∷ ys)) [
+          | true ↦ ap (λ l. cond (same key y) (y ∷ l) l) (put_in_keeps x ys) ∙ swap x y (filter (same key) ys)
+          | false ↦ refl
+        ]
+
+    in_order_keeps : (xs : List K) → filter (same key) (in_order less xs) ≡ filter (same key) xs
+    in_order_keeps [] = refl
+    in_order_keeps (x ∷ xs) = put_in_keeps x (in_order less xs) ∙ ap (λ l. cond (same key x) (x ∷ l) l) (in_order_keeps xs)
+
+    -- a key that stands is once among the distinct ones
+    others_gone : (x : K) (ks : List K) → key ≡ x → filter (same key) (filter (λ q. not (same q x)) ks) ≡ []
+    others_gone x [] is = refl
+    others_gone x (k ∷ ks) is =
+        elim (same k x) as (λ b. same k x ≡ b → filter (same key) (cond (not b) (k ∷ filter (λ q. not (same q x)) ks) (filter (λ q. not (same q x)) ks)) ≡ []) [
+          | true ↦ λ h. others_gone x ks is
+          | false ↦ λ h. ap (λ b. cond b (k ∷ filter (same key) (filter (λ q. not (same q x)) ks)) (filter (same key) (filter (λ q. not (same q x)) ks))) (apart k x h is) ∙ others_gone x ks is
+        ] refl
+      where
+        apart : (k x : K) → same k x ≡ false → key ≡ x → same key k ≡ false
+        apart k x h is = elim (same key k) as (λ b. same key k ≡ b → b ≡ false) [
+          | true ↦ λ e. absurd (false≢true (sym h ∙ (decides k x).1 (sym ((decides key k).0 e) ∙ is)))
+          | false ↦ λ e. refl
+        ] refl
+
+    others_stay : (x : K) (ks : List K) → same key x ≡ false → filter (same key) (filter (λ q. not (same q x)) ks) ≡ filter (same key) ks
+    others_stay x [] h = refl
+    others_stay x (k ∷ ks) h =
+        elim (same k x) as (λ b. same k x ≡ b → filter (same key) (cond (not b) (k ∷ filter (λ q. not (same q x)) ks) (filter (λ q. not (same q x)) ks)) ≡ filter (same key) (k ∷ ks)) [
+          | true ↦ λ e. others_stay x ks h ∙ sym (ap (λ b. cond b (k ∷ filter (same key) ks) (filter (same key) ks)) (ap (same key) ((decides k x).0 e) ∙ h))
+          | false ↦ λ e. ap (λ l. cond (same key k) (k ∷ l) l) (others_stay x ks h)
+        ] refl
+
+    once : (xs : List K) → list_any (same key) xs ≡ true → filter (same key) (distinct same xs) ≡ key ∷ []
+    once [] h = absurd (false≢true h)
+    once (x ∷ xs) h =
+        elim (same key x) as (λ b. same key x ≡ b → (b || list_any (same key) xs) ≡ true → cond b (x ∷ filter (same key) (filter (λ q. not (same q x)) (distinct same xs))) (filter (same key) (filter (λ q. not (same q x)) (distinct same xs))) ≡ key ∷ []) [
+          | true ↦ λ e t. let is = (decides key x).0 e in λ i. sym is i ∷ others_gone x (distinct same xs) is i
+          | false ↦ λ e t. others_stay x (distinct same xs) e ∙ once xs t
+        ] refl h
+
+    entries_of_key : list_any (same key) (left ++ right) ≡ true → filter has_key (outer_entries same less left right) ≡ of_key key
+    entries_of_key stands =
+        entries_apart (in_order less (distinct same (left ++ right)))
+        ∙ ap (flat_map of_key) (in_order_keeps (distinct same (left ++ right)) ∙ once (left ++ right) stands)
+        ∙ append-nil (of_key key)
+
+  pub outer_join : IsOuterJoin same less left right (lists_of (outer_entries same less left right))
+  outer_join = record {
+    entries = outer_entries same less left right;
+    lists = refl;
+    in_order = rises_at less_key (outer_entries same less left right) (entries_rise (in_order less (distinct same (left ++ right))) (in_order_rises less weak (distinct same (left ++ right))));
+    as_often = λ key stands. ap length (entries_of_key key stands) ∙ length-entries_of key (rows_of_key same left key) (rows_of_key same right key);
+    rows_in_order = entries_of_key;
+  }

@@ -1,0 +1,7 @@
+use Rattle.std.proofs.Common.{◌≡◌, Some, map}
+use Rattle.std.specs.List.{range_with_len}
+use Rattle.label_align.proofs.targets.all_rows.Given as goal
+
+-- the rows so far
+abbrev pub invariant-loop-row : goal.invariant-loop-row
+invariant-loop-row l = l.rows ≡ map Some (range_with_len 0 l.row)

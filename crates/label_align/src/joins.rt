@@ -1,0 +1,52 @@
+// The outer join of two axes.
+ghost use Rattle.std.specs.Prelude.{◌≡◌, ◌≤◌, ◌++◌, IfOk, length};
+ghost use Rattle.multi_index.specs.Axes.{HaveLevels};
+ghost use Rattle.align_meaning.specs.Joins as meant;
+ghost use Rattle.align_meaning.specs.OuterJoin.{IsOuterJoin};
+ghost use Rattle.row_keys.specs.Keys.{same_tuple};
+ghost use Rattle.label_align.specs.Tuples.{tuple_less};
+ghost use Rattle.label_align.specs.Joined.{lists_seen};
+ghost use Rattle.label_align.specs.Answers.{AlignsBy};
+
+use crate::fault::AlignFault;
+use crate::joined::{Joined, joined_rows};
+use crate::matching::{Matched, matched_rows};
+use crate::order::places_in_order;
+use cell_core::TextDict;
+use multi_index::Axis;
+use std::alloc::Global;
+
+// How many levels both axes have.
+fn levels_of_both(a: &Axis, b: &Axis) -> usize
+    requires { length a.now.names ≡ length b.now.names }
+    ensures some { 1 ≤ result }
+    ensures alike { HaveLevels result (a.now.tuples ++ b.now.tuples) }
+{
+    a.levels().max(b.levels())
+}
+
+/// The rows of two axes joined by their tuples: all tuples of both in order. One that stands p times on the
+/// left and q times on the right has p times q rows, by left, then right row; one of a single side has its rows
+/// there, with gaps on the other ("Merge, join, concatenate and compare" in the pandas user guide). The rows are
+/// counted before one is made. Texts are told apart by their numbers and ordered by what they say.
+///
+/// # Errors
+///
+/// `TooLarge` exactly where there are more than 2^26 rows. `NoMemory` may come in place of any answer, and
+/// `DuplicateLabels` never comes.
+pub fn outer(alloc: Global, dict: &TextDict, a: &Axis, b: &Axis) -> Result<Joined, AlignFault>
+    requires { length a.now.names ≡ length b.now.names }
+    ensures rows { AlignsBy lists_seen result
+        (meant.outer same_tuple (tuple_less dict.now) a.now.tuples b.now.tuples) }
+    ensures law { IfOk result (λ joined.
+        IsOuterJoin same_tuple (tuple_less dict.now) a.now.tuples b.now.tuples (lists_seen joined)) }
+{
+    let levels = levels_of_both(a, b);
+    let Matched {
+        keys,
+        lefts,
+        rights,
+    } = matched_rows(alloc, a, b, levels)?;
+    let codes = places_in_order(alloc, dict, &keys, levels)?;
+    joined_rows(alloc, &codes, &keys, &lefts, &rights)
+}

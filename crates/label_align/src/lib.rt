@@ -1,0 +1,24 @@
+//! Rows of two axes that meet by their labels.
+//!
+//! [`outer`] joins two axes: all tuples of both sides in order, with each pair of their rows. [`reindex`]
+//! finds the row of each target tuple. Where both axes have the same tuples
+//! ([`multi_index::Axis::same_labels`], a test without memory) rows meet by position, and a caller joins
+//! nothing. What is answered is defined in `align_meaning`.
+//!
+//! ```text
+//! let joined = outer(alloc, &dict, &a, &b)?;
+//! let rows = reindex(alloc, &a, &target)?;
+//! ```
+#![tactic(auto)]
+
+mod fault;
+mod joined;
+mod joins;
+mod matching;
+mod order;
+mod targets;
+
+pub use fault::AlignFault;
+pub use joined::Joined;
+pub use joins::outer;
+pub use targets::reindex;

@@ -1,0 +1,9 @@
+pub mod DistinctLaws
+pub mod KeyLaws
+pub mod ZipLaws
+pub mod RecodeLaws
+pub mod JoinLaws
+pub mod SideLaws
+pub mod FillLaws
+pub mod PartsLaws
+pub mod RoomLaws

@@ -1,0 +1,17 @@
+use Rattle.std.proofs.Common.{◌<◌, ◌≤◌, [], length, arith, ap, sym, ◌∙◌}
+use Rattle.std.proofs.lemmas.Option.{get_or_from_slice_get}
+use Rattle.row_keys.specs.Keys.{label_in}
+use Rattle.row_keys.proofs.SideLaws.{one_row_more, every_row}
+use Rattle.row_keys.proofs.sides.TuplesLevelRows.push_level.Goals as goal
+
+pub loop-row-preserved : goal.loop-row-preserved
+loop-row-preserved c =
+    let rows = c.args.self.now in
+    let lt : c.loop-row.row < length rows = omega arith in
+    one_row_more (label_in c.args.level) rows c.loop-row.row [] c.tuple_label.result c.args.labels.now.items c.loop-row.labels.items c.push.new.self.items lt
+    (c.tuple_label.ensures ∙ ap (label_in c.args.level) (sym (get_or_from_slice_get rows c.loop-row.row c.at.result.now [] c.at.ensures))) c.loop-row.invariant c.in_ok-push.ensures.items
+
+pub returns : goal.returns
+returns c =
+    let end : length c.args.self.now ≤ c.loop-row.row = omega arith in
+    every_row (label_in c.args.level) c.args.self.now c.loop-row.row c.args.labels.now.items c.loop-row.labels.items end c.loop-row.invariant

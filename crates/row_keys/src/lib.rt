@@ -1,0 +1,24 @@
+//! Keys of rows and the rows of each key.
+//!
+//! [`factorize`] numbers keys by first sight. [`numbered`] does so for the tuples of labels of two sides, level
+//! by level, without a tuple a row. [`rows_by_code`] has the rows of each number, so that whoever joins or
+//! groups rows after that hashes nothing and compares numbers alone.
+//!
+//! ```text
+//! let numbers = numbered(alloc, &left, &right, left.levels())?;
+//! let rows = rows_by_code(alloc, numbers.firsts.len(), &numbers.codes)?;
+//! let of_the_first = rows.rows(0);
+//! ```
+#![tactic(auto)]
+
+mod buckets;
+mod factor;
+mod levels;
+mod rows;
+mod sides;
+
+pub use buckets::{Buckets, rows_by_code};
+pub use factor::{Factors, factorize};
+pub use levels::{Numbers, numbered, tuples_at};
+pub use rows::{Column, KeyRows, Level};
+pub use sides::LevelRows;
