@@ -1,4 +1,5 @@
-//! How rows of two axes meet by their labels: definitions alone, in `specs/`, which the contracts of joins cite.
+//! How rows of two axes meet by their labels: definitions, in `specs/`, which the contracts of
+//! joins cite, and their laws.
 //!
 //! The rules are those of the pandas user guide, "Merge, join, concatenate and compare" (the outer join) and "Aligning
 //! objects with each other with align", and of `reindex` in "Reindexing and altering labels". A definition is the same

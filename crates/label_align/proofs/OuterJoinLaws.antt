@@ -9,13 +9,10 @@ use Rattle.std.proofs.lemmas.List.Elements.{All-nil, All-cons, All-head, All-tai
 use Rattle.meaning.specs.Reduce.{distinct}
 use Rattle.sorting.specs.Sorting.{put_in, in_order}
 use Rattle.sorting.proofs.SortLaws.{irreflexive}
+use Rattle.align_meaning.proofs.OrderLaws.{all_append, all_put_in}
 use Rattle.align_meaning.specs.Joins.{Entry, or_gap, entry, entries_with, entries_of, outer_entries, lists_of}
 use Rattle.align_meaning.specs.OuterJoin.{IsOuterJoin, rows_of_key}
 use Rattle.label_align.proofs.EntryLaws.{length-entries_of}
-
-all_append : {X : Type 0} (P : X → Type 0) (xs ys : List X) → All P xs → All P ys → All P (xs ++ ys)
-all_append P [] ys px py = py
-all_append P (x ∷ xs) ys px py = All-cons P x (xs ++ ys) (All-head P x xs px) (all_append P xs ys (All-tail P x xs px) py)
 
 all_flat : {X Y : Type 0} (P : Y → Type 0) (Q : X → Type 0) (f : X → List Y) → ((x : X) → Q x → All P (f x)) → (xs : List X) → All Q xs → All P (flat_map f xs)
 all_flat P Q f each [] all = All-nil P
@@ -48,20 +45,12 @@ module _ {X : Type 0} (less : X → X → Bool) where
   rises_at (x ∷ xs) up (suc i) zero d lt inside = absurd (omega (arith, lt))
   rises_at (x ∷ xs) up (suc i) (suc j) d lt inside = rises_at xs up.1 i j d (omega (arith, lt)) (omega (arith, inside))
 
-  all_put_in : (P : X → Type 0) (x : X) (ys : List X) → P x → All P ys → All P (put_in less x ys)
-  all_put_in P x [] px ps = All-cons P x [] px ps
-  all_put_in P x (y ∷ ys) px ps =
-      elim (less y x) as (λ b. All P (cond b (y ∷ put_in less x ys) (x ∷ y ∷ ys))) [
-        | true ↦ All-cons P y (put_in less x ys) (All-head P y ys ps) (all_put_in P x ys px (All-tail P y ys ps))
-        | false ↦ All-cons P x (y ∷ ys) px ps
-      ]
-
   module _ (weak : IsStrictWeakOrder less) where
     put_in_rises : (x : X) (ys : List X) → Rises ys → Rises (put_in less x ys)
     put_in_rises x [] up = (All-nil (λ y. less y x ≡ false), tt)
     put_in_rises x (y ∷ ys) up =
         elim (less y x) as (λ b. less y x ≡ b → Rises (cond b (y ∷ put_in less x ys) (x ∷ y ∷ ys))) [
-          | true ↦ λ h. (all_put_in (λ w. less w y ≡ false) x ys (weak.one_way y x h) up.0, put_in_rises x ys up.1)
+          | true ↦ λ h. (all_put_in (λ w. less w y ≡ false) less x ys (weak.one_way y x h) up.0, put_in_rises x ys up.1)
           | false ↦ λ h. (All-cons (λ w. less w x ≡ false) y ys h (λ k d lt. weak.chain _ y x (up.0 k d lt) h), up)
         ] refl
 

@@ -13,7 +13,8 @@ use Rattle.row_keys.proofs.RecodeLaws.{All-distinct}
 use Rattle.label_align.specs.Tuples.{tuple_less, row_less}
 use Rattle.label_align.specs.Joined.{entries_at, coded_entries}
 use Rattle.label_align.specs.Matched.{AreMatched}
-use Rattle.label_align.proofs.OrderLaws.{in_order_all, in_order_map, row_agrees, below_range}
+use Rattle.align_meaning.proofs.OrderLaws.{all_in_order, in_order_map}
+use Rattle.label_align.proofs.OrderLaws.{row_agrees, below_range}
 
 -- parts that are alike at each element
 flat_map_on : {X Y C : Type 0} (P : X → Type 0) (f : X → List C) (g : Y → List C) (h : X → Y) → ((x : X) → P x → f x ≡ g (h x)) → (xs : List X) → All P xs → flat_map f xs ≡ flat_map g (map h xs)
@@ -38,14 +39,14 @@ module _ (texts : List Text) (a b keys : List (List Label)) (lefts rights : List
   abbrev key_at : ℕ → List Label
   key_at c = slice_index_or keys c []
 
-  agree : (i j : ℕ) → IsPlace i → IsPlace j → row_less texts keys levels i j ≡ tuple_less texts (key_at i) (key_at j)
-  agree i j hi hj = row_agrees texts keys levels i j alike hi hj
+  agree : (i j : ℕ) → IsPlace i → IsPlace j → tuple_less texts (key_at i) (key_at j) ≡ row_less texts keys levels i j
+  agree i j hi hj = sym (row_agrees texts keys levels i j alike hi hj)
 
   places : All IsPlace (range_with_len 0 (length keys))
   places = below_range (length keys)
 
   pub codes_inside : All IsPlace codes
-  codes_inside = subst (All IsPlace) (sym sorted) (in_order_all IsPlace key_at (row_less texts keys levels) (tuple_less texts) agree (range_with_len 0 (length keys)) places)
+  codes_inside = subst (All IsPlace) (sym sorted) (all_in_order IsPlace (row_less texts keys levels) (range_with_len 0 (length keys)) places)
 
   pub lefts_inside : All (λ c. c < length lefts) codes
   lefts_inside = subst (λ n. All (λ c. c < n) codes) (sym are.lefts_are.count) codes_inside
@@ -56,7 +57,7 @@ module _ (texts : List Text) (a b keys : List (List Label)) (lefts rights : List
   keys_in_order : map key_at codes ≡ in_order (tuple_less texts) keys
   keys_in_order =
       ap (map key_at) sorted
-      ∙ in_order_map IsPlace key_at (row_less texts keys levels) (tuple_less texts) agree (range_with_len 0 (length keys)) places
+      ∙ sym (in_order_map IsPlace key_at (row_less texts keys levels) (tuple_less texts) agree (range_with_len 0 (length keys)) places)
       ∙ ap (in_order (tuple_less texts)) (elements keys [] 0 key_at (λ k lt. let e : 0 + k ≡ k = omega arith in ap key_at e))
 
   abbrev of_key : List Label → List (Entry (List Label))

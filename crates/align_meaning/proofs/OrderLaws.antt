@@ -1,0 +1,35 @@
+-- Lists in order, and what is made of them.
+use Rattle.std.proofs.Common.{◌≡◌, ◌∙◌, ap, refl, Bool, true, false, cond, List, [], ◌∷◌, ◌++◌, map, All}
+use Rattle.std.proofs.lemmas.List.Elements.{All-cons, All-head, All-tail}
+use Rattle.sorting.specs.Sorting.{put_in, in_order}
+
+pub all_append : {X : Type 0} (P : X → Type 0) (xs ys : List X) → All P xs → All P ys → All P (xs ++ ys)
+all_append P [] ys px py = py
+all_append P (x ∷ xs) ys px py = All-cons P x (xs ++ ys) (All-head P x xs px) (all_append P xs ys (All-tail P x xs px) py)
+
+-- a list in order has the elements of the list
+module _ {X : Type 0} (P : X → Type 0) (less : X → X → Bool) where
+  pub all_put_in : (x : X) (xs : List X) → P x → All P xs → All P (put_in less x xs)
+  all_put_in x [] here all = All-cons P x [] here all
+  all_put_in x (y ∷ ys) here all =
+      elim (less y x) as (λ b. All P (cond b (y ∷ put_in less x ys) (x ∷ y ∷ ys))) [
+        | true ↦ All-cons P y (put_in less x ys) (All-head P y ys all) (all_put_in x ys here (All-tail P y ys all))
+        | false ↦ All-cons P x (y ∷ ys) here all
+      ]
+
+  pub all_in_order : (xs : List X) → All P xs → All P (in_order less xs)
+  all_in_order [] all = all
+  all_in_order (x ∷ xs) all = all_put_in x (in_order less xs) (All-head P x xs all) (all_in_order xs (All-tail P x xs all))
+
+-- and what is made of its elements is in the order that agrees
+module _ {X Y : Type 0} (P : X → Type 0) (f : X → Y) (less : X → X → Bool) (less' : Y → Y → Bool) (below : (x y : X) → P x → P y → less' (f x) (f y) ≡ less x y) where
+  put_in_map : (x : X) (xs : List X) → P x → All P xs → put_in less' (f x) (map f xs) ≡ map f (put_in less x xs)
+  put_in_map x [] here all = refl
+  put_in_map x (y ∷ ys) here all =
+      (λ i. cond (below y x (All-head P y ys all) here i) (f y ∷ put_in_map x ys here (All-tail P y ys all) i) (f x ∷ f y ∷ map f ys))
+      ∙ (elim (less y x) as (λ b. cond b (f y ∷ map f (put_in less x ys)) (f x ∷ f y ∷ map f ys) ≡ map f (cond b (y ∷ put_in less x ys) (x ∷ y ∷ ys))) [ true ↦ refl | false ↦ refl ])
+
+  pub in_order_map : (xs : List X) → All P xs → in_order less' (map f xs) ≡ map f (in_order less xs)
+  in_order_map [] all = refl
+  in_order_map (x ∷ xs) all =
+      ap (put_in less' (f x)) (in_order_map xs (All-tail P x xs all)) ∙ put_in_map x (in_order less xs) (All-head P x xs all) (all_in_order P less xs (All-tail P x xs all))
