@@ -1,2 +1,4 @@
 pub mod OrderLaws
 pub mod SeenLaws
+pub mod FoundLaws
+pub mod InsideLaws

@@ -1,11 +1,22 @@
 -- Lists in order, and what is made of them.
-use Rattle.std.proofs.Common.{◌≡◌, ◌∙◌, ap, refl, Bool, true, false, cond, List, [], ◌∷◌, ◌++◌, map, All}
-use Rattle.std.proofs.lemmas.List.Elements.{All-cons, All-head, All-tail}
+use Rattle.std.proofs.Common.{◌≡◌, ◌∙◌, ap, refl, Bool, true, false, not, cond, List, [], ◌∷◌, ◌++◌, map, filter, All}
+use Rattle.std.specs.List.{flat_map}
+use Rattle.std.proofs.lemmas.List.Elements.{All-nil, All-cons, All-head, All-tail, All-filter}
+use Rattle.meaning.specs.Reduce.{distinct}
 use Rattle.sorting.specs.Sorting.{put_in, in_order}
 
 pub all_append : {X : Type 0} (P : X → Type 0) (xs ys : List X) → All P xs → All P ys → All P (xs ++ ys)
 all_append P [] ys px py = py
 all_append P (x ∷ xs) ys px py = All-cons P x (xs ++ ys) (All-head P x xs px) (all_append P xs ys (All-tail P x xs px) py)
+
+pub all_flat : {X Y : Type 0} (P : Y → Type 0) (Q : X → Type 0) (f : X → List Y) → ((x : X) → Q x → All P (f x)) → (xs : List X) → All Q xs → All P (flat_map f xs)
+all_flat P Q f each [] all = All-nil P
+all_flat P Q f each (x ∷ xs) all = all_append P (f x) (flat_map f xs) (each x (All-head Q x xs all)) (all_flat P Q f each xs (All-tail Q x xs all))
+
+pub all_distinct : {X : Type 0} (P : X → Type 0) (same : X → X → Bool) (xs : List X) → All P xs → All P (distinct same xs)
+all_distinct P same [] all = all
+all_distinct P same (x ∷ xs) all =
+    All-cons P x (filter (λ q. not (same q x)) (distinct same xs)) (All-head P x xs all) (All-filter (λ q. not (same q x)) P (distinct same xs) (all_distinct P same xs (All-tail P x xs all)))
 
 -- a list in order has the elements of the list
 module _ {X : Type 0} (P : X → Type 0) (less : X → X → Bool) where

@@ -4,12 +4,12 @@ use Rattle.std.specs.List.{flat_map, range_with_len}
 use Rattle.std.specs.Option.{option_map}
 use Rattle.std.specs.Cmp.Lexicographic.{pointwise}
 use Rattle.std.proofs.lemmas.List.{length-map, map-append}
-use Rattle.std.proofs.lemmas.List.Elements.{All-cons, All-head, All-tail, All-filter}
+use Rattle.std.proofs.lemmas.List.Elements.{All-head, All-tail}
 use Rattle.meaning.specs.Reduce.{distinct}
 use Rattle.sorting.specs.Sorting.{in_order}
 use Rattle.pick_meaning.specs.Rows.{rows_where, only_row}
 use Rattle.pick_meaning.proofs.RowLaws.{rows_where-map}
-use Rattle.align_meaning.proofs.OrderLaws.{all_append, all_in_order, in_order_map}
+use Rattle.align_meaning.proofs.OrderLaws.{all_append, all_distinct, all_in_order, in_order_map}
 use Rattle.align_meaning.specs.Faults.{AlignRefusal, duplicate_labels, too_large}
 use Rattle.align_meaning.specs.Targets.{first_where, first_repeated, unless_repeated, rows_of_targets, reindexed}
 use Rattle.align_meaning.specs.Joins.{Entry, Lists, or_gap, entry, entries_with, entries_of, keys_in_order, outer_entries, most_rows, lists_of, within_limit, outer}
@@ -84,16 +84,11 @@ module _ {X Y : Type 0} (f : X → Y) where
         (λ i. cond (agree x (All-head P x xs all) i) (f x ∷ filter_map p p' agree xs (All-tail P x xs all) i) (filter_map p p' agree xs (All-tail P x xs all) i))
         ∙ (elim (p x) as (λ b. cond b (f x ∷ map f (filter p xs)) (map f (filter p xs)) ≡ map f (cond b (x ∷ filter p xs) (filter p xs))) [ true ↦ refl | false ↦ refl ])
 
-    all_distinct : (xs : List X) → All P xs → All P (distinct same xs)
-    all_distinct [] all = all
-    all_distinct (x ∷ xs) all =
-        All-cons P x (filter (λ q. not (same q x)) (distinct same xs)) (All-head P x xs all) (All-filter (λ q. not (same q x)) P (distinct same xs) (all_distinct xs (All-tail P x xs all)))
-
     distinct_map : (xs : List X) → All P xs → distinct same' (map f xs) ≡ map f (distinct same xs)
     distinct_map [] all = refl
     distinct_map (x ∷ xs) all =
         ap (λ l. f x ∷ filter (λ q. not (same' q (f x))) l) (distinct_map xs (All-tail P x xs all))
-        ∙ ap (λ l. f x ∷ l) (filter_map (λ q. not (same q x)) (λ q. not (same' q (f x))) (λ q h. ap not (equal q x h (All-head P x xs all))) (distinct same xs) (all_distinct xs (All-tail P x xs all)))
+        ∙ ap (λ l. f x ∷ l) (filter_map (λ q. not (same q x)) (λ q. not (same' q (f x))) (λ q h. ap not (equal q x h (All-head P x xs all))) (distinct same xs) (all_distinct P same xs (All-tail P x xs all)))
 
     module _ (left right : List X) (lefts : All P left) (rights : All P right) where
       abbrev of_key : X → List (Entry X)
@@ -116,8 +111,8 @@ module _ {X Y : Type 0} (f : X → Y) where
       outer_seen =
           let both : All P (left ++ right) = all_append P left right lefts rights in
           let keys : keys_in_order same' less' (map f left ++ map f right) ≡ map f (keys_in_order same less (left ++ right))
-          = ap (keys_in_order same' less') (sym (map-append f left right)) ∙ ap (in_order less') (distinct_map (left ++ right) both) ∙ in_order_map P f less less' below (distinct same (left ++ right)) (all_distinct (left ++ right) both) in
-          ap within_limit (ap (flat_map of_key') keys ∙ entries_map (keys_in_order same less (left ++ right)) (all_in_order P less (distinct same (left ++ right)) (all_distinct (left ++ right) both)))
+          = ap (keys_in_order same' less') (sym (map-append f left right)) ∙ ap (in_order less') (distinct_map (left ++ right) both) ∙ in_order_map P f less less' below (distinct same (left ++ right)) (all_distinct P same (left ++ right) both) in
+          ap within_limit (ap (flat_map of_key') keys ∙ entries_map (keys_in_order same less (left ++ right)) (all_in_order P less (distinct same (left ++ right)) (all_distinct P same (left ++ right) both)))
           ∙ limit_map (outer_entries same less left right)
 
     same_map : (xs ys : List X) → All P xs → All P ys → pointwise same' (map f xs) (map f ys) ≡ pointwise same xs ys

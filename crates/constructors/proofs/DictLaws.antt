@@ -1,5 +1,5 @@
 -- The pairs of a dict that was given.
-use Rattle.std.proofs.Common.{◌≡◌, ◌∙◌, ap, sym, ℕ, false, List, [], ◌∷◌, ◌++◌, Option, Some, All}
+use Rattle.std.proofs.Common.{◌≡◌, ◌∙◌, ap, sym, ℕ, List, [], ◌∷◌, ◌++◌, Option, Some, All}
 use Rattle.std.specs.Option.{option_map}
 use Rattle.std.proofs.lemmas.List.Elements.{All-cons, All-nil}
 use Rattle.cell_core.specs.declared.cell.Label.{Label}
@@ -10,9 +10,8 @@ use Rattle.table_meaning.specs.Value.{Given, GivenPairs, NamedGiven, nothing, no
 use Rattle.form_meaning.specs.declared.Function.TheVariants as function
 use Rattle.form_meaning.specs.Signature.{function_parameters}
 use Rattle.form_meaning.specs.Binding.{bound, bound_of}
-use Rattle.form_meaning.specs.Select.{cells_of}
-use Rattle.form_meaning.specs.Make.{on, frame_of, pairs_in}
-use Rattle.form_meaning.specs.Functions.{levels_among, made_by}
+use Rattle.form_meaning.specs.Make.{index_labels, on, frame_of, pairs_in}
+use Rattle.form_meaning.specs.Functions.{made_by}
 use Rattle.frame_store.specs.declared.arguments.Argument.{Argument}
 use Rattle.frame_store.specs.declared.arguments.Item.{Item}
 use Rattle.frame_store.specs.Objects.{Tables}
@@ -21,10 +20,10 @@ use Rattle.frame_store.specs.World.{World}
 use Rattle.signatures.specs.Bound.{given_in, stands_at, Tells}
 use Rattle.signatures.specs.declared.bound.Bound.{Bound}
 use Rattle.signatures.proofs.ToldLaws.{told_settled, some_same}
-use Rattle.signatures.specs.Scalars.{scalars}
+use Rattle.constructors.specs.Index.{rows_labels}
 use Rattle.constructors.specs.Pairs.{scalars_in, list_seen}
 use Rattle.constructors.specs.Made.{frame_from}
-use Rattle.constructors.proofs.GivenLaws.{lists_are, frame_bound}
+use Rattle.constructors.proofs.GivenLaws.{indexes_are, frame_bound}
 use Rattle.constructors.proofs.FrameLaws.{list_same, frame_same}
 
 abbrev first_key : GivenPairs → LabelValue
@@ -72,14 +71,14 @@ pub lists_given : (b : Bound) (place : ℕ) (pairs : List (Label × Argument)) (
 lists_given b place pairs live dict tells settled = lists_of_pairs live dict pairs (pairs_settled b place pairs live dict tells settled)
 
 pub frame_given : {T : Type 0} (f : T → List Item) (gs : List NamedGiven) (w : World) (b : Bound) (pairs : List (Label × Argument)) (index : Option T)
-    → levels_among (function_parameters function.DataFrame) 0 gs ≡ false → bound_of (function_parameters function.DataFrame) gs ≡ bound (given_in w b) → b.parameters.now ≡ function_parameters function.DataFrame
+    → bound_of (function_parameters function.DataFrame) gs ≡ bound (given_in w b) → b.parameters.now ≡ function_parameters function.DataFrame
     → Some (entries_of w.tables w.texts pairs) ≡ dict_in (stands_at w.tables w.texts b 0)
     → option_map (λ t. items_of w.tables w.texts (f t)) index ≡ list_in (stands_at w.tables w.texts b 1)
-    → frame_from (pairs_in (entries_of w.tables w.texts pairs)) (option_map (λ t. scalars w.texts (f t)) index) ≡ made_by function.DataFrame gs
-frame_given f gs w b pairs index levels same is listed indexed =
+    → frame_from (pairs_in (entries_of w.tables w.texts pairs)) (option_map (λ t. rows_labels w.texts (f t)) index) ≡ made_by function.DataFrame gs
+frame_given f gs w b pairs index same is listed indexed =
     sym (
-    frame_bound gs w b levels same is
+    frame_bound gs w b same is
     ∙ ap (λ o. on o (λ pairs. frame_of (pairs_in pairs) (list_in (stands_at w.tables w.texts b 1)))) (sym listed)
     ∙ frame_same (pairs_in (entries_of w.tables w.texts pairs)) (list_in (stands_at w.tables w.texts b 1))
-    ∙ ap (frame_from (pairs_in (entries_of w.tables w.texts pairs))) (ap (option_map cells_of) (sym indexed) ∙ lists_are f w.tables w.texts index)
+    ∙ ap (frame_from (pairs_in (entries_of w.tables w.texts pairs))) (ap (option_map index_labels) (sym indexed) ∙ indexes_are f w.tables w.texts index)
     )

@@ -1,5 +1,5 @@
 -- Frames of a dict's pairs.
-use Rattle.std.proofs.Common.{◌≡◌, ◌≢◌, ◌∙◌, refl, ap, sym, subst, ℕ, zero, suc, nat_eq, ◌&&◌, Bool, true, false, List, [], ◌∷◌, ◌++◌, map, length, slice_get, Option, Some, None, Result, Ok, Err, All, if◌then◌else◌, arith}
+use Rattle.std.proofs.Common.{◌≡◌, ◌≢◌, ◌∙◌, refl, ap, sym, subst, ℕ, zero, suc, nat_eq, nat_le, ◌&&◌, Bool, true, false, List, [], ◌∷◌, ◌++◌, map, length, slice_get, Option, Some, None, Result, Ok, Err, All, if◌then◌else◌, arith}
 use Rattle.std.specs.Prelude.{IsSome}
 use Rattle.std.specs.List.{list_all, AllPairs, IsDistinct}
 use Rattle.std.specs.Option.{option_map}
@@ -22,7 +22,7 @@ use Rattle.form_meaning.specs.Binding.{each, is_scalar}
 use Rattle.form_meaning.specs.Select.{cells_of}
 use Rattle.form_meaning.specs.Set.{list_column, first_kind}
 use Rattle.form_meaning.specs.Finish.{limited, try_all}
-use Rattle.form_meaning.specs.Make.{on, with_index, single_labels, frame_table, is_scalar_list, cells_given, all_of_length, labels_given, frame_of, pairs_in}
+use Rattle.form_meaning.specs.Make.{on, index_labels, level_count, nameless, few_levels, with_index, frame_table, is_scalar_list, cells_given, all_of_length, labels_given, frame_of, pairs_in}
 use Rattle.form_meaning.specs.Make as make
 use Rattle.form_parts.specs.Makes.{MakesBy, blocks_value}
 use Rattle.form_parts.proofs.TableMade.{refused_on}
@@ -36,8 +36,9 @@ use Rattle.frame_store.specs.Parts.{HeadingList, block_column, table_with, HaveR
 use Rattle.frame_store.specs.Shown.{headings_value, labels_value, columns_value, Makes}
 use Rattle.frame_store.proofs.Settling.{table_settled}
 use Rattle.constructors.specs.Pairs.{value_in, entries_seen, alone, scalars_in, list_seen, list_at, lists_seen, listed_column}
-use Rattle.constructors.specs.Made.{axis_labels, index_labels, index_alone, indexed, same_rows, labels_for, frame_labels, frame_with, frame_from}
-use Rattle.constructors.proofs.MadeLaws.{limited_labels, indexed_within, labels_then, ok_same}
+use Rattle.constructors.specs.Made as meant
+use Rattle.constructors.specs.Made.{axis_labels, labels_within, index_alone, indexed, same_rows, labels_for, frame_labels, frame_with, frame_from}
+use Rattle.constructors.proofs.MadeLaws.{limited_labels, indexed_within, labels_then, either_few, names_seen, names_settled, ok_same}
 use Rattle.signatures.proofs.ScalarLaws.{scalars_are}
 use Rattle.constructors.proofs.PairLaws.{same_number, number_decides}
 
@@ -75,7 +76,7 @@ lists_made ((l, row parts) ∷ rest) = refl
 lists_made ((l, entries pairs) ∷ rest) = refl
 
 -- the number of rows, and then the labels
-rows_labels : (rows count : ℕ) (cs : Columns) (index : Option (List CellValue)) (go : List (List LabelValue) → Table) (last : Result Entry FaultValue) → last ≡ labels_then go (index_labels rows count index)
+rows_labels : (rows count : ℕ) (cs : Columns) (index : Option (List (List LabelValue))) (go : List (List LabelValue) → Table) (last : Result Entry FaultValue) → last ≡ labels_then go (meant.index_labels rows count index)
     → all_of_length rows cs last ≡ labels_then go (then_value (same_rows rows cs) (λ r. labels_for r count index))
 rows_labels rows count [] index go last is = is
 rows_labels rows count (c ∷ cs) index go last is = go_on (nat_eq rows (length c.cells)) (rows_labels rows count cs index go last is)
@@ -86,26 +87,28 @@ rows_labels rows count (c ∷ cs) index go last is = go_on (nat_eq rows (length 
     go_on true later = later
     go_on false later = refl
 
-index_same : (rows : ℕ) (index : Option GivenList) (go : List (List LabelValue) → Result Entry FaultValue) → with_index rows index go ≡ indexed rows (option_map cells_of index) go
+index_same : (rows : ℕ) (index : Option GivenList) (go : List (List LabelValue) → Result Entry FaultValue) → with_index rows index go ≡ indexed rows (option_map index_labels index) go
 index_same rows None go = refl
 index_same rows (Some parts) go = refl
 
-alone_same : (index : Option GivenList) → labels_given index ≡ index_alone (option_map cells_of index)
+alone_same : (index : Option GivenList) → labels_given index ≡ index_alone (option_map index_labels index)
 alone_same None = refl
 alone_same (Some parts) = refl
 
 frame_columns : (headings : List LabelValue) (columns : Columns) (index : Option GivenList)
-    → make.frame_with headings columns index ≡ labels_then (λ labels. frame_table labels headings columns) (frame_labels columns (option_map cells_of index))
+    → make.frame_with headings columns index ≡ labels_then (λ labels. frame_table labels headings columns) (frame_labels columns (option_map index_labels index))
 frame_columns headings [] index =
-    ap (λ labels. limited (frame_table labels headings [])) (alone_same index)
-    ∙ limited_labels (length (index_alone (option_map cells_of index))) 0 (λ labels. frame_table labels headings []) (index_alone (option_map cells_of index)) refl refl
+    let labels = index_alone (option_map index_labels index) in
+    let go : List (List LabelValue) → Table = λ labels. frame_table labels headings [] in
+    ap (λ labels. few_levels labels (limited (go labels))) (alone_same index)
+    ∙ either_few (nat_le (level_count labels) 4) go (limited (go labels)) (labels_within (length labels) 0 labels) (limited_labels (length labels) 0 go labels refl refl)
 frame_columns headings (c ∷ cs) index =
-    rows_labels (length c.cells) (length (c ∷ cs)) cs (option_map cells_of index) (λ labels. frame_table labels headings (c ∷ cs)) (with_index (length c.cells) index (λ labels. limited (frame_table labels headings (c ∷ cs))))
+    rows_labels (length c.cells) (length (c ∷ cs)) cs (option_map index_labels index) (λ labels. frame_table labels headings (c ∷ cs)) (with_index (length c.cells) index (λ labels. limited (frame_table labels headings (c ∷ cs))))
     (index_same (length c.cells) index (λ labels. limited (frame_table labels headings (c ∷ cs)))
-    ∙ indexed_within (length c.cells) (length (c ∷ cs)) (option_map cells_of index) (λ labels. frame_table labels headings (c ∷ cs)) (λ labels. refl) (λ labels. refl))
+    ∙ indexed_within (length c.cells) (length (c ∷ cs)) (option_map index_labels index) (λ labels. frame_table labels headings (c ∷ cs)) (λ labels. refl) (λ labels. refl))
 
 -- what is meant, value by value
-abbrev with_columns : List LabelValue → Option (List CellValue) → Columns → Result Entry FaultValue
+abbrev with_columns : List LabelValue → Option (List (List LabelValue)) → Columns → Result Entry FaultValue
 with_columns headings index columns = labels_then (λ labels. frame_table labels headings columns) (frame_labels columns index)
 
 later_test : (b : Bool) (made : Result Columns FaultValue) (go : Columns → Result Entry FaultValue) → (if b then then_value made go else Err wrong_kind) ≡ then_value (if b then made else Err wrong_kind) go
@@ -116,12 +119,12 @@ then_same : (made : Result Columns FaultValue) (f g : Columns → Result Entry F
 then_same (Ok columns) f g same = same columns
 then_same (Err fault) f g same = refl
 
-pub frame_same : (pairs : List (LabelValue × Given)) (index : Option GivenList) → frame_of pairs index ≡ frame_from pairs (option_map cells_of index)
+pub frame_same : (pairs : List (LabelValue × Given)) (index : Option GivenList) → frame_of pairs index ≡ frame_from pairs (option_map index_labels index)
 frame_same pairs index =
     let headings : List LabelValue = map (λ p. p.0) pairs in
     later_test (list_all is_scalar_list pairs) (try_all column_of pairs) (λ columns. make.frame_with headings columns index)
     ∙ ap (λ made. then_value made (λ columns. make.frame_with headings columns index)) (lists_made pairs)
-    ∙ then_same (try_all listed_column (lists_of pairs)) (λ columns. make.frame_with headings columns index) (with_columns headings (option_map cells_of index)) (λ columns. frame_columns headings columns index)
+    ∙ then_same (try_all listed_column (lists_of pairs)) (λ columns. make.frame_with headings columns index) (with_columns headings (option_map index_labels index)) (λ columns. frame_columns headings columns index)
 
 -- a value is the same list of scalars among any objects
 scalar_same : (live other : Tables) (texts : List Text) (item : Item) → is_scalar (item_of live texts item) ≡ is_scalar (item_of other texts item)
@@ -164,24 +167,24 @@ keys_same live texts pairs [] = refl
 keys_same live texts pairs (e ∷ es) = ap (λ ls. label_datum texts e.0 ∷ ls) (keys_same live texts pairs es)
 
 -- what is meant of the keys and the places of their values
-pairs_frame : (live : Tables) (texts : List Text) (pairs : List (Label × Argument)) (es : List (Label × ℕ)) (index : Option (List CellValue)) → entries_seen live texts pairs es ≡ pairs_in (entries_of live texts pairs)
+pairs_frame : (live : Tables) (texts : List Text) (pairs : List (Label × Argument)) (es : List (Label × ℕ)) (index : Option (List (List LabelValue))) → entries_seen live texts pairs es ≡ pairs_in (entries_of live texts pairs)
     → frame_from (pairs_in (entries_of live texts pairs)) index ≡ frame_with (labels_seen texts (keys_of es)) (lists_seen texts pairs (values_of es)) index
 pairs_frame live texts pairs es index is =
     ap (λ ps. frame_from ps index) (sym is)
     ∙ (λ j. frame_with (keys_same live texts pairs es j) (lists_same live texts pairs es j) index)
 
-pub columns_refused : (live : Tables) (texts : List Text) (pairs : List (Label × Argument)) (es : List (Label × ℕ)) (index : Option (List CellValue)) (fault : OpFault) → entries_seen live texts pairs es ≡ pairs_in (entries_of live texts pairs)
+pub columns_refused : (live : Tables) (texts : List Text) (pairs : List (Label × Argument)) (es : List (Label × ℕ)) (index : Option (List (List LabelValue))) (fault : OpFault) → entries_seen live texts pairs es ≡ pairs_in (entries_of live texts pairs)
     → MakesBy blocks_value texts (Err fault) (try_all listed_column (lists_seen texts pairs (values_of es))) → Makes texts (Err fault) (frame_from (pairs_in (entries_of live texts pairs)) index)
 columns_refused live texts pairs es index fault is refused =
     subst (λ (m : Result Entry FaultValue). Makes texts (Err fault) m) (sym (pairs_frame live texts pairs es index is))
     (refused_on blocks_value texts (try_all listed_column (lists_seen texts pairs (values_of es))) (with_columns (labels_seen texts (keys_of es)) index) (Err fault) fault refl refused)
 
-columns_are : (live : Tables) (texts : List Text) (pairs : List (Label × Argument)) (es : List (Label × ℕ)) (index : Option (List CellValue)) (blocks : List CellBlock) → entries_seen live texts pairs es ≡ pairs_in (entries_of live texts pairs)
+columns_are : (live : Tables) (texts : List Text) (pairs : List (Label × Argument)) (es : List (Label × ℕ)) (index : Option (List (List LabelValue))) (blocks : List CellBlock) → entries_seen live texts pairs es ≡ pairs_in (entries_of live texts pairs)
     → try_all listed_column (lists_seen texts pairs (values_of es)) ≡ Ok (blocks_value texts blocks)
     → frame_from (pairs_in (entries_of live texts pairs)) index ≡ with_columns (labels_seen texts (keys_of es)) index (blocks_value texts blocks)
 columns_are live texts pairs es index blocks is made = pairs_frame live texts pairs es index is ∙ ap (λ r. then_value r (with_columns (labels_seen texts (keys_of es)) index)) made
 
-pub rows_refused : (live : Tables) (texts : List Text) (pairs : List (Label × Argument)) (es : List (Label × ℕ)) (index : Option (List CellValue)) (blocks : List CellBlock) (fault : OpFault) → entries_seen live texts pairs es ≡ pairs_in (entries_of live texts pairs)
+pub rows_refused : (live : Tables) (texts : List Text) (pairs : List (Label × Argument)) (es : List (Label × ℕ)) (index : Option (List (List LabelValue))) (blocks : List CellBlock) (fault : OpFault) → entries_seen live texts pairs es ≡ pairs_in (entries_of live texts pairs)
     → try_all listed_column (lists_seen texts pairs (values_of es)) ≡ Ok (blocks_value texts blocks)
     → MakesBy axis_labels texts (Err fault) (frame_labels (blocks_value texts blocks) index) → Makes texts (Err fault) (frame_from (pairs_in (entries_of live texts pairs)) index)
 rows_refused live texts pairs es index blocks fault is made refused =
@@ -198,9 +201,9 @@ headings_seen texts (k ∷ ks) = ap (λ hs. Some (label_datum texts k) ∷ hs) (
 abbrev pub made_frame : AxisValue → List Label → List CellBlock → NumberedTable
 made_frame axis ks blocks = table_with Frame axis record { columns_name = None; labels = map (λ key. Some key) ks } (map block_column blocks)
 
-pub frame_answer : (live : Tables) (texts : List Text) (pairs : List (Label × Argument)) (es : List (Label × ℕ)) (index : Option (List CellValue)) (blocks : List CellBlock) (axis : AxisValue) (headings : HeadingList) (made : NumberedTable)
+pub frame_answer : (live : Tables) (texts : List Text) (pairs : List (Label × Argument)) (es : List (Label × ℕ)) (index : Option (List (List LabelValue))) (blocks : List CellBlock) (axis : AxisValue) (headings : HeadingList) (made : NumberedTable)
     → entries_seen live texts pairs es ≡ pairs_in (entries_of live texts pairs) → try_all listed_column (lists_seen texts pairs (values_of es)) ≡ Ok (blocks_value texts blocks)
-    → frame_labels (blocks_value texts blocks) index ≡ Ok (axis_labels texts axis) → axis.names ≡ None ∷ [] → headings ≡ record { columns_name = None; labels = map (λ key. Some key) (keys_of es) }
+    → frame_labels (blocks_value texts blocks) index ≡ Ok (axis_labels texts axis) → axis.names ≡ nameless axis.tuples → headings ≡ record { columns_name = None; labels = map (λ key. Some key) (keys_of es) }
     → made ≡ table_with Frame axis headings (map block_column blocks)
     → frame_from (pairs_in (entries_of live texts pairs)) index ≡ Ok (table (table_value texts made))
 frame_answer live texts pairs es index blocks axis headings made is columns labels names headed made_is =
@@ -213,7 +216,7 @@ frame_answer live texts pairs es index blocks axis headings made is columns labe
         record {
           shape = Frame;
           columns_name = None;
-          level_names = ap (headings_value texts) (sym names) j;
+          level_names = sym (names_seen texts axis names) j;
           labels = axis_labels texts axis;
           headings = headings_seen texts (keys_of es) j;
           columns = blocks_value texts blocks;
@@ -248,15 +251,15 @@ blocks_settled : (texts : List Text) (pairs : List (Label × Argument)) (places 
 blocks_settled texts pairs places blocks all made = λ more.
     ok_same (blocks_value (texts ++ more) blocks) (blocks_value texts blocks) (sym (made (texts ++ more)) ∙ ap (try_all listed_column) (lists_settled texts more pairs places all) ∙ made texts)
 
-rows_settled : (texts : List Text) (blocks : List CellBlock) (index : List Text → Option (List CellValue)) (axis : AxisValue) → IsSettled blocks_value texts blocks → ((more : List Text) → index (texts ++ more) ≡ index texts)
+rows_settled : (texts : List Text) (blocks : List CellBlock) (index : List Text → Option (List (List LabelValue))) (axis : AxisValue) → IsSettled blocks_value texts blocks → ((more : List Text) → index (texts ++ more) ≡ index texts)
     → ((texts : List Text) → frame_labels (blocks_value texts blocks) (index texts) ≡ Ok (axis_labels texts axis)) → IsSettled labels_value texts axis.tuples
 rows_settled texts blocks index axis columns given labels = λ more.
     ok_same (axis_labels (texts ++ more) axis) (axis_labels texts axis) (sym (labels (texts ++ more)) ∙ (λ j. frame_labels (columns more j) (given more j)) ∙ labels texts)
 
-pub frame_settled : (texts : List Text) (pairs : List (Label × Argument)) (es : List (Label × ℕ)) (index : List Text → Option (List CellValue)) (blocks : List CellBlock) (axis : AxisValue) (headings : HeadingList) (made : NumberedTable)
+pub frame_settled : (texts : List Text) (pairs : List (Label × Argument)) (es : List (Label × ℕ)) (index : List Text → Option (List (List LabelValue))) (blocks : List CellBlock) (axis : AxisValue) (headings : HeadingList) (made : NumberedTable)
     → All (λ (p : Label × Argument). IsSettled list_seen texts p.1) pairs → All (λ (k : Label). IsSettled label_datum texts k) (keys_of es) → ((more : List Text) → index (texts ++ more) ≡ index texts)
     → ((texts : List Text) → try_all listed_column (lists_seen texts pairs (values_of es)) ≡ Ok (blocks_value texts blocks))
-    → ((texts : List Text) → frame_labels (blocks_value texts blocks) (index texts) ≡ Ok (axis_labels texts axis)) → axis.names ≡ None ∷ [] → headings ≡ record { columns_name = None; labels = map (λ key. Some key) (keys_of es) }
+    → ((texts : List Text) → frame_labels (blocks_value texts blocks) (index texts) ≡ Ok (axis_labels texts axis)) → axis.names ≡ nameless axis.tuples → headings ≡ record { columns_name = None; labels = map (λ key. Some key) (keys_of es) }
     → made ≡ table_with Frame axis headings (map block_column blocks)
     → IsSettled table_value texts made
 frame_settled texts pairs es index blocks axis headings made values ks given columns labels names headed made_is =
@@ -264,7 +267,7 @@ frame_settled texts pairs es index blocks axis headings made values ks given col
     subst (IsSettled table_value texts) (sym (made_is ∙ ap (λ h. table_with Frame axis h (map block_column blocks)) headed))
     (table_settled texts (made_frame axis (keys_of es) blocks)
     (λ more. refl)
-    (subst (IsSettled headings_value texts) (sym names) (λ more. refl))
+    (names_settled texts axis names)
     (rows_settled texts blocks index axis cells given labels)
     (labels_settled texts (keys_of es) ks)
     cells)

@@ -1,5 +1,5 @@
 -- Constructors on bound arguments.
-use Rattle.std.proofs.Common.{◌≡◌, ◌∙◌, refl, ap, sym, ℕ, Bool, false, List, [], ◌∷◌, ◌++◌, Option, Some, None, Result, Err, if◌then◌else◌}
+use Rattle.std.proofs.Common.{◌≡◌, ◌∙◌, refl, ap, sym, subst, ℕ, List, [], ◌∷◌, ◌++◌, slice_get, Bor, Option, Some, None, Result}
 use Rattle.std.specs.Option.{option_map}
 use Rattle.cell_core.specs.declared.cell.Cell.{Cell}
 use Rattle.cell_core.specs.declared.cell.Kind.{Kind}
@@ -7,18 +7,20 @@ use Rattle.cell_core.specs.declared.cell.Label.{Label}
 use Rattle.meaning.specs.Text.{Text}
 use Rattle.meaning.specs.Cell.{LabelValue, datum}
 use Rattle.meaning.specs.Operator.{cell_label}
-use Rattle.meaning.specs.Fault.{FaultValue, not_built}
+use Rattle.meaning.specs.Fault.{FaultValue}
 use Rattle.table_meaning.specs.Settled.{IsSettled}
 use Rattle.table_meaning.specs.Table.{heading_value}
-use Rattle.table_meaning.specs.Value.{Entry, GivenList, NamedGiven, scalar_in, list_in}
+use Rattle.table_meaning.specs.Value.{Entry, Given, GivenList, NamedGiven, scalar_in, list_in}
 use Rattle.form_meaning.specs.declared.Function.{Function}
 use Rattle.form_meaning.specs.declared.Function.TheVariants as function
 use Rattle.form_meaning.specs.declared.Parameter.{Parameter}
 use Rattle.form_meaning.specs.Signature.{function_parameters}
+use Rattle.form_meaning.specs.declared.Form.TheVariants as form
 use Rattle.form_meaning.specs.Binding.{Bound as Outcome, bound, bound_of, argument_at, arguments_from, on_bound}
 use Rattle.form_meaning.specs.Select.{cells_of}
-use Rattle.form_meaning.specs.Make.{kind_given, on, series_of, series_result, frame_result}
-use Rattle.form_meaning.specs.Functions.{levels_among, constructed, made_by}
+use Rattle.form_meaning.specs.Make.{index_labels, kind_given, on, series_of, series_result, frame_result}
+use Rattle.form_meaning.specs.Functions.{constructed, made_by}
+use Rattle.form_meaning.proofs.IndexLaws.{GivesAlike, index_taken}
 use Rattle.frame_store.specs.declared.arguments.Item.{Item}
 use Rattle.frame_store.specs.Objects.{Tables}
 use Rattle.frame_store.specs.Arguments.{items_of, arguments_of}
@@ -28,72 +30,77 @@ use Rattle.signatures.specs.declared.bound.Bound.{Bound}
 use Rattle.signatures.proofs.ToldLaws.{told_settled}
 use Rattle.signatures.proofs.ScalarLaws.{scalars_are}
 use Rattle.signatures.specs.Scalars.{scalars}
+use Rattle.constructors.specs.Index.{rows_labels, GivesLevels}
 use Rattle.constructors.specs.Made.{series_with}
+use Rattle.constructors.proofs.IndexLaws.{rows_are, alike_seen}
 
-pub lists_are : {T : Type 0} (f : T → List Item) (live : Tables) (texts : List Text) (o : Option T) → option_map cells_of (option_map (λ t. items_of live texts (f t)) o) ≡ option_map (λ t. scalars texts (f t)) o
-lists_are f live texts None = refl
-lists_are f live texts (Some t) = ap (λ cells. Some cells) (scalars_are live texts (f t))
+pub indexes_are : {T : Type 0} (f : T → List Item) (live : Tables) (texts : List Text) (o : Option T) → option_map index_labels (option_map (λ t. items_of live texts (f t)) o) ≡ option_map (λ t. rows_labels texts (f t)) o
+indexes_are f live texts None = refl
+indexes_are f live texts (Some t) = ap (λ labels. Some labels) (rows_are live texts (f t))
 
 -- what stands at a place was given
-pub list_settled : {T : Type 0} (f : T → List Item) (b : Bound) (place : ℕ) (o : Option T) (live : Tables) (dict : List Text) → Tells b place list_in (λ live texts. option_map (λ t. items_of live texts (f t)) o)
-    → IsSettled (arguments_of live) dict b.args.now → (more : List Text) → option_map (λ t. scalars (dict ++ more) (f t)) o ≡ option_map (λ t. scalars dict (f t)) o
-list_settled f b place o live dict tells settled more =
-    sym (lists_are f live (dict ++ more) o)
-    ∙ ap (option_map cells_of) (told_settled b place list_in (λ live texts. option_map (λ t. items_of live texts (f t)) o) live dict tells settled more)
-    ∙ lists_are f live dict o
+pub index_settled : {T : Type 0} (f : T → List Item) (b : Bound) (place : ℕ) (o : Option T) (live : Tables) (dict : List Text) → Tells b place list_in (λ live texts. option_map (λ t. items_of live texts (f t)) o)
+    → IsSettled (arguments_of live) dict b.args.now → (more : List Text) → option_map (λ t. rows_labels (dict ++ more) (f t)) o ≡ option_map (λ t. rows_labels dict (f t)) o
+index_settled f b place o live dict tells settled more =
+    sym (indexes_are f live (dict ++ more) o)
+    ∙ ap (option_map index_labels) (told_settled b place list_in (λ live texts. option_map (λ t. items_of live texts (f t)) o) live dict tells settled more)
+    ∙ indexes_are f live dict o
+
+-- and its labels are alike, where its parameter takes labels of rows
+pub index_levels : (ps : List Parameter) (p : Parameter) (gs : List Given) (w : World) (b : Bound) (o : Option (Bor (List Item))) → bound_of ps (arguments_in w b.args.now) ≡ bound gs → b.parameters.now ≡ ps → slice_get ps 1 ≡ Some p
+    → p.form ≡ form.RowLabels → option_map (λ (l : Bor (List Item)). items_of w.tables w.texts l.now) o ≡ list_in (stands_at w.tables w.texts b 1) → GivesLevels o
+index_levels ps p gs w b None same is there form told = tt
+index_levels ps p gs w b (Some l) same is there form told =
+    let found : Some (items_of w.tables w.texts l.now) ≡ list_in (argument_at ps (arguments_in w b.args.now) 1) = told ∙ ap (λ q. list_in (argument_at q (arguments_in w b.args.now) 1)) is in
+    alike_seen w.tables w.texts l.now (subst GivesAlike (sym found) (index_taken ps (arguments_in w b.args.now) 1 p gs same there form))
 
 -- a Series of lists is that of their scalars
-series_same : (values : GivenList) (index : Option GivenList) (name : Option LabelValue) (kind : Option Kind) → series_of values index name kind ≡ series_with (cells_of values) (option_map cells_of index) name kind
+series_same : (values : GivenList) (index : Option GivenList) (name : Option LabelValue) (kind : Option Kind) → series_of values index name kind ≡ series_with (cells_of values) (option_map index_labels index) name kind
 series_same values None name kind = refl
 series_same values (Some parts) name kind = refl
 
--- a constructor whose index has no tuple
-abbrev unless_levels : Function → Bool → Outcome → Result Entry FaultValue
-unless_levels f levels b = if levels then Err not_built else on_bound b (constructed f)
-
+-- a constructor on what binding gives
 abbrev Constructor : Function → Type 0
-Constructor f = (gs : List NamedGiven) (outcome : Outcome) → levels_among (function_parameters f) 0 gs ≡ false → bound_of (function_parameters f) gs ≡ outcome → made_by f gs ≡ on_bound outcome (constructed f)
+Constructor f = (gs : List NamedGiven) (outcome : Outcome) → bound_of (function_parameters f) gs ≡ outcome → made_by f gs ≡ on_bound outcome (constructed f)
 
 series_unbound : Constructor function.Series
-series_unbound gs outcome levels same =
-    ap (λ l. unless_levels function.Series l (bound_of (function_parameters function.Series) gs)) levels ∙ ap (λ b. on_bound b (constructed function.Series)) same
+series_unbound gs outcome same = ap (λ b. on_bound b (constructed function.Series)) same
 
 frame_unbound : Constructor function.DataFrame
-frame_unbound gs outcome levels same =
-    ap (λ l. unless_levels function.DataFrame l (bound_of (function_parameters function.DataFrame) gs)) levels ∙ ap (λ b. on_bound b (constructed function.DataFrame)) same
+frame_unbound gs outcome same = ap (λ b. on_bound b (constructed function.DataFrame)) same
 
 -- the arguments of a Series and of a frame
 abbrev series_at : List Parameter → List NamedGiven → Result Entry FaultValue
 series_at ps gs = series_result (argument_at ps gs 0 ∷ argument_at ps gs 1 ∷ argument_at ps gs 2 ∷ argument_at ps gs 3 ∷ [])
 
-series_bound : (gs : List NamedGiven) (w : World) (b : Bound) → levels_among (function_parameters function.Series) 0 gs ≡ false → bound_of (function_parameters function.Series) gs ≡ bound (given_in w b)
+series_bound : (gs : List NamedGiven) (w : World) (b : Bound) → bound_of (function_parameters function.Series) gs ≡ bound (given_in w b)
     → b.parameters.now ≡ function_parameters function.Series → made_by function.Series gs ≡ series_at b.parameters.now (arguments_in w b.args.now)
-series_bound gs w b levels same is =
-    series_unbound gs (bound (given_in w b)) levels same
+series_bound gs w b same is =
+    series_unbound gs (bound (given_in w b)) same
     ∙ ap (λ p. on_bound (bound (arguments_from p (arguments_in w b.args.now) 0 p)) (constructed function.Series)) is
     ∙ ap (λ p. series_at p (arguments_in w b.args.now)) (sym is)
 
 pub series_given : {T : Type 0} (f : T → List Item) (gs : List NamedGiven) (w : World) (b : Bound) (values : List Item) (index : Option T) (o : Option Cell) (name : Option Label) (kind : Option Kind)
-    → levels_among (function_parameters function.Series) 0 gs ≡ false → bound_of (function_parameters function.Series) gs ≡ bound (given_in w b) → b.parameters.now ≡ function_parameters function.Series
+    → bound_of (function_parameters function.Series) gs ≡ bound (given_in w b) → b.parameters.now ≡ function_parameters function.Series
     → Some (items_of w.tables w.texts values) ≡ list_in (stands_at w.tables w.texts b 0)
     → option_map (λ t. items_of w.tables w.texts (f t)) index ≡ list_in (stands_at w.tables w.texts b 1)
     → option_map (datum w.texts) o ≡ scalar_in (stands_at w.tables w.texts b 2) → heading_value w.texts name ≡ option_map cell_label (option_map (datum w.texts) o)
     → kind ≡ kind_given (scalar_in (stands_at w.tables w.texts b 3))
-    → series_with (scalars w.texts values) (option_map (λ t. scalars w.texts (f t)) index) (heading_value w.texts name) kind ≡ made_by function.Series gs
-series_given f gs w b values index o name kind levels same is listed indexed scalar named kinded =
+    → series_with (scalars w.texts values) (option_map (λ t. rows_labels w.texts (f t)) index) (heading_value w.texts name) kind ≡ made_by function.Series gs
+series_given f gs w b values index o name kind same is listed indexed scalar named kinded =
     sym (
-    series_bound gs w b levels same is
+    series_bound gs w b same is
     ∙ ap (λ l. on l (λ parts. series_of parts (list_in (stands_at w.tables w.texts b 1)) (option_map cell_label (scalar_in (stands_at w.tables w.texts b 2))) (kind_given (scalar_in (stands_at w.tables w.texts b 3))))) (sym listed)
     ∙ series_same (items_of w.tables w.texts values) (list_in (stands_at w.tables w.texts b 1)) (option_map cell_label (scalar_in (stands_at w.tables w.texts b 2))) (kind_given (scalar_in (stands_at w.tables w.texts b 3)))
-    ∙ (λ j. series_with (scalars_are w.tables w.texts values j) ((ap (option_map cells_of) (sym indexed) ∙ lists_are f w.tables w.texts index) j) ((ap (option_map cell_label) (sym scalar) ∙ sym named) j) (sym kinded j))
+    ∙ (λ j. series_with (scalars_are w.tables w.texts values j) ((ap (option_map index_labels) (sym indexed) ∙ indexes_are f w.tables w.texts index) j) ((ap (option_map cell_label) (sym scalar) ∙ sym named) j) (sym kinded j))
     )
 
 abbrev pub frame_at : List Parameter → List NamedGiven → Result Entry FaultValue
 frame_at ps gs = frame_result (argument_at ps gs 0 ∷ argument_at ps gs 1 ∷ [])
 
-pub frame_bound : (gs : List NamedGiven) (w : World) (b : Bound) → levels_among (function_parameters function.DataFrame) 0 gs ≡ false → bound_of (function_parameters function.DataFrame) gs ≡ bound (given_in w b)
+pub frame_bound : (gs : List NamedGiven) (w : World) (b : Bound) → bound_of (function_parameters function.DataFrame) gs ≡ bound (given_in w b)
     → b.parameters.now ≡ function_parameters function.DataFrame → made_by function.DataFrame gs ≡ frame_at b.parameters.now (arguments_in w b.args.now)
-frame_bound gs w b levels same is =
-    frame_unbound gs (bound (given_in w b)) levels same
+frame_bound gs w b same is =
+    frame_unbound gs (bound (given_in w b)) same
     ∙ ap (λ p. on_bound (bound (arguments_from p (arguments_in w b.args.now) 0 p)) (constructed function.DataFrame)) is
     ∙ ap (λ p. frame_at p (arguments_in w b.args.now)) (sym is)

@@ -1,5 +1,7 @@
 pub mod ScalarLaws
+pub mod IndexLaws
 pub mod MadeLaws
+pub mod AxisLaws
 pub mod GivenLaws
 pub mod PairLaws
 pub mod ColumnLaws

@@ -1,5 +1,5 @@
 -- Series of scalars.
-use Rattle.std.proofs.Common.{◌≡◌, ◌∙◌, refl, ap, sym, subst, ℕ, pos, nat_eq, Bool, true, false, List, [], ◌∷◌, ◌++◌, map, length, Option, Some, None, Result, Ok, Err, if◌then◌else◌, arith}
+use Rattle.std.proofs.Common.{◌≡◌, ◌∙◌, refl, ap, sym, subst, ℕ, zero, suc, pos, nat_eq, nat_le, Bool, true, false, List, [], ◌∷◌, ◌++◌, map, length, replicate, Option, Some, None, Result, Ok, Err, if◌then◌else◌, arith}
 use Rattle.std.specs.List.{list_all, range_with_len}
 use Rattle.std.proofs.lemmas.List.{length-map}
 use Rattle.std.proofs.lemmas.List.FromFn.{length-map-range_with_len}
@@ -10,8 +10,7 @@ use Rattle.cell_core.specs.declared.cell.Kind.{Kind}
 use Rattle.cell_core.specs.declared.cell.Label.{Label}
 use Rattle.cell_core.specs.declared.grid.Shape.TheVariants.{Series}
 use Rattle.meaning.specs.Text.{Text}
-use Rattle.meaning.specs.Cell.{CellValue, LabelValue, int, datum, holds, AreGiven, IsLonger}
-use Rattle.meaning.specs.Operator.{cell_label}
+use Rattle.meaning.specs.Cell.{CellValue, LabelValue, int, datum, label_datum, holds, AreGiven, IsLonger}
 use Rattle.meaning.specs.Fault.{FaultValue, wrong_kind, limit, bad_value, length_of, then_value}
 use Rattle.index_core.specs.Ranges.{number_label}
 use Rattle.multi_index.specs.Axes.{AxisValue, range_axis, single_tuples}
@@ -20,8 +19,8 @@ use Rattle.table_meaning.specs.Settled.{IsSettled}
 use Rattle.table_meaning.specs.Table.{ColumnOf, NumberedTable, Table, table_value, heading_value, tuple_value}
 use Rattle.table_meaning.specs.Value.{Entry, table}
 use Rattle.form_meaning.specs.Finish.{within_limits, limited, default_labels}
-use Rattle.form_meaning.specs.Set.{list_column, first_kind, of_length}
-use Rattle.form_meaning.specs.Make.{cast_to, single_labels, series_table}
+use Rattle.form_meaning.specs.Set.{list_column, first_kind}
+use Rattle.form_meaning.specs.Make.{cast_to, level_count, nameless, few_levels, series_table}
 use Rattle.form_parts.specs.Makes.{MakesBy}
 use Rattle.form_parts.proofs.TableMade.{refused_on}
 use Rattle.frame_store.specs.declared.arguments.Item.{Item}
@@ -59,15 +58,20 @@ within_count false labels made is = cc
 abbrev if_length : ℕ → ℕ → Result (List (List LabelValue)) FaultValue → Bool → Result (List (List LabelValue)) FaultValue
 if_length expected got rest b = if b then rest else Err (bad_value (length_of expected got))
 
-listed_count : (b : Bool) (rows columns : ℕ) (labels made : List (List LabelValue)) → nat_eq rows (length labels) ≡ b → if_length rows (length labels) (labels_within rows columns labels) b ≡ Ok made → length made ≡ rows
-listed_count true rows columns labels made same is = ap length (sym (within_count (within_limits rows columns) labels made is)) ∙ sym (nat_same rows (length labels) same)
+few_made : (b : Bool) (made : List (List LabelValue)) (rest : Result (List (List LabelValue)) FaultValue) → (if b then rest else Err limit) ≡ Ok made → rest ≡ Ok made
+few_made true made rest is = is
+few_made false made rest is = cc
+
+listed_count : (b : Bool) (rows columns : ℕ) (labels made : List (List LabelValue)) → nat_eq rows (length labels) ≡ b → if_length rows (length labels) (few_levels labels (labels_within rows columns labels)) b ≡ Ok made → length made ≡ rows
+listed_count true rows columns labels made same is =
+    ap length (sym (within_count (within_limits rows columns) labels made (few_made (nat_le (level_count labels) 4) made (labels_within rows columns labels) is))) ∙ sym (nat_same rows (length labels) same)
 listed_count false rows columns labels made same is = cc
 
-pub labels_count : (rows columns : ℕ) (index : Option (List CellValue)) (made : List (List LabelValue)) → index_labels rows columns index ≡ Ok made → length made ≡ rows
+pub labels_count : (rows columns : ℕ) (index : Option (List (List LabelValue))) (made : List (List LabelValue)) → index_labels rows columns index ≡ Ok made → length made ≡ rows
 labels_count rows columns None made is = ap length (sym (within_count (within_limits rows columns) (default_labels rows) made is)) ∙ default_count rows
-labels_count rows columns (Some cells) made is = listed_count (nat_eq rows (length (single_labels cells))) rows columns (single_labels cells) made refl is
+labels_count rows columns (Some labels) made is = listed_count (nat_eq rows (length labels)) rows columns labels made refl is
 
-pub axis_count : (texts : List Text) (rows columns : ℕ) (index : Option (List CellValue)) (axis : AxisValue) → index_labels rows columns index ≡ Ok (axis_labels texts axis) → rows ≡ length axis.tuples
+pub axis_count : (texts : List Text) (rows columns : ℕ) (index : Option (List (List LabelValue))) (axis : AxisValue) → index_labels rows columns index ≡ Ok (axis_labels texts axis) → rows ≡ length axis.tuples
 axis_count texts rows columns index axis is =
     sym (labels_count rows columns index (axis_labels texts axis) is) ∙ length-map axis.tuples (tuple_value texts)
 
@@ -87,20 +91,23 @@ pub limited_labels : (rows columns : ℕ) (go : List (List LabelValue) → Table
 limited_labels rows columns go labels r c =
     ap (limit_then (go labels)) (λ j. within_limits (r j) (c j)) ∙ either_limit go labels (within_limits rows columns)
 
-either_length : (b : Bool) (rows got columns : ℕ) (go : List (List LabelValue) → Table) (labels : List (List LabelValue)) → (b ≡ true → limited (go labels) ≡ labels_then go (labels_within rows columns labels))
-    → (if b then limited (go labels) else Err (bad_value (length_of rows got))) ≡ labels_then go (if_length rows got (labels_within rows columns labels) b)
-either_length true rows got columns go labels same = same refl
-either_length false rows got columns go labels same = refl
+either_length : (b : Bool) (rows got : ℕ) (go : List (List LabelValue) → Table) (first : Result Entry FaultValue) (made : Result (List (List LabelValue)) FaultValue) → (b ≡ true → first ≡ labels_then go made)
+    → (if b then first else Err (bad_value (length_of rows got))) ≡ labels_then go (if_length rows got made b)
+either_length true rows got go first made same = same refl
+either_length false rows got go first made same = refl
 
-pub indexed_within : (rows columns : ℕ) (index : Option (List CellValue)) (go : List (List LabelValue) → Table) → ((labels : List (List LabelValue)) → (go labels).labels ≡ labels) → ((labels : List (List LabelValue)) → length (go labels).columns ≡ columns)
+pub either_few : (b : Bool) (go : List (List LabelValue) → Table) (first : Result Entry FaultValue) (made : Result (List (List LabelValue)) FaultValue) → first ≡ labels_then go made
+    → (if b then first else Err limit) ≡ labels_then go (if b then made else Err limit)
+either_few true go first made same = same
+either_few false go first made same = refl
+
+pub indexed_within : (rows columns : ℕ) (index : Option (List (List LabelValue))) (go : List (List LabelValue) → Table) → ((labels : List (List LabelValue)) → (go labels).labels ≡ labels) → ((labels : List (List LabelValue)) → length (go labels).columns ≡ columns)
     → indexed rows index (λ labels. limited (go labels)) ≡ labels_then go (index_labels rows columns index)
 indexed_within rows columns None go ls cs = limited_labels rows columns go (default_labels rows) (ap length (ls (default_labels rows)) ∙ default_count rows) (cs (default_labels rows))
-indexed_within rows columns (Some cells) go ls cs =
-    let labels = single_labels cells in
-    let count : length labels ≡ length cells = length-map cells (λ c. cell_label c ∷ []) in
-    ap (λ n. of_length rows n (limited (go labels))) (sym count)
-    ∙ either_length (nat_eq rows (length labels)) rows (length labels) columns go labels
-    (λ e. limited_labels rows columns go labels (ap length (ls labels) ∙ sym (nat_same rows (length labels) e)) (cs labels))
+indexed_within rows columns (Some labels) go ls cs =
+    either_length (nat_eq rows (length labels)) rows (length labels) go (few_levels labels (limited (go labels))) (few_levels labels (labels_within rows columns labels))
+    (λ e. either_few (nat_le (level_count labels) 4) go (limited (go labels)) (labels_within rows columns labels)
+    (limited_labels rows columns go labels (ap length (ls labels) ∙ sym (nat_same rows (length labels) e)) (cs labels)))
 
 -- a column of scalars that were given
 held_cells : (b : Bool) (kind : Kind) (cells : List CellValue) (col : ColumnOf CellValue) → (if b then Ok record { kind = kind; cells = cells } else Err wrong_kind) ≡ Ok col → cells ≡ col.cells
@@ -119,24 +126,43 @@ is_ok_of a = Ok a
 pub ok_same : {A : Type 0} (a b : A) → is_ok_of a ≡ is_ok_of b → a ≡ b
 ok_same a b e = cc
 
-pub labels_settled : (dict : List Text) (axis : AxisValue) (rows columns : ℕ) (index : List Text → Option (List CellValue)) → ((texts : List Text) → index_labels rows columns (index texts) ≡ Ok (axis_labels texts axis))
+pub labels_settled : (dict : List Text) (axis : AxisValue) (rows columns : ℕ) (index : List Text → Option (List (List LabelValue))) → ((texts : List Text) → index_labels rows columns (index texts) ≡ Ok (axis_labels texts axis))
     → ((more : List Text) → index (dict ++ more) ≡ index dict) → IsSettled labels_value dict axis.tuples
 labels_settled dict axis rows columns index is settled = λ more.
     ok_same (axis_labels (dict ++ more) axis) (axis_labels dict axis) (sym (is (dict ++ more)) ∙ ap (index_labels rows columns) (settled more) ∙ is dict)
 
-pub index_later : (old new : List Text) (index : List Text → Option (List CellValue)) → IsLonger old new → ((more : List Text) → index (old ++ more) ≡ index old) → index new ≡ index old
+pub index_later : (old new : List Text) (index : List Text → Option (List (List LabelValue))) → IsLonger old new → ((more : List Text) → index (old ++ more) ≡ index old) → index new ≡ index old
 index_later old new index longer settled = ap index longer.1 ∙ settled longer.0
 
-abbrev series_rows : Option (List CellValue) → Option LabelValue → ColumnOf CellValue → Result Entry FaultValue
+-- levels without names, as they are seen
+missing_names : (texts : List Text) (n : ℕ) → headings_value texts (replicate n None) ≡ replicate n None
+missing_names texts zero = refl
+missing_names texts (suc n) = ap (λ names. None ∷ names) (missing_names texts n)
+
+pub level_seen : (texts : List Text) (tuples : List (List Label)) → level_count tuples ≡ level_count (labels_value texts tuples)
+level_seen texts [] = refl
+level_seen texts (tuple ∷ rest) = sym (length-map tuple (label_datum texts))
+
+pub names_seen : (texts : List Text) (axis : AxisValue) → axis.names ≡ nameless axis.tuples → headings_value texts axis.names ≡ nameless (axis_labels texts axis)
+names_seen texts axis names =
+    ap (headings_value texts) names
+    ∙ missing_names texts (level_count axis.tuples)
+    ∙ ap (λ n. replicate n None) (level_seen texts axis.tuples)
+
+pub names_settled : (texts : List Text) (axis : AxisValue) → axis.names ≡ nameless axis.tuples → IsSettled headings_value texts axis.names
+names_settled texts axis names =
+    subst (IsSettled headings_value texts) (sym names) (λ more. missing_names (texts ++ more) (level_count axis.tuples) ∙ sym (missing_names texts (level_count axis.tuples)))
+
+abbrev series_rows : Option (List (List LabelValue)) → Option LabelValue → ColumnOf CellValue → Result Entry FaultValue
 series_rows index name c = indexed (length c.cells) index (λ labels. limited (series_table name labels c))
 
-abbrev series_cast : Option (List CellValue) → Option LabelValue → Option Kind → ColumnOf CellValue → Result Entry FaultValue
+abbrev series_cast : Option (List (List LabelValue)) → Option LabelValue → Option Kind → ColumnOf CellValue → Result Entry FaultValue
 series_cast index name kind c = then_value (cast_to kind c) (series_rows index name)
 
 abbrev series_named : Option LabelValue → ColumnOf CellValue → List (List LabelValue) → Table
 series_named name c labels = series_table name labels c
 
-series_is : (new : List Text) (cells : List CellValue) (index : Option (List CellValue)) (name : Option LabelValue) (kind : Option Kind) (listed : ColumnOf CellValue) (column : CellColumn)
+series_is : (new : List Text) (cells : List CellValue) (index : Option (List (List LabelValue))) (name : Option LabelValue) (kind : Option Kind) (listed : ColumnOf CellValue) (column : CellColumn)
     → list_column cells ≡ Ok listed → cast_to kind listed ≡ Ok (column_seen new column)
     → series_with cells index name kind ≡ labels_then (series_named name (column_seen new column)) (index_labels (length column.cells) 1 index)
 series_is new cells index name kind listed column first second =
@@ -145,23 +171,23 @@ series_is new cells index name kind listed column first second =
     ∙ ap (λ n. indexed n index (λ labels. limited (series_table name labels (column_seen new column)))) (length-map column.cells (datum new))
     ∙ indexed_within (length column.cells) 1 index (series_named name (column_seen new column)) (λ labels. refl) (λ labels. refl)
 
-pub cast_refused : (old new : List Text) (cells : List CellValue) (index : Option (List CellValue)) (name : Option LabelValue) (kind : Option Kind) (listed : CellColumn) (fault : OpFault)
+pub cast_refused : (old new : List Text) (cells : List CellValue) (index : Option (List (List LabelValue))) (name : Option LabelValue) (kind : Option Kind) (listed : CellColumn) (fault : OpFault)
     → list_column cells ≡ Ok (column_seen old listed) → MakesBy column_seen new (Err fault) (cast_to kind (column_seen old listed)) → Makes new (Err fault) (series_with cells index name kind)
 cast_refused old new cells index name kind listed fault first refused =
     subst (λ (m : Result Entry FaultValue). Makes new (Err fault) m) (sym (ap (λ r. then_value r (series_cast index name kind)) first))
     (refused_on column_seen new (cast_to kind (column_seen old listed)) (series_rows index name) (Err fault) fault refl refused)
 
-pub axis_refused : (old new : List Text) (cells : List CellValue) (index : List Text → Option (List CellValue)) (name : Option LabelValue) (kind : Option Kind) (listed column : CellColumn) (fault : OpFault)
+pub axis_refused : (old new : List Text) (cells : List CellValue) (index : List Text → Option (List (List LabelValue))) (name : Option LabelValue) (kind : Option Kind) (listed column : CellColumn) (fault : OpFault)
     → IsLonger old new → list_column cells ≡ Ok (column_seen old listed) → cast_to kind (column_seen old listed) ≡ Ok (column_seen new column) → ((more : List Text) → index (old ++ more) ≡ index old)
     → MakesBy axis_labels new (Err fault) (index_labels (length column.cells) 1 (index new)) → Makes new (Err fault) (series_with cells (index old) name kind)
 axis_refused old new cells index name kind listed column fault longer first second settled refused =
     subst (λ (m : Result Entry FaultValue). Makes new (Err fault) m) (sym (series_is new cells (index old) name kind (column_seen old listed) column first second))
     (refused_on axis_labels new (index_labels (length column.cells) 1 (index old)) (λ labels. Ok (table (series_named name (column_seen new column) labels))) (Err fault) fault refl
-    (subst (λ (i : Option (List CellValue)). MakesBy axis_labels new (Err fault) (index_labels (length column.cells) 1 i)) (index_later old new index longer settled) refused))
+    (subst (λ (i : Option (List (List LabelValue))). MakesBy axis_labels new (Err fault) (index_labels (length column.cells) 1 i)) (index_later old new index longer settled) refused))
 
-pub series_answer : (old new : List Text) (cells : List CellValue) (index : List Text → Option (List CellValue)) (name : Option Label) (kind : Option Kind) (listed column : CellColumn) (axis : AxisValue) (made : NumberedTable)
+pub series_answer : (old new : List Text) (cells : List CellValue) (index : List Text → Option (List (List LabelValue))) (name : Option Label) (kind : Option Kind) (listed column : CellColumn) (axis : AxisValue) (made : NumberedTable)
     → IsLonger old new → list_column cells ≡ Ok (column_seen old listed) → cast_to kind (column_seen old listed) ≡ Ok (column_seen new column) → ((more : List Text) → index (old ++ more) ≡ index old)
-    → ((texts : List Text) → index_labels (length column.cells) 1 (index texts) ≡ Ok (axis_labels texts axis)) → axis.names ≡ None ∷ [] → IsSettled heading_value old name → made ≡ made_series axis name column
+    → ((texts : List Text) → index_labels (length column.cells) 1 (index texts) ≡ Ok (axis_labels texts axis)) → axis.names ≡ nameless axis.tuples → IsSettled heading_value old name → made ≡ made_series axis name column
     → series_with cells (index old) (heading_value old name) kind ≡ Ok (table (table_value new made))
 series_answer old new cells index name kind listed column axis made longer first second settled labels names named is =
     series_is new cells (index old) (heading_value old name) kind (column_seen old listed) column first second
@@ -173,21 +199,21 @@ series_answer old new cells index name kind listed column axis made longer first
         record {
           shape = Series;
           columns_name = None;
-          level_names = ap (headings_value new) (sym names) j;
+          level_names = sym (names_seen new axis names) j;
           labels = axis_labels new axis;
           headings = sym (seen_later heading_value old new name longer named) j ∷ [];
           columns = column_seen new column ∷ [];
         }
 
-pub series_settled : (old new : List Text) (index : List Text → Option (List CellValue)) (name : Option Label) (column : CellColumn) (axis : AxisValue) (made : NumberedTable)
+pub series_settled : (old new : List Text) (index : List Text → Option (List (List LabelValue))) (name : Option Label) (column : CellColumn) (axis : AxisValue) (made : NumberedTable)
     → IsLonger old new → AreGiven new column.cells → ((more : List Text) → index (old ++ more) ≡ index old)
-    → ((texts : List Text) → index_labels (length column.cells) 1 (index texts) ≡ Ok (axis_labels texts axis)) → axis.names ≡ None ∷ [] → IsSettled heading_value old name → made ≡ made_series axis name column
+    → ((texts : List Text) → index_labels (length column.cells) 1 (index texts) ≡ Ok (axis_labels texts axis)) → axis.names ≡ nameless axis.tuples → IsSettled heading_value old name → made ≡ made_series axis name column
     → IsSettled table_value new made
 series_settled old new index name column axis made longer given settled labels names named is =
     subst (IsSettled table_value new) (sym is)
     (table_settled new (made_series axis name column)
     (λ more. refl)
-    (subst (IsSettled headings_value new) (sym names) (λ more. refl))
+    (names_settled new axis names)
     (settled_later labels_value old new axis.tuples longer (labels_settled old axis (length column.cells) 1 index labels settled))
     (λ more. ap (λ n. n ∷ []) (settled_later heading_value old new name longer named more))
     (columns_settled new (table_column column ∷ []) (All-cons (λ (c : ColumnOf Cell). AreGiven new c.cells) (table_column column) [] given (All-nil (λ (c : ColumnOf Cell). AreGiven new c.cells)))))

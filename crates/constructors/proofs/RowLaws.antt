@@ -93,24 +93,24 @@ rows_kept rows (c ∷ cs) o is =
     let later = rows_kept rows cs o f.1 in
     (later.0, All-cons (Has rows) c cs f.0 later.1)
 
-abbrev labels_then : ℕ → Option (List CellValue) → Result (Option ℕ) FaultValue → Result (List (List LabelValue)) FaultValue
+abbrev labels_then : ℕ → Option (List (List LabelValue)) → Result (Option ℕ) FaultValue → Result (List (List LabelValue)) FaultValue
 labels_then count index r = then_value r (λ rows. labels_for rows count index)
 
-column_filled : (n count : ℕ) (cs : List (ColumnOf CellValue)) (index : Option (List CellValue)) (labels : List (List LabelValue)) (r : Result (Option ℕ) FaultValue) → same_rows n cs ≡ r → labels_then count index r ≡ Ok labels
+column_filled : (n count : ℕ) (cs : List (ColumnOf CellValue)) (index : Option (List (List LabelValue))) (labels : List (List LabelValue)) (r : Result (Option ℕ) FaultValue) → same_rows n cs ≡ r → labels_then count index r ≡ Ok labels
     → (length labels ≡ n) × All (Has n) cs
 column_filled n count cs index labels (Ok o) is made =
     let kept = rows_kept n cs o is in
     (labels_count n count index labels (sym (ap (λ o. labels_for o count index) kept.0) ∙ made), kept.1)
 column_filled n count cs index labels (Err fault) is made = cc
 
-columns_filled : (cs : List (ColumnOf CellValue)) (index : Option (List CellValue)) (labels : List (List LabelValue)) → frame_labels cs index ≡ Ok labels → All (Has (length labels)) cs
+columns_filled : (cs : List (ColumnOf CellValue)) (index : Option (List (List LabelValue))) (labels : List (List LabelValue)) → frame_labels cs index ≡ Ok labels → All (Has (length labels)) cs
 columns_filled [] index labels made = All-nil (Has (length labels))
 columns_filled (c ∷ cs) index labels made =
     let f = column_filled (length c.cells) (length (c ∷ cs)) cs index labels (same_rows (length c.cells) cs) refl made in
     All-cons (Has (length labels)) c cs (sym f.0) (subst (λ n. All (Has n) cs) (sym f.0) f.1)
 
 -- the rows of the columns are those of the labels
-pub rows_filled : (texts : List Text) (blocks : List CellBlock) (index : Option (List CellValue)) (labels : List (List LabelValue)) (rows : ℕ) → frame_labels (blocks_value texts blocks) index ≡ Ok labels → length labels ≡ rows
+pub rows_filled : (texts : List Text) (blocks : List CellBlock) (index : Option (List (List LabelValue))) (labels : List (List LabelValue)) (rows : ℕ) → frame_labels (blocks_value texts blocks) index ≡ Ok labels → length labels ≡ rows
     → HaveRows rows (map block_column blocks)
 rows_filled texts blocks index labels rows made count k d lt =
     sym (length-map (get_or (map block_column blocks) k d).cells (datum texts))
@@ -118,7 +118,7 @@ rows_filled texts blocks index labels rows made count k d lt =
     ∙ columns_filled (blocks_value texts blocks) index labels made k no_column (omega (arith, lt, length-map (map block_column blocks) (column_value texts)))
     ∙ count
 
-pub axis_rows : (texts : List Text) (blocks : List CellBlock) (index : Option (List CellValue)) (rows : Option ℕ) (columns : ℕ) (r : Result AxisValue OpFault) → common_rows (blocks_value texts blocks) ≡ Ok rows
+pub axis_rows : (texts : List Text) (blocks : List CellBlock) (index : Option (List (List LabelValue))) (rows : Option ℕ) (columns : ℕ) (r : Result AxisValue OpFault) → common_rows (blocks_value texts blocks) ≡ Ok rows
     → columns ≡ length blocks → MakesBy axis_labels texts r (labels_for rows columns index) → IfOk r (λ axis. HaveRows (length axis.tuples) (map block_column blocks))
 axis_rows texts blocks index rows columns (Ok axis) is several made =
     let count : length (blocks_value texts blocks) ≡ columns = length-map (map block_column blocks) (column_value texts) ∙ length-map blocks block_column ∙ sym several in

@@ -1,3 +1,4 @@
 pub mod Scalars
+pub mod Index
 pub mod Pairs
 pub mod Made

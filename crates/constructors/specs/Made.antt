@@ -1,5 +1,5 @@
 -- What the constructors make of scalars.
-use Rattle.std.specs.Prelude.{◌≡◌, ℕ, List, [], ◌∷◌, map, length, Option, Some, None, Result, Ok, Err, if◌then◌else◌}
+use Rattle.std.specs.Prelude.{ℕ, List, [], ◌∷◌, map, length, Option, Some, None, Result, Ok, Err, if◌then◌else◌}
 use Rattle.cell_core.specs.declared.cell.Kind.{Kind}
 use Rattle.meaning.specs.Text.{Text}
 use Rattle.meaning.specs.Cell.{CellValue, LabelValue}
@@ -9,7 +9,7 @@ use Rattle.table_meaning.specs.Table.{ColumnOf}
 use Rattle.table_meaning.specs.Value.{Entry, Given, table}
 use Rattle.form_meaning.specs.Finish.{within_limits, limited, default_labels, try_all}
 use Rattle.form_meaning.specs.Set.{list_column, of_length}
-use Rattle.form_meaning.specs.Make.{cast_to, single_labels, series_table, frame_table}
+use Rattle.form_meaning.specs.Make.{cast_to, few_levels, series_table, frame_table}
 use Rattle.frame_store.specs.Shown.{labels_value}
 use Rattle.constructors.specs.Pairs.{scalars_in, listed_column}
 
@@ -17,37 +17,33 @@ use Rattle.constructors.specs.Pairs.{scalars_in, listed_column}
 abbrev pub axis_labels : List Text → AxisValue → List (List LabelValue)
 axis_labels texts axis = labels_value texts axis.tuples
 
--- one level, which has no name
-abbrev pub IsUnnamed : AxisValue → Type 0
-IsUnnamed axis = axis.names ≡ None ∷ []
-
 -- labels for so many rows, of a table that isn't beyond the limits
 abbrev pub labels_within : ℕ → ℕ → List (List LabelValue) → Result (List (List LabelValue)) FaultValue
 labels_within rows columns labels = if within_limits rows columns then Ok labels else Err limit
 
 abbrev pub listed_labels : ℕ → ℕ → List (List LabelValue) → Result (List (List LabelValue)) FaultValue
-listed_labels rows columns labels = of_length rows (length labels) (labels_within rows columns labels)
+listed_labels rows columns labels = of_length rows (length labels) (few_levels labels (labels_within rows columns labels))
 
--- the scalars of an index as labels; 0, 1 and so on where there is no index
-abbrev pub index_labels : ℕ → ℕ → Option (List CellValue) → Result (List (List LabelValue)) FaultValue
+-- the labels of an index; 0, 1 and so on where there is no index
+abbrev pub index_labels : ℕ → ℕ → Option (List (List LabelValue)) → Result (List (List LabelValue)) FaultValue
 index_labels rows columns None = labels_within rows columns (default_labels rows)
-index_labels rows columns (Some cells) = listed_labels rows columns (single_labels cells)
+index_labels rows columns (Some labels) = listed_labels rows columns labels
 
--- the scalars of an index as labels, as many as there are; none where there is no index
-abbrev pub index_alone : Option (List CellValue) → List (List LabelValue)
+-- the labels of an index, as many as there are; none where there is no index
+abbrev pub index_alone : Option (List (List LabelValue)) → List (List LabelValue)
 index_alone None = []
-index_alone (Some cells) = single_labels cells
+index_alone (Some labels) = labels
 
-abbrev pub free_labels : Option (List CellValue) → Result (List (List LabelValue)) FaultValue
-free_labels index = labels_within (length (index_alone index)) 0 (index_alone index)
+abbrev pub free_labels : Option (List (List LabelValue)) → Result (List (List LabelValue)) FaultValue
+free_labels index = few_levels (index_alone index) (labels_within (length (index_alone index)) 0 (index_alone index))
 
 -- goes on with the labels of the rows
-abbrev pub indexed : ℕ → Option (List CellValue) → (List (List LabelValue) → Result Entry FaultValue) → Result Entry FaultValue
+abbrev pub indexed : ℕ → Option (List (List LabelValue)) → (List (List LabelValue) → Result Entry FaultValue) → Result Entry FaultValue
 indexed rows None go = go (default_labels rows)
-indexed rows (Some cells) go = of_length rows (length cells) (go (single_labels cells))
+indexed rows (Some labels) go = of_length rows (length labels) (few_levels labels (go labels))
 
 -- the Series of these cells
-abbrev pub series_with : List CellValue → Option (List CellValue) → Option LabelValue → Option Kind → Result Entry FaultValue
+abbrev pub series_with : List CellValue → Option (List (List LabelValue)) → Option LabelValue → Option Kind → Result Entry FaultValue
 series_with cells index name kind =
     then_value (list_column cells) (λ c. then_value (cast_to kind c) (λ c. indexed (length c.cells) index (λ labels. limited (series_table name labels c))))
 
@@ -62,20 +58,20 @@ common_rows [] = Ok None
 common_rows (c ∷ cs) = same_rows (length c.cells) cs
 
 -- labels for the rows of so many columns
-abbrev pub labels_for : Option ℕ → ℕ → Option (List CellValue) → Result (List (List LabelValue)) FaultValue
+abbrev pub labels_for : Option ℕ → ℕ → Option (List (List LabelValue)) → Result (List (List LabelValue)) FaultValue
 labels_for None columns index = free_labels index
 labels_for (Some rows) columns index = index_labels rows columns index
 
-abbrev pub frame_labels : List (ColumnOf CellValue) → Option (List CellValue) → Result (List (List LabelValue)) FaultValue
+abbrev pub frame_labels : List (ColumnOf CellValue) → Option (List (List LabelValue)) → Result (List (List LabelValue)) FaultValue
 frame_labels columns index = then_value (common_rows columns) (λ rows. labels_for rows (length columns) index)
 
 -- the frame of columns of these lists
-abbrev pub frame_with : List LabelValue → List (Option (List CellValue)) → Option (List CellValue) → Result Entry FaultValue
+abbrev pub frame_with : List LabelValue → List (Option (List CellValue)) → Option (List (List LabelValue)) → Result Entry FaultValue
 frame_with headings lists index =
     then_value (try_all listed_column lists) (λ columns. then_value (frame_labels columns index) (λ labels. Ok (table (frame_table labels headings columns))))
 
 -- the frame of a dict's pairs
-abbrev pub frame_from : List (LabelValue × Given) → Option (List CellValue) → Result Entry FaultValue
+abbrev pub frame_from : List (LabelValue × Given) → Option (List (List LabelValue)) → Result Entry FaultValue
 frame_from pairs index = frame_with (map (λ p. p.0) pairs) (map (λ p. scalars_in p.1) pairs) index
 
 -- what is seen of a number of rows

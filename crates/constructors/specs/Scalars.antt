@@ -1,5 +1,5 @@
--- The scalars of a list, and the columns and labels that are made of them.
-use Rattle.std.specs.Prelude.{◌≡◌, List, [], ◌∷◌, ◌++◌, map, Option, Some, None, Result, Ok, Err, if◌then◌else◌}
+-- The scalars of a list, and the columns that are made of them.
+use Rattle.std.specs.Prelude.{◌≡◌, List, [], ◌∷◌, ◌++◌, map, Option, None, Result, Ok, Err, if◌then◌else◌}
 use Rattle.std.specs.Borrow.{Bor}
 use Rattle.std.specs.List.{list_all}
 use Rattle.std.specs.Option.{option_map}
@@ -16,7 +16,6 @@ use Rattle.table_meaning.specs.Table.{ColumnOf, NumberedTable}
 use Rattle.frame_store.specs.Parts.{table_column, table_with}
 use Rattle.frame_store.specs.declared.arguments.Item.{Item}
 use Rattle.frame_store.specs.declared.fault.OpFault.{OpFault}
-use Rattle.form_parts.specs.Labels.{label_of}
 use Rattle.form_parts.specs.Makes.{MakesBy}
 use Rattle.signatures.specs.Scalars.{scalars, with_cell}
 
@@ -49,8 +48,3 @@ GetsCell old new cell = (texts : List Text) (rest : List CellValue) → held_aft
 
 abbrev pub RefusesCell : CellColumn → Option Cell → OpFault → Type 0
 RefusesCell c cell fault = (texts : List Text) (rest : List CellValue) → MakesBy column_seen texts (Err fault) (held_with texts c cell rest)
-
--- a cell as a tuple of its own label, where there is one
-abbrev pub tuples_of : Option Cell → List (List Label)
-tuples_of None = []
-tuples_of (Some c) = (label_of c ∷ []) ∷ []

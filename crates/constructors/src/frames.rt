@@ -11,7 +11,7 @@ ghost use Rattle.frame_store.specs.Arguments.{entries_of};
 ghost use Rattle.frame_store.specs.Objects.{Tables};
 ghost use Rattle.frame_store.specs.Parts.{columns_of, IsSingle, HaveRows};
 ghost use Rattle.frame_store.specs.Shown.{Makes};
-ghost use Rattle.constructors.specs.Scalars.{scalars_given};
+ghost use Rattle.constructors.specs.Index.{index_given, GivesLevels, IsUnnamed};
 ghost use Rattle.constructors.specs.Pairs.{AreSettledKeys, AreSettledLists, key_headings};
 ghost use Rattle.constructors.specs.Made as meant;
 
@@ -51,9 +51,10 @@ fn axis_for(
     rows: Option<usize>,
     columns: usize,
 ) -> Result<Axis, OpFault>
-    ensures names { IfOk result meant.IsUnnamed }
+    requires { GivesLevels index }
+    ensures names { IfOk result IsUnnamed }
     ensures labels { (texts : List OneText) → MakesBy meant.axis_labels texts result
-        (meant.labels_for rows columns (scalars_given texts index.entry)) }
+        (meant.labels_for rows columns (index_given texts index.entry)) }
 {
     match rows {
         Some(rows) => index_axis(alloc, dict, index, rows, columns),
@@ -68,11 +69,12 @@ fn frame_axis(
     index: Option<&[Item]>,
     columns: &Blocks,
 ) -> Result<Axis, OpFault>
-    requires { All IsSingle columns.now }
-    ensures names { IfOk result meant.IsUnnamed }
+    requires single { All IsSingle columns.now }
+    requires index { GivesLevels index }
+    ensures names { IfOk result IsUnnamed }
     ensures rows { IfOk result (λ axis. HaveRows (length axis.tuples) (columns_of columns.now)) }
     ensures labels { (texts : List OneText) → MakesBy meant.axis_labels texts result
-        (meant.frame_labels (blocks_value texts columns.now) (scalars_given texts index.entry)) }
+        (meant.frame_labels (blocks_value texts columns.now) (index_given texts index.entry)) }
 {
     let rows = common_rows(columns)?;
     axis_for(alloc, dict, index, rows, columns.len())
@@ -99,10 +101,11 @@ pub(crate) fn frame_of(
 ) -> Result<Table, OpFault>
     requires keys { AreSettledKeys dict.now pairs.now }
     requires values { AreSettledLists dict.now pairs.now }
-    requires index { IsSettled scalars_given dict.now index }
+    requires index { IsSettled index_given dict.now index }
+    requires levels { GivesLevels index }
     ensures { (live : Tables) → Makes dict.now result (meant.frame_from
         (make.pairs_in (entries_of live dict.now pairs.now))
-        (scalars_given dict.now index.entry)) }
+        (index_given dict.now index.entry)) }
 {
     let places = last_places(alloc, dict, pairs)?;
     let columns = listed_columns(alloc, pairs, &places)?;

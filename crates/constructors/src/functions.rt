@@ -71,18 +71,18 @@ fn made_named(
 ///
 /// - `pd.Series(values, index=None, name=None, dtype=None)`, as in the pandas API reference. Its kind
 ///   is that of the scalars that are present, `Int64` where none is, or the `dtype`; its labels are
-///   those of the index, or 0, 1 and so on.
+///   those of the index, or 0, 1 and so on. An index is a list of scalars, or of tuples of two scalars
+///   or more, all as long as the first, which give as many levels ("MultiIndex / advanced indexing").
 /// - `pd.DataFrame(columns, index=None)`, of a dict from labels to lists, as in "From dict of ndarrays
 ///   / lists" of the pandas user guide. A key that is given twice keeps its first place and its last
 ///   value. Each column's kind is found as that of a Series; without columns the rows are those of the
 ///   index, and none where it isn't given.
 ///
 /// In this order: `NoAttribute` where `pd` has no function of the name; `NotBuilt` for `read_csv` and
-/// `concat`, and where the index holds a tuple; `WrongKind` or `BadValue(Argument)` where the
-/// arguments aren't bound; `WrongKind` for a value of the dict that isn't a list of scalars, and for
+/// `concat`; `WrongKind` or `BadValue(Argument)` where the arguments aren't bound; `WrongKind` for a value of the dict that isn't a list of scalars, and for
 /// scalars of different kinds in one list; `BadValue(Cast)` where one can't be cast to the `dtype`;
 /// `BadValue(Length)` for a column that isn't as long as the first, then for an index of another
-/// length; `Limit`. `NoMemory` may come in place of any answer. After a refusal all objects are as
+/// length; `Limit`, also of labels of more than four levels. `NoMemory` may come in place of any answer. After a refusal all objects are as
 /// they were.
 pub fn make(
     alloc: Global,

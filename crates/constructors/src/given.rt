@@ -6,9 +6,8 @@ ghost use Rattle.frame_store.specs.Shown.{Makes};
 ghost use Rattle.frame_store.specs.World.{world, arguments_in, AreKnownArguments};
 
 use crate::frames::frame_of;
-use crate::levels::has_levels;
 use crate::series::series_of;
-use cell_core::{Code, TextDict};
+use cell_core::TextDict;
 use form_meaning::Function;
 use form_parts::name_of;
 use frame_store::{Named, OpFault, Store, Table};
@@ -28,9 +27,6 @@ pub(crate) fn made_series(
         (arguments_in (world store.now dict.old) args.now)) }
 {
     let parameters = function_parameters(Function::Series);
-    if has_levels(parameters, args) {
-        return Err(OpFault::Refused(Code::NotBuilt));
-    }
     let bound = bind(store, dict, parameters, args)?;
     let values = bound.list(0);
     let index = bound.list_or_none(1);
@@ -51,9 +47,6 @@ pub(crate) fn made_frame(
         (arguments_in (world store.now dict.now) args.now)) }
 {
     let parameters = function_parameters(Function::DataFrame);
-    if has_levels(parameters, args) {
-        return Err(OpFault::Refused(Code::NotBuilt));
-    }
     let bound = bind(store, dict, parameters, args)?;
     frame_of(alloc, dict, bound.dict(0), bound.list_or_none(1))
 }

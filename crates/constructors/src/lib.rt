@@ -6,8 +6,8 @@
 //! `specs/Functions.antt` and `specs/Make.antt` of the crate `form_meaning`. [`function_exists`] says
 //! whether `pd` has a function of a name.
 //!
-//! A column is made of the scalars of a list (`scalars`), and the labels of the rows of those of the
-//! index, or they are 0, 1 and so on (`axes`). A Series is one column, cast where a kind is given
+//! A column is made of the scalars of a list (`scalars`). The labels of the rows are the scalars or the
+//! tuples of the index (`index`), or they are 0, 1 and so on (`axes`). A Series is one column, cast where a kind is given
 //! (`series`). A frame is made of a dict: each key by the place of its last value, then the columns of
 //! the values (`pairs`), and then the number of rows that all have (`frames`).
 //!
@@ -23,7 +23,7 @@ mod axes;
 mod frames;
 mod functions;
 mod given;
-mod levels;
+mod index;
 mod pairs;
 mod scalars;
 mod series;

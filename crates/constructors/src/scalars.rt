@@ -1,19 +1,15 @@
-// Columns and labels of the scalars of a list.
-ghost use Rattle.std.specs.Prelude.{◌≡◌, ◌++◌, List, Some, IfOk, OnOk, IfErr, unwrap_or};
+// Columns of the scalars of a list.
+ghost use Rattle.std.specs.Prelude.{◌≡◌, List, Some, OnOk, IfErr, unwrap_or};
 ghost use Rattle.std.specs.Option.{option_map};
 ghost use Rattle.meaning.specs.Text.{Text as OneText};
 ghost use Rattle.meaning.specs.Cell.{CellValue, datum};
-ghost use Rattle.multi_index.specs.Axes.{HaveLevels};
-ghost use Rattle.frame_store.specs.Shown.{labels_value};
 ghost use Rattle.form_meaning.specs.Set as set;
-ghost use Rattle.form_meaning.specs.Make as meant;
 ghost use Rattle.form_parts.specs.Makes.{MakesBy};
 ghost use Rattle.signatures.specs.Scalars.{scalars, with_cell};
-ghost use Rattle.constructors.specs.Scalars.{column_seen, held_column, GetsCell, RefusesCell, tuples_of};
+ghost use Rattle.constructors.specs.Scalars.{column_seen, held_column, GetsCell, RefusesCell};
 
-use cell_core::{Cell, Code, Kind, NoMemory, Tuple, Tuples};
+use cell_core::{Cell, Code, Kind};
 use column_core::Column;
-use form_parts::label_of;
 use frame_store::{Item, OpFault};
 use std::alloc::Global;
 
@@ -92,29 +88,4 @@ pub(crate) fn list_column(alloc: Global, items: &[Item]) -> Result<Column, OpFau
         (set.list_column (scalars texts items.now)) }
 {
     column_of_kind(alloc, first_kind(items), items)
-}
-
-// Appends the label that a cell is, where there is a cell, as a tuple of its own.
-fn push_label(alloc: Global, tuples: &mut Tuples, cell: Option<Cell>) -> Result<(), NoMemory>
-    ensures { OnOk result (tuples.new ≡ tuples.old ++ tuples_of cell) }
-{
-    match cell {
-        None => Ok(()),
-        Some(cell) => tuples.push(Tuple::of(alloc, &[label_of(cell)])),
-    }
-}
-
-// The scalars as labels, each in a tuple of its own.
-pub(crate) fn single_tuples(alloc: Global, items: &[Item]) -> Result<Tuples, NoMemory>
-    ensures levels { IfOk result (HaveLevels 1) }
-    ensures labels { IfOk result (λ tuples. (texts : List OneText)
-        → labels_value texts tuples ≡ meant.single_labels (scalars texts items.now)) }
-{
-    let mut tuples = Tuples::new(alloc);
-    let mut rest = items;
-    while let [first, after @ ..] = rest {
-        push_label(alloc, &mut tuples, first.scalar())?;
-        rest = after;
-    }
-    Ok(tuples)
 }

@@ -7,7 +7,8 @@ ghost use Rattle.form_meaning.specs.Make as make;
 ghost use Rattle.form_parts.specs.Makes.{MakesBy};
 ghost use Rattle.frame_store.specs.Shown.{Makes};
 ghost use Rattle.signatures.specs.Scalars.{scalars};
-ghost use Rattle.constructors.specs.Scalars.{column_seen, scalars_given, made_series};
+ghost use Rattle.constructors.specs.Scalars.{column_seen, made_series};
+ghost use Rattle.constructors.specs.Index.{index_given, GivesLevels};
 ghost use Rattle.constructors.specs.Made as meant;
 
 use crate::axes::index_axis;
@@ -86,11 +87,12 @@ pub(crate) fn series_of(
     kind: Option<Kind>,
 ) -> Result<Table, OpFault>
     requires values { IsSettled scalars dict.old values.now }
-    requires index { IsSettled scalars_given dict.old index }
+    requires index { IsSettled index_given dict.old index }
+    requires levels { GivesLevels index }
     requires name { IsSettled heading_value dict.old name }
     ensures longer { IsLonger dict.old dict.new }
     ensures answer { Makes dict.new result (meant.series_with (scalars dict.old values.now)
-        (scalars_given dict.old index.entry)
+        (index_given dict.old index.entry)
         (heading_value dict.old name) kind) }
 {
     let listed = list_column(alloc, values)?;

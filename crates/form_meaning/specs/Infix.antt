@@ -1,15 +1,19 @@
 -- Operators on scalars and tables.
 use Rattle.std.specs.Prelude.{ℕ, pos, Bool, true, false, ◌&&◌, List, [], ◌∷◌, map, length, replicate, is_some, Option, Some, None, Result, Ok, Err, if◌then◌else◌}
 use Rattle.std.specs.List.{list_all}
+use Rattle.std.specs.Ordering.{is_lt}
+use Rattle.std.specs.Cmp.Lexicographic.{slice_cmp}
 use Rattle.cell_core.specs.declared.cell.Kind.{Kind}
 use Rattle.cell_core.specs.declared.cell.Kind.TheVariants.{Boolean}
 use Rattle.cell_core.specs.declared.grid.Shape.{Shape}
 use Rattle.cell_core.specs.declared.grid.Shape.TheVariants.{Series, Frame}
-use Rattle.meaning.specs.Cell.{CellValue, int_cell, LabelValue}
-use Rattle.meaning.specs.Column.{ColumnValue}
+use Rattle.meaning.specs.Cell.{CellValue, int_cell, na_cell, LabelValue, label_cmp}
+use Rattle.meaning.specs.Column.{ColumnValue, taken}
 use Rattle.meaning.specs.Operator.{operator_kind, binary_column, scalar_column, invert_column}
-use Rattle.meaning.specs.Symbol.{Binary, sub}
-use Rattle.meaning.specs.Fault.{FaultValue, wrong_kind, bad_value, levels, limit, not_built, then_value}
+use Rattle.meaning.specs.Symbol.{Binary, sub, eq, ne, lt, le, gt, ge}
+use Rattle.meaning.specs.Fault.{FaultValue, wrong_kind, bad_value, levels, not_aligned, limit, not_built, then_value}
+use Rattle.align_meaning.specs.Faults.{met_rows}
+use Rattle.align_meaning.specs.Joins.{Lists, outer}
 use Rattle.table_meaning.specs.Table.{ColumnOf, Table, column_at}
 use Rattle.table_meaning.specs.Value.{Entry, cell, table}
 use Rattle.form_meaning.specs.Binding.{same_label}
@@ -27,6 +31,10 @@ same_tuples [] [] = true
 same_tuples (a ∷ as') (b ∷ bs) = same_tuple a b && same_tuples as' bs
 same_tuples a b = false
 
+-- the order of tuples: that of their first different labels
+abbrev pub tuple_before : List LabelValue → List LabelValue → Bool
+tuple_before a b = is_lt (slice_cmp label_cmp a b)
+
 abbrev pub same_headings : List (Option LabelValue) → List (Option LabelValue) → Bool
 same_headings [] [] = true
 same_headings (a ∷ as') (b ∷ bs) = same_heading a b && same_headings as' bs
@@ -41,6 +49,11 @@ are_headings ls hs = false
 -- a name that both have
 abbrev pub common_name : Option LabelValue → Option LabelValue → Option LabelValue
 common_name a b = if same_heading a b then a else None
+
+-- the name of each level, where both have it
+abbrev pub common_names : List (Option LabelValue) → List (Option LabelValue) → List (Option LabelValue)
+common_names (a ∷ as') (b ∷ bs) = common_name a b ∷ common_names as' bs
+common_names as' bs = []
 
 -- two columns that meet, cell by cell
 abbrev pub Meeting : Type 0
@@ -105,25 +118,61 @@ has_one [] = false
 has_one (a ∷ []) = true
 has_one (a ∷ b ∷ as') = false
 
+-- the operator compares
+abbrev pub compares : Binary → Bool
+compares eq = true
+compares ne = true
+compares lt = true
+compares le = true
+compares gt = true
+compares ge = true
+compares op = false
+
+-- rows by the labels that either table has: for each its tuple, and the row of either side, if it has one there
+abbrev pub Joined : Type 0
+Joined = Lists (List LabelValue)
+
+abbrev pub joined_rows : List (List LabelValue) → List (List LabelValue) → Result Joined FaultValue
+joined_rows a b = met_rows (outer same_tuple tuple_before a b)
+
+-- the columns on other rows, each of which is one of theirs or missing
+abbrev pub on_rows : {C : Type 0} → C → List (Option ℕ) → List (ColumnOf C) → List (ColumnOf C)
+on_rows na rows columns = map (λ c. record { kind = c.kind; cells = taken na c.cells rows }) columns
+
+-- the columns of both tables on the joined rows, and the table of these rows
+abbrev pub joined_columns : Table → Table → Joined → List Meeting
+joined_columns a b rows = beside (on_rows na_cell rows.left a.columns) (on_rows na_cell rows.right b.columns)
+
+abbrev pub with_joined : Table → Table → Table → Joined → Table
+with_joined a b t rows = record t { labels = rows.keys; level_names = common_names a.level_names b.level_names }
+
+abbrev pub joined_infix : Binary → Table → Table → Table → Joined → Result Entry FaultValue
+joined_infix op a b t rows = infix_table op (with_joined a b t rows) (joined_columns a b rows)
+
+-- tables whose labels differ are joined, but not compared
+abbrev pub unequal_infix : Binary → Table → Table → Table → Result Entry FaultValue
+unequal_infix op a b t = if compares op then Err (bad_value not_aligned) else then_value (joined_rows a.labels b.labels) (joined_infix op a b t)
+
+-- Two tables whose columns meet in order; t is the left one, under the headings of the answer. Rows meet by position where
+-- the labels of both are equal, and else each with each row of its label, or with none.
 abbrev pub rows_infix : Binary → Table → Table → Table → Result Entry FaultValue
 rows_infix op a b t =
-    on_levels (list_all (meets op) (beside a.columns b.columns)) (same_count a.level_names b.level_names) (infix_table op t (beside a.columns b.columns))
+    on_levels (list_all (meets op) (beside a.columns b.columns)) (same_count a.level_names b.level_names)
+    (if same_tuples a.labels b.labels then infix_table op t (beside a.columns b.columns) else unequal_infix op a b t)
 
 -- the heading of a Series
 abbrev pub first_heading : List (Option LabelValue) → Option LabelValue
 first_heading [] = None
 first_heading (h ∷ hs) = h
 
--- two Series, or two frames, whose labels are equal; the rest isn't built yet
+-- two Series, whose columns always meet
 abbrev pub series_infix : Binary → Table → Table → Result Entry FaultValue
-series_infix op a b =
-    if same_tuples a.labels b.labels
-    then rows_infix op a b record a { headings = common_name (first_heading a.headings) (first_heading b.headings) ∷ [] }
-    else Err not_built
+series_infix op a b = rows_infix op a b record a { headings = common_name (first_heading a.headings) (first_heading b.headings) ∷ [] }
 
+-- two frames whose columns have equal labels; the rest isn't built yet
 abbrev pub frame_infix : Binary → Table → Table → Result Entry FaultValue
 frame_infix op a b =
-    if same_tuples a.labels b.labels && same_headings a.headings b.headings
+    if same_headings a.headings b.headings
     then rows_infix op a b record a { columns_name = common_name a.columns_name b.columns_name }
     else Err not_built
 

@@ -1,5 +1,5 @@
 -- What the constructors make.
-use Rattle.std.specs.Prelude.{ℕ, Bool, false, List, [], ◌∷◌, map, length, codes, Option, Some, None, option_map, Result, Ok, Err, if◌then◌else◌}
+use Rattle.std.specs.Prelude.{◌≡◌, ◌≤◌, ℕ, nat_le, Bool, false, List, [], ◌∷◌, map, length, replicate, codes, Option, Some, None, option_map, Result, Ok, Err, All, if◌then◌else◌}
 use Rattle.std.specs.List.{list_all}
 use Rattle.cell_core.specs.declared.cell.Kind.{Kind}
 use Rattle.cell_core.specs.declared.cell.Kind.TheVariants.{Int64, Boolean, Text as string}
@@ -8,12 +8,12 @@ use Rattle.meaning.specs.Text.{Text, same_text}
 use Rattle.meaning.specs.Cell.{CellValue, text_cell, LabelValue}
 use Rattle.meaning.specs.Cast.{cast_column}
 use Rattle.meaning.specs.Operator.{cell_label}
-use Rattle.meaning.specs.Fault.{FaultValue, wrong_kind, then_value}
+use Rattle.meaning.specs.Fault.{FaultValue, wrong_kind, limit, then_value}
 use Rattle.table_meaning.specs.Table.{ColumnOf, Table}
-use Rattle.table_meaning.specs.Value.{Entry, Given, GivenList, GivenPairs, no_entries, more_entries, nothing, one, row, many, entries, list_in, dict_in, scalar_in}
+use Rattle.table_meaning.specs.Value.{Entry, Given, GivenList, GivenPairs, cell, table, no_given, more_given, no_entries, more_entries, nothing, one, row, many, entries, list_in, dict_in, scalar_in}
 use Rattle.form_meaning.specs.Binding.{same_label, each, is_scalar}
 use Rattle.form_meaning.specs.Finish.{limited, default_labels, value_of_column, made_column, try_all}
-use Rattle.form_meaning.specs.Select.{cells_of}
+use Rattle.form_meaning.specs.Select.{cells_of, labels_of}
 use Rattle.form_meaning.specs.Set.{list_column, of_length}
 
 -- the kind of a name; a text that names none is refused before
@@ -29,21 +29,48 @@ abbrev pub kind_given : Option CellValue → Option Kind
 kind_given (Some (text_cell t)) = Some (kind_named t)
 kind_given c = None
 
--- one label to each row
-abbrev pub single_labels : List CellValue → List (List LabelValue)
-single_labels cells = map (λ c. cell_label c ∷ []) cells
+-- the labels of a row: the one that a scalar is, or those of a tuple
+abbrev pub row_labels : Given → List LabelValue
+row_labels (one (cell c)) = cell_label c ∷ []
+row_labels (row parts) = labels_of parts
+row_labels (one (table t)) = []
+row_labels nothing = []
+row_labels (many parts) = []
+row_labels (entries pairs) = []
+
+abbrev pub index_labels : GivenList → List (List LabelValue)
+index_labels no_given = []
+index_labels (more_given g rest) = row_labels g ∷ index_labels rest
+
+-- how many levels labels have: as many as the first row has labels, and one where there is no row
+abbrev pub level_count : {L : Type 0} → List (List L) → ℕ
+level_count [] = 1
+level_count (labels ∷ rest) = length labels
+
+-- levels without names for these labels
+abbrev pub nameless : {L : Type 0} → List (List L) → List (Option L)
+nameless labels = replicate (level_count labels) None
+
+-- each row has a label for each level, of which there is one at least
+pub record AreAlike {L : Type 0} (labels : List (List L)) : Type 0 where
+  pub some : 1 ≤ level_count labels
+  pub each : All (λ tuple. length tuple ≡ level_count labels) labels
+
+-- labels of at most four levels
+abbrev pub few_levels : {A : Type 0} → List (List LabelValue) → Result A FaultValue → Result A FaultValue
+few_levels labels rest = if nat_le (level_count labels) 4 then rest else Err limit
 
 -- the labels that are given, which must be as many as there are rows; else 0, 1 and so on
 abbrev pub with_index : ℕ → Option GivenList → (List (List LabelValue) → Result Entry FaultValue) → Result Entry FaultValue
 with_index rows None go = go (default_labels rows)
-with_index rows (Some parts) go = of_length rows (length (cells_of parts)) (go (single_labels (cells_of parts)))
+with_index rows (Some parts) go = of_length rows (length (index_labels parts)) (few_levels (index_labels parts) (go (index_labels parts)))
 
 abbrev pub series_table : Option LabelValue → List (List LabelValue) → ColumnOf CellValue → Table
 series_table name labels c =
     record {
       shape = Series;
       columns_name = None;
-      level_names = None ∷ [];
+      level_names = nameless labels;
       labels = labels;
       headings = name ∷ [];
       columns = c ∷ [];
@@ -54,7 +81,7 @@ frame_table labels headings columns =
     record {
       shape = Frame;
       columns_name = None;
-      level_names = None ∷ [];
+      level_names = nameless labels;
       labels = labels;
       headings = map (λ l. Some l) headings;
       columns = columns;
@@ -65,7 +92,7 @@ abbrev pub on : {A B : Type 0} → Option A → (A → Result B FaultValue) → 
 on None go = Err wrong_kind
 on (Some a) go = go a
 
--- `pd.Series`: mixed kinds, the cast, and the number of labels are tested in this order
+-- `pd.Series`: mixed kinds, the cast, the number of labels, and that of their levels are tested in this order
 abbrev pub series_of : GivenList → Option GivenList → Option LabelValue → Option Kind → Result Entry FaultValue
 series_of values index name kind =
     then_value (list_column (cells_of values)) (λ c. then_value (cast_to kind c) (λ c. with_index (length c.cells) index (λ labels. limited (series_table name labels c))))
@@ -109,14 +136,14 @@ all_of_length expected (c ∷ cs) rest = of_length expected (length c.cells) (al
 
 abbrev pub labels_given : Option GivenList → List (List LabelValue)
 labels_given None = []
-labels_given (Some parts) = single_labels (cells_of parts)
+labels_given (Some parts) = index_labels parts
 
 -- the frame of these columns; without columns the rows are those of the index
 abbrev pub frame_with : List LabelValue → List (ColumnOf CellValue) → Option GivenList → Result Entry FaultValue
-frame_with headings [] index = limited (frame_table (labels_given index) headings [])
+frame_with headings [] index = few_levels (labels_given index) (limited (frame_table (labels_given index) headings []))
 frame_with headings (c ∷ cs) index = all_of_length (length c.cells) cs (with_index (length c.cells) index (λ labels. limited (frame_table labels headings (c ∷ cs))))
 
--- `pd.DataFrame`: lists of scalars, mixed kinds, lengths, and the number of labels are tested in this order
+-- `pd.DataFrame`: lists of scalars, mixed kinds, lengths, the number of labels, and that of their levels are tested in this order
 abbrev pub frame_of : List (LabelValue × Given) → Option GivenList → Result Entry FaultValue
 frame_of pairs index =
     if list_all is_scalar_list pairs

@@ -1,7 +1,8 @@
 -- Rows and headings are equal exactly where their labels' numbers are.
-use Rattle.std.proofs.Common.{◌≡◌, Bool, ◌&&◌, List, [], ◌∷◌, refl, ap}
+use Rattle.std.proofs.Common.{◌≡◌, Bool, ◌&&◌, List, [], ◌∷◌, refl, ap, All}
 use Rattle.std.specs.Bool.{Decides}
 use Rattle.std.proofs.lemmas.Bool.Decides.{same_from_decides, Decides-and, Decides-like}
+use Rattle.std.proofs.lemmas.List.Elements.{All-nil, All-cons, All-head, All-tail}
 use Rattle.cell_core.specs.declared.cell.Label.{Label}
 use Rattle.cell_core.specs.Texts.{AreDistinct}
 use Rattle.cell_core.specs.Values.{LabelValue, label_datum}
@@ -11,6 +12,8 @@ use Rattle.table_meaning.specs.Table.{tuple_value}
 use Rattle.form_meaning.specs.Binding.{same_label}
 use Rattle.form_meaning.specs.Infix.{same_tuple, same_tuples}
 use Rattle.frame_store.specs.Shown.{labels_value}
+use Rattle.row_keys.specs.Keys.{same_tuple as same_numbers}
+use Rattle.label_align.proofs.SameLaws.{tuple_decides as numbers_decide}
 use Rattle.form_parts.proofs.LabelLaws.{label_given, label_one, value_decides}
 
 module _ {X : Type 0} where
@@ -63,6 +66,24 @@ tuple_one texts (a ∷ as') (b ∷ bs) distinct f g e =
       label_one texts a b distinct (label_given texts a (label_settled texts a as' f)) (label_given texts b (label_settled texts b bs g)) both.0,
       tuple_one texts as' bs distinct (rest_settled texts a as' f) (rest_settled texts b bs g) both.1,
     )
+
+-- a test of tuples by texts is the test by numbers
+pub tuple_by_number : (texts : List Text) (a b : List Label) → AreDistinct texts → IsSettled tuple_value texts a → IsSettled tuple_value texts b → same_tuple (tuple_value texts a) (tuple_value texts b) ≡ same_numbers a b
+tuple_by_number texts a b distinct f g =
+    let there : Decides (same_tuple (tuple_value texts a) (tuple_value texts b)) (a ≡ b) = (
+      λ e. tuple_one texts a b distinct f g ((tuple_decides (tuple_value texts a) (tuple_value texts b)).0 e),
+      λ e. (tuple_decides (tuple_value texts a) (tuple_value texts b)).1 (ap (tuple_value texts) e),
+    ) in
+    same_from_decides (same_tuple (tuple_value texts a) (tuple_value texts b)) (same_numbers a b) there (numbers_decide a b)
+
+-- each tuple of rows whose texts were given
+pub tuples_settled : (texts : List Text) (ts : List (List Label)) → IsSettled labels_value texts ts → All (IsSettled tuple_value texts) ts
+tuples_settled texts [] settled = All-nil (IsSettled tuple_value texts)
+tuples_settled texts (t ∷ ts) settled = All-cons (IsSettled tuple_value texts) t ts (tuple_settled texts t ts settled) (tuples_settled texts ts (rows_settled texts t ts settled))
+
+pub settled_tuples : (texts : List Text) (ts : List (List Label)) → All (IsSettled tuple_value texts) ts → IsSettled labels_value texts ts
+settled_tuples texts [] all = λ more. refl
+settled_tuples texts (t ∷ ts) all = λ more j. All-head (IsSettled tuple_value texts) t ts all more j ∷ settled_tuples texts ts (All-tail (IsSettled tuple_value texts) t ts all) more j
 
 rows_one : (texts : List Text) (a b : List (List Label)) → AreDistinct texts → IsSettled labels_value texts a → IsSettled labels_value texts b → labels_value texts a ≡ labels_value texts b → a ≡ b
 rows_one texts [] [] distinct f g e = refl

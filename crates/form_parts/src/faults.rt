@@ -1,10 +1,11 @@
-// What a kernel answers, as a part of a form.
+// What a kernel or a join answers, as a part of a form.
 ghost use Rattle.std.specs.Prelude.{◌≡◌};
-ghost use Rattle.form_parts.specs.Faults.{refusal_of, block_result};
+ghost use Rattle.form_parts.specs.Faults.{refusal_of, align_refusal, block_result};
 
 use cell_core::{Code, Reason};
 use column_core::{Block, Column};
 use frame_store::OpFault;
+use label_align::AlignFault;
 use nullable_array::ArrayFault;
 
 /// A kernel's refusal as that of a form: `WrongKind`, `ZeroDivide`, `BadValue(Cast)` or `NoMemory`.
@@ -16,6 +17,19 @@ pub fn refusal_of(fault: ArrayFault) -> OpFault
         ArrayFault::ZeroDivision(_) => OpFault::Refused(Code::ZeroDivide),
         ArrayFault::NotCast(_) => OpFault::Refused(Code::BadValue(Reason::Cast)),
         ArrayFault::NoMemory => OpFault::NoMemory,
+    }
+}
+
+/// Why labels aren't joined, as the refusal of a form: `BadValue(Repeated)`, `Limit` or `NoMemory`. Takes no memory.
+pub fn align_refusal(fault: AlignFault) -> OpFault
+    ensures { result ≡ align_refusal fault }
+{
+    match fault {
+        AlignFault::DuplicateLabels(tuple) => {
+            OpFault::Refused(Code::BadValue(Reason::Repeated(tuple)))
+        }
+        AlignFault::TooLarge => OpFault::Refused(Code::Limit),
+        AlignFault::NoMemory => OpFault::NoMemory,
     }
 }
 

@@ -18,7 +18,7 @@ mod labels;
 mod objects;
 mod parts;
 
-pub use faults::{block_of, refusal_of};
+pub use faults::{align_refusal, block_of, refusal_of};
 pub use labels::{common_name, label_of, name_of, same_heading, same_label, same_rows};
 pub use objects::placed;
 pub use parts::{headings_named, headings_of, table_under, within_limits};

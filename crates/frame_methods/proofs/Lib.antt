@@ -14,4 +14,8 @@ pub mod CsvLaws
 pub mod RowLaws
 pub mod DuplicateLaws
 pub mod SortLaws
+pub mod RankLaws
 pub mod NamedLaws
+pub mod UnderLaws
+pub mod LevelNameLaws
+pub mod IndexingLaws

@@ -8,6 +8,8 @@ use Rattle.frame_methods.specs.declared.built.ColumnMethod.{ColumnMethod}
 use Rattle.frame_methods.specs.declared.built.ColumnMethod.TheVariants as columns
 use Rattle.frame_methods.specs.declared.built.RowMethod.{RowMethod}
 use Rattle.frame_methods.specs.declared.built.RowMethod.TheVariants as rows
+use Rattle.frame_methods.specs.declared.built.LevelMethod.{LevelMethod}
+use Rattle.frame_methods.specs.declared.built.LevelMethod.TheVariants as levels
 use Rattle.frame_methods.specs.declared.built.Built.{Built}
 use Rattle.frame_methods.specs.declared.built.Built.TheVariants as built
 
@@ -30,6 +32,10 @@ row_method rows.SortValuesSeries = method.SortValuesSeries
 row_method rows.SortValuesFrame = method.SortValuesFrame
 row_method rows.SortIndex = method.SortIndex
 
+abbrev pub level_method : LevelMethod → Method
+level_method levels.RenameAxis = method.RenameAxis
+level_method levels.SetIndex = method.SetIndex
+
 abbrev pub method_of : Built → Method
 method_of built.Copy = method.Copy
 method_of (built.Columns m) = column_method m
@@ -43,6 +49,7 @@ method_of (built.Summary Distinct) = method.Nunique
 method_of built.Head = method.Head
 method_of built.Tail = method.Tail
 method_of (built.Rows m) = row_method m
+method_of (built.Levels m) = level_method m
 method_of built.RenameSeries = method.RenameSeries
 method_of built.RenameFrame = method.RenameFrame
 method_of built.ToFrame = method.ToFrame

@@ -37,6 +37,7 @@ fits_shape method.SortValuesSeries Frame = false
 fits_shape method.SortValuesFrame Series = false
 fits_shape method.RenameSeries Frame = false
 fits_shape method.RenameFrame Series = false
+fits_shape method.SetIndex Series = false
 fits_shape method.DropColumns Series = false
 fits_shape method.ToFrame Frame = false
 fits_shape m shape = true

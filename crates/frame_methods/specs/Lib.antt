@@ -2,6 +2,7 @@ pub mod Columns
 pub mod Marks
 pub mod Summaries
 pub mod Labels
+pub mod Levels
 pub mod Made
 pub mod Built
 pub mod Calls
@@ -9,5 +10,6 @@ pub mod Faults
 pub mod Listed
 pub mod Renames
 pub mod Sorts
+pub mod Ranks
 pub mod Rows
 pub mod Named

@@ -40,6 +40,15 @@ pub(crate) enum RowMethod {
     SortIndex,
 }
 
+// A method that makes a table of other labels or levels of the rows.
+#[derive(Clone, Copy)]
+pub(crate) enum LevelMethod {
+    // Other names of the levels.
+    RenameAxis,
+    // Columns as levels.
+    SetIndex,
+}
+
 // What a method that is built makes.
 #[derive(Clone, Copy)]
 pub(crate) enum Built {
@@ -53,6 +62,8 @@ pub(crate) enum Built {
     Head,
     Tail,
     Rows(RowMethod),
+    // The rows under other labels.
+    Levels(LevelMethod),
     // The same rows under other headings: a name, labels, or those of a frame.
     RenameSeries,
     RenameFrame,
@@ -96,6 +107,8 @@ impl Built {
             Method::SortIndex => Some(Built::Rows(RowMethod::SortIndex)),
             Method::RenameSeries => Some(Built::RenameSeries),
             Method::RenameFrame => Some(Built::RenameFrame),
+            Method::RenameAxis => Some(Built::Levels(LevelMethod::RenameAxis)),
+            Method::SetIndex => Some(Built::Levels(LevelMethod::SetIndex)),
             Method::DropColumns => Some(Built::DropColumns),
             Method::ToFrame => Some(Built::ToFrame),
             Method::ToCsv => Some(Built::ToCsv),

@@ -13,17 +13,19 @@ ghost use Rattle.frame_store.specs.Arguments.{entry_of, object_value, shape_at, 
 ghost use Rattle.frame_store.specs.Objects.{tables, table_at};
 ghost use Rattle.frame_store.specs.Shown.{Makes};
 ghost use Rattle.frame_store.specs.World.{world, entry_in, arguments_in, IsSettledWorld, AreKnownArguments, Forms};
-ghost use Rattle.frame_methods.specs.Built.{method_of, column_method, row_method};
+ghost use Rattle.frame_methods.specs.Built.{method_of, column_method, row_method, level_method};
 ghost use Rattle.frame_methods.specs.Calls.{chain_of, answer_in, IsCall};
 ghost use Rattle.frame_methods.specs.Made.{made_value};
 ghost use Rattle.frame_methods.specs.Faults.{IsChained};
 
+use crate::axis_names::{level_names, rename_axis};
 use crate::binding::{BoundCall, bound_call, exists, no_attribute};
-use crate::built::{Built, ColumnMethod, RowMethod};
+use crate::built::{Built, ColumnMethod, LevelMethod, RowMethod};
 use crate::column_ops::{Cast, Cumulated, Filled, Marked, Shifted};
 use crate::columns::ColumnOp;
 use crate::csv::to_csv;
 use crate::duplicates::duplicated;
+use crate::indexing::set_index;
 use crate::listed::{Listed, listed_cells};
 use crate::made::Made;
 use crate::named_columns::{drop_columns, named_places, subset_places};
@@ -167,6 +169,35 @@ fn rows_made(
     }
 }
 
+// The table that a method makes of the levels of the rows.
+fn levels_made(
+    alloc: Global,
+    store: &Store,
+    dict: &TextDict,
+    method: LevelMethod,
+    bound: &Bound<'_>,
+    on: ObjId,
+) -> Result<Table, OpFault>
+    requires live { IsSome (tables store.now on.0) }
+    requires settled { IsSettledWorld (world store.now dict.now) }
+    requires call { IsCall (world store.now dict.now) (level_method method) bound.now
+        (shape_at (tables store.now) on) }
+    ensures { Makes dict.now result (answer_in (world store.now dict.now)
+        (level_method method) bound.now (object_value (tables store.now) dict.now on)) }
+{
+    let source = store.read(on);
+    match method {
+        LevelMethod::RenameAxis => {
+            let names = level_names(alloc, bound)?;
+            rename_axis(alloc, &source, names.as_slice())
+        }
+        LevelMethod::SetIndex => {
+            let places = named_places(alloc, store, dict, bound, on)?;
+            set_index(alloc, dict, &source, &places)
+        }
+    }
+}
+
 // The answer of a call.
 fn answer(
     alloc: Global,
@@ -195,6 +226,10 @@ fn answer(
         Built::Tail => tail(alloc, store, on, bound.whole(0)),
         Built::Rows(method) => {
             let table = rows_made(alloc, store, dict, method, bound, on);
+            placed(store, dict, table)
+        }
+        Built::Levels(method) => {
+            let table = levels_made(alloc, store, dict, method, bound, on);
             placed(store, dict, table)
         }
         Built::RenameSeries => {

@@ -9,9 +9,10 @@
 //! A method that makes new cells makes them column by column (`columns`), each by an operation of its
 //! own (`column_ops`); one that gives an object's rows again under other headings does so by
 //! `Store::derive`; one that makes one cell of a column does so by a reduction (`summaries`). Rows are
-//! picked (`rows`), told apart (`duplicates`) or put in order by their keys (`sorts`, `sort_keys`) as
+//! picked (`rows`), told apart (`duplicates`) or put in order by their keys (`sorts`, `sort_keys`, `sort_ranks`) as
 //! numbers, of which one table is made; the columns that an argument names are found in
-//! `named_columns`. The text of a whole table, which `to_csv` answers, is made by `frame_format`
+//! `named_columns`. Levels get names (`axis_names`) or are made of columns (`indexing`); `under` makes
+//! the table under another axis. The text of a whole table, which `to_csv` answers, is made by `frame_format`
 //! (`csv`).
 //!
 //! ```text
@@ -23,6 +24,7 @@
 //! ```
 #![tactic(auto)]
 
+mod axis_names;
 mod binding;
 mod built;
 mod calling;
@@ -30,6 +32,7 @@ mod column_ops;
 mod columns;
 mod csv;
 mod duplicates;
+mod indexing;
 mod listed;
 mod made;
 mod named_columns;
@@ -38,9 +41,11 @@ mod renaming;
 mod rows;
 mod series;
 mod sort_keys;
+mod sort_ranks;
 mod sorts;
 mod summaries;
 mod tables;
+mod under;
 
 pub use binding::exists;
 pub use calling::method;

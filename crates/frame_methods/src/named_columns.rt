@@ -130,7 +130,11 @@ fn marked(alloc: Global, count: usize, places: &Places) -> Result<Vec<bool>, NoM
 }
 
 // The numbers below a count that aren't among these places.
-fn places_besides(alloc: Global, count: usize, places: &Places) -> Result<Places, NoMemory>
+pub(crate) fn places_besides(
+    alloc: Global,
+    count: usize,
+    places: &Places,
+) -> Result<Places, NoMemory>
     requires { All (λ place. place < count) places.now }
     ensures { IfOk result (λ others. others
         ≡ filter (λ place. not (list_any (nat_eq place) places.now)) (range_with_len 0 count)) }

@@ -7,33 +7,14 @@ ghost use Rattle.method_meaning.specs.Rows as meant;
 ghost use Rattle.frame_store.specs.Shown.{Makes};
 ghost use Rattle.frame_store.specs.World.{IsKnownTable};
 ghost use Rattle.frame_store.specs.Parts.{AreColumnsOf};
-ghost use Rattle.frame_methods.specs.Sorts.{keys_of, stands_before, weak_by, AreKeys};
+ghost use Rattle.frame_methods.specs.Sorts.{AreKeys, AreSettledKeys};
 
 use crate::rows::rows_table;
-use crate::sort_keys::{SortKeys, columns_at, compare_rows};
+use crate::sort_keys::{SortKeys, columns_at};
+use crate::sort_ranks::rows_by_keys;
 use cell_core::{Grid, Places, TextDict};
 use frame_store::{ObjRef, OpFault, Table};
-use sorting::{RowOrder, sorted_rows};
 use std::alloc::Global;
-use std::cmp::Ordering;
-
-// The order of rows by their keys.
-#[derive(Clone, Copy)]
-struct ByKeys<'a> {
-    dict: &'a TextDict,
-    keys: &'a SortKeys<'a>,
-    ascending: bool,
-}
-
-impl RowOrder for ByKeys<'_> {
-    ghost less = { λ s. stands_before s.ascending (keys_of s.dict.now s.keys.now) };
-
-    ghost weak = { λ s. weak_by s.ascending (keys_of s.dict.now s.keys.now) };
-
-    fn compare(&self, i: usize, j: usize) -> Ordering {
-        compare_rows(self.dict, self.keys, self.ascending, i, j)
-    }
-}
 
 // The rows in the order of their keys.
 fn sorted_table(
@@ -43,16 +24,12 @@ fn sorted_table(
     keys: &SortKeys<'_>,
     ascending: bool,
 ) -> Result<Table, OpFault>
-    requires { IsKnownTable dict.now on.now }
+    requires known { IsKnownTable dict.now on.now }
+    requires settled { AreSettledKeys dict.now keys.now (length on.now.labels) }
     ensures { (all : List (List LabelValue)) → AreKeys dict.now keys.now (length on.now.labels) all
         → Makes dict.now result (meant.sorted_result (table_value dict.now on.now) ascending all) }
 {
-    let order = ByKeys {
-        dict,
-        keys,
-        ascending,
-    };
-    let rows = sorted_rows(alloc, on.rows(), &order)?;
+    let rows = rows_by_keys(alloc, dict, keys, ascending, on.rows())?;
     rows_table(alloc, on, &rows)
 }
 

@@ -1,13 +1,15 @@
 -- What an operator makes of two operands is what is meant.
-use Rattle.std.proofs.Common.{◌≡◌, ◌∙◌, suc, ◌<◌, Bool, true, false, ◌&&◌, List, [], ◌∷◌, length, refl, ap, sym, subst, arith, Option, Some, None, Result, Ok, Err, All, slice_index_or, if◌then◌else◌}
+use Rattle.std.proofs.Common.{◌≡◌, ◌∙◌, ℕ, suc, ◌<◌, nat_eq, Bool, true, false, ◌&&◌, List, [], ◌∷◌, length, refl, ap, sym, subst, arith, Option, Some, None, Result, Ok, Err, All, slice_index_or, if◌then◌else◌}
+use Rattle.std.specs.Prelude.{◌≢◌}
 use Rattle.std.specs.List.{list_all}
+use Rattle.std.proofs.lemmas.Bool.Decides.{nat_tests}
 use Rattle.std.proofs.lemmas.List.{length-map}
 use Rattle.cell_core.specs.declared.cell.Cell.{Cell}
 use Rattle.cell_core.specs.declared.cell.Label.{Label}
 use Rattle.cell_core.specs.declared.grid.Shape.TheVariants.{Series}
 use Rattle.meaning.specs.Text.{Text}
 use Rattle.meaning.specs.Cell.{LabelValue, datum, AreGiven}
-use Rattle.meaning.specs.Fault.{FaultValue, not_built, then_value}
+use Rattle.meaning.specs.Fault.{FaultValue, wrong_kind, bad_value, levels, not_aligned, not_built, then_value}
 use Rattle.meaning.specs.Symbol.{Binary}
 use Rattle.table_meaning.specs.Table.{NumberedTable, Table, table_value, heading_value, tuple_value, column_at, column_value, no_column}
 use Rattle.table_meaning.specs.Settled.{IsSettled}
@@ -18,15 +20,15 @@ use Rattle.frame_store.proofs.Settling.{columns_given, columns_part, headings_pa
 use Rattle.table_meaning.specs.Value as value
 use Rattle.table_meaning.specs.Value.{Entry}
 use Rattle.form_meaning.specs.Finish.{with_columns, same_heading}
-use Rattle.form_meaning.specs.Infix.{meets, infix_table, on_levels, same_tuple, same_tuples, same_headings, are_headings, common_name, first_heading, beside, across, across_series, turned, has_one, scalar_infix, rows_infix, series_infix, frame_infix, across_infix}
+use Rattle.form_meaning.specs.Infix.{meets, infix_table, on_levels, same_tuple, same_tuples, same_headings, are_headings, common_name, first_heading, beside, across, across_series, turned, has_one, same_count, compares, joined_rows, joined_infix, unequal_infix, scalar_infix, rows_infix, frame_infix, across_infix}
 use Rattle.frame_store.specs.declared.fault.OpFault.{OpFault}
 use Rattle.frame_store.specs.Shown.{headings_value, labels_value, columns_value, Makes}
 use Rattle.frame_ops.specs.declared.naming.Naming.TheVariants.{Kept, Name, ColumnsName}
 use Rattle.frame_ops.specs.declared.other.Other.{Other}
 use Rattle.frame_ops.specs.declared.other.Other.TheVariants.{Scalar, Beside, Across}
 use Rattle.frame_ops.specs.Namings.{named_by}
-use Rattle.frame_ops.specs.Pairs.{pairs_from, meetings_value, levels_fit, IsOpposite, columns_meant}
-use Rattle.frame_ops.proofs.Meanings.{table_meant, levels_agree}
+use Rattle.frame_ops.specs.Pairs.{pairs_from, kinds_meet, meetings_value, levels_fit, IsOpposite, columns_meant}
+use Rattle.frame_ops.proofs.Meanings.{table_meant, levels_agree, kinds_seen}
 use Rattle.frame_ops.proofs.HeadingLaws.{heading_settled}
 use Rattle.frame_ops.proofs.MeetingLaws.{scalar_meetings, beside_meetings, across_meetings, first_column, levels_same, levels_one}
 
@@ -51,53 +53,78 @@ scalar_is_meant op texts on c left =
     ∙ levels_agree op t (meetings_value texts (pairs_from (Scalar c left) 0 on.columns))
     ∙ ap (infix_table op t) (scalar_meetings texts c left on.columns)
 
+equal : (m n : ℕ) → m ≡ n → nat_eq m n ≡ true
+equal m n same = grind (arith, nat_tests)
+
+not_equal : (m n : ℕ) → m ≢ n → nat_eq m n ≡ false
+not_equal m n apart = grind (arith, nat_tests)
+
 -- two tables
-rows_are_meant : (op : Binary) (texts : List Text) (a b : NumberedTable) (t u : Table) → length t.labels ≡ length a.labels → t ≡ u → length b.columns ≡ length a.columns
-    → met_table op texts a (Beside b) t ≡ rows_infix op (table_value texts a) (table_value texts b) u
-rows_are_meant op texts a b t u rows same columns =
-    let met : meetings_value texts (pairs_from (Beside b) 0 a.columns) ≡ beside (columns_value texts a.columns) (columns_value texts b.columns) = beside_meetings texts b a.columns columns in
-    met_on_levels op texts a (Beside b) t rows
-    ∙ (λ i. on_levels (list_all (meets op) (met i)) (levels_same (heading_value texts) (heading_value texts) a.level_names b.level_names i) (infix_table op (same i) (met i)))
+module _ (op : Binary) (texts : List Text) (a b : NumberedTable) (t : Table) (columns : length b.columns ≡ length a.columns) where
+  abbrev v : Table
+  v = table_value texts a
+
+  abbrev w : Table
+  w = table_value texts b
+
+  met : meetings_value texts (pairs_from (Beside b) 0 a.columns) ≡ beside v.columns w.columns
+  met = beside_meetings texts b a.columns columns
+
+  -- where the rows are equal
+  pub rows_are_meant : length t.labels ≡ length a.labels → same_tuples v.labels w.labels ≡ true → met_table op texts a (Beside b) t ≡ rows_infix op v w t
+  rows_are_meant rows equal =
+      met_on_levels op texts a (Beside b) t rows
+      ∙ (λ i. on_levels (list_all (meets op) (met i)) (levels_same (heading_value texts) (heading_value texts) a.level_names b.level_names i) (infix_table op t (met i)))
+      ∙ sym (ap (λ (r : Bool). on_levels (list_all (meets op) (beside v.columns w.columns)) (same_count v.level_names w.level_names) (if r then infix_table op t (beside v.columns w.columns) else unequal_infix op v w t)) equal)
+
+  -- and where they aren't, by the tests
+  module _ (unequal : same_tuples v.labels w.labels ≡ false) where
+    by_tests : (k l : Bool) → list_all (kinds_meet op) (pairs_from (Beside b) 0 a.columns) ≡ k → nat_eq (length a.level_names) (length b.level_names) ≡ l → rows_infix op v w t ≡ on_levels k l (unequal_infix op v w t)
+    by_tests k l kinds counted =
+        ap (λ (r : Bool). on_levels (list_all (meets op) (beside v.columns w.columns)) (same_count v.level_names w.level_names) (if r then infix_table op t (beside v.columns w.columns) else unequal_infix op v w t)) unequal
+        ∙ (λ i. on_levels (list_all (meets op) (sym met i)) (sym (levels_same (heading_value texts) (heading_value texts) a.level_names b.level_names) i) (unequal_infix op v w t))
+        ∙ (λ i. on_levels ((kinds_seen op texts (pairs_from (Beside b) 0 a.columns) ∙ kinds) i) (counted i) (unequal_infix op v w t))
+
+    pub kinds_differ : list_all (kinds_meet op) (pairs_from (Beside b) 0 a.columns) ≡ false → rows_infix op v w t ≡ Err wrong_kind
+    kinds_differ kinds = by_tests false (nat_eq (length a.level_names) (length b.level_names)) kinds refl
+
+    module _ (kinds : list_all (kinds_meet op) (pairs_from (Beside b) 0 a.columns) ≡ true) where
+      pub levels_differ : length a.level_names ≢ length b.level_names → rows_infix op v w t ≡ Err (bad_value levels)
+      levels_differ apart = by_tests true false kinds (not_equal (length a.level_names) (length b.level_names) apart)
+
+      pub not_compared : length a.level_names ≡ length b.level_names → compares op ≡ true → rows_infix op v w t ≡ Err (bad_value not_aligned)
+      not_compared counted compared =
+          by_tests true true kinds (equal (length a.level_names) (length b.level_names) counted) ∙ ap (λ (r : Bool). if r then Err (bad_value not_aligned) else then_value (joined_rows v.labels w.labels) (joined_infix op v w t)) compared
+
+      pub are_joined : length a.level_names ≡ length b.level_names → compares op ≡ false → then_value (joined_rows v.labels w.labels) (joined_infix op v w t) ≡ rows_infix op v w t
+      are_joined counted compared =
+          sym (by_tests true true kinds (equal (length a.level_names) (length b.level_names) counted) ∙ ap (λ (r : Bool). if r then Err (bad_value not_aligned) else then_value (joined_rows v.labels w.labels) (joined_infix op v w t)) compared)
 
 first_value : (texts : List Text) (hs : List (Option Label)) → first_heading (headings_value texts hs) ≡ heading_value texts (slice_index_or hs 0 None)
 first_value texts [] = refl
 first_value texts (h ∷ hs) = refl
 
-pub series_is_meant : (op : Binary) (texts : List Text) (a b : NumberedTable) (x y name : Option Label) → same_tuples (labels_value texts a.labels) (labels_value texts b.labels) ≡ true → length b.columns ≡ length a.columns
-    → x ≡ slice_index_or a.headings 0 None → y ≡ slice_index_or b.headings 0 None → heading_value texts name ≡ common_name (heading_value texts x) (heading_value texts y)
-    → met_table op texts a (Beside b) (table_value texts (named_by a (Name name))) ≡ series_infix op (table_value texts a) (table_value texts b)
-series_is_meant op texts a b x y name same columns is is' named =
+-- the frame of the answer, under the name of both
+pub series_named : (texts : List Text) (a b : NumberedTable) (x y name : Option Label) → x ≡ slice_index_or a.headings 0 None → y ≡ slice_index_or b.headings 0 None → heading_value texts name ≡ common_name (heading_value texts x) (heading_value texts y)
+    → table_value texts (named_by a (Name name)) ≡ record (table_value texts a) { headings = common_name (first_heading (table_value texts a).headings) (first_heading (table_value texts b).headings) ∷ [] }
+series_named texts a b x y name is is' named =
+    ap (λ h. record (table_value texts a) { headings = h ∷ [] })
+    (named ∙ (λ i. common_name (heading_value texts (is i)) (heading_value texts (is' i))) ∙ (λ i. common_name (sym (first_value texts a.headings) i) (sym (first_value texts b.headings) i)))
+
+pub frame_named : (texts : List Text) (a b : NumberedTable) (x y name : Option Label) → x ≡ a.columns_name → y ≡ b.columns_name → heading_value texts name ≡ common_name (heading_value texts x) (heading_value texts y)
+    → table_value texts (named_by a (ColumnsName name)) ≡ record (table_value texts a) { columns_name = common_name (heading_value texts a.columns_name) (heading_value texts b.columns_name) }
+frame_named texts a b x y name is is' named =
+    ap (λ h. record (table_value texts a) { columns_name = h }) (named ∙ (λ i. common_name (heading_value texts (is i)) (heading_value texts (is' i))))
+
+pub frame_is_meant : (op : Binary) (texts : List Text) (a b : NumberedTable) → same_headings (headings_value texts a.headings) (headings_value texts b.headings) ≡ true
+    → rows_infix op (table_value texts a) (table_value texts b) (record (table_value texts a) { columns_name = common_name (heading_value texts a.columns_name) (heading_value texts b.columns_name) })
+    ≡ frame_infix op (table_value texts a) (table_value texts b)
+frame_is_meant op texts a b same =
     let v : Table = table_value texts a in
     let w : Table = table_value texts b in
-    let common : heading_value texts name ≡ common_name (first_heading v.headings) (first_heading w.headings) =
-    named ∙ (λ i. common_name (heading_value texts (is i)) (heading_value texts (is' i))) ∙ (λ i. common_name (sym (first_value texts a.headings) i) (sym (first_value texts b.headings) i)) in
-    let u : Table = record v { headings = common_name (first_heading v.headings) (first_heading w.headings) ∷ [] } in
-    let t : table_value texts (named_by a (Name name)) ≡ u = ap (λ h. record v { headings = h ∷ [] }) common in
-    rows_are_meant op texts a b (table_value texts (named_by a (Name name))) u (length-map a.labels (tuple_value texts)) t columns
-    ∙ sym (ap (λ (r : Bool). if r then rows_infix op v w u else Err not_built) same)
+    sym (ap (λ (r : Bool). if r then rows_infix op v w (record v { columns_name = common_name v.columns_name w.columns_name }) else Err not_built) same)
 
-pub series_refused : (op : Binary) (texts : List Text) (a b : NumberedTable) → same_tuples (labels_value texts a.labels) (labels_value texts b.labels) ≡ false → series_infix op (table_value texts a) (table_value texts b) ≡ Err not_built
-series_refused op texts a b same =
-    let v : Table = table_value texts a in
-    let w : Table = table_value texts b in
-    ap (λ (r : Bool). if r then rows_infix op v w (record v { headings = common_name (first_heading v.headings) (first_heading w.headings) ∷ [] }) else Err not_built) same
-
--- the test of two frames
-abbrev pub frames_meet : List Text → NumberedTable → NumberedTable → Bool
-frames_meet texts a b = same_tuples (labels_value texts a.labels) (labels_value texts b.labels) && same_headings (headings_value texts a.headings) (headings_value texts b.headings)
-
-pub frame_is_meant : (op : Binary) (texts : List Text) (a b : NumberedTable) (name : Option Label) → frames_meet texts a b ≡ true → length b.columns ≡ length a.columns
-    → heading_value texts name ≡ common_name (heading_value texts a.columns_name) (heading_value texts b.columns_name)
-    → met_table op texts a (Beside b) (table_value texts (named_by a (ColumnsName name))) ≡ frame_infix op (table_value texts a) (table_value texts b)
-frame_is_meant op texts a b name same columns named =
-    let v : Table = table_value texts a in
-    let w : Table = table_value texts b in
-    let u : Table = record v { columns_name = common_name v.columns_name w.columns_name } in
-    let t : table_value texts (named_by a (ColumnsName name)) ≡ u = ap (λ h. record v { columns_name = h }) named in
-    rows_are_meant op texts a b (table_value texts (named_by a (ColumnsName name))) u (length-map a.labels (tuple_value texts)) t columns
-    ∙ sym (ap (λ (r : Bool). if r then rows_infix op v w u else Err not_built) same)
-
-pub frame_refused : (op : Binary) (texts : List Text) (a b : NumberedTable) → frames_meet texts a b ≡ false → frame_infix op (table_value texts a) (table_value texts b) ≡ Err not_built
+pub frame_refused : (op : Binary) (texts : List Text) (a b : NumberedTable) → same_headings (headings_value texts a.headings) (headings_value texts b.headings) ≡ false → frame_infix op (table_value texts a) (table_value texts b) ≡ Err not_built
 frame_refused op texts a b same =
     let v : Table = table_value texts a in
     let w : Table = table_value texts b in
@@ -157,20 +184,14 @@ rows_count texts a b same =
     sym (sym (length-map a.labels (tuple_value texts)) ∙ tuples_count (labels_value texts a.labels) (labels_value texts b.labels) same ∙ length-map b.labels (tuple_value texts))
 
 -- the columns of two Series, and of two frames, are as many
-pub series_opposite : (texts : List Text) (a b : NumberedTable) → IsWhole a → IsWhole b → a.shape ≡ Series → b.shape ≡ Series → same_tuples (labels_value texts a.labels) (labels_value texts b.labels) ≡ true → IsOpposite a (Beside b)
-series_opposite texts a b whole whole' is is' same = (sym whole'.headed ∙ whole'.headings.single is' ∙ sym (whole.headings.single is) ∙ whole.headed, rows_count texts a b same)
+pub series_columns : (a b : NumberedTable) → IsWhole a → IsWhole b → a.shape ≡ Series → b.shape ≡ Series → length b.columns ≡ length a.columns
+series_columns a b whole whole' is is' = sym whole'.headed ∙ whole'.headings.single is' ∙ sym (whole.headings.single is) ∙ whole.headed
 
-pub frame_opposite : (texts : List Text) (a b : NumberedTable) → IsWhole a → IsWhole b → frames_meet texts a b ≡ true → IsOpposite a (Beside b)
-frame_opposite texts a b whole whole' same =
+pub frame_columns : (texts : List Text) (a b : NumberedTable) → IsWhole a → IsWhole b → same_headings (headings_value texts a.headings) (headings_value texts b.headings) ≡ true → length b.columns ≡ length a.columns
+frame_columns texts a b whole whole' same =
     let headings : length a.headings ≡ length b.headings =
-    sym (length-map a.headings (heading_value texts))
-    ∙ headings_count (headings_value texts a.headings) (headings_value texts b.headings) (both_true (same_tuples (labels_value texts a.labels) (labels_value texts b.labels)) (same_headings (headings_value texts a.headings) (headings_value texts b.headings)) same)
-    ∙ length-map b.headings (heading_value texts) in
-    (sym whole'.headed ∙ sym headings ∙ whole.headed, rows_count texts a b (first_true (same_tuples (labels_value texts a.labels) (labels_value texts b.labels)) (same_headings (headings_value texts a.headings) (headings_value texts b.headings)) same))
-  where
-    first_true : (p q : Bool) → (p && q) ≡ true → p ≡ true
-    first_true true q e = refl
-    first_true false q e = cc
+    sym (length-map a.headings (heading_value texts)) ∙ headings_count (headings_value texts a.headings) (headings_value texts b.headings) same ∙ length-map b.headings (heading_value texts) in
+    sym whole'.headed ∙ sym headings ∙ whole.headed
 
 -- a Series has a cell for each column of the frame
 pub across_opposite : (texts : List Text) (f s : NumberedTable) (left : Bool) → IsWhole f → IsWhole s → s.shape ≡ Series → are_headings (labels_value texts s.labels) (headings_value texts f.headings) ≡ true → IsOpposite f (Across s left)
@@ -202,10 +223,3 @@ name_settled texts s name whole is settled here =
 
 pub columns_name_settled : (texts : List Text) (t : NumberedTable) (name : Option Label) → IsSettled table_value texts t → name ≡ t.columns_name → IsSettled heading_value texts name
 columns_name_settled texts t name settled is = subst (IsSettled heading_value texts) (sym is) (columns_name_part texts t settled)
-
-pub both_hold : (p q : Bool) → p ≡ true → q ≡ true → (p && q) ≡ true
-both_hold p q e f = ap (λ b. b && q) e ∙ f
-
-pub columns_named : (texts : List Text) (a b : NumberedTable) (name x y : Option Label) → x ≡ a.columns_name → y ≡ b.columns_name → heading_value texts name ≡ common_name (heading_value texts x) (heading_value texts y)
-    → heading_value texts name ≡ common_name (heading_value texts a.columns_name) (heading_value texts b.columns_name)
-columns_named texts a b name x y e f named = named ∙ (λ i. common_name (heading_value texts (e i)) (heading_value texts (f i)))

@@ -6,4 +6,6 @@ pub mod HeadingLaws
 pub mod NamingLaws
 pub mod MeetingLaws
 pub mod InfixLaws
+pub mod JoinLaws
+pub mod JoinedTable
 pub mod SignLaws

@@ -31,16 +31,25 @@ frame_headings : (shape : Shape) (columns_name : Option Label) (headings : List 
 frame_headings Frame columns_name headings name is fits = record { single = λ e. cc; nameless = λ e. cc; labelled = fits.labelled; different = fits.different }
 frame_headings Series columns_name headings name is fits = cc
 
+-- the headings that an operator gives are as many as the table has, and fit its shape
+pub counted_by : (t : NumberedTable) (naming : Naming) → IsWhole t → IsNaming t naming → length (headings_by t naming).labels ≡ length t.headings
+counted_by t Kept whole is = refl
+counted_by t (Name name) whole is = sym (whole.headings.single is)
+counted_by t (ColumnsName name) whole is = refl
+
+pub fits_by : (t : NumberedTable) (naming : Naming) → IsWhole t → IsNaming t naming → AreHeadings t.shape (headings_by t naming).columns_name (headings_by t naming).labels
+fits_by t Kept whole is = whole.headings
+fits_by t (Name name) whole is = series_headings t.shape t.columns_name t.headings name is whole.headings
+fits_by t (ColumnsName name) whole is = frame_headings t.shape t.columns_name t.headings name is whole.headings
+
 whole_by : (texts : List Text) (t : NumberedTable) (naming : Naming) (blocks : List CellBlock) → IsWhole t → IsNaming t naming → AreColumns texts (length t.labels) (length t.columns) blocks
     → IsWhole (table_with t.shape (axis_of t) (headings_by t naming) (map block_column blocks))
-whole_by texts t Kept blocks whole is made = whole_under texts t (headings_by t Kept) blocks whole made refl whole.headings
-whole_by texts t (Name name) blocks whole is made = whole_under texts t (headings_by t (Name name)) blocks whole made (sym (whole.headings.single is)) (series_headings t.shape t.columns_name t.headings name is whole.headings)
-whole_by texts t (ColumnsName name) blocks whole is made = whole_under texts t (headings_by t (ColumnsName name)) blocks whole made refl (frame_headings t.shape t.columns_name t.headings name is whole.headings)
+whole_by texts t naming blocks whole is made = whole_under texts t (headings_by t naming) blocks whole made (counted_by t naming whole is) (fits_by t naming whole is)
 
 single_settled : (texts : List Text) (name : Option Label) → IsSettled heading_value texts name → IsSettled headings_value texts (name ∷ [])
 single_settled texts name settled = λ more j. settled more j ∷ []
 
-named_settled : (texts : List Text) (t : NumberedTable) (naming : Naming) → IsSettled table_value texts t → IsSettledNaming texts naming → IsSettled table_value texts (named_by t naming)
+pub named_settled : (texts : List Text) (t : NumberedTable) (naming : Naming) → IsSettled table_value texts t → IsSettledNaming texts naming → IsSettled table_value texts (named_by t naming)
 named_settled texts t Kept settled name = under_settled texts t (headings_by t Kept) settled (columns_name_part texts t settled) (headings_part texts t settled)
 named_settled texts t (Name n) settled name = under_settled texts t (headings_by t (Name n)) settled (columns_name_part texts t settled) (single_settled texts n name)
 named_settled texts t (ColumnsName n) settled name = under_settled texts t (headings_by t (ColumnsName n)) settled name (headings_part texts t settled)

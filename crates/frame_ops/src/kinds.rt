@@ -4,6 +4,8 @@ ghost use Rattle.std.specs.List.{list_all};
 ghost use Rattle.meaning.specs.Text.{Text};
 ghost use Rattle.meaning.specs.Operator.{operator_kind};
 ghost use Rattle.nullable_array.specs.Tasks.{operator_of};
+ghost use Rattle.form_meaning.specs.Infix.{compares};
+ghost use Rattle.frame_ops.specs.declared.other.Other.TheVariants.{Beside};
 ghost use Rattle.frame_ops.specs.Pairs.{kind_beside, met_at, all_met, kinds_meet, levels_fit, IsOpposite};
 
 use crate::other::Other;
@@ -68,6 +70,29 @@ pub(crate) fn all_meet(op: Binary, on: &ObjRef<'_>, other: &Other<'_>) -> bool
         }
     }
     true
+}
+
+/// Whether the operator takes each column of a table with the column at its place of another one.
+pub(crate) fn columns_fit(op: Binary, a: &ObjRef<'_>, b: &ObjRef<'_>) -> bool
+    requires { length b.now.columns ≡ length a.now.columns }
+    ensures { result ≡ list_all (kinds_meet (operator_of op)) (all_met a.now (Beside b.now)) }
+{
+    for place in 0..a.columns() {
+        if !takes(op, a.kind(place), b.kind(place)) {
+            return false;
+        }
+    }
+    true
+}
+
+/// Whether the operator compares.
+pub(crate) fn compares(op: Binary) -> bool
+    ensures { result ≡ compares (operator_of op) }
+{
+    matches!(
+        op,
+        Binary::Eq | Binary::Ne | Binary::Lt | Binary::Le | Binary::Gt | Binary::Ge
+    )
 }
 
 /// Whether the rows of both sides have as many levels.

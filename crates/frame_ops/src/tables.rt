@@ -1,5 +1,5 @@
 // The tables that an operator makes.
-ghost use Rattle.std.specs.Prelude.{◌≡◌, Ok};
+ghost use Rattle.std.specs.Prelude.{◌≡◌, Ok, false, length};
 ghost use Rattle.cell_core.specs.declared.grid.Shape.TheVariants.{Series as one_column, Frame as columns};
 ghost use Rattle.meaning.specs.Cell.{IsGiven, IsLonger, datum};
 ghost use Rattle.meaning.specs.Fault.{then_value};
@@ -8,16 +8,19 @@ ghost use Rattle.table_meaning.specs.Table.{table_value};
 ghost use Rattle.table_meaning.specs.Value as value;
 ghost use Rattle.form_meaning.specs.Finish.{with_columns};
 ghost use Rattle.form_meaning.specs.Infix as meant;
-ghost use Rattle.frame_store.specs.Shown.{Makes};
+ghost use Rattle.form_meaning.specs.Infix.{same_tuples};
+ghost use Rattle.frame_store.specs.Shown.{Makes, labels_value};
 ghost use Rattle.frame_store.specs.World.{IsKnownTable};
 ghost use Rattle.frame_ops.specs.Pairs.{columns_for, IsOpposite, IsGivenOther};
 ghost use Rattle.frame_ops.specs.Namings.{named_by, IsNaming, IsSettledNaming};
 
 use crate::columns::infix_columns;
 use crate::headings::{are_headings, same_headings};
+use crate::joining::joined_infix;
+use crate::kinds::{columns_fit, compares};
 use crate::naming::{Naming, headings_by};
 use crate::other::Other;
-use cell_core::{Cell, Code, Grid, Shape, TextDict};
+use cell_core::{Cell, Code, Grid, Reason, Shape, TextDict};
 use form_parts::{common_name, same_rows, table_under};
 use frame_store::{ObjRef, OpFault, Table};
 use nullable_array::Binary;
@@ -73,7 +76,65 @@ pub(crate) fn scalar_infix(
     )
 }
 
-// Two Series whose labels are equal. The name of both stays.
+// Two tables whose columns meet in order and whose rows have other labels.
+fn unequal_infix(
+    alloc: Global,
+    dict: &mut TextDict,
+    op: Binary,
+    a: &ObjRef<'_>,
+    b: &ObjRef<'_>,
+    naming: Naming,
+) -> Result<Table, OpFault>
+    requires known_a { IsKnownTable dict.old a.now }
+    requires known_b { IsKnownTable dict.old b.now }
+    requires columns { length b.now.columns ≡ length a.now.columns }
+    requires unequal { same_tuples (labels_value dict.old a.now.labels)
+        (labels_value dict.old b.now.labels) ≡ false }
+    requires naming { IsNaming a.now naming }
+    requires name { IsSettledNaming dict.old naming }
+    ensures longer { IsLonger dict.old dict.new }
+    ensures makes { Makes dict.new result (meant.rows_infix (operator_of op)
+        (table_value dict.old a.now) (table_value dict.old b.now)
+        (table_value dict.old (named_by a.now naming))) }
+{
+    if !columns_fit(op, a, b) {
+        return Err(OpFault::Refused(Code::WrongKind));
+    }
+    if a.levels() != b.levels() {
+        return Err(OpFault::Refused(Code::BadValue(Reason::Levels)));
+    }
+    if compares(op) {
+        return Err(OpFault::Refused(Code::BadValue(Reason::NotAligned)));
+    }
+    joined_infix(alloc, dict, op, a, b, naming)
+}
+
+// Two tables whose columns meet in order.
+fn rows_infix(
+    alloc: Global,
+    dict: &mut TextDict,
+    op: Binary,
+    a: &ObjRef<'_>,
+    b: ObjRef<'_>,
+    naming: Naming,
+) -> Result<Table, OpFault>
+    requires known_a { IsKnownTable dict.old a.now }
+    requires known_b { IsKnownTable dict.old b }
+    requires columns { length b.columns ≡ length a.now.columns }
+    requires naming { IsNaming a.now naming }
+    requires name { IsSettledNaming dict.old naming }
+    ensures longer { IsLonger dict.old dict.new }
+    ensures makes { Makes dict.new result (meant.rows_infix (operator_of op)
+        (table_value dict.old a.now) (table_value dict.old b.entry)
+        (table_value dict.old (named_by a.now naming))) }
+{
+    if !same_rows(dict, a.axis(), b.axis()) {
+        return unequal_infix(alloc, dict, op, a, &b, naming);
+    }
+    table_met(alloc, dict, op, a, &Other::Beside(b), naming)
+}
+
+// Two Series. The name of both stays.
 fn series_infix(
     alloc: Global,
     dict: &mut TextDict,
@@ -89,14 +150,11 @@ fn series_infix(
     ensures makes { Makes dict.new result (meant.series_infix (operator_of op)
         (table_value dict.old a.now) (table_value dict.old b.entry)) }
 {
-    if !same_rows(dict, a.axis(), b.axis()) {
-        return Err(OpFault::Refused(Code::NotBuilt));
-    }
     let name = common_name(dict, a.heading(0), b.heading(0));
-    table_met(alloc, dict, op, a, &Other::Beside(b), Naming::Name(name))
+    rows_infix(alloc, dict, op, a, b, Naming::Name(name))
 }
 
-// Two frames whose labels are equal, those of the rows and those of the columns.
+// Two frames whose columns have equal labels.
 fn frame_infix(
     alloc: Global,
     dict: &mut TextDict,
@@ -111,18 +169,11 @@ fn frame_infix(
     ensures makes { Makes dict.new result (meant.frame_infix (operator_of op)
         (table_value dict.old a.now) (table_value dict.old b.entry)) }
 {
-    if !same_rows(dict, a.axis(), b.axis()) || !same_headings(dict, a, &b) {
+    if !same_headings(dict, a, &b) {
         return Err(OpFault::Refused(Code::NotBuilt));
     }
     let name = common_name(dict, a.columns_name(), b.columns_name());
-    table_met(
-        alloc,
-        dict,
-        op,
-        a,
-        &Other::Beside(b),
-        Naming::ColumnsName(name),
-    )
+    rows_infix(alloc, dict, op, a, b, Naming::ColumnsName(name))
 }
 
 // A frame and a Series whose labels are those of the frame's columns.

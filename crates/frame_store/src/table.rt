@@ -12,6 +12,7 @@ ghost use Rattle.frame_store.specs.Parts.{block_column, columns_of, table_column
 use crate::blocks::Blocks;
 use crate::columns::{cut, put_at};
 use crate::headings::Headings;
+use crate::object::ObjRef;
 use crate::values::put_values;
 use cell_core::{Cells, Label, NoMemory, Places, Rows, Shape};
 use column_core::{Block, ColRef};
@@ -57,6 +58,13 @@ impl Table {
             headings: headings.labels,
             blocks: blocks.items,
         }
+    }
+
+    /// The table as that of an object is read, before it is one. Takes no memory.
+    pub fn read(&self) -> ObjRef<'_>
+        ensures { result ≡ self.now }
+    {
+        ObjRef { table: self }
     }
 
     pub(crate) fn shape(&self) -> Shape

@@ -1,9 +1,10 @@
 -- Lists in order that are split at a bound.
-use Rattle.std.proofs.Common.{◌≡◌, ◌∙◌, ap, sym, refl, arith, ℕ, ◌+◌, ◌-◌, ◌<◌, ◌≤◌, Bool, true, false, not, ◌&&◌, List, length, slice_index_or, Option, Ok, if◌then◌else◌}
+use Rattle.std.proofs.Common.{◌≡◌, ◌∙◌, ap, sym, subst, refl, arith, ℕ, zero, suc, ◌+◌, ◌-◌, ◌<◌, ◌≤◌, Bool, true, false, not, ◌&&◌, List, length, slice_index_or, Option, Ok, if◌then◌else◌}
 use Rattle.std.specs.Cmp.{IsTotalOrder}
 use Rattle.std.specs.List.{range_with_len}
 use Rattle.std.specs.List.Sorted.{IsPartitionedBy, IsPartitionPoint}
 use Rattle.std.specs.Ordering.{is_lt, is_gt}
+use Rattle.std.specs.declared.cmp.Ordering.{Ordering}
 use Rattle.std.proofs.lemmas.Cmp.{on_total}
 use Rattle.std.proofs.lemmas.List.Sorted.{ranks_by, sorted_far}
 use Rattle.cell_core.specs.Values.{label_datum}
@@ -65,20 +66,18 @@ both_fail : (a b : Bool) → b ≡ false → (a && b) ≡ false
 both_fail true b e = e
 both_fail false b e = refl
 
-pub rows_of_splits : (texts : List Text) (lower upper : Option Label) (labels : List Label) (first end : ℕ)
-    → IsSplitAt (reaches (order_in texts) lower) labels first → IsSplitAt (λ label. not (stays_within (order_in texts) upper label)) labels end
-    → rows_between first end ≡ sorted_slice (order_in texts) lower upper labels
-rows_of_splits texts lower upper labels first end from to =
-    let p : Label → Bool = λ label. reaches (order_in texts) lower label && stays_within (order_in texts) upper label in
-    let stays : (k : ℕ) → k < end → stays_within (order_in texts) upper (slice_index_or labels k Na) ≡ true = λ k lt. not_not (stays_within (order_in texts) upper (slice_index_or labels k Na)) (to.before k Na lt) in
-    let leaves : (k : ℕ) → end ≤ k → k < length labels → stays_within (order_in texts) upper (slice_index_or labels k Na) ≡ false =
-    λ k le lt. not_so (stays_within (order_in texts) upper (slice_index_or labels k Na)) (to.behind k Na le lt)
-    in
+pub rows_of_splits : {X : Type 0} (cmp : X → X → Ordering) (d : X) (lower upper : Option X) (xs : List X) (first end : ℕ)
+    → IsSplitAt (reaches cmp lower) xs first → IsSplitAt (λ x. not (stays_within cmp upper x)) xs end
+    → rows_between first end ≡ sorted_slice cmp lower upper xs
+rows_of_splits {X} cmp d lower upper xs first end from to =
+    let p : X → Bool = λ x. reaches cmp lower x && stays_within cmp upper x in
+    let stays : (k : ℕ) → k < end → stays_within cmp upper (slice_index_or xs k d) ≡ true = λ k lt. not_not (stays_within cmp upper (slice_index_or xs k d)) (to.before k d lt) in
+    let leaves : (k : ℕ) → end ≤ k → k < length xs → stays_within cmp upper (slice_index_or xs k d) ≡ false = λ k le lt. not_so (stays_within cmp upper (slice_index_or xs k d)) (to.behind k d le lt) in
     let start : 0 + first ≡ first = omega arith in
     sym (
-    rows_in_interval p Na 0 first end labels to.within
-    (λ k lt inside. ap (λ b. b && stays_within (order_in texts) upper (slice_index_or labels k Na)) (from.before k Na lt))
-    (λ k le lt. both_so _ _ (from.behind k Na le (omega (arith, to.within))) (stays k lt))
+    rows_in_interval p d 0 first end xs to.within
+    (λ k lt inside. ap (λ b. b && stays_within cmp upper (slice_index_or xs k d)) (from.before k d lt))
+    (λ k le lt. both_so _ _ (from.behind k d le (omega (arith, to.within))) (stays k lt))
     (λ k le lt. both_fail _ _ (leaves k le lt))
     ∙ ap (λ a. range_with_len a (end - first)) start
     )
@@ -91,6 +90,28 @@ rows_of_splits texts lower upper labels first end from to =
     both_so true b e f = f
     both_so false b e f = cc
 
+-- a test that goes on from each element to the next goes on to all behind
+goes_on : {X : Type 0} (p : X → Bool) (xs : List X) → ((k : ℕ) (d : X) → k + 1 < length xs → p (slice_index_or xs k d) ≡ true → p (slice_index_or xs (k + 1) d) ≡ true)
+    → (i n : ℕ) (d : X) → i + n < length xs → p (slice_index_or xs i d) ≡ true → p (slice_index_or xs (i + n) d) ≡ true
+goes_on p xs next i zero d lt here =
+    let same : i ≡ i + 0 = omega arith in
+    subst (λ m. p (slice_index_or xs m d) ≡ true) same here
+goes_on p xs next i (suc n) d lt here =
+    let same : i + n + 1 ≡ i + suc n = omega arith in
+    subst (λ m. p (slice_index_or xs m d) ≡ true) same (next (i + n) d (omega arith) (goes_on p xs next i n d (omega arith) here))
+
+-- so the first that passes splits the list
+pub split_at_first : {X : Type 0} (p : X → Bool) (xs : List X) (place : ℕ) → ((k : ℕ) (d : X) → k + 1 < length xs → p (slice_index_or xs k d) ≡ true → p (slice_index_or xs (k + 1) d) ≡ true)
+    → place ≤ length xs → ((k : ℕ) → k < place → (d : X) → p (slice_index_or xs k d) ≡ false) → ((d : X) → place < length xs → p (slice_index_or xs place d) ≡ true) → IsSplitAt p xs place
+split_at_first p xs place next few before here = record {
+  within = few;
+  before = λ k d lt. before k lt d;
+  behind = λ k d le lt.
+      let far : place + (k - place) ≡ k = omega arith in
+      let inside : place + (k - place) < length xs = omega arith in
+      subst (λ m. p (slice_index_or xs m d) ≡ true) far (goes_on p xs next place (k - place) d inside (here d (omega arith)));
+}
+
 -- a slice of labels in order, and of a range
 sorted_is : {A : Type 0} (b : Bool) (x y : A) → b ≡ true → (if b then x else y) ≡ x
 sorted_is true x y e = refl
@@ -101,7 +122,7 @@ pub slice_in_order : (texts : List Text) (lower upper : Option Label) (labels : 
     → label_slice (order_in texts) lower upper labels ≡ Ok (rows_of rows)
 slice_in_order texts lower upper labels first end rows sorted is from to =
     sorted_is (is_in_order (order_in texts) labels) (Ok (sorted_slice (order_in texts) lower upper labels)) (unsorted_slice (order_in texts) lower upper labels) sorted
-    ∙ ap (λ (l : List ℕ). Ok l) (sym (is ∙ rows_of_splits texts lower upper labels first end from to))
+    ∙ ap (λ (l : List ℕ). Ok l) (sym (is ∙ rows_of_splits (order_in texts) Na lower upper labels first end from to))
 
 pub slice_of_range : (texts : List Text) (lower upper : Option Label) (n : ℕ) (labels : List Label) (rows : Rows) → range_labels n ≡ labels → rows_of rows ≡ sorted_slice (order_in texts) lower upper (range_labels n)
     → label_slice (order_in texts) lower upper labels ≡ Ok (rows_of rows)

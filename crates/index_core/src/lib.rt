@@ -22,3 +22,4 @@ mod ranges;
 pub use fault::IndexFault;
 pub use found::LabelRows;
 pub use index::Index;
+pub use ranges::run_of;

@@ -118,8 +118,8 @@ pub(crate) fn slice_of(n: usize, lower: Option<Label>, upper: Option<Label>) -> 
     run_of(first_reached(n, lower), end_within(n, upper), n)
 }
 
-// The places from one on that stand before another one.
-pub(crate) fn run_of(first: usize, end: usize, limit: usize) -> Rows
+/// The places from one on that stand before another one: none where they stand the other way. Takes no memory.
+pub fn run_of(first: usize, end: usize, limit: usize) -> Rows
     requires { end ≤ limit }
     ensures rows { rows_of result ≡ rows_between first end }
     ensures below { AreRowsBelow result limit }

@@ -1,17 +1,18 @@
 -- Answers and refusals that are handed on.
-use Rattle.std.proofs.Common.{◌≡◌, ◌∙◌, ap, sym, ℕ, ◌<◌, true, false, List, [], ◌∷◌, All, Some, Result, Ok, Err, length, refl}
+use Rattle.std.proofs.Common.{◌≡◌, ◌∙◌, ap, sym, arith, ℕ, ◌<◌, ◌==◌, ◌&&◌, Bool, true, false, nat_lt, if◌then◌else◌, List, [], ◌∷◌, All, Some, Result, Ok, Err, length, refl}
 use Rattle.std.specs.Prelude.{IfOk, slice_get}
+use Rattle.std.specs.Cmp.Lexicographic.{pointwise}
 use Rattle.cell_core.specs.declared.cell.Label.{Label}
 use Rattle.index_core.specs.Labels.{same_number}
-use Rattle.multi_index.specs.Axes.{single_tuples}
+use Rattle.multi_index.specs.Axes.{HaveLevels, single_tuples}
 use Rattle.multi_index.proofs.PickLaws.{rows_seen}
 use Rattle.multi_index.proofs.TupleLaws.{only_label_is}
 use Rattle.pick_meaning.specs.Faults.{PickFault, not_there, pick_seen}
-use Rattle.pick_meaning.specs.Keys.{Pick}
+use Rattle.pick_meaning.specs.Keys.{Pick, has_one, key_pick}
 use Rattle.pick_meaning.specs.Labels.{unless_none, rows_of_key}
 use Rattle.pick_meaning.specs.Leading.{leads}
 use Rattle.pick_meaning.specs.Rows.{rows_where, are_some}
-use Rattle.pick_meaning.proofs.RowLaws.{some_there}
+use Rattle.pick_meaning.proofs.RowLaws.{some_there, rows_where-same}
 use Rattle.indexers.specs.declared.keys.Picked.{Picked}
 use Rattle.indexers.specs.declared.keys.KeyFault.{KeyFault}
 use Rattle.indexers.specs.declared.keys.KeyFault.TheVariants as fault
@@ -59,7 +60,7 @@ pub label_found : (labels : List Label) (tuples : List (List Label)) (key : List
     → rows_of_key (leads same_number) tuples key ≡ Ok (rows_where (same_number l) 0 labels)
 label_found labels tuples key l seen one at some = rows_seen labels tuples key l seen one at ∙ ap (pick_seen (λ x. x ∷ [])) (some_there l (rows_where (same_number l) 0 labels) some)
 
-none_there : (key : Label) (rows : List ℕ) → are_some rows ≡ false → unless_none key rows ≡ Err (not_there key)
+none_there : {K : Type 0} (key : K) (rows : List ℕ) → are_some rows ≡ false → unless_none key rows ≡ Err (not_there key)
 none_there key [] none = refl
 none_there key (row ∷ rows) none = cc
 
@@ -69,3 +70,29 @@ label_missing labels tuples key l seen one at none =
     rows_seen labels tuples key l seen one at
     ∙ ap (pick_seen (λ x. x ∷ [])) (none_there l (rows_where (same_number l) 0 labels) none)
     ∙ ap (λ k. Err (not_there k)) (sym (only_label_is key l one at))
+
+-- the rows of a whole tuple
+leads_whole : (key tuple : List Label) → length key ≡ length tuple → leads same_number key tuple ≡ pointwise same_number key tuple
+leads_whole [] [] same = refl
+leads_whole [] (l ∷ tuple) same = absurd (omega arith)
+leads_whole (k ∷ key) [] same = absurd (omega arith)
+leads_whole (k ∷ key) (l ∷ tuple) same = ap (λ b. same_number k l && b) (leads_whole key tuple (omega arith))
+
+rows_whole : (n : ℕ) (tuples : List (List Label)) (key : List Label) → HaveLevels n tuples → length key ≡ n → rows_where (leads same_number key) 0 tuples ≡ rows_where (pointwise same_number key) 0 tuples
+rows_whole n tuples key alike size = rows_where-same (λ t. length t ≡ n) (leads same_number key) (pointwise same_number key) (λ t long. leads_whole key t (size ∙ sym long)) 0 tuples alike
+
+pub whole_found : (n : ℕ) (tuples : List (List Label)) (key : List Label) (rows : List ℕ) → HaveLevels n tuples → length key ≡ n → rows ≡ rows_where (pointwise same_number key) 0 tuples → are_some rows ≡ true
+    → rows_of_key (leads same_number) tuples key ≡ Ok rows
+whole_found n tuples key rows alike size are some = ap (unless_none key) (rows_whole n tuples key alike size ∙ sym are) ∙ some_there key rows some
+
+pub whole_missing : (n : ℕ) (tuples : List (List Label)) (key : List Label) (rows : List ℕ) → HaveLevels n tuples → length key ≡ n → rows ≡ rows_where (pointwise same_number key) 0 tuples → are_some rows ≡ false
+    → rows_of_key (leads same_number) tuples key ≡ Err (not_there key)
+whole_missing n tuples key rows alike size are none = ap (unless_none key) (rows_whole n tuples key alike size ∙ sym are) ∙ none_there key rows none
+
+-- what leading labels pick
+pub key_picked : (levels n named : ℕ) (rows : List ℕ) (single : Bool) (dropped : ℕ) (key : List Label) → n ≡ levels → named ≡ length key → single ≡ ((named == n) && has_one rows) → dropped ≡ (if nat_lt named n then named else 0)
+    → key_pick levels key rows ≡ record { rows = rows; single = single; dropped = dropped; sliced = false }
+key_picked levels n named rows single dropped key same long one lost =
+    let is_one : ((length key == levels) && has_one rows) ≡ single = (λ j. (sym long j == sym same j) && has_one rows) ∙ sym one in
+    let are_lost : (if nat_lt (length key) levels then length key else 0) ≡ dropped = (λ j. if nat_lt (sym long j) (sym same j) then sym long j else 0) ∙ sym lost in
+    λ j. record { rows = rows; single = is_one j; dropped = are_lost j; sliced = false }

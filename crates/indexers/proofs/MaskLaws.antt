@@ -1,18 +1,18 @@
--- Masks on axes of one level.
-use Rattle.std.proofs.Common.{◌≡◌, ◌∙◌, ap, sym, subst, refl, ℕ, ◌<◌, Bool, true, false, List, [], ◌∷◌, length, map, All, Some, Ok, slice_index_or, ◌&&◌}
+-- Masks, by position and by labels.
+use Rattle.std.proofs.Common.{◌≡◌, ◌∙◌, ap, sym, subst, refl, arith, ℕ, suc, ◌+◌, ◌<◌, Bool, true, false, List, [], ◌∷◌, length, map, All, Option, Some, Ok, Err, slice_index_or, ◌&&◌, if◌then◌else◌}
 use Rattle.std.specs.Prelude.{slice_get}
 use Rattle.std.specs.Bool.{Decides}
 use Rattle.std.specs.Cmp.Lexicographic.{pointwise, pointwise_decides}
 use Rattle.std.proofs.lemmas.Bool.Decides.{same_from_decides}
 use Rattle.std.proofs.lemmas.List.{get_or-map, length-map}
-use Rattle.std.proofs.lemmas.List.Elements.{All-head}
+use Rattle.std.proofs.lemmas.List.Elements.{All-head, All-tail}
 use Rattle.std.proofs.lemmas.Option.{get_or_from_slice_get, slice_get_within}
 use Rattle.cell_core.specs.declared.cell.Cell.{Cell}
 use Rattle.cell_core.specs.declared.cell.Label.{Label}
 use Rattle.index_core.specs.Labels.{same_number}
 use Rattle.index_core.proofs.NumberLaws.{label_decides}
-use Rattle.multi_index.specs.Axes.{single_tuples}
-use Rattle.pick_meaning.specs.Faults.{pick_seen}
+use Rattle.multi_index.specs.Axes.{HaveLevels, single_tuples}
+use Rattle.pick_meaning.specs.Faults.{no_mask_label, then_pick, pick_seen}
 use Rattle.pick_meaning.specs.Masks.{cell_or_fault, cell_of_label, kept_rows, kept_by_label, masked_rows}
 use Rattle.pick_meaning.specs.Rows.{rows_where, only_row}
 use Rattle.pick_meaning.proofs.InsideLaws.{rows_inside}
@@ -52,13 +52,66 @@ alike_inside xs ys cells b rows is holds long made =
     let count : length (map is_true cells) ≡ length xs = length-map cells is_true ∙ long ∙ sym (ap length (is.0 holds)) in
     subst (All (λ row. row < length xs)) (sym made) (subst (λ n. All (λ row. row < n) (kept_rows (map is_true cells))) count (rows_inside (λ kept. kept) (map is_true cells)))
 
-pub masked_otherwise : (a b : List Label) (xs ys : List (List Label)) (mask : List Bool) (r : Bool) → single_tuples a ≡ xs → single_tuples b ≡ ys → Decides r (xs ≡ ys) → r ≡ false
-    → masked_rows (pointwise same_number) xs ys mask ≡ pick_seen as_tuple (kept_by_label same_number b mask 0 a)
-masked_otherwise a b xs ys mask r first second is fails =
+pub masked_otherwise : (xs ys : List (List Label)) (mask : List Bool) (r : Bool) → Decides r (xs ≡ ys) → r ≡ false → masked_rows (pointwise same_number) xs ys mask ≡ kept_by_label (pointwise same_number) ys mask 0 xs
+masked_otherwise xs ys mask r is fails =
     when_not (pointwise (pointwise same_number) xs ys) (Ok (kept_rows mask)) (kept_by_label (pointwise same_number) ys mask 0 xs) (same_from_decides (pointwise (pointwise same_number) xs ys) r (same_tuples xs ys) is ∙ fails)
-    ∙ (λ j. kept_by_label (pointwise same_number) (sym second j) mask 0 (sym first j))
+
+-- on one level, by the labels
+pub kept_seen : (a b : List Label) (xs ys : List (List Label)) (mask : List Bool) → single_tuples a ≡ xs → single_tuples b ≡ ys
+    → kept_by_label (pointwise same_number) ys mask 0 xs ≡ pick_seen as_tuple (kept_by_label same_number b mask 0 a)
+kept_seen a b xs ys mask first second =
+    (λ j. kept_by_label (pointwise same_number) (sym second j) mask 0 (sym first j))
     ∙ kept_by_label-map (λ l. Unit {0}) (pointwise same_number) same_number as_tuple (λ x y t u. both_true (same_number x y)) b mask 0 a (λ k d lt. tt) (λ k d lt. tt)
   where
     both_true : (b : Bool) → (b && true) ≡ b
     both_true true = refl
     both_true false = refl
+
+-- on different numbers of levels no tuple is in the mask
+unlike : (x y : List Label) → (length x ≡ length y → ⊥) → pointwise same_number x y ≡ false
+unlike [] [] apart = absurd (apart refl)
+unlike [] (k ∷ y) apart = refl
+unlike (l ∷ x) [] apart = refl
+unlike (l ∷ x) (k ∷ y) apart = both_false (same_number l k) (pointwise same_number x y) (unlike x y (λ same. apart (ap suc same)))
+  where
+    both_false : (a b : Bool) → b ≡ false → (a && b) ≡ false
+    both_false true b e = e
+    both_false false b e = refl
+
+not_among : (x : List Label) (m n row : ℕ) (ys : List (List Label)) → length x ≡ m → HaveLevels n ys → (m ≡ n → ⊥) → rows_where (pointwise same_number x) row ys ≡ []
+not_among x m n row [] size alike apart = refl
+not_among x m n row (y ∷ ys) size alike apart =
+    when_not (pointwise same_number x y) (row ∷ rows_where (pointwise same_number x) (row + 1) ys) (rows_where (pointwise same_number x) (row + 1) ys)
+    (unlike x y (λ same. apart (sym size ∙ same ∙ All-head (λ t. length t ≡ n) y ys alike)))
+    ∙ not_among x m n (row + 1) ys size (All-tail (λ t. length t ≡ n) y ys alike) apart
+
+pub none_kept : (xs ys : List (List Label)) (mask : List Bool) (m n : ℕ) → HaveLevels m xs → HaveLevels n ys → (m ≡ n → ⊥) → kept_by_label (pointwise same_number) ys mask 0 xs ≡ kept_by_label (pointwise same_number) [] [] 0 xs
+none_kept [] ys mask m n alike alike' apart = refl
+none_kept (x ∷ xs) ys mask m n alike alike' apart =
+    ap (λ rows. then_pick (cell_or_fault x mask (only_row rows)) (λ kept. then_pick (kept_by_label (pointwise same_number) ys mask 1 xs) (λ rows. Ok (if kept then 0 ∷ rows else rows))))
+    (not_among x m n 0 ys (All-head (λ t. length t ≡ m) x xs alike) alike' apart)
+
+-- a cell of the mask at the rows of a tuple
+pub cell_at_rows : (tuple : List Label) (cells : List Cell) (rows : List ℕ) (row : ℕ) (cell : Cell) (b : Bool) → length rows ≡ 1 → slice_index_or rows 0 0 ≡ row → slice_get cells row ≡ Some cell → b ≡ is_true cell
+    → cell_or_fault tuple (map is_true cells) (only_row rows) ≡ Ok b
+cell_at_rows tuple cells [] row cell b one first at is = absurd (omega arith)
+cell_at_rows tuple cells (r ∷ []) row cell b one first at is =
+    ap (λ (k : ℕ). Ok (slice_index_or (map is_true cells) k false)) first ∙ ap (λ (x : Bool). Ok x) (cell_read cells row cell at ∙ sym is)
+cell_at_rows tuple cells (r ∷ (other ∷ rows)) row cell b one first at is = absurd (omega arith)
+
+pub not_at_rows : (tuple : List Label) (mask : List Bool) (rows : List ℕ) → (length rows ≡ 1 → ⊥) → cell_or_fault tuple mask (only_row rows) ≡ Err (no_mask_label tuple)
+not_at_rows tuple mask [] many = refl
+not_at_rows tuple mask (r ∷ []) many = absurd (many refl)
+not_at_rows tuple mask (r ∷ (other ∷ rows)) many = refl
+
+-- a mask without rows
+pub none_of_rows : (xs : List (List Label)) (x : List Label) → slice_get xs 0 ≡ Some x → kept_by_label (pointwise same_number) [] [] 0 xs ≡ Err (no_mask_label x)
+none_of_rows [] x at = cc
+none_of_rows (y ∷ ys) x at = ap (λ k. Err (no_mask_label k)) (some_same at)
+  where
+    some_same : ◌≡◌ {A = Option (List Label)} (Some y) (Some x) → y ≡ x
+    some_same e = cc
+
+pub no_rows : (xs : List (List Label)) → length xs ≡ 0 → kept_by_label (pointwise same_number) [] [] 0 xs ≡ Ok []
+no_rows [] none = refl
+no_rows (x ∷ xs) none = absurd (omega arith)

@@ -1,5 +1,5 @@
 -- Masks, and labels of which none stands twice, with the texts themselves; and a slice that goes back.
-use Rattle.std.proofs.Common.{◌≡◌, refl, ap, arith, ℕ, suc, negsuc, zero, Bool, true, false, not, ◌&&◌, ◌||◌, List, [], ◌∷◌, map, All, Some, None, Result, Ok}
+use Rattle.std.proofs.Common.{◌≡◌, refl, arith, ℕ, suc, negsuc, zero, Bool, not, ◌&&◌, ◌||◌, List, [], ◌∷◌, map, All, Some, None, Ok}
 use Rattle.std.specs.List.{list_any}
 use Rattle.std.specs.Cmp.Lexicographic.{pointwise}
 use Rattle.cell_core.specs.Texts.{AreDistinct, IsGivenLabel}
@@ -7,9 +7,8 @@ use Rattle.cell_core.specs.Values.{datum, label_datum}
 use Rattle.cell_core.specs.declared.cell.Cell.{Cell}
 use Rattle.cell_core.specs.declared.cell.Cell.TheVariants as cell
 use Rattle.cell_core.specs.declared.cell.Label.{Label}
-use Rattle.cell_core.specs.declared.grid.Rows.{Rows}
 use Rattle.meaning.specs.Text.{Text}
-use Rattle.pick_meaning.specs.Faults.{PickFault, pick_seen}
+use Rattle.pick_meaning.specs.Faults.{pick_seen}
 use Rattle.pick_meaning.specs.Labels.{all_differ}
 use Rattle.pick_meaning.specs.Masks.{is_kept, masked_rows}
 use Rattle.pick_meaning.specs.Positions.{backward, position_slice}

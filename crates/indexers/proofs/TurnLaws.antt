@@ -18,6 +18,11 @@ module _ {K : Type 0} where
   added_none : (rows : List ℕ) → added {K = K} rows (Ok []) ≡ Ok rows
   added_none rows = ap (λ (l : List ℕ). Ok l) (append-nil rows)
 
+-- no rows so far
+pub added_to_none : {K : Type 0} (rows : List ℕ) (rest : Result (List ℕ) (PickFault K)) → rows ≡ [] → added rows rest ≡ rest
+added_to_none rows (Ok more) none = ap (λ (l : List ℕ). Ok (l ++ more)) none
+added_to_none rows (Err fault) none = refl
+
 -- labels of a list
 module _ {K X : Type 0} (meets : K → X → Bool) (xs : List X) (keys : List K) where
   pub label_more : (rows rows' more : List ℕ) (k : ℕ) (d : K) (whole : Result (List ℕ) (PickFault K)) → k < length keys → rows_of_key meets xs (slice_index_or keys k d) ≡ Ok more → rows' ≡ rows ++ more

@@ -1,8 +1,8 @@
 -- Keys as they are meant.
-use Rattle.std.specs.Prelude.{◌≡◌, ℕ, List, length, IfSome}
+use Rattle.std.specs.Prelude.{ℕ, List, IfSome}
 use Rattle.cell_core.specs.declared.cell.Label.{Label}
 use Rattle.pick_meaning.specs.Keys.{LabelKey, all_rows, one_key, each_key, between, PlaceKey, one_place, each_place, place_slice}
-use Rattle.multi_index.specs.Axes.{HaveLevels}
+use Rattle.multi_index.specs.Axes.{HaveLevels, AreLeading}
 use Rattle.indexers.specs.declared.keys.LocKey.{LocKey}
 use Rattle.indexers.specs.declared.keys.LocKey.TheVariants as loc
 use Rattle.indexers.specs.declared.keys.PosKey.{PosKey}
@@ -19,9 +19,9 @@ place_key (position.One z) = one_place z
 place_key (position.Many zs) = each_place zs
 place_key (position.Span from to step) = place_slice from to step
 
--- each tuple of the key has so many labels
-abbrev pub HasLevels : ℕ → LocKey → Type 0
-HasLevels levels loc.All = Unit {0}
-HasLevels levels (loc.One key) = length key ≡ levels
-HasLevels levels (loc.Many keys) = HaveLevels levels keys
-HasLevels levels (loc.Span lower upper) = IfSome lower (λ key. length key ≡ levels) × IfSome upper (λ key. length key ≡ levels)
+-- the labels of the key fit so many levels: leading ones, and in a list those of whole tuples
+abbrev pub FitsLevels : ℕ → LocKey → Type 0
+FitsLevels levels loc.All = Unit {0}
+FitsLevels levels (loc.One key) = AreLeading levels key
+FitsLevels levels (loc.Many keys) = HaveLevels levels keys
+FitsLevels levels (loc.Span lower upper) = IfSome lower (AreLeading levels) × IfSome upper (AreLeading levels)

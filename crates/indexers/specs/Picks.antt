@@ -1,5 +1,5 @@
 -- What a call answers for a key.
-use Rattle.std.specs.Prelude.{◌≡◌, ℕ, Bool, false, List, map, Some, Result, Ok, Err, IfSome}
+use Rattle.std.specs.Prelude.{◌≡◌, ℕ, Bool, false, List, length, map, Some, Result, Ok, Err, IfSome}
 use Rattle.std.specs.Cmp.Lexicographic.{pointwise}
 use Rattle.std.specs.Option.{is_some}
 use Rattle.cell_core.specs.Grids.{AreRowsBelow}
@@ -8,8 +8,8 @@ use Rattle.cell_core.specs.declared.grid.Rows.{Rows}
 use Rattle.pick_meaning.specs.Faults.{PickFault, not_there, bound_not_unique, out_of_range, no_mask_label, step_zero, pick_seen}
 use Rattle.meaning.specs.Text.{Text}
 use Rattle.pick_meaning.specs.Keys.{Pick, LabelKey, picked_by_label}
-use Rattle.pick_meaning.specs.Masks.{cell_of_label, kept_by_label, masked_rows}
-use Rattle.pick_meaning.specs.Rows.{rows_of}
+use Rattle.pick_meaning.specs.Masks.{cell_or_fault, cell_of_label, kept_by_label, masked_rows}
+use Rattle.pick_meaning.specs.Rows.{rows_of, only_row}
 use Rattle.index_core.specs.Labels.{same_number, order_in}
 use Rattle.multi_index.specs.Axes.{AxisValue}
 use Rattle.multi_index.specs.declared.fault.AxisFault.{AxisFault}
@@ -54,9 +54,9 @@ pub record AreSpan (limit : ℕ) (places : List ℕ) (rows : Rows) : Type 0 wher
 abbrev pub IsSpanned : ℕ → Picked → Type 0
 IsSpanned limit picked = IfSome picked.span (AreSpan limit picked.places)
 
--- what a key of `loc` picks on one level, in the order of the texts
+-- what a key of `loc` picks, in the order of the texts
 abbrev pub loc_pick : List Text → AxisValue → LabelKey (List Label) → Result Pick (PickFault (List Label))
-loc_pick texts axis key = picked_by_label same_number (order_in texts) 1 axis.tuples key
+loc_pick texts axis key = picked_by_label same_number (order_in texts) (length axis.names) axis.tuples key
 
 -- the rows that the cells of a mask keep of an axis
 abbrev pub mask_rows : AxisValue → AxisValue → List Cell → Result (List ℕ) (PickFault (List Label))
@@ -68,3 +68,10 @@ cell_at labels cells label = pick_seen as_tuple (cell_of_label same_number label
 
 abbrev pub rows_by_label : List Label → List Cell → List Label → Result (List ℕ) (PickFault (List Label))
 rows_by_label labels cells axis = pick_seen as_tuple (kept_by_label same_number labels (map is_true cells) 0 axis)
+
+-- the same by tuples: the cell at these rows of a mask, and the rows that it keeps
+abbrev pub cell_there : List Label → List Cell → List ℕ → Result Bool (PickFault (List Label))
+cell_there tuple cells rows = cell_or_fault tuple (map is_true cells) (only_row rows)
+
+abbrev pub rows_by_tuple : List (List Label) → List Cell → List (List Label) → Result (List ℕ) (PickFault (List Label))
+rows_by_tuple tuples cells axis = kept_by_label (pointwise same_number) tuples (map is_true cells) 0 axis

@@ -1,42 +1,45 @@
 // The rows of labels.
-ghost use Rattle.std.specs.Prelude.{◌≡◌, ◌<◌, [], length, IfOk, All};
+ghost use Rattle.std.specs.Prelude.{◌≡◌, ◌<◌, ◌==◌, ◌&&◌, ◌++◌, [], length, nat_lt, if◌then◌else◌, IfOk, OnOk, All};
+ghost use Rattle.pick_meaning.specs.Keys.{has_one};
 ghost use Rattle.pick_meaning.specs.Keys as key;
-ghost use Rattle.multi_index.specs.Axes.{HaveLevels};
-ghost use Rattle.indexers.specs.Keys.{label_key, HasLevels};
+ghost use Rattle.pick_meaning.specs.Rows.{are_some};
+ghost use Rattle.multi_index.specs.Axes.{AreLeading, HaveLevels};
+ghost use Rattle.indexers.specs.Keys.{label_key, FitsLevels};
 ghost use Rattle.indexers.specs.Picks.{PicksBy, pick_of, loc_pick, IsSpanned};
 
 use crate::keys::{KeyFault, LocKey, Picked};
 use crate::spans::spanned;
-use cell_core::{Places, Rows, TextDict, Tuple, Tuples};
+use cell_core::{NoMemory, Places, Rows, TextDict, Tuple, Tuples};
 use multi_index::Axis;
+use row_keys::find_partners;
 use std::alloc::Global;
 
-/// The rows that a key of `loc` picks on an axis of one level ("Selection by label" and "Slicing with labels" in
-/// the pandas user guide): the rows of a label in order, those of each label of a list, one after the other, or
-/// those of a slice with both ends. Labels meet by the numbers of their texts. A list of k labels on n rows takes
-/// n + k steps.
+/// The rows that a key of `loc` picks ("Selection by label", "Slicing with labels" and "Advanced indexing with
+/// hierarchical index" in the pandas user guide): the rows of leading labels in order, those of each whole tuple of a
+/// list, one after the other, or those of a slice with both ends. A whole tuple that meets one row picks it singly,
+/// and the levels that a shorter one names are dropped. Labels meet by the numbers of their texts. A list of k tuples
+/// on n rows takes n + k steps, any other key n.
 ///
 /// # Errors
 ///
-/// `NotThere` exactly where a label of the key stands nowhere, or a bound doesn't and the rows aren't in
-/// order; `BoundNotUnique` exactly where the rows aren't in order and a bound stands more than once. Of several it
-/// is the first label of the key. `NoMemory` may come in place of any answer.
+/// `NotThere` exactly where labels of the key stand nowhere, or a bound doesn't on one level that isn't in order, or a
+/// bound is given on several levels that aren't; `BoundNotUnique` exactly where one level isn't in order and a bound
+/// stands more than once. Of several it is the first of the key. `NoMemory` may come in place of any answer.
 pub fn loc_places(
     alloc: Global,
     dict: &TextDict,
     axis: &Axis,
     key: &LocKey,
 ) -> Result<Picked, KeyFault>
-    requires one { length axis.now.names ≡ 1 }
-    requires full { HasLevels 1 key.now }
+    requires fits { FitsLevels (length axis.now.names) key.now }
     ensures picked { PicksBy pick_of result (loc_pick dict.now axis.now (label_key key.now)) }
     ensures span { IfOk result (IsSpanned (length axis.now.tuples)) }
     ensures inside { IfOk result (λ picked. All (λ row. row < length axis.now.tuples) picked.places) }
 {
     match key {
         LocKey::All => all_rows(alloc, axis),
-        LocKey::One(label) => rows_of_label(alloc, axis, label),
-        LocKey::Many(labels) => rows_of_labels(alloc, axis, labels),
+        LocKey::One(labels) => rows_of_key(alloc, axis, labels),
+        LocKey::Many(tuples) => rows_of_keys(alloc, axis, tuples),
         LocKey::Span(from, to) => {
             let rows = axis.slice_places(dict, from.as_ref(), to.as_ref())?;
             Ok(spanned(alloc, rows, axis.len())?)
@@ -57,24 +60,53 @@ fn all_rows(alloc: Global, axis: &Axis) -> Result<Picked, KeyFault>
     Ok(spanned(alloc, rows, axis.len())?)
 }
 
-// The rows of a label.
-fn rows_of_label(alloc: Global, axis: &Axis, label: &Tuple) -> Result<Picked, KeyFault>
-    requires one { length axis.now.names ≡ 1 }
-    requires full { length label.now ≡ 1 }
-    ensures picked { PicksBy pick_of result (loc_pick [] axis.now (key.one_key label.now)) }
+// The rows of leading labels.
+fn rows_of_key(alloc: Global, axis: &Axis, labels: &Tuple) -> Result<Picked, KeyFault>
+    requires { AreLeading (length axis.now.names) labels.now }
+    ensures picked { PicksBy pick_of result (loc_pick [] axis.now (key.one_key labels.now)) }
     ensures span { IfOk result (IsSpanned (length axis.now.tuples)) }
 {
-    let places = axis.places(alloc, label)?;
-    let single = places.len() == 1;
+    let places = axis.places(alloc, labels)?;
+    let named = labels.len();
+    let levels = axis.levels();
+    let single = is_single(named, levels, &places);
+    let dropped = levels_dropped(named, levels);
     Ok(Picked {
         places,
         single,
-        dropped: 0,
+        dropped,
         span: None,
     })
 }
 
-// The rows of each label of a list.
+// Whether a key with a label for each level meets one row.
+fn is_single(named: usize, levels: usize, places: &Places) -> bool
+    ensures { result ≡ ((named == levels) && has_one places.now) }
+{
+    named == levels && places.len() == 1
+}
+
+// How many levels an answer loses: those that a shorter key names.
+fn levels_dropped(named: usize, levels: usize) -> usize
+    ensures { result ≡ if nat_lt named levels then named else 0 }
+{
+    if named < levels { named } else { 0 }
+}
+
+// The rows of each tuple of a list.
+fn rows_of_keys(alloc: Global, axis: &Axis, tuples: &Tuples) -> Result<Picked, KeyFault>
+    requires { HaveLevels (length axis.now.names) tuples.now }
+    ensures picked { PicksBy pick_of result (loc_pick [] axis.now (key.each_key tuples.now)) }
+    ensures span { IfOk result (IsSpanned (length axis.now.tuples)) }
+{
+    let levels = axis.levels();
+    if levels == 1 {
+        return rows_of_labels(alloc, axis, tuples);
+    }
+    rows_of_tuples(alloc, axis, tuples)
+}
+
+// The rows of each label of a list on one level.
 fn rows_of_labels(alloc: Global, axis: &Axis, labels: &Tuples) -> Result<Picked, KeyFault>
     requires one { length axis.now.names ≡ 1 }
     requires full { HaveLevels 1 labels.now }
@@ -95,4 +127,36 @@ fn rows_of_labels(alloc: Global, axis: &Axis, labels: &Tuples) -> Result<Picked,
         dropped: 0,
         span: None,
     })
+}
+
+// The rows of each tuple of a list, where all tuples are numbered together.
+fn rows_of_tuples(alloc: Global, axis: &Axis, tuples: &Tuples) -> Result<Picked, KeyFault>
+    requires { HaveLevels (length axis.now.names) tuples.now }
+    ensures picked { PicksBy pick_of result (loc_pick [] axis.now (key.each_key tuples.now)) }
+    ensures span { IfOk result (IsSpanned (length axis.now.tuples)) }
+{
+    let found = find_partners(alloc, tuples, axis, axis.levels())?;
+    let mut places = Places::new(alloc);
+    for k in 0..tuples.len() {
+        if !push_rows(found.rows(k), &mut places)? {
+            return Err(KeyFault::NotThere(tuples.at(k).copy()));
+        }
+    }
+    Ok(Picked {
+        places,
+        single: false,
+        dropped: 0,
+        span: None,
+    })
+}
+
+// Appends rows, and says whether there are some. After `NoMemory` some of them may stand there.
+fn push_rows(rows: &[usize], places: &mut Places) -> Result<bool, NoMemory>
+    ensures rows { OnOk result (places.new ≡ places.old ++ rows.now) }
+    ensures some { IfOk result (λ some. some ≡ are_some rows.now) }
+{
+    for row in rows {
+        places.push(*row)?;
+    }
+    Ok(!rows.is_empty())
 }

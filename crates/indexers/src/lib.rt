@@ -1,8 +1,8 @@
 //! From keys to rows: what a key of `loc`, a key of `iloc` and a mask pick.
 //!
 //! [`loc_places`], [`iloc_places`] and [`mask_places`] answer row numbers and look at no column but a mask's. The
-//! rules are those of the pandas user guide, "Indexing and selecting data"; `pick_meaning` defines them. Axes have
-//! one level so far.
+//! rules are those of the pandas user guide, "Indexing and selecting data" and "MultiIndex / advanced indexing";
+//! `pick_meaning` defines them. Axes have one to four levels.
 //!
 //! ```text
 //! let key = LocKey::Span(Some(Tuple::of(alloc, &[Label::Int(2)])), None);

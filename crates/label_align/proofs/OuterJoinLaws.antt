@@ -9,14 +9,10 @@ use Rattle.std.proofs.lemmas.List.Elements.{All-nil, All-cons, All-head, All-tai
 use Rattle.meaning.specs.Reduce.{distinct}
 use Rattle.sorting.specs.Sorting.{put_in, in_order}
 use Rattle.sorting.proofs.SortLaws.{irreflexive}
-use Rattle.align_meaning.proofs.OrderLaws.{all_append, all_put_in}
+use Rattle.align_meaning.proofs.OrderLaws.{all_append, all_flat, all_put_in}
 use Rattle.align_meaning.specs.Joins.{Entry, or_gap, entry, entries_with, entries_of, outer_entries, lists_of}
 use Rattle.align_meaning.specs.OuterJoin.{IsOuterJoin, rows_of_key}
 use Rattle.label_align.proofs.EntryLaws.{length-entries_of}
-
-all_flat : {X Y : Type 0} (P : Y → Type 0) (Q : X → Type 0) (f : X → List Y) → ((x : X) → Q x → All P (f x)) → (xs : List X) → All Q xs → All P (flat_map f xs)
-all_flat P Q f each [] all = All-nil P
-all_flat P Q f each (x ∷ xs) all = all_append P (f x) (flat_map f xs) (each x (All-head Q x xs all)) (all_flat P Q f each xs (All-tail Q x xs all))
 
 filter_all : {X : Type 0} (p : X → Bool) (xs : List X) → All (λ x. p x ≡ true) xs → filter p xs ≡ xs
 filter_all p [] all = refl

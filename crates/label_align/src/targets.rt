@@ -10,21 +10,21 @@ ghost use Rattle.label_align.specs.Answers.{AlignsBy, as_it_is};
 ghost use Rattle.label_align.specs.Targets.{IsFirstRepeat, NoneRepeats};
 
 use crate::fault::AlignFault;
-use cell_core::{Gaps, NoMemory, Tuple, Tuples};
+use cell_core::{Gaps, NoMemory, Tuple};
 use multi_index::Axis;
 use row_keys::{Buckets, LevelRows, numbered, rows_by_code};
 use std::alloc::Global;
 
 // Whether the axis has these tuples, row by row.
-fn has_tuples(axis: &Axis, tuples: &Tuples) -> bool
-    requires { HaveLevels (length axis.now.names) tuples.now }
-    ensures { Decides result (axis.now.tuples ≡ tuples.now) }
+fn has_tuples<R: LevelRows>(alloc: Global, axis: &Axis, tuples: &R) -> bool
+    requires { HaveLevels (length axis.now.names) (R.tuples tuples.now) }
+    ensures { Decides result (axis.now.tuples ≡ R.tuples tuples.now) }
 {
-    if axis.len() != tuples.len() {
+    if axis.len() != tuples.count() {
         return false;
     }
     for row in 0..axis.len() {
-        if !has_tuple(axis, row, tuples.at(row)) {
+        if !has_tuple(axis, row, &tuples.tuple(alloc, row)) {
             return false;
         }
     }
@@ -99,11 +99,11 @@ fn row_if_one(rows: &[usize]) -> Option<usize>
 /// Where the targets are other tuples, `DuplicateLabels` with the first tuple of the axis that stands on more
 /// than one row, exactly where there is one. `NoMemory` may come in place of any answer, and `TooLarge` never
 /// comes.
-pub fn reindex(alloc: Global, a: &Axis, target: &Tuples) -> Result<Gaps, AlignFault>
-    requires { HaveLevels (length a.now.names) target.now }
-    ensures { AlignsBy as_it_is result (reindexed same_tuple a.now.tuples target.now) }
+pub fn reindex<R: LevelRows>(alloc: Global, a: &Axis, target: &R) -> Result<Gaps, AlignFault>
+    requires { HaveLevels (length a.now.names) (R.tuples target.now) }
+    ensures { AlignsBy as_it_is result (reindexed same_tuple a.now.tuples (R.tuples target.now)) }
 {
-    if has_tuples(a, target) {
+    if has_tuples(alloc, a, target) {
         let rows = all_rows(alloc, a.len())?;
         return Ok(rows);
     }

@@ -3,7 +3,7 @@ use Rattle.std.specs.Prelude.{ℤ, pos, nat_lt, Bool, true, false, not, ◌||◌
 use Rattle.std.specs.Int.{int_wrap, w64}
 use Rattle.std.specs.List.{list_any, list_all}
 use Rattle.cell_core.specs.declared.cell.Kind.{Kind}
-use Rattle.cell_core.specs.declared.cell.Kind.TheVariants.{Int64, Boolean, Text as string}
+use Rattle.cell_core.specs.declared.cell.Kind.TheVariants.{Int64, Boolean}
 use Rattle.cell_core.specs.declared.grid.Shape.{Shape}
 use Rattle.cell_core.specs.declared.grid.Shape.TheVariants.{Series, Frame}
 use Rattle.meaning.specs.Cell.{CellValue, na_cell, int_cell, truth_cell, text_cell, LabelValue, int, holds}
@@ -24,6 +24,7 @@ use Rattle.form_meaning.specs.Finish.{limited, finished, value_of_column, fault_
 use Rattle.form_meaning.specs.Select.{cells_of}
 use Rattle.form_meaning.specs.Make.{on, kind_given, pairs_in}
 use Rattle.format_meaning.specs.CsvWrite.{csv_text_of}
+use Rattle.method_meaning.specs.Levels.{rename_axis_result, set_index_result}
 use Rattle.method_meaning.specs.Rows.{all_places, head_result, tail_result, dropna_result, duplicated_result, sort_values_result, sort_by_result, sorted_result, drop_result}
 
 -- each column by itself, or the first fault
@@ -158,6 +159,8 @@ answer_for method.SortValuesFrame (by ∷ ascending ∷ []) t = on (truth_in asc
 answer_for method.SortIndex (ascending ∷ []) t = on (truth_in ascending) (λ b. sorted_result t b t.labels)
 answer_for method.RenameSeries (name ∷ []) t = limited (renamed_series t (option_map cell_label (scalar_in name)))
 answer_for method.RenameFrame (columns ∷ []) t = on (dict_in columns) (λ pairs. renamed_frame t (pairs_in pairs))
+answer_for method.RenameAxis (names ∷ []) t = rename_axis_result t names
+answer_for method.SetIndex (keys ∷ []) t = set_index_result t keys
 answer_for method.DropColumns (columns ∷ []) t = drop_result t columns
 answer_for method.ToFrame gs t = limited (as_frame t)
 answer_for method.ToCsv (index ∷ []) t = on (truth_in index) (λ b. csv_answer b t)
@@ -193,6 +196,8 @@ is_built method.SortValuesFrame = true
 is_built method.SortIndex = true
 is_built method.RenameSeries = true
 is_built method.RenameFrame = true
+is_built method.RenameAxis = true
+is_built method.SetIndex = true
 is_built method.DropColumns = true
 is_built method.ToFrame = true
 is_built method.ToCsv = true

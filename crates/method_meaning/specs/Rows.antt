@@ -1,5 +1,5 @@
 -- Methods that answer some rows of a table, or all of them in another order, and `drop`, which answers some columns.
-use Rattle.std.specs.Prelude.{ℕ, ℤ, pos, neg_ℤ, Bool, true, false, not, List, [], ◌∷◌, map, length, filter, slice_index_or, nat_eq, Option, Some, None, Result, Ok, Err, if◌then◌else◌}
+use Rattle.std.specs.Prelude.{ℕ, ℤ, pos, neg_ℤ, Bool, true, false, not, List, [], ◌∷◌, map, length, filter, slice_index_or, nat_eq, Some, None, Result, Ok, if◌then◌else◌}
 use Rattle.std.specs.List.{list_any, list_all, range_with_len}
 use Rattle.std.specs.Ordering.{is_lt, int_eq, bool_cmp, then_cmp, flip_args, on}
 use Rattle.std.specs.Cmp.Lexicographic.{pointwise, slice_cmp}

@@ -1,6 +1,7 @@
 -- The axis of a table: a tuple of labels for each row, and the names of the levels.
-use Rattle.std.specs.Prelude.{◌≡◌, ℕ, List, [], ◌∷◌, length, map, replicate, slice_get, slice_set, slice_index_or, Option, None, option_and_then, All}
+use Rattle.std.specs.Prelude.{◌≡◌, ℕ, ◌≤◌, List, [], ◌∷◌, length, map, drop, remove, swap, replicate, slice_get, slice_set, slice_index_or, Option, None, option_and_then, All}
 use Rattle.cell_core.specs.declared.cell.Label.{Label}
+use Rattle.index_core.specs.Labels.{labels_at}
 use Rattle.index_core.specs.Ranges.{range_labels}
 
 -- each row has a tuple, and each level has a name or none
@@ -11,6 +12,10 @@ pub record AxisValue : Type 0 where
 -- each tuple has so many labels
 abbrev pub HaveLevels : ℕ → List (List Label) → Type 0
 HaveLevels levels tuples = All (λ tuple. length tuple ≡ levels) tuples
+
+-- leading labels on so many levels: one at least, and at most one for each
+abbrev pub AreLeading : ℕ → List Label → Type 0
+AreLeading levels key = (1 ≤ length key) × (length key ≤ levels)
 
 -- these tuples, on levels without names
 abbrev pub nameless_axis : List (List Label) → ℕ → AxisValue
@@ -39,3 +44,19 @@ tuples_at tuples places = map (λ place. slice_index_or tuples place []) places
 -- the rows at these places, in their order, on the same levels
 abbrev pub taken_axis : AxisValue → List ℕ → AxisValue
 taken_axis axis places = record axis { tuples = tuples_at axis.tuples places }
+
+-- the axis without a level
+abbrev pub without_level : AxisValue → ℕ → AxisValue
+without_level axis level = record { tuples = map (λ tuple. remove tuple level) axis.tuples; names = remove axis.names level }
+
+-- the axis without so many leading levels
+abbrev pub without_leading : AxisValue → ℕ → AxisValue
+without_leading axis count = record { tuples = map (λ tuple. drop count tuple) axis.tuples; names = drop count axis.names }
+
+-- the axis with two levels exchanged
+abbrev pub with_swapped : AxisValue → ℕ → ℕ → AxisValue
+with_swapped axis i j = record { tuples = map (λ tuple. swap tuple i j) axis.tuples; names = swap axis.names i j }
+
+-- the axis of these of its levels, in their order
+abbrev pub at_levels : AxisValue → List ℕ → AxisValue
+at_levels axis order = record { tuples = map (λ tuple. labels_at tuple order) axis.tuples; names = map (λ level. slice_index_or axis.names level None) order }

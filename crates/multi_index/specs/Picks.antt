@@ -1,11 +1,11 @@
 -- What an axis answers for leading labels or a slice.
-use Rattle.std.specs.Prelude.{◌≡◌, ℕ, List, [], ◌∷◌, Option, Result, Ok, Err}
+use Rattle.std.specs.Prelude.{◌≡◌, ℕ, List, [], ◌∷◌, length, Option, Result, Ok, Err}
 use Rattle.cell_core.specs.declared.cell.Label.{Label}
 use Rattle.meaning.specs.Text.{Text}
 use Rattle.pick_meaning.specs.Faults.{PickFault, not_there, bound_not_unique}
 use Rattle.pick_meaning.specs.Labels.{rows_of_key}
 use Rattle.pick_meaning.specs.Leading.{leads, leading_cmp}
-use Rattle.pick_meaning.specs.Slices.{label_slice}
+use Rattle.pick_meaning.specs.Slices.{slice_on}
 use Rattle.index_core.specs.Labels.{same_number, order_in}
 use Rattle.index_core.specs.declared.fault.IndexFault.{IndexFault}
 use Rattle.index_core.specs.declared.fault.IndexFault.TheVariants as index
@@ -39,6 +39,6 @@ axis_fault index.NoMemory = NoMemory
 abbrev pub leading_rows : AxisValue → List Label → Result (List ℕ) (PickFault (List Label))
 leading_rows axis key = rows_of_key (leads same_number) axis.tuples key
 
--- the rows of a slice between two keys on one level, in the order of the texts
+-- the rows of a slice between two keys, in the order of the texts
 abbrev pub leading_slice : List Text → AxisValue → Option (List Label) → Option (List Label) → Result (List ℕ) (PickFault (List Label))
-leading_slice texts axis lower upper = label_slice (leading_cmp (order_in texts)) lower upper axis.tuples
+leading_slice texts axis lower upper = slice_on (length axis.names) (leading_cmp (order_in texts)) lower upper axis.tuples

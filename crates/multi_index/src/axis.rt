@@ -3,11 +3,17 @@ ghost use Rattle.std.specs.Prelude.{◌≡◌, ◌^◌, ◌<◌, ◌≤◌, ◌�
 ghost use Rattle.std.specs.Bool.{Decides};
 ghost use Rattle.std.specs.Option.{option_copied, option_map};
 ghost use Rattle.cell_core.specs.Grids.{AreRowsBelow};
+ghost use Rattle.pick_meaning.specs.Labels.{rows_of_key};
+ghost use Rattle.pick_meaning.specs.Leading.{leads, leading_cmp};
 ghost use Rattle.pick_meaning.specs.Rows.{rows_of};
-ghost use Rattle.multi_index.specs.Axes.{HaveLevels, nameless_axis, range_axis, single_tuples, tuples_at, label_at, with_name, taken_axis};
+ghost use Rattle.pick_meaning.specs.Slices.{label_slice};
+ghost use Rattle.index_core.specs.Labels.{same_number, order_in};
+ghost use Rattle.multi_index.specs.Axes.{HaveLevels, AreLeading, nameless_axis, range_axis, single_tuples, tuples_at, label_at, with_name, taken_axis, at_levels, without_level, without_leading, with_swapped};
 ghost use Rattle.multi_index.specs.Picks.{PicksBy, TellsBy, as_it_is, axis_fault, leading_rows, leading_slice};
 
 use crate::fault::AxisFault;
+use crate::levels::{all_levels, labels_of, names_of, tuples_of};
+use crate::listed;
 use cell_core::{Label, NoMemory, Places, Rows, TextDict, Tuple, Tuples};
 use index_core::{Index, IndexFault};
 use std::alloc::Global;
@@ -222,47 +228,135 @@ impl Axis {
         }
     }
 
-    /// The rows whose leading labels are these, in order, on an axis of one level ("Selection by label" in the pandas
-    /// user guide). Texts are compared by their numbers.
+    // The axis of these of its levels, in their order.
+    fn of_levels(&self, alloc: Global, order: &[usize]) -> Result<Axis, NoMemory>
+        requires some { 1 ≤ length order.now }
+        requires few { length order.now ≤ 4 }
+        requires inside { All (λ level. level < length self.now.names) order.now }
+        ensures { IfOk result (λ axis. axis ≡ at_levels self.now order.now) }
+    {
+        let rows = if order.len() == 1 {
+            Kept::Single(Index::from_vec(labels_of(alloc, self, order[0])?))
+        } else {
+            Kept::Listed(tuples_of(alloc, self, order)?)
+        };
+        Ok(Axis {
+            alloc,
+            rows,
+            names: names_of(self, order),
+            levels: order.len(),
+        })
+    }
+
+    /// The same rows without a level, which leaves with its name. `NoMemory` is the only refusal.
+    pub fn drop_level(&self, alloc: Global, level: usize) -> Result<Axis, NoMemory>
+        requires level { level < length self.now.names }
+        requires stays { 2 ≤ length self.now.names }
+        ensures { IfOk result (λ axis. axis ≡ without_level self.now level) }
+    {
+        let mut order = all_levels(alloc, self.levels())?;
+        order.remove(level);
+        self.of_levels(alloc, &order)
+    }
+
+    /// The same rows without so many leading levels, which leave with their names; one level or more stays.
+    /// `NoMemory` is the only refusal.
+    pub fn drop_levels(&self, alloc: Global, count: usize) -> Result<Axis, NoMemory>
+        requires { count < length self.now.names }
+        ensures { IfOk result (λ axis. axis ≡ without_leading self.now count) }
+    {
+        let order = all_levels(alloc, self.levels())?;
+        let levels: &[usize] = &order;
+        let (_, rest) = levels.split_at(count);
+        self.of_levels(alloc, rest)
+    }
+
+    /// The same rows with two levels exchanged, which may be one and the same; each keeps its name.
+    /// `NoMemory` is the only refusal.
+    pub fn swap_levels(&self, alloc: Global, i: usize, j: usize) -> Result<Axis, NoMemory>
+        requires first { i < length self.now.names }
+        requires second { j < length self.now.names }
+        ensures { IfOk result (λ axis. axis ≡ with_swapped self.now i j) }
+    {
+        let mut order = all_levels(alloc, self.levels())?;
+        order.swap(i, j);
+        self.of_levels(alloc, &order)
+    }
+
+    /// The rows whose leading labels are these, in order ("Selection by label" in the pandas user guide): one label
+    /// at least, and at most one for each level. Texts are compared by their numbers. The rows are read once.
     ///
     /// # Errors
     ///
     /// `NotThere` exactly where there is no such row. `NoMemory` may come in place of any answer.
     pub fn places(&self, alloc: Global, leading: &Tuple) -> Result<Places, AxisFault>
-        requires one { length self.now.names ≡ 1 }
-        requires full { length leading.now ≡ 1 }
+        requires { AreLeading (length self.now.names) leading.now }
         ensures { PicksBy as_it_is result (leading_rows self.now leading.now) }
     {
-        match self.only_level().places(alloc, leading.at(0)) {
-            Ok(places) => Ok(places),
-            Err(fault) => Err(axis_fault(alloc, fault)),
+        match &self.rows {
+            Kept::Single(labels) => single_places(alloc, labels, leading),
+            Kept::Listed(tuples) => listed::places_of(alloc, tuples, leading),
         }
     }
 
-    /// The rows of a slice by labels on an axis of one level, both ends included, as a run of rows: those of
-    /// [`Index::slice_places`]. Takes no memory.
+    /// The rows of a slice by leading labels, both ends included, as a run of rows ("Slicing with labels" and
+    /// "Advanced indexing with hierarchical index" in the pandas user guide). Each bound has one label at least, and
+    /// at most one for each level; one that isn't given is an end. On one level they are those of
+    /// [`Index::slice_places`]. On several the rows must be in order, and the slice goes from the first one not below
+    /// `from` to the last one not above `to`. Takes no memory.
     ///
     /// # Errors
     ///
-    /// Where the labels aren't in order, `NotThere` of a bound that stands nowhere, and `BoundNotUnique` of one that
-    /// stands more than once, of `from` first. `NoMemory` never comes.
+    /// Where the rows aren't in order: on one level `NotThere` of a bound that stands nowhere, and `BoundNotUnique` of
+    /// one that stands more than once, of `from` first; on several levels `NotThere` of the first bound that is given.
+    /// `NoMemory` never comes.
     pub fn slice_places(
         &self,
         dict: &TextDict,
         from: Option<&Tuple>,
         to: Option<&Tuple>,
     ) -> Result<Rows, AxisFault>
-        requires one { length self.now.names ≡ 1 }
-        requires from { IfSome from (λ bound. length bound.now ≡ 1) }
-        requires to { IfSome to (λ bound. length bound.now ≡ 1) }
+        requires from { IfSome from (λ bound. AreLeading (length self.now.names) bound.now) }
+        requires to { IfSome to (λ bound. AreLeading (length self.now.names) bound.now) }
         ensures rows { TellsBy rows_of result (leading_slice dict.now self.now (option_copied from.entry) (option_copied to.entry)) }
         ensures below { IfOk result (λ rows. AreRowsBelow rows (length self.now.tuples)) }
     {
-        let labels = self.only_level();
-        match labels.slice_places(dict, only_label(from), only_label(to)) {
-            Ok(rows) => Ok(rows),
-            Err(fault) => Err(axis_fault(self.alloc, fault)),
+        match &self.rows {
+            Kept::Single(labels) => single_slice(self.alloc, dict, labels, from, to),
+            Kept::Listed(tuples) => listed::slice_of(dict, tuples, from, to),
         }
+    }
+}
+
+// The rows of a label on one level.
+fn single_places(alloc: Global, labels: &Index, key: &Tuple) -> Result<Places, AxisFault>
+    requires { length key.now ≡ 1 }
+    ensures { PicksBy as_it_is result
+        (rows_of_key (leads same_number) (single_tuples labels.now) key.now) }
+{
+    match labels.places(alloc, key.at(0)) {
+        Ok(places) => Ok(places),
+        Err(fault) => Err(axis_fault(alloc, fault)),
+    }
+}
+
+// The rows of a slice on one level.
+fn single_slice(
+    alloc: Global,
+    dict: &TextDict,
+    labels: &Index,
+    from: Option<&Tuple>,
+    to: Option<&Tuple>,
+) -> Result<Rows, AxisFault>
+    requires from { IfSome from (λ bound. length bound.now ≡ 1) }
+    requires to { IfSome to (λ bound. length bound.now ≡ 1) }
+    ensures rows { TellsBy rows_of result (label_slice (leading_cmp (order_in dict.now))
+        (option_copied from.entry) (option_copied to.entry) (single_tuples labels.now)) }
+    ensures below { IfOk result (λ rows. AreRowsBelow rows (length (single_tuples labels.now))) }
+{
+    match labels.slice_places(dict, only_label(from), only_label(to)) {
+        Ok(rows) => Ok(rows),
+        Err(fault) => Err(axis_fault(alloc, fault)),
     }
 }
 

@@ -1,5 +1,8 @@
 // Why no rows are picked.
-use cell_core::Tuple;
+ghost use Rattle.std.specs.Prelude.{◌≡◌};
+ghost use Rattle.multi_index.specs.declared.fault.AxisFault.TheVariants.{NoMemory as WantOfMemory};
+
+use cell_core::{NoMemory, Tuple};
 
 /// Why leading labels or a slice pick no rows.
 #[derive(Drop)]
@@ -10,4 +13,12 @@ pub enum AxisFault {
     BoundNotUnique(Tuple),
     /// Memory was refused.
     NoMemory,
+}
+
+impl From<NoMemory> for AxisFault {
+    ghost from_gives = { λ _ fault. fault ≡ WantOfMemory };
+
+    fn from(_: NoMemory) -> AxisFault {
+        AxisFault::NoMemory
+    }
 }

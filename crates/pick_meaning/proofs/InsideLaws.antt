@@ -1,5 +1,5 @@
 -- What keys pick lies within the axis, and what a label, a slice and a mask pick is in order.
-use Rattle.std.proofs.Common.{◌≡◌, ◌∙◌, ap, subst, refl, arith, ℕ, zero, suc, ◌+◌, ◌-◌, ◌<◌, ◌≤◌, Bool, true, false, not, ◌&&◌, List, [], ◌∷◌, ◌++◌, length, All, Option, Some, None, Result, Ok, Err, if◌then◌else◌}
+use Rattle.std.proofs.Common.{◌≡◌, ◌∙◌, ap, subst, refl, arith, ℕ, zero, suc, ◌+◌, ◌-◌, ◌<◌, ◌≤◌, ◌==◌, Bool, true, false, not, ◌&&◌, List, [], ◌∷◌, ◌++◌, length, All, Option, Some, None, Result, Ok, Err, if◌then◌else◌}
 use Rattle.std.specs.Prelude.{slice_index}
 use Rattle.std.specs.Cmp.{IsTotalOrder}
 use Rattle.std.specs.Cmp.Lexicographic.{pointwise}
@@ -12,7 +12,7 @@ use Rattle.std.proofs.lemmas.List.FromFn.{length-range_with_len, get_or-range_wi
 use Rattle.pick_meaning.specs.Faults.{PickFault, then_pick}
 use Rattle.pick_meaning.specs.Rows.{rows_where, rows_between}
 use Rattle.pick_meaning.specs.Labels.{unless_none, rows_of_key, rows_of_keys}
-use Rattle.pick_meaning.specs.Slices.{is_in_order, reaches, stays_within, sorted_slice, one_row, row_of_bound, first_row, end_row, unsorted_slice, label_slice}
+use Rattle.pick_meaning.specs.Slices.{is_in_order, reaches, stays_within, sorted_slice, one_row, row_of_bound, first_row, end_row, unsorted_slice, label_slice, unfound_slice, leading_slice, slice_on}
 use Rattle.pick_meaning.specs.Masks.{kept_rows, cell_of_label, kept_by_label, masked_rows}
 use Rattle.pick_meaning.proofs.OrderLaws.{below_too, lt_reversed}
 
@@ -112,6 +112,25 @@ module _ {X : Type 0} (cmp : X → X → Ordering) where
           (λ first at rest. went_on (end_row cmp xs upper) (λ end. Ok (rows_between first end)) rows (All (λ row. row < length xs) rows)
           (λ end ends made. subst (All (λ row. row < length xs)) (ok_same (rows_between first end) rows made) (between_inside first end (length xs) (end_inside xs upper end ends))) rest)
           is
+
+  unfound_inside : (lower upper : Option X) (xs : List X) (rows : List ℕ) → unfound_slice lower upper xs ≡ Ok rows → All (λ row. row < length xs) rows
+  unfound_inside (Some b) upper xs rows e = cc
+  unfound_inside None (Some b) xs rows e = cc
+  unfound_inside None None xs rows e = subst (All (λ row. row < length xs)) (ok_same (rows_between 0 (length xs)) rows e) (between_inside 0 (length xs) (length xs) (omega arith))
+
+  leading_inside : (lower upper : Option X) (xs : List X) (rows : List ℕ) → leading_slice cmp lower upper xs ≡ Ok rows → All (λ row. row < length xs) rows
+  leading_inside lower upper xs rows e = go (is_in_order cmp xs) e
+    where
+      go : (b : Bool) → (if b then Ok (sorted_slice cmp lower upper xs) else unfound_slice lower upper xs) ≡ Ok rows → All (λ row. row < length xs) rows
+      go true is = subst (All (λ row. row < length xs)) (ok_same (sorted_slice cmp lower upper xs) rows is) (rows_inside (λ x. reaches cmp lower x && stays_within cmp upper x) xs)
+      go false is = unfound_inside lower upper xs rows is
+
+  pub slice_on_inside : (levels : ℕ) (lower upper : Option X) (xs : List X) (rows : List ℕ) → slice_on levels cmp lower upper xs ≡ Ok rows → All (λ row. row < length xs) rows
+  slice_on_inside levels lower upper xs rows e = go (levels == 1) e
+    where
+      go : (b : Bool) → (if b then label_slice cmp lower upper xs else leading_slice cmp lower upper xs) ≡ Ok rows → All (λ row. row < length xs) rows
+      go true is = slice_inside lower upper xs rows is
+      go false is = leading_inside lower upper xs rows is
 
   -- none where the bounds stand the other way
   none_pass : (p : X → Bool) (row : ℕ) (xs : List X) → ((x : X) → p x ≡ false) → rows_where p row xs ≡ []

@@ -8,12 +8,12 @@ use Rattle.std.proofs.lemmas.List.FromFn.{length-range_with_len, get_or-range_wi
 use Rattle.pick_meaning.specs.Faults.{then_pick, pick_seen}
 use Rattle.pick_meaning.specs.Leading.{leads, leading_cmp}
 use Rattle.pick_meaning.specs.Labels.{rows_of_key, rows_of_keys}
-use Rattle.pick_meaning.specs.Slices.{label_slice}
+use Rattle.pick_meaning.specs.Slices.{slice_on}
 use Rattle.pick_meaning.specs.Keys.{LabelKey, all_rows, one_key, each_key, between, key_seen, PlaceKey, one_place, each_place, place_slice, Pick, listed_pick, sliced_pick, single_pick, has_one, key_pick, picked_by_label, picked_by_place}
 use Rattle.pick_meaning.specs.Positions.{row_at, rows_at, step_or_one, position_slice}
 use Rattle.pick_meaning.specs.Rows.{rows_of}
-use Rattle.pick_meaning.proofs.SeenLaws.{then_seen, rows_of_key-map, rows_of_keys-map, label_slice-map}
-use Rattle.pick_meaning.proofs.InsideLaws.{went_on, ok_same, key_inside, keys_inside, slice_inside}
+use Rattle.pick_meaning.proofs.SeenLaws.{then_seen, rows_of_key-map, rows_of_keys-map, slice_on-map}
+use Rattle.pick_meaning.proofs.InsideLaws.{went_on, ok_same, key_inside, keys_inside, slice_on_inside}
 use Rattle.pick_meaning.proofs.PositionLaws.{at_inside, rows_at_inside, slice_below, spaced_inside}
 
 module _ {X Y : Type 0} (cmp' : Y → Y → Ordering) (cmp : X → X → Ordering) (f : X → Y) (alike : (x y : X) → cmp' (f x) (f y) ≡ cmp x y) where
@@ -52,8 +52,8 @@ module _ {X Y : Type 0} (P : X → Type 0) (same' : Y → Y → Bool) (same : X 
       ap (λ r. then_pick r (λ rows. Ok (listed_pick rows))) (rows_of_keys-map (All P) (All P) (leads same') (leads same) (map f) (map f) (λ k t h there. leads-map P same' same f alike k t h there) tuples all keys given)
       ∙ then_seen (map f) (rows_of_keys (leads same) tuples keys) (λ rows. Ok (listed_pick rows)) (λ rows. Ok (listed_pick rows)) (λ rows. refl)
   picked_by_label-map (between lower upper) given =
-      ap (λ r. then_pick r (λ rows. Ok (sliced_pick rows))) (label_slice-map (leading_cmp cmp') (leading_cmp cmp) (map f) (leading_cmp-map cmp' cmp f in_order) lower upper tuples)
-      ∙ then_seen (map f) (label_slice (leading_cmp cmp) lower upper tuples) (λ rows. Ok (sliced_pick rows)) (λ rows. Ok (sliced_pick rows)) (λ rows. refl)
+      ap (λ r. then_pick r (λ rows. Ok (sliced_pick rows))) (slice_on-map (leading_cmp cmp') (leading_cmp cmp) (map f) (leading_cmp-map cmp' cmp f in_order) levels lower upper tuples)
+      ∙ then_seen (map f) (slice_on levels (leading_cmp cmp) lower upper tuples) (λ rows. Ok (sliced_pick rows)) (λ rows. Ok (sliced_pick rows)) (λ rows. refl)
 
 -- what is picked lies within the axis
 all_inside : (count : ℕ) → All (λ row. row < count) (range_with_len 0 count)
@@ -74,8 +74,8 @@ picked_inside same cmp levels tuples (each_key keys) pick e =
     went_on (rows_of_keys (leads same) tuples keys) (λ rows. Ok (listed_pick rows)) pick (IsInside (length tuples) pick)
     (λ rows is made. subst (IsInside (length tuples)) (ok_same (listed_pick rows) pick made) (keys_inside (leads same) tuples keys rows is)) e
 picked_inside same cmp levels tuples (between lower upper) pick e =
-    went_on (label_slice (leading_cmp cmp) lower upper tuples) (λ rows. Ok (sliced_pick rows)) pick (IsInside (length tuples) pick)
-    (λ rows is made. subst (IsInside (length tuples)) (ok_same (sliced_pick rows) pick made) (slice_inside (leading_cmp cmp) lower upper tuples rows is)) e
+    went_on (slice_on levels (leading_cmp cmp) lower upper tuples) (λ rows. Ok (sliced_pick rows)) pick (IsInside (length tuples) pick)
+    (λ rows is made. subst (IsInside (length tuples)) (ok_same (sliced_pick rows) pick made) (slice_on_inside (leading_cmp cmp) levels lower upper tuples rows is)) e
 
 pub placed_inside : {K : Type 0} (count : ℕ) (key : PlaceKey) (pick : Pick) → picked_by_place {K = K} count key ≡ Ok pick → All (λ row. row < count) pick.rows
 placed_inside {K} count (one_place z) pick e =

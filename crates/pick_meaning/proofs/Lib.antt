@@ -4,3 +4,4 @@ pub mod SeenLaws
 pub mod InsideLaws
 pub mod PositionLaws
 pub mod KeyLaws
+pub mod LeadingLaws

@@ -1,7 +1,7 @@
 -- Laws of lists of rows.
 use Rattle.std.proofs.Common.{◌≡◌, ◌∙◌, ap, sym, refl, arith, ℕ, zero, suc, ◌+◌, ◌-◌, ◌<◌, ◌≤◌, Bool, true, false, List, [], ◌∷◌, ◌++◌, length, take, map, slice_index_or, All, Ok, Err, if◌then◌else◌}
 use Rattle.std.specs.List.{range_with_len}
-use Rattle.std.proofs.lemmas.List.{take_more, length-take-le, append-nil}
+use Rattle.std.proofs.lemmas.List.{take_more, length-take-le, append-nil, map-id}
 use Rattle.pick_meaning.specs.Faults.{not_there}
 use Rattle.pick_meaning.specs.Rows.{rows_where, are_some}
 use Rattle.pick_meaning.specs.Labels.{unless_none}
@@ -61,6 +61,10 @@ rows_where-map P p q f same row [] all = refl
 rows_where-map P p q f same row (x ∷ xs) all =
     let later = rows_where-map P p q f same (row + 1) xs (λ k d lt. all (suc k) d (omega arith)) in
     λ j. if same x (all 0 x (omega arith)) j then row ∷ later j else later j
+
+-- rows that pass two tests that agree on them
+pub rows_where-same : {X : Type 0} (P : X → Type 0) (p q : X → Bool) → ((x : X) → P x → p x ≡ q x) → (row : ℕ) (xs : List X) → All P xs → rows_where p row xs ≡ rows_where q row xs
+rows_where-same P p q same row xs all = ap (rows_where p row) (sym (map-id xs)) ∙ rows_where-map P p q (λ x. x) same row xs all
 
 -- a list whose elements pass just from one place up to another
 pub rows_in_interval : {X : Type 0} (p : X → Bool) (d : X) (row low high : ℕ) (xs : List X) → high ≤ length xs

@@ -1,5 +1,5 @@
 -- Keys pick the same rows where labels are seen otherwise: with their texts, or as tuples of one label.
-use Rattle.std.proofs.Common.{◌≡◌, ◌∙◌, ap, refl, arith, ℕ, suc, ◌+◌, Bool, true, false, not, ◌&&◌, List, [], ◌∷◌, ◌++◌, map, All, Option, Some, None, Result, Ok, Err, if◌then◌else◌}
+use Rattle.std.proofs.Common.{◌≡◌, ◌∙◌, ap, refl, arith, ℕ, suc, ◌+◌, ◌==◌, Bool, true, false, not, ◌&&◌, List, [], ◌∷◌, ◌++◌, map, All, Option, Some, None, Result, Ok, Err, if◌then◌else◌}
 use Rattle.std.specs.Option.{option_map}
 use Rattle.std.specs.Ordering.{is_lt, is_eq, is_gt, ordering_then}
 use Rattle.std.specs.declared.cmp.Ordering.{Ordering}
@@ -10,7 +10,7 @@ use Rattle.pick_meaning.specs.Faults.{PickFault, then_pick, pick_seen}
 use Rattle.pick_meaning.specs.Rows.{rows_where, rows_between, only_row}
 use Rattle.pick_meaning.specs.Leading.{leads, leading_cmp}
 use Rattle.pick_meaning.specs.Labels.{unless_none, rows_of_key, rows_of_keys}
-use Rattle.pick_meaning.specs.Slices.{goes_on_in_order, is_in_order, reaches, stays_within, sorted_slice, one_row, row_of_bound, first_row, end_row, unsorted_slice, label_slice}
+use Rattle.pick_meaning.specs.Slices.{goes_on_in_order, is_in_order, reaches, stays_within, sorted_slice, one_row, row_of_bound, first_row, end_row, unsorted_slice, label_slice, unfound_slice, leading_slice, slice_on}
 use Rattle.pick_meaning.specs.Masks.{cell_or_fault, cell_of_label, kept_by_label, kept_rows, masked_rows}
 use Rattle.pick_meaning.proofs.RowLaws.{rows_where-map}
 
@@ -99,6 +99,22 @@ module _ {X Y : Type 0} (cmp' : Y → Y → Ordering) (cmp : X → X → Orderin
       ap (λ b. if b then Ok (sorted_slice cmp' (option_map f lower) (option_map f upper) (map f xs)) else unsorted_slice cmp' (option_map f lower) (option_map f upper) (map f xs)) (in_order-map xs)
       ∙ if_seen f (is_in_order cmp xs) (Ok (sorted_slice cmp lower upper xs)) (unsorted_slice cmp lower upper xs) (Ok (sorted_slice cmp' (option_map f lower) (option_map f upper) (map f xs)))
       (unsorted_slice cmp' (option_map f lower) (option_map f upper) (map f xs)) (ap (λ (l : List ℕ). Ok l) (sorted-map lower upper xs)) (unsorted-map lower upper xs)
+
+  unfound-map : (lower upper : Option X) (xs : List X) → unfound_slice (option_map f lower) (option_map f upper) (map f xs) ≡ pick_seen f (unfound_slice lower upper xs)
+  unfound-map (Some b) upper xs = refl
+  unfound-map None (Some b) xs = refl
+  unfound-map None None xs = ap (λ (n : ℕ). Ok (rows_between 0 n)) (length-map xs f)
+
+  leading_slice-map : (lower upper : Option X) (xs : List X) → leading_slice cmp' (option_map f lower) (option_map f upper) (map f xs) ≡ pick_seen f (leading_slice cmp lower upper xs)
+  leading_slice-map lower upper xs =
+      ap (λ b. if b then Ok (sorted_slice cmp' (option_map f lower) (option_map f upper) (map f xs)) else unfound_slice (option_map f lower) (option_map f upper) (map f xs)) (in_order-map xs)
+      ∙ if_seen f (is_in_order cmp xs) (Ok (sorted_slice cmp lower upper xs)) (unfound_slice lower upper xs) (Ok (sorted_slice cmp' (option_map f lower) (option_map f upper) (map f xs)))
+      (unfound_slice (option_map f lower) (option_map f upper) (map f xs)) (ap (λ (l : List ℕ). Ok l) (sorted-map lower upper xs)) (unfound-map lower upper xs)
+
+  pub slice_on-map : (levels : ℕ) (lower upper : Option X) (xs : List X) → slice_on levels cmp' (option_map f lower) (option_map f upper) (map f xs) ≡ pick_seen f (slice_on levels cmp lower upper xs)
+  slice_on-map levels lower upper xs =
+      if_seen f (levels == 1) (label_slice cmp lower upper xs) (leading_slice cmp lower upper xs) (label_slice cmp' (option_map f lower) (option_map f upper) (map f xs)) (leading_slice cmp' (option_map f lower) (option_map f upper) (map f xs))
+      (label_slice-map lower upper xs) (leading_slice-map lower upper xs)
 
 -- masks
 module _ {X Y : Type 0} (P : X → Type 0) (same' : Y → Y → Bool) (same : X → X → Bool) (f : X → Y) (alike : (x y : X) → P x → P y → same' (f x) (f y) ≡ same x y) where

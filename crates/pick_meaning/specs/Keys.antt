@@ -7,7 +7,7 @@ use Rattle.pick_meaning.specs.Faults.{PickFault, then_pick}
 use Rattle.pick_meaning.specs.Rows.{rows_of}
 use Rattle.pick_meaning.specs.Leading.{leads, leading_cmp}
 use Rattle.pick_meaning.specs.Labels.{rows_of_key, rows_of_keys}
-use Rattle.pick_meaning.specs.Slices.{label_slice}
+use Rattle.pick_meaning.specs.Slices.{slice_on}
 use Rattle.pick_meaning.specs.Positions.{row_at, rows_at, position_slice}
 
 -- a key of `loc`: `:`, a tuple of leading labels, a list of full tuples, or a slice between two of them
@@ -53,12 +53,12 @@ has_one (row ∷ (other ∷ rows)) = false
 abbrev pub key_pick : {L : Type 0} → ℕ → List L → List ℕ → Pick
 key_pick levels key rows = record { rows = rows; single = (length key == levels) && has_one rows; dropped = if nat_lt (length key) levels then length key else 0; sliced = false }
 
--- what a key of `loc` picks among rows with these tuples of labels
+-- what a key of `loc` picks among rows with these tuples of labels, on so many levels
 abbrev pub picked_by_label : {L : Type 0} → (L → L → Bool) → (L → L → Ordering) → ℕ → List (List L) → LabelKey (List L) → Result Pick (PickFault (List L))
 picked_by_label same cmp levels tuples all_rows = Ok (sliced_pick (range_with_len 0 (length tuples)))
 picked_by_label same cmp levels tuples (one_key key) = then_pick (rows_of_key (leads same) tuples key) (λ rows. Ok (key_pick levels key rows))
 picked_by_label same cmp levels tuples (each_key keys) = then_pick (rows_of_keys (leads same) tuples keys) (λ rows. Ok (listed_pick rows))
-picked_by_label same cmp levels tuples (between lower upper) = then_pick (label_slice (leading_cmp cmp) lower upper tuples) (λ rows. Ok (sliced_pick rows))
+picked_by_label same cmp levels tuples (between lower upper) = then_pick (slice_on levels (leading_cmp cmp) lower upper tuples) (λ rows. Ok (sliced_pick rows))
 
 abbrev pub single_pick : ℕ → Pick
 single_pick row = record { rows = row ∷ []; single = true; dropped = 0; sliced = false }

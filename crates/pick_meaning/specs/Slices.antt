@@ -1,5 +1,5 @@
 -- Slices by labels, both ends included.
-use Rattle.std.specs.Prelude.{ℕ, ◌+◌, Bool, true, not, ◌&&◌, List, [], ◌∷◌, length, Option, Some, None, Result, Ok, Err, if◌then◌else◌}
+use Rattle.std.specs.Prelude.{ℕ, ◌+◌, ◌==◌, Bool, true, not, ◌&&◌, List, [], ◌∷◌, length, Option, Some, None, Result, Ok, Err, if◌then◌else◌}
 use Rattle.std.specs.Ordering.{is_lt, is_eq, is_gt}
 use Rattle.std.specs.declared.cmp.Ordering.{Ordering}
 use Rattle.pick_meaning.specs.Faults.{PickFault, not_there, bound_not_unique, then_pick}
@@ -52,3 +52,16 @@ unsorted_slice cmp lower upper xs = then_pick (first_row cmp xs lower) (λ first
 -- the rows of a slice on one level
 abbrev pub label_slice : {X : Type 0} → (X → X → Ordering) → Option X → Option X → List X → Result (List ℕ) (PickFault X)
 label_slice cmp lower upper xs = if is_in_order cmp xs then Ok (sorted_slice cmp lower upper xs) else unsorted_slice cmp lower upper xs
+
+-- on several levels no bound is looked up: where the rows aren't in order, the first one that is given is refused
+abbrev pub unfound_slice : {X : Type 0} → Option X → Option X → List X → Result (List ℕ) (PickFault X)
+unfound_slice (Some bound) upper xs = Err (not_there bound)
+unfound_slice None (Some bound) xs = Err (not_there bound)
+unfound_slice None None xs = Ok (rows_between 0 (length xs))
+
+abbrev pub leading_slice : {X : Type 0} → (X → X → Ordering) → Option X → Option X → List X → Result (List ℕ) (PickFault X)
+leading_slice cmp lower upper xs = if is_in_order cmp xs then Ok (sorted_slice cmp lower upper xs) else unfound_slice lower upper xs
+
+-- the rows of a slice on so many levels
+abbrev pub slice_on : {X : Type 0} → ℕ → (X → X → Ordering) → Option X → Option X → List X → Result (List ℕ) (PickFault X)
+slice_on levels cmp lower upper xs = if levels == 1 then label_slice cmp lower upper xs else leading_slice cmp lower upper xs

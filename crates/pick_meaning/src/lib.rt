@@ -8,7 +8,8 @@
 //! ```text
 //! rows_of_key       the rows that carry a label, in order
 //! rows_of_keys      those of each label of a list, one after the other
-//! label_slice       the rows of a slice by labels
+//! label_slice       the rows of a slice by labels on one level
+//! slice_on          those on so many levels
 //! position_slice    the rows of a slice by positions
 //! masked_rows       the rows whose mask cell is True
 //! picked_by_label   what a key of `loc` picks

@@ -3,7 +3,7 @@ pub mod KeyLaws
 pub mod ZipLaws
 pub mod RecodeLaws
 pub mod JoinLaws
-pub mod SideLaws
 pub mod FillLaws
 pub mod PartsLaws
 pub mod RoomLaws
+pub mod PartnerLaws

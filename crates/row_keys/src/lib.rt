@@ -2,7 +2,8 @@
 //!
 //! [`factorize`] numbers keys by first sight. [`numbered`] does so for the tuples of labels of two sides, level
 //! by level, without a tuple a row. [`rows_by_code`] has the rows of each number, so that whoever joins or
-//! groups rows after that hashes nothing and compares numbers alone.
+//! groups rows after that hashes nothing and compares numbers alone. [`find_partners`] has for each row of one side the
+//! rows of another with the same tuple.
 //!
 //! ```text
 //! let numbers = numbered(alloc, &left, &right, left.levels())?;
@@ -14,11 +15,13 @@
 mod buckets;
 mod factor;
 mod levels;
+mod partners;
 mod rows;
 mod sides;
 
 pub use buckets::{Buckets, rows_by_code};
 pub use factor::{Factors, factorize};
 pub use levels::{Numbers, numbered, tuples_at};
+pub use partners::{Partners, find_partners};
 pub use rows::{Column, KeyRows, Level};
 pub use sides::LevelRows;

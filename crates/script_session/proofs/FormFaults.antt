@@ -9,6 +9,8 @@ use Rattle.meaning.specs.Cell.{CellValue, int_cell, LabelValue}
 use Rattle.meaning.specs.Column.{ColumnValue, ColumnFault, kind_mismatch, zero_division, not_cast}
 use Rattle.language_meaning.specs.Tree.{Binary, sub}
 use Rattle.meaning.specs.Fault.{FaultValue, then_value}
+use Rattle.align_meaning.specs.Faults.{AlignRefusal, duplicate_labels, too_large, met_rows}
+use Rattle.align_meaning.specs.Joins.{outer}
 use Rattle.table_meaning.specs.Table.{ColumnOf, Table}
 use Rattle.table_meaning.specs.Value.{Entry, cell, table, Given, GivenList, NamedGiven}
 use Rattle.form_meaning.specs.declared.Function.{Function}
@@ -16,9 +18,9 @@ use Rattle.form_meaning.specs.declared.Function.TheVariants as function
 use Rattle.form_meaning.specs.Binding.{Bound, not_taken, not_listed, bound, on_bound}
 use Rattle.form_meaning.specs.Finish.{limited_table, limited, unless_repeated, finished, fault_of_column, made_column, try_all}
 use Rattle.form_meaning.specs.Select.{found, column_place, column_places, length_result}
-use Rattle.form_meaning.specs.Infix.{Meeting, infix_table, scalar_infix, on_levels, rows_infix, series_infix, frame_infix, across_infix, table_infix, infix_result, negated, inverted, sign_result}
+use Rattle.form_meaning.specs.Infix.{Meeting, same_tuple, same_tuples, tuple_before, beside, compares, joined_rows, joined_columns, with_joined, joined_infix, unequal_infix, infix_table, scalar_infix, on_levels, rows_infix, series_infix, frame_infix, across_infix, table_infix, infix_result, negated, inverted, sign_result}
 use Rattle.form_meaning.specs.Set.{list_column, of_length}
-use Rattle.form_meaning.specs.Make.{cast_to, with_index, on, series_of, series_result, all_of_length, frame_with, frame_of, frame_result}
+use Rattle.form_meaning.specs.Make.{cast_to, few_levels, with_index, on, series_of, series_result, all_of_length, frame_with, frame_of, frame_result}
 use Rattle.form_meaning.specs.Functions.{constructed, made_by, made_named, make_result}
 use Rattle.form_meaning.specs.Signature.{function_named}
 use Rattle.csv_meaning.specs.CsvRead.{CsvValue, CsvRefusal, not_utf8, no_record, long_record, not_of_kind, beyond_limits}
@@ -45,7 +47,7 @@ limited_table_fault t = search (if_fault)
 pub limited_fault : (t : Table) → HasFormFault (limited t)
 limited_fault t = then_value_fault _ _ (limited_table_fault t) (λ made. tt)
 
-unless_repeated_fault : {A : Type 0} (again : Option LabelValue) (rest : Result A FaultValue) → HasFormFault rest → HasFormFault (unless_repeated again rest)
+pub unless_repeated_fault : {A : Type 0} (again : Option LabelValue) (rest : Result A FaultValue) → HasFormFault rest → HasFormFault (unless_repeated again rest)
 unless_repeated_fault None rest next = next
 unless_repeated_fault (Some l) rest next = tt
 
@@ -92,11 +94,20 @@ on_levels_fault false equal rest next = tt
 on_levels_fault true false rest next = tt
 on_levels_fault true true rest next = next
 
+pub met_rows_fault : {A : Type 0} (r : Result A (AlignRefusal (List LabelValue))) → HasFormFault (met_rows r)
+met_rows_fault (Ok rows) = tt
+met_rows_fault (Err (duplicate_labels key)) = tt
+met_rows_fault (Err too_large) = tt
+
+unequal_infix_fault : (op : Binary) (a b t : Table) → HasFormFault (unequal_infix op a b t)
+unequal_infix_fault op a b t =
+    if_fault (compares op) _ _ tt (then_value_fault (joined_rows a.labels b.labels) (joined_infix op a b t) (met_rows_fault (outer same_tuple tuple_before a.labels b.labels)) (λ rows. infix_table_fault op (with_joined a b t rows) (joined_columns a b rows)))
+
 rows_infix_fault : (op : Binary) (a b t : Table) → HasFormFault (rows_infix op a b t)
-rows_infix_fault op a b t = search (on_levels_fault, infix_table_fault)
+rows_infix_fault op a b t = on_levels_fault _ _ _ (if_fault (same_tuples a.labels b.labels) _ _ (infix_table_fault op t (beside a.columns b.columns)) (unequal_infix_fault op a b t))
 
 series_infix_fault : (op : Binary) (a b : Table) → HasFormFault (series_infix op a b)
-series_infix_fault op a b = search (if_fault, rows_infix_fault)
+series_infix_fault op a b = search (rows_infix_fault)
 
 frame_infix_fault : (op : Binary) (a b : Table) → HasFormFault (frame_infix op a b)
 frame_infix_fault op a b = search (if_fault, rows_infix_fault)
@@ -140,9 +151,12 @@ cast_to_fault : (kind : Option Kind) (c : ColumnOf CellValue) → HasFormFault (
 cast_to_fault None c = tt
 cast_to_fault (Some kind) c = made_column_fault _
 
+few_levels_fault : {A : Type 0} (labels : List (List LabelValue)) (rest : Result A FaultValue) → HasFormFault rest → HasFormFault (few_levels labels rest)
+few_levels_fault labels rest next = search (if_fault, next)
+
 with_index_fault : (rows : ℕ) (index : Option GivenList) (go : List (List LabelValue) → Result Entry FaultValue) → ((labels : List (List LabelValue)) → HasFormFault (go labels)) → HasFormFault (with_index rows index go)
 with_index_fault rows None go next = next _
-with_index_fault rows (Some parts) go next = of_length_fault _ _ _ (next _)
+with_index_fault rows (Some parts) go next = search (of_length_fault, few_levels_fault, next)
 
 pub on_fault : {A B : Type 0} (o : Option A) (go : A → Result B FaultValue) → ((a : A) → HasFormFault (go a)) → HasFormFault (on o go)
 on_fault None go next = tt
@@ -160,7 +174,7 @@ all_of_length_fault expected [] rest next = next
 all_of_length_fault expected (c ∷ cs) rest next = of_length_fault _ _ _ (all_of_length_fault expected cs rest next)
 
 frame_with_fault : (headings : List LabelValue) (columns : List (ColumnOf CellValue)) (index : Option GivenList) → HasFormFault (frame_with headings columns index)
-frame_with_fault headings [] index = search (limited_fault)
+frame_with_fault headings [] index = search (few_levels_fault, limited_fault)
 frame_with_fault headings (c ∷ cs) index = search (all_of_length_fault, with_index_fault, limited_fault)
 
 frame_of_fault : (pairs : List (LabelValue × Given)) (index : Option GivenList) → HasFormFault (frame_of pairs index)

@@ -1,5 +1,5 @@
 -- No method has the fault that a file isn't there.
-use Rattle.std.specs.Prelude.{ℤ, Bool, true, false, List, [], ◌∷◌, Option, Some, None, Result, Ok, Err}
+use Rattle.std.specs.Prelude.{ℕ, ℤ, Bool, true, false, List, [], ◌∷◌, Option, Some, None, Result, Ok, Err}
 use Rattle.cell_core.specs.declared.cell.Kind.{Kind}
 use Rattle.cell_core.specs.declared.grid.Shape.{Shape}
 use Rattle.cell_core.specs.declared.grid.Shape.TheVariants.{Series, Frame}
@@ -13,10 +13,11 @@ use Rattle.form_meaning.specs.declared.Method.{Method}
 use Rattle.form_meaning.specs.declared.Method.TheVariants as method
 use Rattle.method_meaning.specs.Rows.{head_result, tail_result, labels_in, subset_places, duplicated_result, sort_by_result, drop_result}
 use Rattle.method_meaning.specs.Methods.{each_column, filled_column, Summary, reduced, distinct, made_cell, summary_cell, summary_as, summary_of, renamed_frame, csv_answer, answer_for}
+use Rattle.method_meaning.specs.Levels.{rename_axis_result, index_set, set_index_result}
 use Rattle.method_meaning.specs.Calls as call
 use Rattle.method_meaning.specs.Calls.{ChainValue, called, method_result, not_built_if, chain_result}
 use Rattle.script_session.specs.FormFault.{HasFormFault}
-use Rattle.script_session.proofs.FormFaults.{if_fault, then_value_fault, on_bound_fault, limited_fault, finished_fault, column_fault, made_column_fault, try_all_fault, column_places_fault, on_fault}
+use Rattle.script_session.proofs.FormFaults.{if_fault, then_value_fault, of_length_fault, unless_repeated_fault, on_bound_fault, limited_fault, finished_fault, column_fault, made_column_fault, try_all_fault, column_places_fault, on_fault}
 
 -- cells, column by column
 each_column_fault : (f : ColumnOf CellValue → Result (ColumnOf CellValue) FaultValue) (t : Table) → ((c : ColumnOf CellValue) → HasFormFault (f c)) → HasFormFault (each_column f t)
@@ -66,6 +67,16 @@ sort_by_fault t ascending by = search (then_value_fault, column_places_fault, li
 drop_fault : (t : Table) (columns : Given) → HasFormFault (drop_result t columns)
 drop_fault t columns = search (then_value_fault, column_places_fault, finished_fault)
 
+-- levels
+rename_axis_fault : (t : Table) (names : Given) → HasFormFault (rename_axis_result t names)
+rename_axis_fault t names = search (of_length_fault, limited_fault)
+
+index_set_fault : (t : Table) (places : List ℕ) → HasFormFault (index_set t places)
+index_set_fault t places = search (unless_repeated_fault, if_fault, limited_fault)
+
+set_index_fault : (t : Table) (keys : Given) → HasFormFault (set_index_result t keys)
+set_index_fault t keys = search (then_value_fault, column_places_fault, index_set_fault)
+
 ruleset methods = (on_fault, limited_fault, each_column_fault, filled_column_fault, made_column_fault, summary_of_fault, renamed_frame_fault, csv_answer_fault)
 
 ruleset picking = (on_fault, head_fault, tail_fault, duplicated_fault, limited_fault, sort_by_fault, drop_fault)
@@ -98,6 +109,8 @@ answer_for_fault method.SortValuesFrame (by ∷ ascending ∷ []) t = search pic
 answer_for_fault method.SortIndex (ascending ∷ []) t = search picking
 answer_for_fault method.RenameSeries (name ∷ []) t = search methods
 answer_for_fault method.RenameFrame (columns ∷ []) t = search methods
+answer_for_fault method.RenameAxis (names ∷ []) t = rename_axis_fault t names
+answer_for_fault method.SetIndex (keys ∷ []) t = set_index_fault t keys
 answer_for_fault method.DropColumns (columns ∷ []) t = drop_fault t columns
 answer_for_fault method.ToFrame gs t = search methods
 answer_for_fault method.ToCsv (index ∷ []) t = search methods

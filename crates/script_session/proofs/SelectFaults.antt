@@ -11,8 +11,8 @@ use Rattle.table_meaning.specs.Value.{Entry, cell, table, Given, GivenList, Give
 use Rattle.form_meaning.specs.Finish.{column_labels}
 use Rattle.pick_meaning.specs.Faults.{PickFault, not_there, bound_not_unique, out_of_range, no_mask_label, step_zero}
 use Rattle.pick_meaning.specs.Keys.{Pick}
-use Rattle.select_meaning.specs.Keys.{on_one_level, tuple_label, label_bound, whole_item, whole_items, label_span, label_key, place_bound, whole_cell, positions_in, place_key, fault_of_pick, found_pick, label_pick, place_pick, mask_pick, loc_rows, loc_columns, whole_key, once, at_rows, iat_pick, rows_by, columns_by, Reach, reach_of, reach_by}
-use Rattle.select_meaning.specs.Select.{Way, plain, through, cut, as_series, one_kind, row_result, shown_as, picked_result, access_reach, column_reach, columns_reach, list_reach, mask_reach, frame_reach, item_reach, way_reach, select_result}
+use Rattle.select_meaning.specs.Keys.{on_one_level, tuple_label, label_bound, whole_item, whole_items, label_span, label_key, place_bound, whole_cell, positions_in, place_key, fault_of_pick, found_pick, label_pick, place_pick, mask_pick, loc_rows, loc_columns, whole_key, once, at_rows, iat_pick, rows_by, columns_by, pair_key, joined_key, rows_by_two, Reach, reach_of, reach_by}
+use Rattle.select_meaning.specs.Select.{Way, plain, through, cut, as_series, one_kind, row_result, shown_as, picked_result, without_leading, column_reach, columns_reach, list_reach, mask_reach, frame_reach, item_reach, way_reach, select_result}
 use Rattle.script_session.specs.FormFault.{IsOfForm, HasFormFault}
 use Rattle.script_session.proofs.FormFaults.{if_fault, then_value_fault, limited_fault, finished_fault, try_all_fault, column_place_fault, column_places_fault}
 
@@ -86,7 +86,7 @@ place_pick_fault : (count : ℕ) (k : GivenSub) → HasFormFault (place_pick cou
 place_pick_fault count k = then_value_fault _ _ (place_key_fault k) (λ key. found_pick_fault _)
 
 mask_pick_fault : (t m : Table) → HasFormFault (mask_pick t m)
-mask_pick_fault t m = search (if_fault, on_one_level_fault, then_value_fault, found_pick_fault)
+mask_pick_fault t m = search (if_fault, then_value_fault, found_pick_fault)
 
 loc_rows_fault : (t : Table) (k : GivenSub) → HasFormFault (loc_rows t k)
 loc_rows_fault t (key_given (one (table m))) = mask_pick_fault t m
@@ -122,18 +122,26 @@ columns_by_fault iloc t k = place_pick_fault _ k
 columns_by_fault at t k = then_value_fault _ _ (whole_key_fault 1 k) (λ key. loc_columns_fault t k)
 columns_by_fault iat t k = iat_pick_fault _ k
 
+-- two keys of a Series as one
+pair_key_fault : (a b : Option CellValue) → HasFormFault (pair_key a b)
+pair_key_fault (Some a) (Some b) = tt
+pair_key_fault a b = tt
+
+joined_key_fault : (by : Accessor) (levels : ℕ) (first second : GivenSub) → HasFormFault (joined_key by levels first second)
+joined_key_fault by levels first second = search (if_fault, pair_key_fault)
+
+rows_by_two_fault : (by : Accessor) (t : Table) (first second : GivenSub) → HasFormFault (rows_by_two by t first second)
+rows_by_two_fault by t first second = then_value_fault _ _ (joined_key_fault by (length t.level_names) first second) (λ k. rows_by_fault by t k)
+
 -- what keys reach
 reach_of_fault : (rows columns : Result Pick FaultValue) → HasFormFault rows → HasFormFault columns → HasFormFault (reach_of rows columns)
 reach_of_fault rows columns first second = then_value_fault rows _ first (λ r. then_value_fault columns _ second (λ c. tt))
 
 reach_by_fault : (s : Shape) (by : Accessor) (t : Table) (first : GivenSub) (second : Option GivenSub) → HasFormFault (reach_by s by t first second)
 reach_by_fault Series by t first None = search (reach_of_fault, rows_by_fault)
-reach_by_fault Series by t first (Some other) = tt
+reach_by_fault Series by t first (Some other) = search (reach_of_fault, rows_by_two_fault)
 reach_by_fault Frame by t first None = search (if_fault, reach_of_fault, rows_by_fault)
 reach_by_fault Frame by t first (Some other) = search (reach_of_fault, rows_by_fault, columns_by_fault)
-
-access_reach_fault : (by : Accessor) (t : Table) (first : GivenSub) (second : Option GivenSub) → HasFormFault (access_reach by t first second)
-access_reach_fault by t first second = search (on_one_level_fault, reach_by_fault)
 
 column_reach_fault : (t : Table) (l : LabelValue) → HasFormFault (column_reach t l)
 column_reach_fault t l = then_value_fault _ _ (column_place_fault t l) (λ place. tt)
@@ -145,7 +153,7 @@ list_reach_fault : (t : Table) (parts : GivenList) → HasFormFault (list_reach 
 list_reach_fault t parts = search (if_fault, columns_reach_fault)
 
 mask_reach_fault : (t m : Table) → HasFormFault (mask_reach t m)
-mask_reach_fault t m = search (on_one_level_fault, reach_of_fault, mask_pick_fault)
+mask_reach_fault t m = search (reach_of_fault, mask_pick_fault)
 
 frame_reach_fault : (t : Table) (k : GivenSub) → HasFormFault (frame_reach t k)
 frame_reach_fault t (key_given (one (cell c))) = column_reach_fault t (cell_label c)
@@ -154,13 +162,13 @@ frame_reach_fault t (key_given (many parts)) = list_reach_fault t parts
 frame_reach_fault t k = tt
 
 item_reach_fault : (s : Shape) (t : Table) (first : GivenSub) (second : Option GivenSub) → HasFormFault (item_reach s t first second)
-item_reach_fault Series t first second = access_reach_fault loc t first second
+item_reach_fault Series t first second = reach_by_fault Series loc t first second
 item_reach_fault Frame t first None = frame_reach_fault t first
 item_reach_fault Frame t first (Some second) = tt
 
 way_reach_fault : (way : Way) (t : Table) (first : GivenSub) (second : Option GivenSub) → HasFormFault (way_reach way t first second)
 way_reach_fault plain t first second = search (if_fault, item_reach_fault)
-way_reach_fault (through by) t first second = access_reach_fault by t first second
+way_reach_fault (through by) t first second = reach_by_fault t.shape by t first second
 
 -- what is shown of it
 one_kind_fault : (columns : List (ColumnOf CellValue)) → HasFormFault (one_kind columns)
@@ -176,7 +184,7 @@ shown_fault true false t = row_result_fault t
 shown_fault false false t = finished_fault t
 
 picked_fault : (t : Table) (reach : Reach) → HasFormFault (picked_result t reach)
-picked_fault t reach = shown_fault reach.rows.single reach.columns.single (cut t reach.rows.rows reach.columns.rows)
+picked_fault t reach = shown_fault reach.rows.single reach.columns.single (without_leading reach.rows.dropped (cut t reach.rows.rows reach.columns.rows))
 
 pub select_result_fault : (v : Entry) (way : Way) (first : GivenSub) (second : Option GivenSub) → HasFormFault (select_result v way first second)
 select_result_fault (cell c) way first second = tt

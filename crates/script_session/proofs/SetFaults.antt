@@ -3,7 +3,7 @@ use Rattle.std.specs.Prelude.{ℕ, List, length, Option, Some, None, Result}
 use Rattle.cell_core.specs.declared.grid.Shape.{Shape}
 use Rattle.cell_core.specs.declared.grid.Shape.TheVariants.{Series, Frame}
 use Rattle.meaning.specs.Cell.{CellValue, LabelValue}
-use Rattle.meaning.specs.Symbol.{Accessor, loc}
+use Rattle.meaning.specs.Symbol.{Accessor, loc, iloc, iat}
 use Rattle.meaning.specs.Operator.{cell_label}
 use Rattle.meaning.specs.Fault.{FaultValue}
 use Rattle.table_meaning.specs.Table.{ColumnOf, Table}
@@ -12,9 +12,9 @@ use Rattle.form_meaning.specs.Finish.{column_labels}
 use Rattle.pick_meaning.specs.Keys.{Pick}
 use Rattle.select_meaning.specs.Keys.{rows_by, columns_by}
 use Rattle.select_meaning.specs.Select.{Way, plain, through}
-use Rattle.select_meaning.specs.Set.{SetValue, same, listed, aligned, set_value, list_set, series_set, column_set, frame_set, Reached, added_label, or_added, rows_set, columns_set, Target, target_of, target_by, listed_values, series_values, values_for, kind_of_value, with_new_column, filled_table, target_set, access_set, item_set, assign_result, removal_result}
+use Rattle.select_meaning.specs.Set.{SetValue, same, listed, aligned, set_value, list_set, aligned_rows, aligned_column, series_set, column_set, frame_set, Reached, added_label, or_added, rows_set, columns_set, Target, target_of, target_by, listed_values, reached_labels, placed_values, aligned_values, series_values, values_for, kind_of_value, with_new_column, filled_table, target_set, access_set, item_set, assign_result, removal_result}
 use Rattle.script_session.specs.FormFault.{HasFormFault}
-use Rattle.script_session.proofs.FormFaults.{if_fault, then_value_fault, limited_table_fault, list_column_fault, of_length_fault, column_place_fault}
+use Rattle.script_session.proofs.FormFaults.{if_fault, then_value_fault, met_rows_fault, limited_table_fault, list_column_fault, of_length_fault, column_place_fault}
 use Rattle.script_session.proofs.SelectFaults.{on_one_level_fault, rows_by_fault, columns_by_fault}
 
 -- values
@@ -31,8 +31,14 @@ set_value_fault g = tt
 list_set_fault : (t : Table) (l : LabelValue) (c : ColumnOf CellValue) → HasFormFault (list_set t l c)
 list_set_fault t l c = search (if_fault, of_length_fault, limited_table_fault)
 
+aligned_rows_fault : (level_count : ℕ) (labels : List (List LabelValue)) (s : Table) → HasFormFault (aligned_rows level_count labels s)
+aligned_rows_fault level_count labels s = search (if_fault, met_rows_fault)
+
+aligned_column_fault : (level_count : ℕ) (labels : List (List LabelValue)) (s : Table) → HasFormFault (aligned_column level_count labels s)
+aligned_column_fault level_count labels s = then_value_fault _ _ (aligned_rows_fault level_count labels s) (λ rows. tt)
+
 series_set_fault : (t : Table) (l : LabelValue) (s : Table) → HasFormFault (series_set t l s)
-series_set_fault t l s = search (if_fault, limited_table_fault)
+series_set_fault t l s = search (if_fault, then_value_fault, aligned_column_fault, limited_table_fault)
 
 column_set_fault : (t : Table) (l : LabelValue) (value : SetValue) → HasFormFault (column_set t l value)
 column_set_fault t l (same c) = search (limited_table_fault)
@@ -67,8 +73,16 @@ target_by_fault Frame by t first (Some other) = search (target_of_fault, rows_se
 listed_values_fault : (rows columns : ℕ) (cells : List CellValue) → HasFormFault (listed_values rows columns cells)
 listed_values_fault rows columns cells = search (if_fault, of_length_fault)
 
+placed_values_fault : (count : ℕ) (s : Table) → HasFormFault (placed_values count s)
+placed_values_fault count s = search (of_length_fault)
+
+aligned_values_fault : (t : Table) (rows : Reached) (s : Table) → HasFormFault (aligned_values t rows s)
+aligned_values_fault t rows s = then_value_fault _ _ (aligned_column_fault (length t.level_names) (reached_labels t rows) s) (λ c. tt)
+
 series_values_fault : (by : Accessor) (t : Table) (rows : Reached) (s : Table) → HasFormFault (series_values by t rows s)
-series_values_fault by t rows s = search (if_fault, of_length_fault)
+series_values_fault iloc t rows s = placed_values_fault (length rows.places) s
+series_values_fault iat t rows s = placed_values_fault (length rows.places) s
+series_values_fault by t rows s = aligned_values_fault t rows s
 
 values_fault : (by : Accessor) (t : Table) (target : Target) (value : SetValue) → HasFormFault (values_for by t target value)
 values_fault by t target (same c) = tt

@@ -10,7 +10,7 @@ use Rattle.meaning.specs.Symbol.{Accessor, loc, iloc, at, iat}
 use Rattle.meaning.specs.Fault as fault
 use Rattle.meaning.specs.Fault.{FaultValue, wrong_kind, no_key, bad_value, repeated, argument, not_built, then_value}
 use Rattle.table_meaning.specs.Table.{Table, column_at, rows_of}
-use Rattle.table_meaning.specs.Value.{Entry, cell, table, Given, GivenList, GivenSub, no_given, more_given, nothing, one, row, many, entries, key_given, span_given}
+use Rattle.table_meaning.specs.Value.{Entry, cell, table, Given, GivenList, GivenSub, no_given, more_given, nothing, one, row, many, entries, key_given, span_given, scalar_in}
 use Rattle.form_meaning.specs.Binding.{each, is_scalar, is_frame, is_tuple_of, count_of, same_label}
 use Rattle.form_meaning.specs.Finish.{try_all, column_labels}
 use Rattle.form_meaning.specs.Infix.{same_tuple, is_boolean}
@@ -19,7 +19,7 @@ use Rattle.pick_meaning.specs.Faults.{PickFault, not_there, bound_not_unique, ou
 use Rattle.pick_meaning.specs.Keys.{LabelKey, all_rows, one_key, each_key, between, PlaceKey, one_place, each_place, place_slice, Pick, listed_pick, sliced_pick, single_pick, picked_by_label, picked_by_place}
 use Rattle.pick_meaning.specs.Masks.{is_kept, masked_rows}
 
--- on one level; several aren't built
+-- on one level; settings on several aren't built
 abbrev pub on_one_level : {A : Type 0} → Table → Result A FaultValue → Result A FaultValue
 on_one_level t rest = if nat_eq (length t.level_names) 1 then rest else Err not_built
 
@@ -113,11 +113,11 @@ is_mask m = not (is_frame m.shape) && is_boolean (column_at m.columns 0).kind
 abbrev pub marks_of : Table → List Bool
 marks_of m = map (λ r. is_kept (slice_index_or r.cells 0 na_cell)) (rows_of na_cell m)
 
--- it picks the rows at which it is True, found by position or by label
+-- it picks the rows at which it is True, found by position or by all labels of a row
 abbrev pub mask_pick : Table → Table → Result Pick FaultValue
 mask_pick t m =
     if is_mask m
-    then on_one_level m (then_value (found_pick (masked_rows same_tuple t.labels m.labels (marks_of m))) (λ rows. Ok (listed_pick rows)))
+    then then_value (found_pick (masked_rows same_tuple t.labels m.labels (marks_of m))) (λ rows. Ok (listed_pick rows))
     else Err wrong_kind
 
 -- rows by label, and columns by label, of which no tuple names one
@@ -159,6 +159,26 @@ columns_by iloc t k = place_pick (length t.columns) k
 columns_by at t k = then_value (whole_key 1 k) (λ key. loc_columns t k)
 columns_by iat t k = iat_pick (length t.columns) k
 
+-- two scalars as the keys of a Series are one tuple, in `loc` and `at` on several levels
+abbrev pub takes_tuple : Accessor → Bool
+takes_tuple loc = true
+takes_tuple at = true
+takes_tuple by = false
+
+abbrev pub scalar_of_key : GivenSub → Option CellValue
+scalar_of_key (key_given g) = scalar_in g
+scalar_of_key (span_given from to by) = None
+
+abbrev pub pair_key : Option CellValue → Option CellValue → Result GivenSub FaultValue
+pair_key (Some a) (Some b) = Ok (key_given (row (more_given (one (cell a)) (more_given (one (cell b)) no_given))))
+pair_key a b = Err wrong_kind
+
+abbrev pub joined_key : Accessor → ℕ → GivenSub → GivenSub → Result GivenSub FaultValue
+joined_key by levels first second = if takes_tuple by && nat_lt 1 levels then pair_key (scalar_of_key first) (scalar_of_key second) else Err wrong_kind
+
+abbrev pub rows_by_two : Accessor → Table → GivenSub → GivenSub → Result Pick FaultValue
+rows_by_two by t first second = then_value (joined_key by (length t.level_names) first second) (rows_by by t)
+
 -- all rows, all columns, and the one column of a Series, which is single
 abbrev pub all_rows_of : Table → Pick
 all_rows_of t = sliced_pick (range_with_len 0 (length t.labels))
@@ -184,9 +204,9 @@ may_stand_alone iat k = false
 may_stand_alone by (key_given (row parts)) = false
 may_stand_alone by k = true
 
--- what an accessor's keys reach: one key on a Series, one or two on a frame
+-- what an accessor's keys reach: one key or the labels of a tuple on a Series, one or two on a frame
 abbrev pub reach_by : Shape → Accessor → Table → GivenSub → Option GivenSub → Result Reach FaultValue
 reach_by Series by t k None = reach_of (rows_by by t k) (Ok only_column)
-reach_by Series by t k (Some other) = Err wrong_kind
+reach_by Series by t k (Some other) = reach_of (rows_by_two by t k other) (Ok only_column)
 reach_by Frame by t k None = if may_stand_alone by k then reach_of (rows_by by t k) (Ok (all_columns t)) else Err wrong_kind
 reach_by Frame by t k (Some other) = reach_of (rows_by by t k) (columns_by by t other)

@@ -1,5 +1,5 @@
 -- What is selected from a table.
-use Rattle.std.specs.Prelude.{ℕ, nat_lt, ◌&&◌, Bool, true, false, List, [], ◌∷◌, map, slice_index_or, length, Option, Some, None, Result, Ok, Err, if◌then◌else◌}
+use Rattle.std.specs.Prelude.{ℕ, nat_lt, ◌&&◌, Bool, true, false, List, [], ◌∷◌, map, slice_index_or, length, drop, Option, Some, None, Result, Ok, Err, if◌then◌else◌}
 use Rattle.std.specs.List.{list_all}
 use Rattle.cell_core.specs.declared.grid.Shape.{Shape}
 use Rattle.cell_core.specs.declared.grid.Shape.TheVariants.{Series, Frame}
@@ -15,7 +15,7 @@ use Rattle.form_meaning.specs.Binding.{each, is_scalar, is_truth}
 use Rattle.form_meaning.specs.Finish.{limited, finished, same_kind, across_columns}
 use Rattle.form_meaning.specs.Select.{column_place, column_places, heading_at, columns_frame, cells_of, labels_of}
 use Rattle.pick_meaning.specs.Keys.{single_pick, listed_pick}
-use Rattle.select_meaning.specs.Keys.{on_one_level, Reach, reach_of, reach_by, mask_pick, all_rows_of, all_columns}
+use Rattle.select_meaning.specs.Keys.{Reach, reach_of, reach_by, mask_pick, all_rows_of, all_columns}
 
 -- the cells of a column at these rows, and the table of these rows and columns
 abbrev pub column_rows : List ℕ → ColumnOf CellValue → ColumnOf CellValue
@@ -26,6 +26,10 @@ rows_taken t rows = record t { labels = map (λ row. slice_index_or t.labels row
 
 abbrev pub cut : Table → List ℕ → List ℕ → Table
 cut t rows places = rows_taken (columns_frame t places) rows
+
+-- a table without so many of its leading levels
+abbrev pub without_leading : ℕ → Table → Table
+without_leading count t = record t { level_names = drop count t.level_names; labels = map (drop count) t.labels }
 
 -- one column of a table, with its label as the name
 abbrev pub as_series : Table → Table
@@ -63,12 +67,9 @@ shown_as false true t = limited (as_series t)
 shown_as true false t = row_result t
 shown_as false false t = finished t
 
+-- the rows of a key of fewer labels than levels lose the levels that it names
 abbrev pub picked_result : Table → Reach → Result Entry FaultValue
-picked_result t reach = shown_as reach.rows.single reach.columns.single (cut t reach.rows.rows reach.columns.rows)
-
--- what an accessor reaches, on one level
-abbrev pub access_reach : Accessor → Table → GivenSub → Option GivenSub → Result Reach FaultValue
-access_reach by t first second = on_one_level t (reach_by t.shape by t first second)
+picked_result t reach = shown_as reach.rows.single reach.columns.single (without_leading reach.rows.dropped (cut t reach.rows.rows reach.columns.rows))
 
 -- what brackets reach in a frame: a column by its label, columns by a list of labels, or the rows of a mask
 abbrev pub column_reach : Table → LabelValue → Result Reach FaultValue
@@ -81,7 +82,7 @@ abbrev pub list_reach : Table → GivenList → Result Reach FaultValue
 list_reach t parts = if each is_scalar parts then columns_reach t (labels_of parts) else Err wrong_kind
 
 abbrev pub mask_reach : Table → Table → Result Reach FaultValue
-mask_reach t m = on_one_level t (reach_of (mask_pick t m) (Ok (all_columns t)))
+mask_reach t m = reach_of (mask_pick t m) (Ok (all_columns t))
 
 abbrev pub frame_reach : Table → GivenSub → Result Reach FaultValue
 frame_reach t (key_given (one (cell c))) = column_reach t (cell_label c)
@@ -91,7 +92,7 @@ frame_reach t k = Err wrong_kind
 
 -- of a Series, brackets alone are `loc`; of a frame they take one key
 abbrev pub item_reach : Shape → Table → GivenSub → Option GivenSub → Result Reach FaultValue
-item_reach Series t first second = access_reach loc t first second
+item_reach Series t first second = reach_by Series loc t first second
 item_reach Frame t first None = frame_reach t first
 item_reach Frame t first (Some second) = Err wrong_kind
 
@@ -110,7 +111,7 @@ pub data Way : Type 0 where
 
 abbrev pub way_reach : Way → Table → GivenSub → Option GivenSub → Result Reach FaultValue
 way_reach plain t first second = if is_truth_list first then Err wrong_kind else item_reach t.shape t first second
-way_reach (through by) t first second = access_reach by t first second
+way_reach (through by) t first second = reach_by t.shape by t first second
 
 -- a scalar takes no subscript
 abbrev pub select_result : Entry → Way → GivenSub → Option GivenSub → Result Entry FaultValue

@@ -1,14 +1,15 @@
 -- What a setting or a removal makes of a table: places are picked, all is tested, and then the cells are replaced.
-use Rattle.std.specs.Prelude.{ℕ, suc, ◌*◌, ◌%◌, Bool, true, false, not, ◌&&◌, List, [], ◌∷◌, ◌++◌, map, length, replicate, slice_index, slice_index_or, nat_eq, nat_lt, Option, Some, None, is_some, unwrap_or, Result, Ok, Err, if◌then◌else◌}
+use Rattle.std.specs.Prelude.{ℕ, suc, ◌*◌, ◌%◌, Bool, true, false, not, ◌&&◌, ◌||◌, List, [], ◌∷◌, ◌++◌, map, length, replicate, slice_index, slice_index_or, nat_eq, nat_lt, Option, Some, None, is_some, unwrap_or, Result, Ok, Err, if◌then◌else◌}
 use Rattle.std.specs.List.{list_any}
 use Rattle.cell_core.specs.declared.grid.Shape.{Shape}
 use Rattle.cell_core.specs.declared.grid.Shape.TheVariants.{Series, Frame}
 use Rattle.cell_core.specs.declared.cell.Kind.{Kind}
 use Rattle.cell_core.specs.declared.cell.Kind.TheVariants.{Int64}
 use Rattle.meaning.specs.Cell.{CellValue, na_cell, LabelValue, holds}
+use Rattle.meaning.specs.Column.{taken}
 use Rattle.meaning.specs.Operator.{cell_label, scalar_kind}
 use Rattle.meaning.specs.Symbol.{Accessor, loc, iloc, at, iat}
-use Rattle.meaning.specs.Fault.{FaultValue, wrong_kind, bad_value, length_of, no_columns, not_built, then_value}
+use Rattle.meaning.specs.Fault.{FaultValue, wrong_kind, bad_value, length_of, levels, no_columns, then_value}
 use Rattle.table_meaning.specs.Table.{ColumnOf, Table, column_at}
 use Rattle.table_meaning.specs.Change.{with_column, without_column, with_values}
 use Rattle.table_meaning.specs.Value.{Entry, cell, table, Given, GivenSub, nothing, one, row, many, entries, key_given, span_given}
@@ -18,6 +19,8 @@ use Rattle.form_meaning.specs.Infix.{same_tuple, same_tuples}
 use Rattle.form_meaning.specs.Select.{place_of_label, column_place, cells_of}
 use Rattle.form_meaning.specs.Set.{list_column, of_length}
 use Rattle.pick_meaning.specs.Keys.{Pick}
+use Rattle.align_meaning.specs.Faults.{met_rows}
+use Rattle.align_meaning.specs.Targets.{reindexed}
 use Rattle.select_meaning.specs.Keys.{on_one_level, rows_by, columns_by, all_columns, only_column, may_stand_alone}
 use Rattle.select_meaning.specs.Select.{Way, plain, through}
 
@@ -55,12 +58,26 @@ list_set t l c =
     then put_result (with_rows t (default_labels (length c.cells)) (None ∷ [])) l c
     else of_length (length t.labels) (length c.cells) (put_result t l c)
 
--- A Series goes by position where its rows are the frame's, and gives its rows to a frame without rows. Other labels aren't built.
+-- the row of a Series that each of these labels takes, or a gap: all in order where they are its own labels. Other labels need as
+-- many levels, and a Series without repeated labels.
+abbrev pub aligned_rows : ℕ → List (List LabelValue) → Table → Result (List (Option ℕ)) FaultValue
+aligned_rows level_count labels s =
+    if same_tuples labels s.labels || nat_eq level_count (length s.level_names) then met_rows (reindexed same_tuple s.labels labels)
+    else Err (bad_value levels)
+
+-- its column at these rows, with NA at a gap
+abbrev pub column_at_rows : ColumnOf CellValue → List (Option ℕ) → ColumnOf CellValue
+column_at_rows c rows = record { kind = c.kind; cells = taken na_cell c.cells rows }
+
+abbrev pub aligned_column : ℕ → List (List LabelValue) → Table → Result (ColumnOf CellValue) FaultValue
+aligned_column level_count labels s = then_value (aligned_rows level_count labels s) (λ rows. Ok (column_at_rows (column_at s.columns 0) rows))
+
+-- a Series is aligned to the rows; a frame without rows gets those of the Series
 abbrev pub series_set : Table → LabelValue → Table → Result Table FaultValue
 series_set t l s =
-    if same_tuples t.labels s.labels then put_result t l (column_at s.columns 0)
-    else if has_none t.labels then put_result (with_rows t s.labels s.level_names) l (column_at s.columns 0)
-    else Err not_built
+    if has_none t.labels && not (has_none s.labels)
+    then put_result (with_rows t s.labels s.level_names) l (column_at s.columns 0)
+    else then_value (aligned_column (length t.level_names) t.labels s) (put_result t l)
 
 -- a scalar in each row
 abbrev pub scalar_column : ℕ → CellValue → ColumnOf CellValue
@@ -139,17 +156,17 @@ listed_values rows columns cells =
     else if nat_eq rows 1 && nat_lt 1 columns then of_length columns (length cells) (Ok cells)
     else Err (bad_value (length_of rows (length cells)))
 
--- those of a Series: by position, or by label where it has the labels of the rows; other labels aren't built
-abbrev pub by_position : Accessor → Bool
-by_position iloc = true
-by_position iat = true
-by_position by = false
+-- those of a Series: by position in `iloc` and `iat`, and else aligned to the labels of the rows
+abbrev pub placed_values : ℕ → Table → Result (List CellValue) FaultValue
+placed_values count s = of_length count (length s.labels) (Ok (column_at s.columns 0).cells)
+
+abbrev pub aligned_values : Table → Reached → Table → Result (List CellValue) FaultValue
+aligned_values t rows s = then_value (aligned_column (length t.level_names) (reached_labels t rows) s) (λ c. Ok c.cells)
 
 abbrev pub series_values : Accessor → Table → Reached → Table → Result (List CellValue) FaultValue
-series_values by t rows s =
-    if by_position by then of_length (length rows.places) (length s.labels) (Ok (column_at s.columns 0).cells)
-    else if same_tuples (reached_labels t rows) s.labels then Ok (column_at s.columns 0).cells
-    else Err not_built
+series_values iloc t rows s = placed_values (length rows.places) s
+series_values iat t rows s = placed_values (length rows.places) s
+series_values by t rows s = aligned_values t rows s
 
 -- a value for each row and column that is reached, row by row
 abbrev pub values_for : Accessor → Table → Target → SetValue → Result (List CellValue) FaultValue

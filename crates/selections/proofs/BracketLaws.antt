@@ -22,9 +22,9 @@ use Rattle.frame_store.specs.Arguments.{entry_of, items_of}
 use Rattle.frame_store.specs.Shown.{cells_value}
 use Rattle.pick_meaning.specs.Keys.{listed_pick, single_pick}
 use Rattle.select_meaning.specs.Keys.{Reach, all_rows_of}
-use Rattle.select_meaning.specs.Select.{column_reach, columns_reach, list_reach, picked_result, shown_as, cut}
+use Rattle.select_meaning.specs.Select.{column_reach, columns_reach, list_reach, picked_result, shown_as, cut, without_leading}
 use Rattle.selections.specs.Selected.{scalars_in}
-use Rattle.selections.specs.Plans.{rows_in, AreTakenBelow, has_single_row, has_single_column, reach_of_plan, IsPlanFor}
+use Rattle.selections.specs.Plans.{rows_in, TakesAll, has_single_row, has_single_column, reach_of_plan, IsPlanFor}
 use Rattle.selections.specs.declared.planning.Form.TheVariants as answer
 use Rattle.selections.specs.declared.planning.Plan.{Plan}
 
@@ -58,9 +58,9 @@ list_read t parts o is = by (each is_scalar parts) ∙ ap (list_of_scalars t) (s
     by false = refl
 
 -- all rows of some columns
-module _ (texts : List Text) (t : NumberedTable) (plan : Plan) (rows : rows_in plan.rows ≡ range_with_len 0 (length t.labels)) where
+module _ (texts : List Text) (t : NumberedTable) (plan : Plan) (all : TakesAll t plan.rows) where
   all_rows : range_with_len 0 (length (map (tuple_value texts) t.labels)) ≡ rows_in plan.rows
-  all_rows = ap (range_with_len 0) (length-map t.labels (tuple_value texts)) ∙ sym rows
+  all_rows = ap (range_with_len 0) (length-map t.labels (tuple_value texts)) ∙ sym all.rows
 
   pub list_planned : (parts : GivenList) (cells : List CellValue) (places : List ℕ) → Some cells ≡ scalars_in parts → form.column_places (table_value texts t) (map cell_label cells) ≡ Ok places
       → plan.columns ≡ places → plan.form ≡ answer.Frame
@@ -69,34 +69,34 @@ module _ (texts : List Text) (t : NumberedTable) (plan : Plan) (rows : rows_in p
       let T = table_value texts t in
       ap (λ r. then_value r (picked_result T)) (list_read T parts (Some cells) is)
       ∙ ap (λ r. then_value (then_value r (λ ps. Ok record { rows = all_rows_of T; columns = listed_pick ps })) (picked_result T)) found
-      ∙ (λ j. shown_as (has_single_row (sym frame j)) (has_single_column (sym frame j)) (cut T (all_rows j) (sym columns j)))
+      ∙ (λ j. shown_as (has_single_row (sym frame j)) (has_single_column (sym frame j)) (without_leading (sym all.lost j) (cut T (all_rows j) (sym columns j))))
 
   pub column_planned : (label : LabelValue) (place : ℕ) → form.column_place (table_value texts t) label ≡ Ok place → plan.columns ≡ place ∷ [] → plan.form ≡ answer.Column
       → then_value (column_reach (table_value texts t) label) (picked_result (table_value texts t)) ≡ picked_result (table_value texts t) (reach_of_plan plan)
   column_planned label place found columns column =
       let T = table_value texts t in
       ap (λ r. then_value (then_value r (λ p. Ok record { rows = all_rows_of T; columns = single_pick p })) (picked_result T)) found
-      ∙ (λ j. shown_as (has_single_row (sym column j)) (has_single_column (sym column j)) (cut T (all_rows j) (sym columns j)))
+      ∙ (λ j. shown_as (has_single_row (sym column j)) (has_single_column (sym column j)) (without_leading (sym all.lost j) (cut T (all_rows j) (sym columns j))))
 
-pub list_whole : (t : NumberedTable) (plan : Plan) (places : List ℕ) → t.shape ≡ Frame → AreTakenBelow (length t.labels) plan.rows → plan.columns ≡ places → plan.form ≡ answer.Frame → All (λ place. place < length t.columns) places
+pub list_whole : (t : NumberedTable) (plan : Plan) (places : List ℕ) → t.shape ≡ Frame → TakesAll t plan.rows → plan.columns ≡ places → plan.form ≡ answer.Frame → All (λ place. place < length t.columns) places
     → IsPlanFor t plan
-list_whole t plan places shape rows columns frame inside =
+list_whole t plan places shape all columns frame inside =
     record {
-      rows = rows;
+      rows = all.within;
       columns = subst (λ (l : List ℕ). All (λ place. place < length t.columns) l) (sym columns) inside;
       one_row = λ single. let wrong : false ≡ true = sym (ap has_single_row frame) ∙ single in cc;
-      one_level = λ single. let wrong : false ≡ true = sym (ap has_single_row frame) ∙ single in cc;
+      whole_row = λ single. let wrong : false ≡ true = sym (ap has_single_row frame) ∙ single in cc;
       one_column = λ single. let wrong : false ≡ true = sym (ap has_single_column frame) ∙ single in cc;
       frame = λ several. shape;
     }
 
-pub column_whole : (t : NumberedTable) (plan : Plan) (place : ℕ) → AreTakenBelow (length t.labels) plan.rows → plan.columns ≡ place ∷ [] → plan.form ≡ answer.Column → place < length t.columns → IsPlanFor t plan
-column_whole t plan place rows columns column inside =
+pub column_whole : (t : NumberedTable) (plan : Plan) (place : ℕ) → TakesAll t plan.rows → plan.columns ≡ place ∷ [] → plan.form ≡ answer.Column → place < length t.columns → IsPlanFor t plan
+column_whole t plan place all columns column inside =
     record {
-      rows = rows;
+      rows = all.within;
       columns = subst (λ (l : List ℕ). All (λ p. p < length t.columns) l) (sym columns) (All-cons (λ p. p < length t.columns) place [] inside (All-nil (λ p. p < length t.columns)));
       one_row = λ single. let wrong : false ≡ true = sym (ap has_single_row column) ∙ single in cc;
-      one_level = λ single. let wrong : false ≡ true = sym (ap has_single_row column) ∙ single in cc;
+      whole_row = λ single. let wrong : false ≡ true = sym (ap has_single_row column) ∙ single in cc;
       one_column = λ single. ap (λ (l : List ℕ). length l) columns;
       frame = λ several. let wrong : true ≡ false = sym (ap has_single_column column) ∙ several in cc;
     }

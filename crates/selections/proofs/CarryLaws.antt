@@ -1,5 +1,5 @@
 -- What a plan answers, and a selection with it.
-use Rattle.std.proofs.Common.{◌≡◌, ◌∙◌, refl, ap, sym, subst, arith, ℕ, ◌<◌, List, [], ◌∷◌, slice_index_or, All, Option, Some, None, Result, Ok, Err}
+use Rattle.std.proofs.Common.{◌≡◌, ◌∙◌, refl, ap, sym, subst, arith, ℕ, ◌<◌, List, [], ◌∷◌, length, slice_index_or, All, Option, Some, None, Result, Ok, Err}
 use Rattle.std.proofs.Math.ListN.{get_or-map}
 use Rattle.cell_core.specs.declared.cell.Cell.{Cell}
 use Rattle.cell_core.specs.declared.cell.Cell.TheVariants.{Na}
@@ -10,7 +10,7 @@ use Rattle.meaning.specs.Fault.{FaultValue, then_value}
 use Rattle.table_meaning.specs.Table.{ColumnOf, NumberedTable, Table, table_value, column_at}
 use Rattle.table_meaning.specs.Value as value
 use Rattle.table_meaning.specs.Value.{Entry, GivenSub}
-use Rattle.select_meaning.specs.Select.{cut, first_cell, shown_as, picked_result, Way, way_reach, select_result}
+use Rattle.select_meaning.specs.Select.{cut, without_leading, first_cell, shown_as, picked_result, Way, way_reach, select_result}
 use Rattle.frame_store.specs.Objects.{Tables, tables}
 use Rattle.frame_store.specs.Arguments.{entry_of, object_value}
 use Rattle.frame_store.specs.Parts.{HeadingList}
@@ -23,21 +23,22 @@ use Rattle.frame_store.specs.declared.object.ObjId.{ObjId}
 use Rattle.frame_store.specs.declared.store.Store.{Store}
 use Rattle.frame_store.proofs.Settling.{longer_self, settled_by, object_settled}
 use Rattle.selections.specs.Selected.{headings_at}
-use Rattle.selections.specs.Plans.{rows_in, AreTakenBelow, has_single_row, has_single_column, reach_of_plan, PlansBy}
+use Rattle.selections.specs.Plans.{rows_in, levels_lost, AreTakenFrom, has_single_row, has_single_column, reach_of_plan, PlansBy}
 use Rattle.selections.specs.declared.planning.Taken.{Taken}
-use Rattle.selections.specs.declared.planning.Taken.TheVariants.{Slice, Listed}
+use Rattle.selections.specs.declared.planning.Taken.TheVariants.{Slice, Listed, Under}
 use Rattle.selections.specs.declared.planning.Form.{Form}
 use Rattle.selections.specs.declared.planning.Form.TheVariants as answer
 use Rattle.selections.specs.declared.planning.Plan.{Plan}
 use Rattle.selections.proofs.AnswerLaws.{column_seen}
 use Rattle.selections.proofs.CutLaws.{headings_with}
 use Rattle.selections.proofs.PickedLaws.{read_is}
-use Rattle.selections.proofs.PlanLaws.{spaced_below}
+use Rattle.selections.proofs.PlanLaws.{spaced_below, without_none}
 
 -- the only row is one of the table's
-pub row_inside : (taken : Taken) (count row : ℕ) → AreTakenBelow count taken → rows_in taken ≡ row ∷ [] → row < count
-row_inside (Slice rows) count row below is = subst (λ (l : List ℕ). All (λ place. place < count) l) is (spaced_below rows _ count below refl) 0 row (omega arith)
-row_inside (Listed places) count row below is = subst (λ (l : List ℕ). All (λ place. place < count) l) is below 0 row (omega arith)
+pub row_inside : (taken : Taken) (t : NumberedTable) (row : ℕ) → AreTakenFrom t taken → rows_in taken ≡ row ∷ [] → row < length t.labels
+row_inside (Slice rows) t row below is = subst (λ (l : List ℕ). All (λ place. place < length t.labels) l) is (spaced_below rows _ (length t.labels) below refl) 0 row (omega arith)
+row_inside (Listed places) t row below is = subst (λ (l : List ℕ). All (λ place. place < length t.labels) l) is below 0 row (omega arith)
+row_inside (Under places count) t row below is = subst (λ (l : List ℕ). All (λ place. place < length t.labels) l) is below.0 0 row (omega arith)
 
 -- the name of a single column
 pub single_heading : (s t : NumberedTable) (columns : List ℕ) (place : ℕ) (heading : Option Label) (headings : HeadingList) → s ≡ t → columns ≡ place ∷ [] → heading ≡ slice_index_or s.headings place None
@@ -56,10 +57,11 @@ gathered_with s t columns name labels headings at named is made =
     made ∙ (λ j. record { columns_name = (named ∙ ap (λ (n : NumberedTable). n.columns_name) at) j; labels = is j })
 
 -- what is picked by a plan, by its form
-pub plan_meant : (texts : List Text) (live : Tables) (on : ObjId) (source : NumberedTable) (plan : Plan) (form : Form) (rows columns : List ℕ) → live on.0 ≡ Some source → plan.form ≡ form → rows_in plan.rows ≡ rows → plan.columns ≡ columns
-    → shown_as (has_single_row form) (has_single_column form) (cut (table_value texts source) rows columns) ≡ picked_result (object_value live texts on) (reach_of_plan plan)
-plan_meant texts live on source plan form rows columns live_is form_is rows_are columns_are =
-    λ j. shown_as (has_single_row (sym form_is j)) (has_single_column (sym form_is j)) (cut (table_value texts (read_is (live on.0) source live_is j)) (sym rows_are j) (sym columns_are j))
+pub plan_meant : (texts : List Text) (live : Tables) (on : ObjId) (source : NumberedTable) (plan : Plan) (form : Form) (rows columns : List ℕ) → live on.0 ≡ Some source → plan.form ≡ form → rows_in plan.rows ≡ rows → levels_lost plan.rows ≡ 0
+    → plan.columns ≡ columns → shown_as (has_single_row form) (has_single_column form) (cut (table_value texts source) rows columns) ≡ picked_result (object_value live texts on) (reach_of_plan plan)
+plan_meant texts live on source plan form rows columns live_is form_is rows_are whole columns_are =
+    ap (shown_as (has_single_row form) (has_single_column form)) (sym (without_none (cut (table_value texts source) rows columns)))
+    ∙ (λ j. shown_as (has_single_row (sym form_is j)) (has_single_column (sym form_is j)) (without_leading (sym whole j) (cut (table_value texts (read_is (live on.0) source live_is j)) (sym rows_are j) (sym columns_are j))))
 
 -- a cell
 abbrev taken_cell : ℕ → ℕ → Table → CellValue
@@ -69,10 +71,10 @@ cell_seen : (texts : List Text) (t : NumberedTable) (row place : ℕ) (c : Cell)
 cell_seen texts t row place c is = ap (λ (d : ColumnOf CellValue). slice_index_or d.cells row na_cell) (column_seen texts t.columns place) ∙ get_or-map (datum texts) (column_at t.columns place).cells row Na ∙ ap (datum texts) (sym is)
 
 pub cell_made : (texts : List Text) (store : Store) (on : ObjId) (source : NumberedTable) (plan : Plan) (row place : ℕ) (c : Cell) → tables store on.0 ≡ Some source → IsSettledWorld (world store texts) → plan.form ≡ answer.Cell
-    → rows_in plan.rows ≡ row ∷ [] → plan.columns ≡ place ∷ [] → c ≡ slice_index_or (column_at source.columns place).cells row Na
+    → rows_in plan.rows ≡ row ∷ [] → levels_lost plan.rows ≡ 0 → plan.columns ≡ place ∷ [] → c ≡ slice_index_or (column_at source.columns place).cells row Na
     → Forms (Ok (Scalar c)) (picked_result (object_value (tables store) texts on) (reach_of_plan plan)) (world store texts) (world store texts)
-cell_made texts store on source plan row place c live_is settled form rows columns is =
-    let meant = sym (plan_meant texts (tables store) on source plan answer.Cell (row ∷ []) (place ∷ []) live_is form rows columns) ∙ ap (λ v. Ok (value.cell v)) (cell_seen texts source row place c is) in
+cell_made texts store on source plan row place c live_is settled form rows whole columns is =
+    let meant = sym (plan_meant texts (tables store) on source plan answer.Cell (row ∷ []) (place ∷ []) live_is form rows whole columns) ∙ ap (λ v. Ok (value.cell v)) (cell_seen texts source row place c is) in
     let given = settled_by table_value datum (taken_cell row place) texts source c (λ ts. cell_seen ts source row place c is) (object_settled texts (tables store) on.0 source live_is settled) in
     ((meant, (refl, given)), longer_self texts, settled)
 

@@ -20,7 +20,7 @@ use Rattle.table_meaning.specs.Valid.{AreHeadings, IsWhole}
 use Rattle.table_meaning.specs.Value.{Entry}
 use Rattle.form_meaning.specs.Finish.{first_repeated, unless_repeated, limited, finished}
 use Rattle.form_meaning.specs.Select.{heading_at, columns_frame}
-use Rattle.select_meaning.specs.Select.{column_rows, cut, as_series}
+use Rattle.select_meaning.specs.Select.{column_rows, cut, without_leading, as_series}
 use Rattle.frame_store.specs.Parts.{HeadingList, table_with}
 use Rattle.frame_store.specs.Shown.{headings_value}
 use Rattle.frame_store.specs.World.{world, IsSettledWorld, Forms}
@@ -32,14 +32,14 @@ use Rattle.selections.specs.Selected.{heading_of, headings_at}
 use Rattle.selections.specs.Headings.{NamesRepeated, repeated_heading}
 use Rattle.selections.specs.Chosen.{cells_at, chosen, AreSettledHeadings}
 use Rattle.selections.specs.Picked.{headed_by}
-use Rattle.selections.specs.Plans.{AreTakenBelow, CanTake}
+use Rattle.selections.specs.Plans.{rows_in, levels_lost, AreTakenFrom, taken_table, CanTake}
 use Rattle.selections.specs.declared.planning.Taken.{Taken}
 use Rattle.selections.proofs.AnswerLaws.{column_seen, own_name, own_labels}
 use Rattle.selections.proofs.HeadingLaws.{repeated_seen, different}
 use Rattle.selections.proofs.PickedLaws.{list_is, places_inside, places_count}
 use Rattle.selections.proofs.PlaceLaws.{heading_seen, heading_settled}
 use Rattle.selections.proofs.RefusalLaws.{repeated_settled}
-use Rattle.selections.proofs.TakenLaws.{labels_seen, columns_seen}
+use Rattle.selections.proofs.TakenLaws.{labels_seen, columns_seen, taken_seen}
 
 -- the headings of columns
 headings_seen : (texts : List Text) (t : NumberedTable) (places : List ℕ) → headings_value texts (headings_at t places) ≡ map (heading_at (table_value texts t)) places
@@ -79,6 +79,17 @@ module _ (texts : List Text) (rows columns : List ℕ) (t : NumberedTable) where
       ap (λ (h : HeadingList). table_value texts (chosen Frame h rows columns t)) is
       ∙ cut_seen Frame t.columns_name
       ∙ ap (λ (s : Shape). record (cut (table_value texts t) rows columns) { shape = s }) (sym frame)
+
+-- what is taken, as a Series and as a frame
+module _ (texts : List Text) (taken : Taken) (columns : List ℕ) (t : NumberedTable) where
+  abbrev lost : Table → Table
+  lost = without_leading (levels_lost taken)
+
+  pub series_shown : (headings : HeadingList) → headings ≡ headings_with None t columns → table_value texts (taken_table Series headings taken columns t) ≡ as_series (lost (cut (table_value texts t) (rows_in taken) columns))
+  series_shown headings is = taken_seen texts Series headings taken columns t ∙ ap lost (series_seen texts (rows_in taken) columns t headings is)
+
+  frame_shown : (headings : HeadingList) → headings ≡ headings_with t.columns_name t columns → t.shape ≡ Frame → table_value texts (taken_table Frame headings taken columns t) ≡ lost (cut (table_value texts t) (rows_in taken) columns)
+  frame_shown headings is frame = taken_seen texts Frame headings taken columns t ∙ ap lost (frame_seen texts (rows_in taken) columns t headings is frame)
 
 -- all rows of some columns
 rows_all : {C : Type 0} (d : C) (n : ℕ) (c : ColumnOf C) → length c.cells ≡ n → record { kind = c.kind; cells = map (λ row. slice_index_or c.cells row d) (range_with_len 0 n) } ≡ c
@@ -126,7 +137,7 @@ abbrev pub own_headings : NumberedTable → HeadingList
 own_headings t = record { columns_name = t.columns_name; labels = t.headings }
 
 -- each may be taken
-pub series_taken : (t : NumberedTable) (rows : Taken) (columns : List ℕ) (headings : HeadingList) → AreTakenBelow (length t.labels) rows → All (λ place. place < length t.columns) columns → length columns ≡ 1
+pub series_taken : (t : NumberedTable) (rows : Taken) (columns : List ℕ) (headings : HeadingList) → AreTakenFrom t rows → All (λ place. place < length t.columns) columns → length columns ≡ 1
     → headings ≡ headings_with None t columns → CanTake Series headings rows columns t
 series_taken t rows columns headings rows_below columns_below one is =
     let count : length (headings_at t columns) ≡ length columns = length-map columns (heading_of t) in
@@ -137,7 +148,7 @@ series_taken t rows columns headings rows_below columns_below one is =
       fit = subst (λ (h : HeadingList). AreHeadings Series h.columns_name h.labels) (sym is) (record { single = λ e. count ∙ one; nameless = λ e. refl; labelled = λ e. cc; different = λ e. cc });
     }
 
-pub frame_taken : (t : NumberedTable) (rows : Taken) (columns : List ℕ) (headings : HeadingList) → IsWhole t → t.shape ≡ Frame → AreTakenBelow (length t.labels) rows → All (λ place. place < length t.columns) columns
+pub frame_taken : (t : NumberedTable) (rows : Taken) (columns : List ℕ) (headings : HeadingList) → IsWhole t → t.shape ≡ Frame → AreTakenFrom t rows → All (λ place. place < length t.columns) columns
     → headings ≡ headings_with t.columns_name t columns → repeated_heading (headings_at t columns) ≡ None → CanTake Frame headings rows columns t
 frame_taken t rows columns headings whole frame rows_below columns_below is none =
     let below : All (λ p. p < length t.headings) columns = subst (λ (n : ℕ). All (λ p. p < n) columns) (sym whole.headed) columns_below in
@@ -149,7 +160,7 @@ frame_taken t rows columns headings whole frame rows_below columns_below is none
       fit = subst (λ (h : HeadingList). AreHeadings Frame h.columns_name h.labels) (sym is) (record { single = λ e. cc; nameless = λ e. cc; labelled = λ e. some; different = λ e. different (headings_at t columns) some none });
     }
 
-pub all_taken : (shape : Shape) (t : NumberedTable) (rows : Taken) (columns : List ℕ) (headings : HeadingList) → shape ≡ t.shape → IsWhole t → AreTakenBelow (length t.labels) rows → headings ≡ own_headings t → columns ≡ range_with_len 0 (length t.columns)
+pub all_taken : (shape : Shape) (t : NumberedTable) (rows : Taken) (columns : List ℕ) (headings : HeadingList) → shape ≡ t.shape → IsWhole t → AreTakenFrom t rows → headings ≡ own_headings t → columns ≡ range_with_len 0 (length t.columns)
     → CanTake shape headings rows columns t
 all_taken shape t rows columns headings same whole rows_below own all =
     record {
@@ -173,20 +184,22 @@ own_given texts t headings own settled = (own_name texts t headings own settled,
 abbrev unless_again : Table → Option LabelValue → Result Entry FaultValue
 unless_again t o = unless_repeated o (limited t)
 
-finished_is : (texts : List Text) (t : NumberedTable) (rows columns : List ℕ) (found : Option Label) → AreDistinct texts → IsSettled headings_value texts t.headings → repeated_heading (headings_at t columns) ≡ found
-    → finished (cut (table_value texts t) rows columns) ≡ unless_again (cut (table_value texts t) rows columns) (heading_value texts found)
-finished_is texts t rows columns found distinct settled is =
-    ap (unless_again (cut (table_value texts t) rows columns))
+finished_is : (texts : List Text) (t : NumberedTable) (lost : ℕ) (rows columns : List ℕ) (found : Option Label) → AreDistinct texts → IsSettled headings_value texts t.headings → repeated_heading (headings_at t columns) ≡ found
+    → finished (without_leading lost (cut (table_value texts t) rows columns)) ≡ unless_again (without_leading lost (cut (table_value texts t) rows columns)) (heading_value texts found)
+finished_is texts t lost rows columns found distinct settled is =
+    ap (unless_again (without_leading lost (cut (table_value texts t) rows columns)))
     (ap first_repeated (sym (headings_seen texts t columns)) ∙ sym (repeated_seen texts (headings_at t columns) distinct (headings_settled texts t columns settled)) ∙ ap (heading_value texts) is)
 
-pub frame_meant : (texts : List Text) (t : NumberedTable) (rows columns : List ℕ) (headings : HeadingList) → AreDistinct texts → IsSettled headings_value texts t.headings → t.shape ≡ Frame → headings ≡ headings_with t.columns_name t columns
-    → repeated_heading (headings_at t columns) ≡ None → limited (table_value texts (chosen Frame headings rows columns t)) ≡ finished (cut (table_value texts t) rows columns)
-frame_meant texts t rows columns headings distinct settled frame is none = ap limited (frame_seen texts rows columns t headings is frame) ∙ sym (finished_is texts t rows columns None distinct settled none)
+pub frame_meant : (texts : List Text) (t : NumberedTable) (taken : Taken) (columns : List ℕ) (headings : HeadingList) → AreDistinct texts → IsSettled headings_value texts t.headings → t.shape ≡ Frame → headings ≡ headings_with t.columns_name t columns
+    → repeated_heading (headings_at t columns) ≡ None
+    → limited (table_value texts (taken_table Frame headings taken columns t)) ≡ finished (without_leading (levels_lost taken) (cut (table_value texts t) (rows_in taken) columns))
+frame_meant texts t taken columns headings distinct settled frame is none =
+    ap limited (frame_shown texts taken columns t headings is frame) ∙ sym (finished_is texts t (levels_lost taken) (rows_in taken) columns None distinct settled none)
 
-pub frame_refused : (texts : List Text) (store : Store) (t : NumberedTable) (rows columns : List ℕ) (why : OpFault) → AreDistinct texts → IsSettled headings_value texts t.headings → NamesRepeated why (repeated_heading (headings_at t columns))
-    → IsSettledWorld (world store texts) → Forms (Err why) (finished (cut (table_value texts t) rows columns)) (world store texts) (world store texts)
-frame_refused texts store t rows columns (Refused code) distinct settled named left =
-    let meant = finished_is texts t rows columns (Some named.0) distinct settled named.1 ∙ ap (λ c. Err (fault_of texts c)) (sym named.2) in
+pub frame_refused : (texts : List Text) (store : Store) (t : NumberedTable) (lost : ℕ) (rows columns : List ℕ) (why : OpFault) → AreDistinct texts → IsSettled headings_value texts t.headings → NamesRepeated why (repeated_heading (headings_at t columns))
+    → IsSettledWorld (world store texts) → Forms (Err why) (finished (without_leading lost (cut (table_value texts t) rows columns))) (world store texts) (world store texts)
+frame_refused texts store t lost rows columns (Refused code) distinct settled named left =
+    let meant = finished_is texts t lost rows columns (Some named.0) distinct settled named.1 ∙ ap (λ c. Err (fault_of texts c)) (sym named.2) in
     let given = repeated_settled texts code (headings_at t columns) named.0 named.1 named.2 (headings_settled texts t columns settled) in
     (((meant, given), refl), longer_self texts, left)
-frame_refused texts store t rows columns NoMemory distinct settled named left = (refl, longer_self texts, left)
+frame_refused texts store t lost rows columns NoMemory distinct settled named left = (refl, longer_self texts, left)

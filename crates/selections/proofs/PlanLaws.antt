@@ -1,6 +1,6 @@
 -- Plans of selections.
-use Rattle.std.proofs.Common.{◌≡◌, ◌∙◌, ap, sym, subst, arith, ℕ, suc, ◌+◌, ◌-◌, ◌*◌, ◌<◌, ℤ, pos, negsuc, List, [], ◌∷◌, map, length, slice_index_or, All, Option, Some, Result, Ok, Err, nat_eq, if◌then◌else◌}
-use Rattle.std.specs.Prelude.{IfSome, slice_get}
+use Rattle.std.proofs.Common.{◌≡◌, ◌∙◌, refl, ap, sym, subst, arith, ℕ, suc, ◌+◌, ◌-◌, ◌*◌, ◌<◌, ◌≤◌, ℤ, pos, negsuc, List, [], ◌∷◌, map, drop, length, slice_index_or, All, Option, Some, Result, Ok}
+use Rattle.std.specs.Prelude.{IfSome, is_some, slice_get}
 use Rattle.std.specs.List.{range_with_len}
 use Rattle.std.proofs.lemmas.List.{length-map}
 use Rattle.std.proofs.lemmas.List.FromFn.{length-range_with_len}
@@ -15,26 +15,39 @@ use Rattle.indexers.proofs.SpanLaws.{all_listed}
 use Rattle.multi_index.specs.Axes.{AxisValue, taken_axis}
 use Rattle.pick_meaning.specs.Rows.{rows_of}
 use Rattle.meaning.specs.Text.{Text}
-use Rattle.meaning.specs.Fault.{FaultValue, not_built, then_value}
-use Rattle.table_meaning.specs.Table.{NumberedTable, table_value, heading_value}
-use Rattle.select_meaning.specs.Keys.{Reach, on_one_level}
-use Rattle.select_meaning.specs.Select.{picked_result, shown_as, cut}
-use Rattle.selections.specs.Plans.{rows_in, AreTakenBelow, has_single_row, has_single_column, reach_of_plan, IsPlanFor}
+use Rattle.meaning.specs.Cell.{LabelValue}
+use Rattle.meaning.specs.Fault.{FaultValue, then_value}
+use Rattle.table_meaning.specs.Table.{NumberedTable, Table, table_value}
+use Rattle.select_meaning.specs.Keys.{Reach}
+use Rattle.select_meaning.specs.Select.{picked_result, shown_as, cut, without_leading}
+use Rattle.selections.specs.Plans.{TakesPicked, has_single_row, has_single_column, reach_of_plan, IsPlanFor}
 use Rattle.selections.specs.declared.reaching.Reach.{Reach as CodeReach}
 use Rattle.selections.specs.declared.planning.Taken.{Taken}
+use Rattle.selections.specs.declared.planning.Taken.TheVariants.{Slice, Listed, Under}
 use Rattle.selections.specs.declared.planning.Form.{Form}
 use Rattle.selections.specs.declared.planning.Plan.{Plan}
 use Rattle.selections.specs.Reaches.{PicksBelow, ReachesWithin, reach_value}
 use Rattle.selections.proofs.PickedLaws.{list_is}
 
--- a slice that was picked is the rows that were picked
-pub taken_span : (count : ℕ) (picked : Picked) (span : Rows) → picked.span ≡ Some span → PicksBelow count picked → (rows_of span ≡ picked.places) × AreRowsBelow span count
-taken_span count picked span is picks =
-    let spaced : AreSpan count picked.places span = subst (λ (o : Option Rows). IfSome o (AreSpan count picked.places)) is picks.spanned in
-    (spaced.listed, spaced.below)
+-- a table that loses no level
+pub without_none : (t : Table) → without_leading 0 t ≡ t
+without_none t = ap (λ (l : List (List LabelValue)). record t { labels = l }) (each t.labels)
+  where
+    each : (tuples : List (List LabelValue)) → map (drop 0) tuples ≡ tuples
+    each [] = refl
+    each (tuple ∷ tuples) = ap (λ (l : List (List LabelValue)). tuple ∷ l) (each tuples)
 
-pub taken_list : (count : ℕ) (picked : Picked) → PicksBelow count picked → All (λ row. row < count) picked.places
-taken_list count picked picks = picks.below
+-- the rows that were picked: a slice, those under leading labels, and a list
+pub taken_span : (t : NumberedTable) (picked : Picked) (span : Rows) → picked.span ≡ Some span → PicksBelow (length t.labels) picked → TakesPicked t picked (Slice span)
+taken_span t picked span is picks =
+    let spaced : AreSpan (length t.labels) picked.places span = subst (λ (o : Option Rows). IfSome o (AreSpan (length t.labels) picked.places)) is picks.spanned in
+    record { rows = spaced.listed; lost = sym (picks.kept (ap is_some is)); within = spaced.below }
+
+pub taken_under : (t : NumberedTable) (picked : Picked) → PicksBelow (length t.labels) picked → picked.dropped < length t.level_names → TakesPicked t picked (Under picked.places picked.dropped)
+taken_under t picked picks left = record { rows = refl; lost = refl; within = (picks.below, left) }
+
+pub taken_list : (t : NumberedTable) (picked : Picked) → picked.dropped ≤ 0 → PicksBelow (length t.labels) picked → TakesPicked t picked (Listed picked.places)
+taken_list t picked none picks = record { rows = refl; lost = omega (arith, none); within = picks.below }
 
 -- all rows of an axis are the axis
 pub whole_axis : (axis : AxisValue) (rows : Rows) → rows.start ≡ 0 → rows.step ≡ pos 1 → rows.count ≡ length axis.tuples → taken_axis axis (rows_of rows) ≡ axis
@@ -76,32 +89,26 @@ span_count rows = sym (length-map (range_with_len 0 rows.count) (place_from rows
 
 -- a plan takes what is reached
 module _ (reach : CodeReach) (taken : Taken) (form : Form) (row : has_single_row form ≡ reach.rows.single) (column : has_single_column form ≡ reach.columns.single)
-    (taken_is : (count : ℕ) → PicksBelow count reach.rows → (rows_in taken ≡ reach.rows.places) × AreTakenBelow count taken) (t : NumberedTable) (within : ReachesWithin t reach) where
+    (t : NumberedTable) (within : ReachesWithin t reach) (takes : TakesPicked t reach.rows taken) where
   abbrev plan : Plan
   plan = record { rows = taken; columns = reach.columns.places; form = form }
 
   pub plan_is : (texts : List Text) → picked_result (table_value texts t) (reach_of_plan plan) ≡ picked_result (table_value texts t) (reach_value texts reach)
-  plan_is texts =
-      let here = (taken_is (length t.labels) within.rows).0 in
-      λ j. shown_as (row j) (column j) (cut (table_value texts t) (here j) reach.columns.places)
+  plan_is texts = λ j. shown_as (row j) (column j) (without_leading (takes.lost j) (cut (table_value texts t) (takes.rows j) reach.columns.places))
 
-  pub plan_whole : length t.level_names ≡ 1 → IsPlanFor t plan
-  plan_whole one_level =
-      let here = taken_is (length t.labels) within.rows in
+  pub plan_whole : IsPlanFor t plan
+  plan_whole =
       record {
-        rows = here.1;
+        rows = takes.within;
         columns = within.columns.below;
-        one_row = λ single. ap (λ (l : List ℕ). length l) here.0 ∙ within.rows.one (sym row ∙ single);
-        one_level = λ single. one_level;
+        one_row = λ single. ap (λ (l : List ℕ). length l) takes.rows ∙ within.rows.one (sym row ∙ single);
+        whole_row = λ single. takes.lost ∙ within.rows.whole (sym row ∙ single);
         one_column = λ single. within.columns.one (sym column ∙ single);
         frame = λ several. within.frame (sym column ∙ several);
       }
 
--- on one level, what is reached is what is taken
-pub reached_plan : (texts : List Text) (t : NumberedTable) (meant_reach : Result Reach FaultValue) (reach : CodeReach) (plan : Plan) → length t.level_names ≡ 1 → meant_reach ≡ Ok (reach_value texts reach)
+-- what is reached is what is taken
+pub reached_plan : (texts : List Text) (t : NumberedTable) (meant_reach : Result Reach FaultValue) (reach : CodeReach) (plan : Plan) → meant_reach ≡ Ok (reach_value texts reach)
     → picked_result (table_value texts t) (reach_of_plan plan) ≡ picked_result (table_value texts t) (reach_value texts reach)
-    → then_value (on_one_level (table_value texts t) meant_reach) (picked_result (table_value texts t)) ≡ picked_result (table_value texts t) (reach_of_plan plan)
-reached_plan texts t meant_reach reach plan one_level is same =
-    let T = table_value texts t in
-    ap (λ (n : ℕ). then_value (if nat_eq n 1 then meant_reach else Err not_built) (picked_result T)) (length-map t.level_names (heading_value texts) ∙ one_level)
-    ∙ ap (λ r. then_value r (picked_result T)) is ∙ sym same
+    → then_value meant_reach (picked_result (table_value texts t)) ≡ picked_result (table_value texts t) (reach_of_plan plan)
+reached_plan texts t meant_reach reach plan is same = ap (λ r. then_value r (picked_result (table_value texts t))) is ∙ sym same

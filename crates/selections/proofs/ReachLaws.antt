@@ -48,10 +48,14 @@ use Rattle.pick_meaning.specs.Masks.{is_kept, masked_rows}
 use Rattle.pick_meaning.proofs.SeenLaws.{masked_rows-map}
 use Rattle.select_meaning.specs.Keys as meant
 use Rattle.select_meaning.specs.Keys.{found_pick, found_labels, once, Reach}
-use Rattle.selections.specs.Reaches.{label_key_value, tuples_value, pick_value, found_result, object_key, heading_tuple, columns_axis, is_row, is_series}
+use Rattle.selections.specs.Reaches.{label_key_value, tuples_value, pick_value, found_result, object_key, heading_tuple, columns_axis, is_row, is_series, CanPick, CanSelect}
 use Rattle.selections.proofs.AnswerLaws.{column_seen}
 use Rattle.selections.proofs.PickedLaws.{list_is}
 use Rattle.selections.proofs.SeenKeys.{IsGivenTuple, tuples_given, tuples_same, mask_in, found_seen}
+
+-- a table of one level is one whose rows have labels on each level
+pub can_select : (texts : List Text) (t : NumberedTable) → CanPick texts t → CanSelect texts t
+can_select texts t c = record { known = c.known; levels = subst (λ (n : ℕ). HaveLevels n t.labels) (sym c.one) c.levels }
 
 -- a refusal before the last step
 pub refused_then : {X Y A B : Type 0} (v : List Text → X → A) (w : List Text → Y → B) (texts : List Text) (why : OpFault) (m : Result A FaultValue) (go : A → Result B FaultValue)
@@ -64,28 +68,35 @@ abbrev ok_or : {A : Type 0} → A → Result A FaultValue → A
 ok_or d (Ok a) = a
 ok_or d (Err f) = d
 
-pub key_settled : (texts : List Text) (sub : List Text → GivenSub) (k : LocKey) → ((ts : List Text) → meant.label_key 1 (sub ts) ≡ Ok (label_key_value ts k)) → ((more : List Text) → sub (texts ++ more) ≡ sub texts)
+pub key_settled : (texts : List Text) (levels : ℕ) (sub : List Text → GivenSub) (k : LocKey) → ((ts : List Text) → meant.label_key levels (sub ts) ≡ Ok (label_key_value ts k)) → ((more : List Text) → sub (texts ++ more) ≡ sub texts)
     → IsSettled label_key_value texts k
-key_settled texts sub k is settled = λ more. ap (ok_or (label_key_value texts k)) (sym (is (texts ++ more)) ∙ ap (meant.label_key 1) (settled more) ∙ is texts)
+key_settled texts levels sub k is settled = λ more. ap (ok_or (label_key_value texts k)) (sym (is (texts ++ more)) ∙ ap (meant.label_key levels) (settled more) ∙ is texts)
 
-pub whole_settled : (texts : List Text) (sub : List Text → GivenSub) (label : List Label) → ((ts : List Text) → meant.whole_key 1 (sub ts) ≡ Ok (tuple_value ts label)) → ((more : List Text) → sub (texts ++ more) ≡ sub texts)
+pub whole_settled : (texts : List Text) (levels : ℕ) (sub : List Text → GivenSub) (label : List Label) → ((ts : List Text) → meant.whole_key levels (sub ts) ≡ Ok (tuple_value ts label)) → ((more : List Text) → sub (texts ++ more) ≡ sub texts)
     → IsGivenTuple texts label
-whole_settled texts sub label is settled = λ more. ap (ok_or (tuple_value texts label)) (sym (is (texts ++ more)) ∙ ap (meant.whole_key 1) (settled more) ∙ is texts)
+whole_settled texts levels sub label is settled = λ more. ap (ok_or (tuple_value texts label)) (sym (is (texts ++ more)) ∙ ap (meant.whole_key levels) (settled more) ∙ is texts)
+
+-- two keys that are settled are one that is
+pub joined_settled : (texts : List Text) (by : Accessor) (levels : ℕ) (first second key : List Text → GivenSub) → ((ts : List Text) → meant.joined_key by levels (first ts) (second ts) ≡ Ok (key ts)) → ((more : List Text) → first (texts ++ more) ≡ first texts)
+    → ((more : List Text) → second (texts ++ more) ≡ second texts) → (more : List Text) → key (texts ++ more) ≡ key texts
+joined_settled texts by levels first second key is before after =
+    λ more. ap (ok_or (key texts)) (sym (is (texts ++ more)) ∙ (λ j. meant.joined_key by levels (before more j) (after more j)) ∙ is texts)
 
 -- the rows of a label of `at`
-module _ (texts : List Text) (t : NumberedTable) (axis : AxisValue) (sub : List Text → GivenSub) (label copy : List Label) (one_level : length t.level_names ≡ 1) (same_axis : axis ≡ axis_of t)
-    (is : (ts : List Text) → meant.whole_key 1 (sub ts) ≡ Ok (tuple_value ts label)) (copied : copy ≡ label) (settled : (more : List Text) → sub (texts ++ more) ≡ sub texts) where
+module _ (texts : List Text) (t : NumberedTable) (axis : AxisValue) (levels : ℕ) (sub : List Text → GivenSub) (label copy : List Label) (count : levels ≡ length t.level_names) (same_axis : axis ≡ axis_of t)
+    (is : (ts : List Text) → meant.whole_key levels (sub ts) ≡ Ok (tuple_value ts label)) (copied : copy ≡ label) (settled : (more : List Text) → sub (texts ++ more) ≡ sub texts) where
   abbrev found_at : List Label → AxisValue → Result Pick FaultValue
-  found_at l a = found_labels 1 (tuples_value texts a.tuples) (label_key_value texts (key.One l))
+  found_at l a = found_labels (length a.names) (tuples_value texts a.tuples) (label_key_value texts (key.One l))
 
   at_is : meant.at_rows (table_value texts t) (sub texts) ≡ then_value (found_at copy axis) (once (tuple_value texts label))
   at_is =
-      ap (λ (n : ℕ). then_value (meant.whole_key n (sub texts)) (λ k. then_value (found_labels n (tuples_value texts t.labels) (one_key k)) (once k))) (length-map t.level_names (heading_value texts) ∙ one_level)
-      ∙ ap (λ r. then_value r (λ k. then_value (found_labels 1 (tuples_value texts t.labels) (one_key k)) (once k))) (is texts)
+      ap (λ (n : ℕ). then_value (meant.whole_key n (sub texts)) (λ k. then_value (found_labels n (tuples_value texts t.labels) (one_key k)) (once k))) (length-map t.level_names (heading_value texts) ∙ sym count)
+      ∙ ap (λ r. then_value r (λ k. then_value (found_labels levels (tuples_value texts t.labels) (one_key k)) (once k))) (is texts)
+      ∙ ap (λ (n : ℕ). then_value (found_labels n (tuples_value texts t.labels) (one_key (tuple_value texts label))) (once (tuple_value texts label))) count
       ∙ (λ j. then_value (found_at (sym copied j) (sym same_axis j)) (once (tuple_value texts label)))
 
   given_copy : IsSettled label_key_value texts (key.One copy)
-  given_copy = subst (λ (l : List Label). IsSettled label_key_value texts (key.One l)) (sym copied) (λ more. ap (λ l. one_key l) (whole_settled texts sub label is settled more))
+  given_copy = subst (λ (l : List Label). IsSettled label_key_value texts (key.One l)) (sym copied) (λ more. ap (λ l. one_key l) (whole_settled texts levels sub label is settled more))
 
   pub at_refused : (why : OpFault) → (IsSettled label_key_value texts (key.One copy) → MakesBy pick_value texts (Err why) (found_at copy axis)) → MakesBy pick_value texts (Err why) (meant.at_rows (table_value texts t) (sub texts))
   at_refused why found = subst (MakesBy pick_value texts (Err why)) (sym at_is) (refused_then pick_value pick_value texts why (found_at copy axis) (once (tuple_value texts label)) (found given_copy))
@@ -100,7 +111,7 @@ module _ (texts : List Text) (t : NumberedTable) (axis : AxisValue) (sub : List 
       → (meant.at_rows (table_value texts t) (sub texts) ≡ Err (bad_value (repeated (tuple_value texts label)))) × ((more : List Text) → bad_value (repeated (tuple_value (texts ++ more) label)) ≡ bad_value (repeated (tuple_value texts label)))
   at_repeated picked single found = (
     at_is ∙ ap (λ r. then_value r (once (tuple_value texts label))) (found given_copy) ∙ ap (once_of picked) single,
-    λ more. ap (λ l. bad_value (repeated l)) (whole_settled texts sub label is settled more),
+    λ more. ap (λ l. bad_value (repeated l)) (whole_settled texts levels sub label is settled more),
   )
 
 -- a key that is a mask, and one that isn't
@@ -125,17 +136,39 @@ loc_other t (key_given (many parts)) e = refl
 loc_other t (key_given (entries pairs)) e = refl
 loc_other t (span_given from to by) e = refl
 
-pub loc_is : (texts : List Text) (t : NumberedTable) (sub : GivenSub) → length t.level_names ≡ 1 → None ≡ object_key sub → meant.loc_rows (table_value texts t) sub ≡ meant.label_pick 1 (tuples_value texts t.labels) sub
-loc_is texts t sub one_level none =
-    loc_other (table_value texts t) sub none ∙ ap (λ (n : ℕ). meant.label_pick n (tuples_value texts t.labels) sub) (length-map t.level_names (heading_value texts) ∙ one_level)
+pub loc_is : (texts : List Text) (t : NumberedTable) (levels : ℕ) (sub : GivenSub) → levels ≡ length t.level_names → None ≡ object_key sub → meant.loc_rows (table_value texts t) sub ≡ meant.label_pick levels (tuples_value texts t.labels) sub
+loc_is texts t levels sub count none =
+    loc_other (table_value texts t) sub none ∙ ap (λ (n : ℕ). meant.label_pick n (tuples_value texts t.labels) sub) (length-map t.level_names (heading_value texts) ∙ sym count)
 
-pub loc_found : (texts : List Text) (t : NumberedTable) (axis : AxisValue) (sub : List Text → GivenSub) (k : LocKey) (out : Result Picked OpFault) → length t.level_names ≡ 1 → axis ≡ axis_of t → None ≡ object_key (sub texts)
-    → ((ts : List Text) → meant.label_key 1 (sub ts) ≡ Ok (label_key_value ts k)) → ((more : List Text) → sub (texts ++ more) ≡ sub texts)
-    → (IsSettled label_key_value texts k → MakesBy pick_value texts out (found_labels 1 (tuples_value texts axis.tuples) (label_key_value texts k))) → MakesBy pick_value texts out (meant.loc_rows (table_value texts t) (sub texts))
-loc_found texts t axis sub k out one_level same_axis none is settled found =
+pub loc_refused : (texts : List Text) (t : NumberedTable) (levels : ℕ) (sub : GivenSub) (why : OpFault) → levels ≡ length t.level_names → None ≡ object_key sub → MakesBy label_key_value texts (Err why) (meant.label_key levels sub)
+    → MakesBy pick_value texts (Err why) (meant.loc_rows (table_value texts t) sub)
+loc_refused texts t levels sub why count none refused =
+    subst (MakesBy pick_value texts (Err why)) (sym (loc_is texts t levels sub count none)) (refused_then label_key_value pick_value texts why (meant.label_key levels sub) (found_labels levels (tuples_value texts t.labels)) refused)
+
+pub loc_found : (texts : List Text) (t : NumberedTable) (axis : AxisValue) (levels : ℕ) (sub : List Text → GivenSub) (k : LocKey) (out : Result Picked OpFault) → levels ≡ length t.level_names → axis ≡ axis_of t → None ≡ object_key (sub texts)
+    → ((ts : List Text) → meant.label_key levels (sub ts) ≡ Ok (label_key_value ts k)) → ((more : List Text) → sub (texts ++ more) ≡ sub texts)
+    → (IsSettled label_key_value texts k → MakesBy pick_value texts out (found_labels (length axis.names) (tuples_value texts axis.tuples) (label_key_value texts k))) → MakesBy pick_value texts out (meant.loc_rows (table_value texts t) (sub texts))
+loc_found texts t axis levels sub k out count same_axis none is settled found =
     subst (MakesBy pick_value texts out)
-    (ap (λ (a : AxisValue). found_labels 1 (tuples_value texts a.tuples) (label_key_value texts k)) same_axis ∙ ap (λ r. then_value r (found_labels 1 (tuples_value texts t.labels))) (sym (is texts)) ∙ sym (loc_is texts t (sub texts) one_level none))
-    (found (key_settled texts sub k is settled))
+    (ap (λ (a : AxisValue). found_labels (length a.names) (tuples_value texts a.tuples) (label_key_value texts k)) same_axis
+    ∙ ap (λ (n : ℕ). found_labels n (tuples_value texts t.labels) (label_key_value texts k)) (sym count)
+    ∙ ap (λ r. then_value r (found_labels levels (tuples_value texts t.labels))) (sym (is texts))
+    ∙ sym (loc_is texts t levels (sub texts) count none))
+    (found (key_settled texts levels sub k is settled))
+
+-- two keys of a Series
+abbrev rows_joined : Accessor → Table → GivenSub → GivenSub → ℕ → Result Pick FaultValue
+rows_joined by t first second levels = then_value (meant.joined_key by levels first second) (meant.rows_by by t)
+
+module _ (texts : List Text) (t : NumberedTable) (by : Accessor) (levels : ℕ) (first second : GivenSub) (count : levels ≡ length t.level_names) where
+  two_are : rows_joined by (table_value texts t) first second levels ≡ meant.rows_by_two by (table_value texts t) first second
+  two_are = ap (rows_joined by (table_value texts t) first second) (count ∙ sym (length-map t.level_names (heading_value texts)))
+
+  pub two_refused : {X : Type 0} (view : List Text → X → GivenSub) (why : OpFault) → MakesBy view texts (Err why) (meant.joined_key by levels first second) → MakesBy pick_value texts (Err why) (meant.rows_by_two by (table_value texts t) first second)
+  two_refused view why refused = subst (MakesBy pick_value texts (Err why)) two_are (refused_then view pick_value texts why (meant.joined_key by levels first second) (meant.rows_by by (table_value texts t)) refused)
+
+  pub two_found : (k : GivenSub) (out : Result Picked OpFault) → meant.joined_key by levels first second ≡ Ok k → MakesBy pick_value texts out (meant.rows_by by (table_value texts t) k) → MakesBy pick_value texts out (meant.rows_by_two by (table_value texts t) first second)
+  two_found k out is found = subst (MakesBy pick_value texts out) (sym (ap (λ r. then_value r (meant.rows_by by (table_value texts t))) is) ∙ two_are) found
 
 -- masks
 kept_is : (texts : List Text) (c : Cell) → is_kept (datum texts c) ≡ is_true c
@@ -168,18 +201,17 @@ mask_rows texts t m marks = found_pick (masked_rows same_tuple (tuples_value tex
 abbrev listed : Result (List ℕ) FaultValue → Result Pick FaultValue
 listed r = then_value r (λ rows. Ok (listed_pick rows))
 
-mask_is : (texts : List Text) (t m : NumberedTable) → is_frame m.shape ≡ false → (column_at m.columns 0).kind ≡ Boolean → length m.level_names ≡ 1 → length (column_at m.columns 0).cells ≡ length m.labels
+mask_is : (texts : List Text) (t m : NumberedTable) → is_frame m.shape ≡ false → (column_at m.columns 0).kind ≡ Boolean → length (column_at m.columns 0).cells ≡ length m.labels
     → meant.mask_pick (table_value texts t) (table_value texts m) ≡ listed (mask_rows texts t m (map is_true (column_at m.columns 0).cells))
-mask_is texts t m shape kind one_level filled =
+mask_is texts t m shape kind filled =
     let T = table_value texts t in
     let M = table_value texts m in
     let boolean : is_boolean (column_at (columns_value texts m.columns) 0).kind ≡ true = ap (λ (c : ColumnOf CellValue). is_boolean c.kind) (column_seen texts m.columns 0) ∙ ap is_boolean kind in
-    ap (λ b. if b then meant.on_one_level M (listed (mask_rows texts t m (meant.marks_of M))) else Err wrong_kind) (λ j. not (shape j) && boolean j)
-    ∙ ap (λ (n : ℕ). if nat_eq n 1 then listed (mask_rows texts t m (meant.marks_of M)) else Err not_built) (length-map m.level_names (heading_value texts) ∙ one_level)
+    ap (λ b. if b then listed (mask_rows texts t m (meant.marks_of M)) else Err wrong_kind) (λ j. not (shape j) && boolean j)
     ∙ ap (λ marks. listed (mask_rows texts t m marks)) (marks_seen texts m filled)
 
 module _ (texts : List Text) (t m : NumberedTable) (axis mask_axis : AxisValue) (column : CellColumn) (r : Result (List ℕ) KeyFault) (distinct : AreDistinct texts)
-    (given : IsSettled tuples_value texts t.labels) (mask_given : IsSettled tuples_value texts m.labels) (shape : is_frame m.shape ≡ false) (boolean : column.kind ≡ Boolean) (one_level : length m.level_names ≡ 1)
+    (given : IsSettled tuples_value texts t.labels) (mask_given : IsSettled tuples_value texts m.labels) (shape : is_frame m.shape ≡ false) (boolean : column.kind ≡ Boolean)
     (same_axis : axis ≡ axis_of t) (mask_same : mask_axis ≡ axis_of m) (at : column_at m.columns 0 ≡ record { kind = column.kind; cells = column.cells }) (filled : length column.cells ≡ length m.labels)
     (picks : PicksBy as_it_is r (masked_rows (pointwise same_number) axis.tuples mask_axis.tuples (map is_true column.cells))) where
   abbrev marks : List Bool
@@ -200,7 +232,7 @@ module _ (texts : List Text) (t m : NumberedTable) (axis mask_axis : AxisValue) 
   this =
       let kind : (column_at m.columns 0).kind ≡ Boolean = ap (λ (c : ColumnOf Cell). c.kind) at ∙ boolean in
       let count : length (column_at m.columns 0).cells ≡ length m.labels = ap (λ (c : ColumnOf Cell). length c.cells) at ∙ filled in
-      mask_is texts t m shape kind one_level count ∙ ap (λ (c : ColumnOf Cell). listed (mask_rows texts t m (map is_true c.cells))) at
+      mask_is texts t m shape kind count ∙ ap (λ (c : ColumnOf Cell). listed (mask_rows texts t m (map is_true c.cells))) at
 
   pub mask_refused : (mask : Table) (out : Result (List ℕ) OpFault) (why : OpFault) → mask ≡ table_value texts m → out ≡ found_result r → out ≡ Err why → MakesBy pick_value texts (Err why) (meant.mask_pick (table_value texts t) mask)
   mask_refused mask out why same is err =
@@ -296,14 +328,14 @@ loc_columns_refused texts t sub why other refused =
 
 pub columns_found : (texts : List Text) (t : NumberedTable) (axis : AxisValue) (places : List ℕ) (sub : List Text → GivenSub) (k : LocKey) (out : Result Picked OpFault) → All IsSome t.headings → places ≡ range_with_len 0 (length t.headings)
     → axis ≡ columns_axis t places → is_row (sub texts) ≡ false → ((ts : List Text) → meant.label_key 1 (sub ts) ≡ Ok (label_key_value ts k)) → ((more : List Text) → sub (texts ++ more) ≡ sub texts)
-    → (IsSettled label_key_value texts k → MakesBy pick_value texts out (found_labels 1 (tuples_value texts axis.tuples) (label_key_value texts k))) → MakesBy pick_value texts out (meant.loc_columns (table_value texts t) (sub texts))
+    → (IsSettled label_key_value texts k → MakesBy pick_value texts out (found_labels (length axis.names) (tuples_value texts axis.tuples) (label_key_value texts k))) → MakesBy pick_value texts out (meant.loc_columns (table_value texts t) (sub texts))
 columns_found texts t axis places sub k out some all same_axis other is settled found =
     subst (MakesBy pick_value texts out)
-    (ap (λ (a : AxisValue). found_labels 1 (tuples_value texts a.tuples) (label_key_value texts k)) same_axis
+    (ap (λ (a : AxisValue). found_labels (length a.names) (tuples_value texts a.tuples) (label_key_value texts k)) same_axis
     ∙ ap (λ tuples. found_labels 1 tuples (label_key_value texts k)) (all_labels texts t places some all)
     ∙ ap (λ r. then_value r (found_labels 1 (column_labels (table_value texts t)))) (sym (is texts))
     ∙ sym (loc_columns_is (table_value texts t) (sub texts) other))
-    (found (key_settled texts sub k is settled))
+    (found (key_settled texts 1 sub k is settled))
 
 -- what isn't a Series is a frame
 pub no_series : (shape : Shape) → is_series shape ≡ false → shape ≡ Frame
@@ -311,12 +343,12 @@ no_series Series e = cc
 no_series Frame e = refl
 
 -- what one key reaches
-module _ (texts : List Text) (t : NumberedTable) (by : Accessor) (sub : GivenSub) (second : Option GivenSub) (rows columns : Picked) (none : second ≡ None) (reached : meant.rows_by by (table_value texts t) sub ≡ Ok (pick_of rows))
+module _ (texts : List Text) (t : NumberedTable) (rows_meant : Result Pick FaultValue) (rows columns : Picked) (reached : rows_meant ≡ Ok (pick_of rows))
     (places : columns.places ≡ range_with_len 0 (length t.columns)) (single : columns.single ≡ is_series t.shape) (sliced : (columns.dropped ≡ 0) × (is_some columns.span ≡ not columns.single)) where
   abbrev reached_of : Pick → Pick → Reach
   reached_of r c = record { rows = r; columns = c }
 
-  pub reach_series : t.shape ≡ Series → length t.columns ≡ 1 → meant.reach_by t.shape by (table_value texts t) sub second ≡ Ok (reached_of (pick_of rows) (pick_of columns))
+  pub reach_series : t.shape ≡ Series → length t.columns ≡ 1 → meant.reach_of rows_meant (Ok meant.only_column) ≡ Ok (reached_of (pick_of rows) (pick_of columns))
   reach_series series one_column =
       let this : single_pick 0 ≡ pick_of columns =
       λ j. record {
@@ -325,12 +357,11 @@ module _ (texts : List Text) (t : NumberedTable) (by : Accessor) (sub : GivenSub
         dropped = sym sliced.0 j;
         sliced = sym (sliced.1 ∙ ap not (single ∙ ap is_series series)) j;
       } in
-      (λ j. meant.reach_by (series j) by (table_value texts t) sub (none j))
-      ∙ ap (λ r. then_value r (λ p. Ok (reached_of p (single_pick 0)))) reached
+      ap (λ r. then_value r (λ p. Ok (reached_of p (single_pick 0)))) reached
       ∙ ap (λ c. Ok (reached_of (pick_of rows) c)) this
 
-  pub reach_frame : t.shape ≡ Frame → meant.may_stand_alone by sub ≡ true → meant.reach_by t.shape by (table_value texts t) sub second ≡ Ok (reached_of (pick_of rows) (pick_of columns))
-  reach_frame frame alone =
+  pub reach_frame : t.shape ≡ Frame → meant.reach_of rows_meant (Ok (meant.all_columns (table_value texts t))) ≡ Ok (reached_of (pick_of rows) (pick_of columns))
+  reach_frame frame =
       let count : length (map (column_value texts) t.columns) ≡ length t.columns = length-map t.columns (column_value texts) in
       let this : meant.all_columns (table_value texts t) ≡ pick_of columns =
       λ j. record {
@@ -339,9 +370,7 @@ module _ (texts : List Text) (t : NumberedTable) (by : Accessor) (sub : GivenSub
         dropped = sym sliced.0 j;
         sliced = sym (sliced.1 ∙ ap not (single ∙ ap is_series frame)) j;
       } in
-      (λ j. meant.reach_by (frame j) by (table_value texts t) sub (none j))
-      ∙ ap (λ b. if b then meant.reach_of (meant.rows_by by (table_value texts t) sub) (Ok (meant.all_columns (table_value texts t))) else Err wrong_kind) alone
-      ∙ ap (λ r. then_value r (λ p. Ok (reached_of p (meant.all_columns (table_value texts t))))) reached
+      ap (λ r. then_value r (λ p. Ok (reached_of p (meant.all_columns (table_value texts t))))) reached
       ∙ ap (λ c. Ok (reached_of (pick_of rows) c)) this
 
 -- the loop of the labels
@@ -355,18 +384,3 @@ loop_done headings places k made all is = is ∙ ap (map (λ place. heading_tupl
 
 pub axis_count : (headings : List (Option Label)) (places : List ℕ) (n : ℕ) → places ≡ range_with_len 0 n → length (map (λ place. heading_tuple (slice_index_or headings place None)) places) ≡ n
 axis_count headings places n all = length-map places (λ place. heading_tuple (slice_index_or headings place None)) ∙ ap (λ (l : List ℕ). length l) all ∙ length-range_with_len 0 n
-
--- what a mask reaches
-pub mask_reached : (texts : List Text) (t : NumberedTable) (m : Table) (rows columns : Picked) → t.shape ≡ Frame → meant.mask_pick (table_value texts t) m ≡ Ok (pick_of rows) → columns.places ≡ range_with_len 0 (length t.columns)
-    → columns.single ≡ is_series t.shape → (columns.dropped ≡ 0) × (is_some columns.span ≡ not columns.single)
-    → meant.reach_of (meant.mask_pick (table_value texts t) m) (Ok (meant.all_columns (table_value texts t))) ≡ Ok record { rows = pick_of rows; columns = pick_of columns }
-mask_reached texts t m rows columns frame reached places single sliced =
-    let count : length (map (column_value texts) t.columns) ≡ length t.columns = length-map t.columns (column_value texts) in
-    let this : meant.all_columns (table_value texts t) ≡ pick_of columns =
-    λ j. record {
-      rows = (ap (range_with_len 0) count ∙ sym places) j;
-      single = sym (single ∙ ap is_series frame) j;
-      dropped = sym sliced.0 j;
-      sliced = sym (sliced.1 ∙ ap not (single ∙ ap is_series frame)) j;
-    } in
-    ap (λ r. meant.reach_of r (Ok (meant.all_columns (table_value texts t)))) reached ∙ ap (λ (c : Pick). Ok record { rows = pick_of rows; columns = c }) this

@@ -1,11 +1,12 @@
 -- Keys pick by texts what they pick by numbers, and a fault names a label whose text was given its number.
-use Rattle.std.proofs.Common.{◌≡◌, ◌∙◌, refl, ap, sym, subst, arith, ◌<◌, ℕ, ℤ, pos, negsuc, zero, suc, ◌+◌, Bool, true, false, ◌&&◌, nat_eq, nat_lt, List, [], ◌∷◌, ◌++◌, map, length, All, Option, Some, None, Result, Ok, Err, if◌then◌else◌}
+use Rattle.std.proofs.Common.{◌≡◌, ◌∙◌, refl, ap, sym, subst, arith, ◌<◌, ◌≤◌, ◌==◌, ℕ, ℤ, pos, negsuc, zero, suc, ◌+◌, Bool, true, false, ◌&&◌, nat_eq, nat_lt, List, [], ◌∷◌, ◌++◌, map, length, All, Option, Some, None, Result, Ok, Err, if◌then◌else◌}
 use Rattle.std.specs.Prelude.{IfSome, IfOk}
 use Rattle.std.specs.List.{range_with_len}
 use Rattle.std.specs.Option.{option_map}
 use Rattle.std.specs.Ordering.{is_eq, ordering_then}
 use Rattle.std.specs.declared.cmp.Ordering.{Ordering}
 use Rattle.std.specs.Cmp.Lexicographic.{pointwise}
+use Rattle.std.proofs.lemmas.Bool.Decides.{nat_tests}
 use Rattle.std.proofs.lemmas.List.{length-map}
 use Rattle.std.proofs.lemmas.List.Elements.{All-nil, All-cons}
 use Rattle.std.proofs.lemmas.List.FromFn.{length-range_with_len, get_or-range_with_len}
@@ -43,10 +44,10 @@ use Rattle.pick_meaning.specs.Positions.{row_or_fault, row_at, rows_at, slice_wi
 use Rattle.cell_core.specs.declared.grid.Rows.{Rows}
 use Rattle.pick_meaning.specs.Leading.{leads, leading_cmp}
 use Rattle.pick_meaning.specs.Labels.{unless_none, rows_of_key, rows_of_keys}
-use Rattle.pick_meaning.specs.Slices.{is_in_order, sorted_slice, one_row, row_of_bound, first_row, end_row, unsorted_slice, label_slice}
+use Rattle.pick_meaning.specs.Slices.{is_in_order, sorted_slice, one_row, row_of_bound, first_row, end_row, unsorted_slice, label_slice, unfound_slice, leading_slice, slice_on}
 use Rattle.pick_meaning.specs.Masks.{cell_or_fault, cell_of_label, kept_by_label, kept_rows, masked_rows}
 use Rattle.pick_meaning.specs.Keys.{LabelKey, one_key, each_key, between, Pick, has_one, listed_pick, sliced_pick, single_pick, key_pick, picked_by_label, PlaceKey, one_place, each_place, place_slice, picked_by_place}
-use Rattle.pick_meaning.proofs.SeenLaws.{then_seen, rows_of_key-map, rows_of_keys-map, label_slice-map}
+use Rattle.pick_meaning.proofs.SeenLaws.{then_seen, rows_of_key-map, rows_of_keys-map, slice_on-map}
 use Rattle.select_meaning.specs.Keys.{found_pick, found_labels}
 use Rattle.selections.specs.Reaches.{label_key_value, tuples_value, pick_value, found_result, PicksBelow}
 use Rattle.selections.proofs.HeadingLaws.{label_decides, head_settled, rest_settled}
@@ -98,6 +99,25 @@ module _ {K : Type 0} (P : K → Type 0) where
       go true = tt
       go false = then_in (first_row cmp xs lower) (λ first. then_pick (end_row cmp xs upper) (λ end. Ok (rows_between first end))) (first_in cmp xs lower low)
           (λ first. then_in (end_row cmp xs upper) (λ end. Ok (rows_between first end)) (end_in cmp xs upper up) (λ end. tt))
+
+  unfound_in : (lower upper : Option K) (xs : List K) → IfSome lower P → IfSome upper P → FaultIn P (unfound_slice lower upper xs)
+  unfound_in (Some b) upper xs low up = low
+  unfound_in None (Some b) xs low up = up
+  unfound_in None None xs low up = tt
+
+  leading_in : (cmp : K → K → Ordering) (lower upper : Option K) (xs : List K) → IfSome lower P → IfSome upper P → FaultIn P (leading_slice cmp lower upper xs)
+  leading_in cmp lower upper xs low up = go (is_in_order cmp xs)
+    where
+      go : (b : Bool) → FaultIn P (if b then Ok (sorted_slice cmp lower upper xs) else unfound_slice lower upper xs)
+      go true = tt
+      go false = unfound_in lower upper xs low up
+
+  slice_on_in : (levels : ℕ) (cmp : K → K → Ordering) (lower upper : Option K) (xs : List K) → IfSome lower P → IfSome upper P → FaultIn P (slice_on levels cmp lower upper xs)
+  slice_on_in levels cmp lower upper xs low up = go (levels == 1)
+    where
+      go : (b : Bool) → FaultIn P (if b then label_slice cmp lower upper xs else leading_slice cmp lower upper xs)
+      go true = slice_in cmp lower upper xs low up
+      go false = leading_in cmp lower upper xs low up
 
   cell_in : (x : K) (mask : List Bool) (row : Option ℕ) → P x → FaultIn P (cell_or_fault x mask row)
   cell_in x mask None given = given
@@ -157,15 +177,15 @@ keys_given : (texts : List Text) (ks : List (List Label)) → IsSettled label_ke
 keys_given texts ks settled = tuples_given texts ks (λ more. ap each_of (settled more))
 
 -- the fault of a key names a label of the key
-pub key_in : (texts : List Text) (tuples : List (List Label)) (k : LocKey) → IsSettled label_key_value texts k → FaultIn (IsGivenTuple texts) (picked_by_label same_number (order_in texts) 1 tuples (label_key k))
-key_in texts tuples key.All settled = tt
-key_in texts tuples (key.One k) settled =
-    then_in (IsGivenTuple texts) (rows_of_key (leads same_number) tuples k) (λ rows. Ok (key_pick 1 k rows)) (unless_in (IsGivenTuple texts) k (rows_where (leads same_number k) 0 tuples) (key_given texts k settled)) (λ rows. tt)
-key_in texts tuples (key.Many ks) settled =
+pub key_in : (texts : List Text) (levels : ℕ) (tuples : List (List Label)) (k : LocKey) → IsSettled label_key_value texts k → FaultIn (IsGivenTuple texts) (picked_by_label same_number (order_in texts) levels tuples (label_key k))
+key_in texts levels tuples key.All settled = tt
+key_in texts levels tuples (key.One k) settled =
+    then_in (IsGivenTuple texts) (rows_of_key (leads same_number) tuples k) (λ rows. Ok (key_pick levels k rows)) (unless_in (IsGivenTuple texts) k (rows_where (leads same_number k) 0 tuples) (key_given texts k settled)) (λ rows. tt)
+key_in texts levels tuples (key.Many ks) settled =
     then_in (IsGivenTuple texts) (rows_of_keys (leads same_number) tuples ks) (λ rows. Ok (listed_pick rows)) (keys_in (IsGivenTuple texts) (leads same_number) tuples ks (keys_given texts ks settled)) (λ rows. tt)
-key_in texts tuples (key.Span lower upper) settled =
-    then_in (IsGivenTuple texts) (label_slice (leading_cmp (order_in texts)) lower upper tuples) (λ rows. Ok (sliced_pick rows))
-    (slice_in (IsGivenTuple texts) (leading_cmp (order_in texts)) lower upper tuples (bound_given texts lower (λ more. ap lower_of (settled more))) (bound_given texts upper (λ more. ap upper_of (settled more)))) (λ rows. tt)
+key_in texts levels tuples (key.Span lower upper) settled =
+    then_in (IsGivenTuple texts) (slice_on levels (leading_cmp (order_in texts)) lower upper tuples) (λ rows. Ok (sliced_pick rows))
+    (slice_on_in (IsGivenTuple texts) levels (leading_cmp (order_in texts)) lower upper tuples (bound_given texts lower (λ more. ap lower_of (settled more))) (bound_given texts upper (λ more. ap upper_of (settled more)))) (λ rows. tt)
 
 module _ (texts : List Text) (distinct : AreDistinct texts) where
   same_is : (a b : Label) → IsSettled label_datum texts a → IsSettled label_datum texts b → same_label (label_datum texts a) (label_datum texts b) ≡ same_number a b
@@ -190,24 +210,24 @@ module _ (texts : List Text) (distinct : AreDistinct texts) where
   order_is (l ∷ ls) (b ∷ bs) = ap (ordering_then (order_in texts l b)) (order_is ls bs)
 
   -- a key's pick
-  key_pick_seen : (key : List Label) (rows : List ℕ) → key_pick 1 (tuple_value texts key) rows ≡ key_pick 1 key rows
-  key_pick_seen key rows =
-      ap (λ (n : ℕ). record { rows = rows; single = nat_eq n 1 && has_one rows; dropped = if nat_lt n 1 then n else 0; sliced = false }) (length-map key (label_datum texts))
+  key_pick_seen : (levels : ℕ) (key : List Label) (rows : List ℕ) → key_pick levels (tuple_value texts key) rows ≡ key_pick levels key rows
+  key_pick_seen levels key rows =
+      ap (λ (n : ℕ). record { rows = rows; single = nat_eq n levels && has_one rows; dropped = if nat_lt n levels then n else 0; sliced = false }) (length-map key (label_datum texts))
 
-  pub picked_is : (tuples : List (List Label)) (k : LocKey) → All (IsGivenTuple texts) tuples → IsSettled label_key_value texts k
-      → picked_by_label same_label label_cmp 1 (map (tuple_value texts) tuples) (label_key_value texts k) ≡ pick_seen (tuple_value texts) (picked_by_label same_number (order_in texts) 1 tuples (label_key k))
-  picked_is tuples key.All all settled = ap (λ (n : ℕ). Ok (sliced_pick (range_with_len 0 n))) (length-map tuples (tuple_value texts))
-  picked_is tuples (key.One k) all settled =
+  pub picked_is : (levels : ℕ) (tuples : List (List Label)) (k : LocKey) → All (IsGivenTuple texts) tuples → IsSettled label_key_value texts k
+      → picked_by_label same_label label_cmp levels (map (tuple_value texts) tuples) (label_key_value texts k) ≡ pick_seen (tuple_value texts) (picked_by_label same_number (order_in texts) levels tuples (label_key k))
+  picked_is levels tuples key.All all settled = ap (λ (n : ℕ). Ok (sliced_pick (range_with_len 0 n))) (length-map tuples (tuple_value texts))
+  picked_is levels tuples (key.One k) all settled =
       let given : IsGivenTuple texts k = key_given texts k settled in
-      ap (λ r. then_pick r (λ rows. Ok (key_pick 1 (tuple_value texts k) rows))) (rows_of_key-map (IsGivenTuple texts) (leads same_label) (leads same_number) (tuple_value texts) (tuple_value texts) k (λ x there. leads_is k x given there) tuples all)
-      ∙ then_seen (tuple_value texts) (rows_of_key (leads same_number) tuples k) (λ rows. Ok (key_pick 1 k rows)) (λ rows. Ok (key_pick 1 (tuple_value texts k) rows)) (λ rows. ap (λ (p : Pick). Ok p) (key_pick_seen k rows))
-  picked_is tuples (key.Many ks) all settled =
+      ap (λ r. then_pick r (λ rows. Ok (key_pick levels (tuple_value texts k) rows))) (rows_of_key-map (IsGivenTuple texts) (leads same_label) (leads same_number) (tuple_value texts) (tuple_value texts) k (λ x there. leads_is k x given there) tuples all)
+      ∙ then_seen (tuple_value texts) (rows_of_key (leads same_number) tuples k) (λ rows. Ok (key_pick levels k rows)) (λ rows. Ok (key_pick levels (tuple_value texts k) rows)) (λ rows. ap (λ (p : Pick). Ok p) (key_pick_seen levels k rows))
+  picked_is levels tuples (key.Many ks) all settled =
       let given : All (IsGivenTuple texts) ks = keys_given texts ks settled in
       ap (λ r. then_pick r (λ rows. Ok (listed_pick rows))) (rows_of_keys-map (IsGivenTuple texts) (IsGivenTuple texts) (leads same_label) (leads same_number) (tuple_value texts) (tuple_value texts) (λ k x f g. leads_is k x f g) tuples all ks given)
       ∙ then_seen (tuple_value texts) (rows_of_keys (leads same_number) tuples ks) (λ rows. Ok (listed_pick rows)) (λ rows. Ok (listed_pick rows)) (λ rows. refl)
-  picked_is tuples (key.Span lower upper) all settled =
-      ap (λ r. then_pick r (λ rows. Ok (sliced_pick rows))) (label_slice-map (leading_cmp label_cmp) (leading_cmp (order_in texts)) (tuple_value texts) order_is lower upper tuples)
-      ∙ then_seen (tuple_value texts) (label_slice (leading_cmp (order_in texts)) lower upper tuples) (λ rows. Ok (sliced_pick rows)) (λ rows. Ok (sliced_pick rows)) (λ rows. refl)
+  picked_is levels tuples (key.Span lower upper) all settled =
+      ap (λ r. then_pick r (λ rows. Ok (sliced_pick rows))) (slice_on-map (leading_cmp label_cmp) (leading_cmp (order_in texts)) (tuple_value texts) order_is levels lower upper tuples)
+      ∙ then_seen (tuple_value texts) (slice_on levels (leading_cmp (order_in texts)) lower upper tuples) (λ rows. Ok (sliced_pick rows)) (λ rows. Ok (sliced_pick rows)) (λ rows. refl)
 
 -- the same places, whatever the keys are
 place_seen : {K J : Type 0} (f : K → J) (count : ℕ) (z : ℤ) (row : Option ℕ) → row_or_fault count z row ≡ pick_seen f (row_or_fault count z row)
@@ -280,13 +300,13 @@ places_found texts count k r out m is picks here =
     subst (λ (o : Result Picked OpFault). MakesBy pick_value texts o (then_value m (λ key. found_pick (picked_by_place count key)))) (sym is)
     (subst (λ (l : Result PlaceKey FaultValue). MakesBy pick_value texts (found_result r) (then_value l (λ key. found_pick (picked_by_place count key)))) (sym here) seen)
 
-pub labels_found : (texts : List Text) (tuples : List (List Label)) (k : LocKey) (r : Result Picked KeyFault) (out : Result Picked OpFault)
-    → AreDistinct texts → IsSettled tuples_value texts tuples → IsSettled label_key_value texts k → out ≡ found_result r → PicksBy pick_of r (picked_by_label same_number (order_in texts) 1 tuples (label_key k))
-    → MakesBy pick_value texts out (found_labels 1 (tuples_value texts tuples) (label_key_value texts k))
-labels_found texts tuples k r out distinct given settled is picks =
-    let seen = found_seen texts pick_of r (picked_by_label same_number (order_in texts) 1 tuples (label_key k)) (picked_by_label same_label label_cmp 1 (tuples_value texts tuples) (label_key_value texts k)) picks
-    (picked_is texts distinct tuples k (tuples_given texts tuples given) settled) (key_in texts tuples k settled) in
-    subst (λ (o : Result Picked OpFault). MakesBy pick_value texts o (found_labels 1 (tuples_value texts tuples) (label_key_value texts k))) (sym is) seen
+pub labels_found : (texts : List Text) (levels : ℕ) (tuples : List (List Label)) (k : LocKey) (r : Result Picked KeyFault) (out : Result Picked OpFault)
+    → AreDistinct texts → IsSettled tuples_value texts tuples → IsSettled label_key_value texts k → out ≡ found_result r → PicksBy pick_of r (picked_by_label same_number (order_in texts) levels tuples (label_key k))
+    → MakesBy pick_value texts out (found_labels levels (tuples_value texts tuples) (label_key_value texts k))
+labels_found texts levels tuples k r out distinct given settled is picks =
+    let seen = found_seen texts pick_of r (picked_by_label same_number (order_in texts) levels tuples (label_key k)) (picked_by_label same_label label_cmp levels (tuples_value texts tuples) (label_key_value texts k)) picks
+    (picked_is texts distinct levels tuples k (tuples_given texts tuples given) settled) (key_in texts levels tuples k settled) in
+    subst (λ (o : Result Picked OpFault). MakesBy pick_value texts o (found_labels levels (tuples_value texts tuples) (label_key_value texts k))) (sym is) seen
 
 -- all of so many places
 pub range_below : (n : ℕ) → All (λ place. place < n) (range_with_len 0 n)
@@ -301,52 +321,114 @@ columns_within places count n is all =
       below = subst (λ (l : List ℕ). All (λ place. place < n) l) (sym (all ∙ ap (range_with_len 0) is)) (range_below n);
       spanned = record { listed = sym (all ∙ all_listed count count refl); below = subst (λ (m : ℕ). AreRowsBelow record { start = 0; step = pos 1; count = count } m) is (all_rows_below count) };
       one = λ single. cc;
+      whole = λ single. refl;
+      kept = λ sliced. refl;
     }
 
 pub column_within : (places : List ℕ) (count n : ℕ) → count ≡ n → n ≡ 1 → places ≡ range_with_len 0 count → PicksBelow n record { places = places; single = true; dropped = 0; span = None }
-column_within places count n is one_column all = record { one = λ single. ap (λ (l : List ℕ). length l) all ∙ length-range_with_len 0 count ∙ is ∙ one_column; below = subst (λ (l : List ℕ). All (λ place. place < n) l) (sym (all ∙ ap (range_with_len 0) is)) (range_below n); spanned = tt }
+column_within places count n is one_column all = record { whole = λ single. refl; kept = λ sliced. refl; one = λ single. ap (λ (l : List ℕ). length l) all ∙ length-range_with_len 0 count ∙ is ∙ one_column; below = subst (λ (l : List ℕ). All (λ place. place < n) l) (sym (all ∙ ap (range_with_len 0) is)) (range_below n); spanned = tt }
 
--- a single pick is one row
+-- a single pick is one row, it and a slice lose no level, and one of so many levels is left
 one_listed : (rows : List ℕ) → has_one rows ≡ true → length rows ≡ 1
 one_listed [] e = cc
 one_listed (row ∷ []) e = refl
 one_listed (row ∷ (other ∷ rows)) e = cc
 
-second_so : (a b : Bool) → (a && b) ≡ true → b ≡ true
-second_so true b e = e
-second_so false b e = cc
+both_so : (a b : Bool) → (a && b) ≡ true → (a ≡ true) × (b ≡ true)
+both_so true b e = (refl, e)
+both_so false b e = cc
 
-abbrev IsOne : {K : Type 0} → Result Pick (PickFault K) → Type 0
-IsOne (Ok p) = p.single ≡ true → length p.rows ≡ 1
-IsOne (Err f) = Unit {0}
+record IsLeft (levels : ℕ) (p : Pick) : Type 0 where
+  one : p.single ≡ true → length p.rows ≡ 1
+  whole : p.single ≡ true → p.dropped ≡ 0
+  kept : p.sliced ≡ true → p.dropped ≡ 0
+  left : p.dropped < levels
 
-then_one : {A K : Type 0} (r : Result A (PickFault K)) (go : A → Pick) → ((a : A) → (go a).single ≡ true → length (go a).rows ≡ 1) → IsOne (then_pick r (λ a. Ok (go a)))
-then_one (Ok a) go h = h a
-then_one (Err f) go h = tt
+abbrev LeavesBy : {K : Type 0} → ℕ → Result Pick (PickFault K) → Type 0
+LeavesBy levels (Ok p) = IsLeft levels p
+LeavesBy levels (Err f) = Unit {0}
 
-one_by_label : (texts : List Text) (tuples : List (List Label)) (k : LocKey) → IsOne (picked_by_label same_number (order_in texts) 1 tuples (label_key k))
-one_by_label texts tuples key.All = λ e. cc
-one_by_label texts tuples (key.One k) = then_one (rows_of_key (leads same_number) tuples k) (key_pick 1 k) (λ rows e. one_listed rows (second_so (nat_eq (length k) 1) (has_one rows) e))
-one_by_label texts tuples (key.Many ks) = then_one (rows_of_keys (leads same_number) tuples ks) listed_pick (λ rows e. cc)
-one_by_label texts tuples (key.Span lower upper) = then_one (label_slice (leading_cmp (order_in texts)) lower upper tuples) sliced_pick (λ rows e. cc)
+then_left : {A K : Type 0} (levels : ℕ) (r : Result A (PickFault K)) (go : A → Pick) → ((a : A) → IsLeft levels (go a)) → LeavesBy levels (then_pick r (λ a. Ok (go a)))
+then_left levels (Ok a) go h = h a
+then_left levels (Err f) go h = tt
 
-one_by_place : (count : ℕ) (k : PosKey) → IsOne {K = List Label} (picked_by_place count (place_key k))
-one_by_place count (position.One z) = then_one (row_at count z) single_pick (λ row e. refl)
-one_by_place count (position.Many zs) = then_one (rows_at count zs) listed_pick (λ rows e. cc)
-one_by_place count (position.Span from to step) = then_one (position_slice count from to step) (λ rows. sliced_pick (rows_of rows)) (λ rows e. cc)
+full_whole : (n levels : ℕ) → nat_eq n levels ≡ true → (if nat_lt n levels then n else 0) ≡ 0
+full_whole n levels same = by (nat_lt n levels) refl
+  where
+    by : (b : Bool) → nat_lt n levels ≡ b → (if b then n else 0) ≡ 0
+    by true e = grind (arith, nat_tests)
+    by false e = refl
+
+few_left : (n levels : ℕ) → 1 ≤ levels → (if nat_lt n levels then n else 0) < levels
+few_left n levels some = by (nat_lt n levels) refl
+  where
+    by : (b : Bool) → nat_lt n levels ≡ b → (if b then n else 0) < levels
+    by true e = grind (arith, nat_tests)
+    by false e = omega (arith, some)
+
+key_left : (levels : ℕ) (key : List Label) (rows : List ℕ) → 1 ≤ levels → IsLeft levels (key_pick levels key rows)
+key_left levels key rows some =
+    record {
+      one = λ e. one_listed rows (both_so (nat_eq (length key) levels) (has_one rows) e).1;
+      whole = λ e. full_whole (length key) levels (both_so (nat_eq (length key) levels) (has_one rows) e).0;
+      kept = λ e. cc;
+      left = few_left (length key) levels some;
+    }
+
+listed_left : (levels : ℕ) (rows : List ℕ) → 1 ≤ levels → IsLeft levels (listed_pick rows)
+listed_left levels rows some = record { one = λ e. cc; whole = λ e. refl; kept = λ e. refl; left = omega (arith, some) }
+
+sliced_left : (levels : ℕ) (rows : List ℕ) → 1 ≤ levels → IsLeft levels (sliced_pick rows)
+sliced_left levels rows some = record { one = λ e. cc; whole = λ e. refl; kept = λ e. refl; left = omega (arith, some) }
+
+single_left : (levels row : ℕ) → 1 ≤ levels → IsLeft levels (single_pick row)
+single_left levels row some = record { one = λ e. refl; whole = λ e. refl; kept = λ e. refl; left = omega (arith, some) }
+
+left_by_label : (texts : List Text) (levels : ℕ) (tuples : List (List Label)) (k : LocKey) → 1 ≤ levels → LeavesBy levels (picked_by_label same_number (order_in texts) levels tuples (label_key k))
+left_by_label texts levels tuples key.All some = sliced_left levels (range_with_len 0 (length tuples)) some
+left_by_label texts levels tuples (key.One k) some = then_left levels (rows_of_key (leads same_number) tuples k) (key_pick levels k) (λ rows. key_left levels k rows some)
+left_by_label texts levels tuples (key.Many ks) some = then_left levels (rows_of_keys (leads same_number) tuples ks) listed_pick (λ rows. listed_left levels rows some)
+left_by_label texts levels tuples (key.Span lower upper) some = then_left levels (slice_on levels (leading_cmp (order_in texts)) lower upper tuples) sliced_pick (λ rows. sliced_left levels rows some)
+
+left_by_place : (count : ℕ) (k : PosKey) → LeavesBy {K = List Label} 1 (picked_by_place count (place_key k))
+left_by_place count (position.One z) = then_left 1 (row_at count z) single_pick (λ row. single_left 1 row (omega arith))
+left_by_place count (position.Many zs) = then_left 1 (rows_at count zs) listed_pick (λ rows. listed_left 1 rows (omega arith))
+left_by_place count (position.Span from to step) = then_left 1 (position_slice count from to step) (λ rows. sliced_pick (rows_of rows)) (λ rows. sliced_left 1 (rows_of rows) (omega arith))
 
 -- what is found lies below
-pub found_within : (count : ℕ) (r : Result Picked KeyFault) (out : Result Picked OpFault) (meant_pick : Result Pick (PickFault (List Label))) → out ≡ found_result r → PicksBy pick_of r meant_pick → IsOne meant_pick
-    → IfOk r (IsSpanned count) → IfOk r (λ picked. All (λ row. row < count) picked.places) → IfOk out (PicksBelow count)
-found_within count (Ok picked) out meant_pick is picks one spanned inside =
-    subst (λ (o : Result Picked OpFault). IfOk o (PicksBelow count)) (sym is) record { below = inside; spanned = spanned; one = subst IsOne picks one }
-found_within count (Err f) out meant_pick is picks one spanned inside = subst (λ (o : Result Picked OpFault). IfOk o (PicksBelow count)) (sym is) tt
+module _ (count levels : ℕ) (r : Result Picked KeyFault) (out : Result Picked OpFault) (meant_pick : Result Pick (PickFault (List Label))) (is : out ≡ found_result r) (picks : PicksBy pick_of r meant_pick) (leaves : LeavesBy levels meant_pick) where
+  found_so : (P : Picked → Type 0) (s : Result Picked KeyFault) → PicksBy pick_of s meant_pick → IfOk s (λ picked. IsLeft levels (pick_of picked) → P picked) → IfOk (found_result s) P
+  found_so P (Ok picked) same so = so (subst (LeavesBy levels) same leaves)
+  found_so P (Err f) same so = tt
+
+  found_left : (P : Picked → Type 0) → ((picked : Picked) → IsLeft levels (pick_of picked) → P picked) → IfOk out P
+  found_left P so = subst (λ (o : Result Picked OpFault). IfOk o P) (sym is) (found_so P r picks (each r))
+    where
+      each : (s : Result Picked KeyFault) → IfOk s (λ picked. IsLeft levels (pick_of picked) → P picked)
+      each (Ok picked) = so picked
+      each (Err f) = tt
+
+  found_within : IfOk r (IsSpanned count) → IfOk r (λ picked. All (λ row. row < count) picked.places) → IfOk out (PicksBelow count)
+  found_within spanned inside = subst (λ (o : Result Picked OpFault). IfOk o (PicksBelow count)) (sym is) (found_so (PicksBelow count) r picks (each r spanned inside))
+    where
+      each : (s : Result Picked KeyFault) → IfOk s (IsSpanned count) → IfOk s (λ picked. All (λ row. row < count) picked.places) → IfOk s (λ picked. IsLeft levels (pick_of picked) → PicksBelow count picked)
+      each (Ok picked) spanned inside = λ l. record { below = inside; spanned = spanned; one = l.one; whole = l.whole; kept = l.kept }
+      each (Err f) spanned inside = tt
 
 pub places_within : (count : ℕ) (k : PosKey) (r : Result Picked KeyFault) (out : Result Picked OpFault) → out ≡ found_result r → PicksBy pick_of r (picked_by_place count (place_key k))
     → IfOk r (IsSpanned count) → IfOk r (λ picked. All (λ row. row < count) picked.places) → IfOk out (PicksBelow count)
-places_within count k r out is picks spanned inside = found_within count r out (picked_by_place count (place_key k)) is picks (one_by_place count k) spanned inside
+places_within count k r out is picks = found_within count 1 r out (picked_by_place count (place_key k)) is picks (left_by_place count k)
 
-pub labels_within : (texts : List Text) (tuples : List (List Label)) (k : LocKey) (r : Result Picked KeyFault) (out : Result Picked OpFault) → out ≡ found_result r → PicksBy pick_of r (picked_by_label same_number (order_in texts) 1 tuples (label_key k))
-    → IfOk r (IsSpanned (length tuples)) → IfOk r (λ picked. All (λ row. row < length tuples) picked.places) → IfOk out (PicksBelow (length tuples))
-labels_within texts tuples k r out is picks spanned inside =
-    found_within (length tuples) r out (picked_by_label same_number (order_in texts) 1 tuples (label_key k)) is picks (one_by_label texts tuples k) spanned inside
+pub places_left : (count : ℕ) (k : PosKey) (r : Result Picked KeyFault) (out : Result Picked OpFault) → out ≡ found_result r → PicksBy pick_of r (picked_by_place count (place_key k)) → IfOk out (λ picked. picked.dropped ≡ 0)
+places_left count k r out is picks = found_left count 1 r out (picked_by_place count (place_key k)) is picks (left_by_place count k) (λ picked. picked.dropped ≡ 0) (λ picked l. omega (arith, l.left))
+
+module _ (texts : List Text) (levels : ℕ) (tuples : List (List Label)) (k : LocKey) (r : Result Picked KeyFault) (out : Result Picked OpFault) (some : 1 ≤ levels) (is : out ≡ found_result r)
+    (picks : PicksBy pick_of r (picked_by_label same_number (order_in texts) levels tuples (label_key k))) where
+  abbrev by_label : Result Pick (PickFault (List Label))
+  by_label = picked_by_label same_number (order_in texts) levels tuples (label_key k)
+
+  pub labels_within : IfOk r (IsSpanned (length tuples)) → IfOk r (λ picked. All (λ row. row < length tuples) picked.places) → IfOk out (PicksBelow (length tuples))
+  labels_within = found_within (length tuples) levels r out by_label is picks (left_by_label texts levels tuples k some)
+
+  pub labels_left : IfOk out (λ picked. picked.dropped < levels)
+  labels_left = found_left (length tuples) levels r out by_label is picks (left_by_label texts levels tuples k some) (λ picked. picked.dropped < levels) (λ picked l. l.left)

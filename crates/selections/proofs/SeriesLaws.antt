@@ -1,9 +1,10 @@
 -- A row across columns as a Series.
 use Rattle.std.proofs.Common.{◌≡◌, ◌∙◌, refl, ap, sym, arith, ℕ, suc, ◌<◌, pos, Bool, true, false, ◌&&◌, List, [], ◌∷◌, map, length, slice_index_or, All, Option, Some, None, Ok, Err, if◌then◌else◌, unwrap_or}
-use Rattle.std.specs.Prelude.{IsSome}
+use Rattle.std.specs.Prelude.{◌≢◌, IsSome, slice_get, option_and_then}
 use Rattle.std.specs.List.{list_all}
 use Rattle.std.proofs.lemmas.List.{length-map}
 use Rattle.std.proofs.Math.ListN.{get_or-map}
+use Rattle.std.proofs.lemmas.Option.{get_or_from_slice_get}
 use Rattle.cell_core.specs.declared.cell.Kind.{Kind}
 use Rattle.cell_core.specs.declared.cell.Cell.TheVariants.{Na}
 use Rattle.cell_core.specs.declared.cell.Label.{Label}
@@ -12,7 +13,6 @@ use Rattle.cell_core.specs.declared.grid.Shape.TheVariants.{Series}
 use Rattle.meaning.specs.Text.{Text}
 use Rattle.meaning.specs.Cell.{CellValue, na_cell, datum, label_datum, int}
 use Rattle.meaning.specs.Fault.{wrong_kind, limit, then_value}
-use Rattle.multi_index.specs.Axes.{HaveLevels}
 use Rattle.table_meaning.specs.Settled.{IsSettled}
 use Rattle.table_meaning.specs.Table.{ColumnOf, NumberedTable, table_value, tuple_value, heading_value, column_at}
 use Rattle.table_meaning.specs.Value as value
@@ -64,22 +64,36 @@ cells_seen texts t row [] = refl
 cells_seen texts t row (p ∷ ps) =
     λ j. (ap (λ (c : ColumnOf CellValue). slice_index_or c.cells row na_cell) (column_seen texts t.columns p) ∙ get_or-map (datum texts) (column_at t.columns p).cells row Na) j ∷ cells_seen texts t row ps j
 
-name_of : (texts : List Text) (tuple : List Label) → length tuple ≡ 1 → row_name (tuple_value texts tuple) ≡ Some (label_datum texts (slice_index_or tuple 0 label.Na))
-name_of texts [] one = cc
-name_of texts (l ∷ []) one = refl
-name_of texts (l ∷ (m ∷ ls)) one = cc
+-- the name of a row: its label, or none where it has several
+pub name_of_one : (texts : List Text) (tuple : List Label) (l : Label) → length tuple ≡ 1 → slice_get tuple 0 ≡ Some l → Some (label_datum texts l) ≡ row_name (tuple_value texts tuple)
+name_of_one texts [] l one at = cc
+name_of_one texts (m ∷ []) l one at = ap (λ (x : Label). Some (label_datum texts x)) (sym (get_or_from_slice_get (m ∷ []) 0 l label.Na at))
+name_of_one texts (m ∷ (n ∷ ls)) l one at = cc
+
+pub label_first : (tuples : List (List Label)) (row : ℕ) (l : Label) → option_and_then (λ tuple. slice_get tuple 0) (slice_get tuples row) ≡ Some l → slice_get (slice_index_or tuples row []) 0 ≡ Some l
+label_first tuples row l at = by (slice_get tuples row) refl at
+  where
+    by : (o : Option (List Label)) → slice_get tuples row ≡ o → option_and_then (λ tuple. slice_get tuple 0) o ≡ Some l → slice_get (slice_index_or tuples row []) 0 ≡ Some l
+    by None is e = cc
+    by (Some tuple) is e = ap (λ (t : List Label). slice_get t 0) (get_or_from_slice_get tuples row tuple [] is) ∙ e
+
+pub name_of_several : (texts : List Text) (tuple : List Label) → length tuple ≢ 1 → None ≡ row_name (tuple_value texts tuple)
+name_of_several texts [] several = refl
+name_of_several texts (l ∷ []) several = absurd (several refl)
+name_of_several texts (l ∷ (m ∷ ls)) several = refl
 
 -- the Series of a row
-abbrev pub row_heading : NumberedTable → ℕ → HeadingList
-row_heading t row = record { columns_name = None; labels = Some (slice_index_or (slice_index_or t.labels row []) 0 label.Na) ∷ [] }
+abbrev pub row_heading : Option Label → HeadingList
+row_heading name = record { columns_name = None; labels = name ∷ [] }
 
-abbrev pub row_table : NumberedTable → ℕ → Kind → List ℕ → NumberedTable
-row_table t row kind places = table_with Series (columns_axis t places) (row_heading t row) (record { kind = kind; cells = map (cell_across t row) places } ∷ [])
+abbrev pub row_table : NumberedTable → ℕ → Option Label → Kind → List ℕ → NumberedTable
+row_table t row name kind places = table_with Series (columns_axis t places) (row_heading name) (record { kind = kind; cells = map (cell_across t row) places } ∷ [])
 
-module _ (t : NumberedTable) (row : ℕ) (kind : Kind) (places : List ℕ) (some : All IsSome t.headings) (below : All (λ place. place < length t.headings) places) (levels : HaveLevels 1 t.labels) (inside : row < length t.labels) where
-  series_seen : (texts : List Text) → row_series (cut (table_value texts t) (row ∷ []) places) kind ≡ table_value texts (row_table t row kind places)
+module _ (t : NumberedTable) (row : ℕ) (label_name : Option Label) (kind : Kind) (places : List ℕ) (some : All IsSome t.headings) (below : All (λ place. place < length t.headings) places)
+    (named : (ts : List Text) → heading_value ts label_name ≡ row_name (tuple_value ts (slice_index_or t.labels row []))) where
+  series_seen : (texts : List Text) → row_series (cut (table_value texts t) (row ∷ []) places) kind ≡ table_value texts (row_table t row label_name kind places)
   series_seen texts =
-      let name = ap row_name (get_or-map (tuple_value texts) t.labels row []) ∙ name_of texts (slice_index_or t.labels row []) (levels row [] inside) in
+      let name = ap row_name (get_or-map (tuple_value texts) t.labels row []) ∙ sym (named texts) in
       λ j. record {
         shape = Series;
         columns_name = None;
@@ -89,17 +103,17 @@ module _ (t : NumberedTable) (row : ℕ) (kind : Kind) (places : List ℕ) (some
         columns = record { kind = kind; cells = cells_seen texts t row places j } ∷ [];
       }
 
-  row_limited : (texts : List Text) (b : Bool) → within_limits (length places) 1 ≡ b → limited (table_value texts (row_table t row kind places)) ≡ then_value (if b then Ok (table_value texts (row_table t row kind places)) else Err limit) (λ t. Ok (value.table t))
+  row_limited : (texts : List Text) (b : Bool) → within_limits (length places) 1 ≡ b → limited (table_value texts (row_table t row label_name kind places)) ≡ then_value (if b then Ok (table_value texts (row_table t row label_name kind places)) else Err limit) (λ t. Ok (value.table t))
   row_limited texts b is =
-      ap (λ b. then_value (if b then Ok (table_value texts (row_table t row kind places)) else Err limit) (λ t. Ok (value.table t)))
+      ap (λ b. then_value (if b then Ok (table_value texts (row_table t row label_name kind places)) else Err limit) (λ t. Ok (value.table t)))
       (ap (λ (n : ℕ). within_limits n 1) (length-map (columns_axis t places).tuples (tuple_value texts) ∙ length-map places (λ place. heading_tuple (slice_index_or t.headings place None))) ∙ is)
 
-  row_is : (texts : List Text) → one_kind (map (column_at (table_value texts t).columns) places) ≡ Ok kind → row_result (cut (table_value texts t) (row ∷ []) places) ≡ limited (table_value texts (row_table t row kind places))
+  row_is : (texts : List Text) → one_kind (map (column_at (table_value texts t).columns) places) ≡ Ok kind → row_result (cut (table_value texts t) (row ∷ []) places) ≡ limited (table_value texts (row_table t row label_name kind places))
   row_is texts one =
       ap (λ r. then_value r (λ k. limited (row_series (cut (table_value texts t) (row ∷ []) places) k))) (one_kind_rows (row ∷ []) (map (column_at (table_value texts t).columns) places) ∙ one)
       ∙ ap limited (series_seen texts)
 
-  pub row_made : (texts : List Text) (made : NumberedTable) → one_kind (map (column_at (table_value texts t).columns) places) ≡ Ok kind → within_limits (length places) 1 ≡ true → made ≡ row_table t row kind places → IsSettled table_value texts t
+  pub row_made : (texts : List Text) (made : NumberedTable) → one_kind (map (column_at (table_value texts t).columns) places) ≡ Ok kind → within_limits (length places) 1 ≡ true → made ≡ row_table t row label_name kind places → IsSettled table_value texts t
       → (row_result (cut (table_value texts t) (row ∷ []) places) ≡ Ok (value.table (table_value texts made))) × IsSettled table_value texts made
   row_made texts made one within is settled = (
     row_is texts one ∙ row_limited texts true within ∙ ap (λ (m : NumberedTable). Ok (value.table (table_value texts m))) (sym is),

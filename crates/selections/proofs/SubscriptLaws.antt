@@ -30,7 +30,7 @@ first_of [] x is some = absurd (omega (arith, some))
 first_of (y ∷ ys) x is some = λ i. sym is i ∷ sym (take_rest (y ∷ ys) 1) i
 
 -- a scalar before others
-abbrev with_scalar : Option CellValue → Option (List CellValue) → Option (List CellValue)
+abbrev pub with_scalar : Option CellValue → Option (List CellValue) → Option (List CellValue)
 with_scalar None rest = None
 with_scalar (Some c) rest = option_map (λ cs. c ∷ cs) rest
 
@@ -41,7 +41,7 @@ scalar_more : (c : CellValue) (rest : GivenList) (b : Bool) → if_scalars (more
 scalar_more c rest true = refl
 scalar_more c rest false = refl
 
-scalars_more : (g : Given) (rest : GivenList) → scalars_in (more_given g rest) ≡ with_scalar (scalar_in g) (scalars_in rest)
+pub scalars_more : (g : Given) (rest : GivenList) → scalars_in (more_given g rest) ≡ with_scalar (scalar_in g) (scalars_in rest)
 scalars_more (one (cell c)) rest = scalar_more c rest (each is_scalar rest)
 scalars_more (one (table t)) rest = refl
 scalars_more nothing rest = refl

@@ -1,5 +1,5 @@
 -- Rows that are taken from a column.
-use Rattle.std.proofs.Common.{◌≡◌, ◌∙◌, ℕ, ◌+◌, ◌<◌, ap, refl, sym, subst, arith, List, [], ◌∷◌, ◌++◌, length, map, take, slice_index_or, Option, Some, All}
+use Rattle.std.proofs.Common.{◌≡◌, ◌∙◌, ℕ, ◌+◌, ◌<◌, ap, refl, sym, subst, arith, List, [], ◌∷◌, ◌++◌, length, map, take, drop, slice_index_or, Option, Some, All}
 use Rattle.std.specs.Prelude.{slice_index, slice_get}
 use Rattle.std.proofs.lemmas.List.{get_or-map, length-map, map-append, take_more}
 use Rattle.std.proofs.lemmas.List.Elements.{All-nil, All-cons, All-push}
@@ -17,7 +17,7 @@ use Rattle.cell_core.specs.declared.grid.Shape.{Shape}
 use Rattle.table_meaning.specs.Table.{ColumnOf, NumberedTable, column_at}
 use Rattle.table_meaning.specs.Valid.{IsWhole, AreHeadings}
 use Rattle.frame_store.specs.Parts.{HeadingList, block_column, IsSingle}
-use Rattle.selections.specs.Chosen.{cells_by_place, cells_at, columns_at, chosen}
+use Rattle.selections.specs.Chosen.{cells_by_place, cells_at, columns_at, chosen, chosen_under}
 
 -- the rows at these places are the cells there
 pub chosen_seen : {T : Type 0} (kind : Kind) (cell : Option T → Cell) (n : ℕ) (row : ℕ → Option T) (places : List ℕ) → All (λ place. place < n) places
@@ -65,3 +65,13 @@ chosen_whole shape headings rows columns t headed fit =
     filled (p ∷ ps) count =
         All-cons (λ (c : ColumnOf Cell). length c.cells ≡ length (map (λ place. slice_index_or t.labels place []) rows)) (cells_at rows (column_at t.columns p)) (columns_at rows ps t)
         (length-map rows (λ row. slice_index_or (column_at t.columns p).cells row Na) ∙ sym count) (filled ps count)
+
+pub under_whole : (count : ℕ) (shape : Shape) (headings : HeadingList) (rows columns : List ℕ) (t : NumberedTable) → length headings.labels ≡ length columns → AreHeadings shape headings.columns_name headings.labels
+    → IsWhole (chosen_under count shape headings rows columns t)
+under_whole count shape headings rows columns t headed fit =
+    let whole : IsWhole (chosen shape headings rows columns t) = chosen_whole shape headings rows columns t headed fit in
+    record {
+      headed = whole.headed;
+      filled = subst (λ (n : ℕ). All (λ (c : ColumnOf Cell). length c.cells ≡ n) (columns_at rows columns t)) (sym (length-map (map (λ place. slice_index_or t.labels place []) rows) (drop count))) whole.filled;
+      headings = fit;
+    }

@@ -1,15 +1,15 @@
 -- Rows that are taken from a table.
-use Rattle.std.proofs.Common.{◌≡◌, ◌∙◌, refl, ap, sym, arith, ℕ, ◌+◌, Bool, true, List, [], ◌∷◌, ◌++◌, length, map, slice_index_or, Some, None, Ok, Err, if◌then◌else◌}
+use Rattle.std.proofs.Common.{◌≡◌, ◌∙◌, refl, ap, sym, arith, ℕ, ◌+◌, Bool, true, List, [], ◌∷◌, ◌++◌, length, map, drop, slice_index_or, Some, None, Ok, Err, if◌then◌else◌}
 use Rattle.std.specs.Prelude.{IsSome}
 use Rattle.std.proofs.Math.ListN.{get_or-map}
 use Rattle.cell_core.specs.declared.cell.Label.{Label}
 use Rattle.meaning.specs.Text.{Text}
-use Rattle.meaning.specs.Cell.{CellValue, na_cell, datum}
+use Rattle.meaning.specs.Cell.{CellValue, na_cell, datum, label_datum}
 use Rattle.meaning.specs.Fault.{limit, then_value}
 use Rattle.table_meaning.specs.Settled.{IsSettled}
 use Rattle.table_meaning.specs.Value as value
 use Rattle.form_meaning.specs.Finish.{limited, within_limits}
-use Rattle.select_meaning.specs.Select.{column_rows, rows_taken}
+use Rattle.select_meaning.specs.Select.{column_rows, rows_taken, without_leading}
 use Rattle.frame_store.specs.Objects.{tables, table_at, with_object}
 use Rattle.frame_store.specs.World.{world, IsSettledWorld, Forms}
 use Rattle.frame_store.specs.declared.arguments.Value.TheVariants.{Object}
@@ -18,7 +18,7 @@ use Rattle.frame_store.specs.declared.store.Store.{Store}
 use Rattle.frame_store.proofs.Settling.{longer_self, settled_with, table_settled, level_names_part, labels_part, columns_part}
 use Rattle.selections.proofs.AnswerLaws.{column_seen, new_answers, table_is_settled}
 use Rattle.std.specs.List.{range_with_len}
-use Rattle.std.proofs.lemmas.List.{length-map}
+use Rattle.std.proofs.lemmas.List.{length-map, drop-map}
 use Rattle.std.proofs.lemmas.Simd.{map-map}
 use Rattle.cell_core.specs.declared.cell.Cell.{Cell}
 use Rattle.cell_core.specs.declared.cell.Cell.TheVariants.{Na}
@@ -27,24 +27,24 @@ use Rattle.cell_core.specs.declared.grid.Shape.{Shape}
 use Rattle.cell_core.specs.Grids.{place_from}
 use Rattle.multi_index.specs.Axes.{AxisValue, taken_axis}
 use Rattle.pick_meaning.specs.Rows.{rows_of}
-use Rattle.table_meaning.specs.Table.{ColumnOf, NumberedTable, column_at, no_column, table_value, tuple_value, column_value}
+use Rattle.table_meaning.specs.Table.{ColumnOf, NumberedTable, Table, column_at, no_column, table_value, heading_value, tuple_value, column_value}
 use Rattle.table_meaning.specs.Change.{strided_column, cut_columns}
 use Rattle.frame_store.specs.Parts.{HeadingList, table_with, axis_of}
-use Rattle.selections.specs.Chosen.{cells_at, columns_at, chosen, AreSettledHeadings}
-use Rattle.selections.specs.Plans.{rows_in}
+use Rattle.selections.specs.Chosen.{cells_at, columns_at, chosen, chosen_under, AreSettledHeadings}
+use Rattle.selections.specs.Plans.{rows_in, levels_lost, taken_table}
 use Rattle.selections.specs.declared.planning.Taken.{Taken}
+use Rattle.selections.specs.declared.planning.Taken.TheVariants.{Slice, Listed, Under}
 use Rattle.selections.proofs.PickedLaws.{list_is}
-use Rattle.selections.proofs.PlanLaws.{span_count}
+use Rattle.selections.proofs.PlanLaws.{span_count, without_none}
 
 column_cut : (rows : Rows) (c : ColumnOf Cell) → strided_column Na rows c ≡ cells_at (rows_of rows) c
 column_cut rows c =
     ap (λ (l : List Cell). record { kind = c.kind; cells = l }) (sym (map-map (λ row. slice_index_or c.cells row Na) (place_from rows.start rows.step) (range_with_len 0 rows.count)))
 
 -- a slice that is cut is the rows that are chosen
-pub cut_is_chosen : (shape : Shape) (axis : AxisValue) (headings : HeadingList) (rows : Rows) (taken : Taken) (columns : List ℕ) (t : NumberedTable) → axis ≡ taken_axis (axis_of t) (rows_of rows) → rows_in taken ≡ rows_of rows
-    → table_with shape axis headings (cut_columns Na t.columns rows columns) ≡ chosen shape headings (rows_in taken) columns t
-cut_is_chosen shape axis headings rows taken columns t same is =
-    (λ j. table_with shape (same j) headings (map (λ place. column_cut rows (column_at t.columns place) j) columns)) ∙ ap (λ l. chosen shape headings l columns t) (sym is)
+pub cut_is_chosen : (shape : Shape) (axis : AxisValue) (headings : HeadingList) (rows : Rows) (columns : List ℕ) (t : NumberedTable) → axis ≡ taken_axis (axis_of t) (rows_of rows)
+    → table_with shape axis headings (cut_columns Na t.columns rows columns) ≡ chosen shape headings (rows_of rows) columns t
+cut_is_chosen shape axis headings rows columns t same = λ j. table_with shape (same j) headings (map (λ place. column_cut rows (column_at t.columns place) j) columns)
 
 pub slice_count : (axis source : AxisValue) (rows : Rows) → axis ≡ taken_axis source (rows_of rows) → length axis.tuples ≡ rows.count
 slice_count axis source rows same = ap (λ (a : AxisValue). length a.tuples) same ∙ length-map (rows_of rows) _ ∙ sym (span_count rows)
@@ -83,21 +83,56 @@ chosen_settled texts shape headings rows columns t settled given =
     given.1
     (λ more. columns_seen (texts ++ more) rows columns t ∙ ap (λ cs. map (column_rows rows) (map (column_at cs) columns)) (columns_part texts t settled more) ∙ sym (columns_seen texts rows columns t))
 
-pub chosen_limited : (texts : List Text) (shape : Shape) (headings : HeadingList) (rows columns : List ℕ) (t : NumberedTable) (b : Bool) → within_limits (length rows) (length columns) ≡ b
-    → limited (table_value texts (chosen shape headings rows columns t)) ≡ then_value (if b then Ok (table_value texts (chosen shape headings rows columns t)) else Err limit) (λ t. Ok (value.table t))
-chosen_limited texts shape headings rows columns t b is =
-    let made = table_value texts (chosen shape headings rows columns t) in
-    let high : length made.labels ≡ length rows = length-map (map (λ row. slice_index_or t.labels row []) rows) (tuple_value texts) ∙ length-map rows (λ row. slice_index_or t.labels row []) in
-    let wide : length made.columns ≡ length columns = length-map (columns_at rows columns t) (column_value texts) ∙ length-map columns (λ place. cells_at rows (column_at t.columns place)) in
+-- without leading levels
+tuples_under : (texts : List Text) (count : ℕ) (tuples : List (List Label)) → map (tuple_value texts) (map (λ tuple. drop count tuple) tuples) ≡ map (drop count) (map (tuple_value texts) tuples)
+tuples_under texts count [] = refl
+tuples_under texts count (tuple ∷ tuples) = λ j. sym (drop-map (label_datum texts) count tuple) j ∷ tuples_under texts count tuples j
+
+under_seen : (texts : List Text) (count : ℕ) (shape : Shape) (headings : HeadingList) (rows columns : List ℕ) (t : NumberedTable)
+    → table_value texts (chosen_under count shape headings rows columns t) ≡ without_leading count (table_value texts (chosen shape headings rows columns t))
+under_seen texts count shape headings rows columns t =
+    λ j. record (table_value texts (chosen shape headings rows columns t)) {
+      level_names = sym (drop-map (heading_value texts) count t.level_names) j;
+      labels = tuples_under texts count (map (λ row. slice_index_or t.labels row []) rows) j;
+    }
+
+-- a table that is taken is the rows and columns that are chosen, without the levels that are lost
+pub taken_seen : (texts : List Text) (shape : Shape) (headings : HeadingList) (taken : Taken) (columns : List ℕ) (t : NumberedTable)
+    → table_value texts (taken_table shape headings taken columns t) ≡ without_leading (levels_lost taken) (table_value texts (chosen shape headings (rows_in taken) columns t))
+taken_seen texts shape headings (Slice rows) columns t = sym (without_none (table_value texts (chosen shape headings (rows_of rows) columns t)))
+taken_seen texts shape headings (Listed places) columns t = sym (without_none (table_value texts (chosen shape headings places columns t)))
+taken_seen texts shape headings (Under places count) columns t = under_seen texts count shape headings places columns t
+
+taken_settled : (texts : List Text) (shape : Shape) (headings : HeadingList) (taken : Taken) (columns : List ℕ) (t : NumberedTable) → IsSettled table_value texts t → AreSettledHeadings texts headings
+    → IsSettled table_value texts (taken_table shape headings taken columns t)
+taken_settled texts shape headings taken columns t settled given =
+    λ more. taken_seen (texts ++ more) shape headings taken columns t
+    ∙ ap (without_leading (levels_lost taken)) (chosen_settled texts shape headings (rows_in taken) columns t settled given more)
+    ∙ sym (taken_seen texts shape headings taken columns t)
+
+taken_limited : (texts : List Text) (shape : Shape) (headings : HeadingList) (taken : Taken) (columns : List ℕ) (t : NumberedTable) (b : Bool) → within_limits (length (rows_in taken)) (length columns) ≡ b
+    → limited (table_value texts (taken_table shape headings taken columns t)) ≡ then_value (if b then Ok (table_value texts (taken_table shape headings taken columns t)) else Err limit) (λ t. Ok (value.table t))
+taken_limited texts shape headings taken columns t b is =
+    let made = table_value texts (taken_table shape headings taken columns t) in
+    let rows = rows_in taken in
+    let seen = taken_seen texts shape headings taken columns t in
+    let high : length made.labels ≡ length rows =
+    ap (λ (m : Table). length m.labels) seen
+    ∙ length-map (table_value texts (chosen shape headings rows columns t)).labels (drop (levels_lost taken))
+    ∙ length-map (map (λ row. slice_index_or t.labels row []) rows) (tuple_value texts)
+    ∙ length-map rows (λ row. slice_index_or t.labels row []) in
+    let wide : length made.columns ≡ length columns =
+    ap (λ (m : Table). length m.columns) seen ∙ length-map (columns_at rows columns t) (column_value texts) ∙ length-map columns (λ place. cells_at rows (column_at t.columns place)) in
     ap (λ b. then_value (if b then Ok made else Err limit) (λ t. Ok (value.table t))) ((λ j. within_limits (high j) (wide j)) ∙ is)
 
-pub chosen_answers : (texts : List Text) (store store' : Store) (on : ℕ) (id : ObjId) (shape : Shape) (headings : HeadingList) (rows columns : List ℕ) → IsSome (tables store on) → tables store id.0 ≡ None
-    → tables store' ≡ with_object (tables store) id.0 (Some (chosen shape headings rows columns (table_at (tables store) on))) → within_limits (length rows) (length columns) ≡ true
+pub taken_answers : (texts : List Text) (store store' : Store) (on : ℕ) (id : ObjId) (shape : Shape) (headings : HeadingList) (taken : Taken) (columns : List ℕ) → IsSome (tables store on) → tables store id.0 ≡ None
+    → tables store' ≡ with_object (tables store) id.0 (Some (taken_table shape headings taken columns (table_at (tables store) on))) → within_limits (length (rows_in taken)) (length columns) ≡ true
     → IsSettledWorld (world store texts) → AreSettledHeadings texts headings
-    → Forms (Ok (Object id)) (limited (table_value texts (chosen shape headings rows columns (table_at (tables store) on)))) (world store texts) (world store' texts)
-chosen_answers texts store store' on id shape headings rows columns live fresh put within settled given =
-    let t = table_at (tables store) on in (
-      new_answers texts (tables store) (tables store') id (chosen shape headings rows columns t) _ fresh put settled (chosen_limited texts shape headings rows columns t true within),
+    → Forms (Ok (Object id)) (limited (table_value texts (taken_table shape headings taken columns (table_at (tables store) on)))) (world store texts) (world store' texts)
+taken_answers texts store store' on id shape headings taken columns live fresh put within settled given =
+    let t = table_at (tables store) on in
+    let made = taken_table shape headings taken columns t in (
+      new_answers texts (tables store) (tables store') id made _ fresh put settled (taken_limited texts shape headings taken columns t true within),
       longer_self texts,
-      settled_with texts (tables store) (tables store') id.0 (chosen shape headings rows columns t) settled (chosen_settled texts shape headings rows columns t (table_is_settled texts (tables store) on live settled) given) put,
+      settled_with texts (tables store) (tables store') id.0 made settled (taken_settled texts shape headings taken columns t (table_is_settled texts (tables store) on live settled) given) put,
     )

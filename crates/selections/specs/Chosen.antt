@@ -8,7 +8,7 @@ use Rattle.cell_core.specs.declared.cell.Cell.TheVariants.{Na}
 use Rattle.cell_core.specs.declared.grid.Shape.{Shape}
 use Rattle.column_core.specs.Columns.{CellColumn}
 use Rattle.table_meaning.specs.Table.{ColumnOf, NumberedTable, heading_value, column_at}
-use Rattle.multi_index.specs.Axes.{taken_axis}
+use Rattle.multi_index.specs.Axes.{taken_axis, without_leading}
 use Rattle.frame_store.specs.Parts.{HeadingList, table_with, axis_of}
 
 -- the cells at these rows, of a column of a kernel and of one of a table
@@ -24,6 +24,10 @@ columns_at rows columns t = map (λ place. cells_at rows (column_at t.columns pl
 -- the table of these rows and columns under these headings
 abbrev pub chosen : Shape → HeadingList → List ℕ → List ℕ → NumberedTable → NumberedTable
 chosen shape headings rows columns t = table_with shape (taken_axis (axis_of t) rows) headings (columns_at rows columns t)
+
+-- without so many of its leading levels
+abbrev pub chosen_under : ℕ → Shape → HeadingList → List ℕ → List ℕ → NumberedTable → NumberedTable
+chosen_under count shape headings rows columns t = table_with shape (without_leading (taken_axis (axis_of t) rows) count) headings (columns_at rows columns t)
 
 -- headings whose texts were given their numbers
 abbrev pub AreSettledHeadings : List Text → HeadingList → Type 0

@@ -1,5 +1,5 @@
 -- Keys and what they pick, as they are meant.
-use Rattle.std.specs.Prelude.{◌≡◌, ℕ, ℤ, ◌<◌, nat_eq, Bool, true, false, List, [], ◌∷◌, length, map, slice_index_or, Option, Some, None, option_map, Result, Ok, Err, All, ⊤}
+use Rattle.std.specs.Prelude.{◌≡◌, ℕ, ℤ, ◌<◌, nat_eq, Bool, true, false, List, [], ◌∷◌, length, map, slice_index_or, Option, Some, None, option_map, Result, Ok, Err, All, ⊤, if◌then◌else◌}
 use Rattle.std.specs.Option.{is_some}
 use Rattle.cell_core.specs.declared.cell.Label.{Label}
 use Rattle.cell_core.specs.declared.grid.Shape.{Shape}
@@ -11,7 +11,10 @@ use Rattle.meaning.specs.Cell.{CellValue, LabelValue}
 use Rattle.meaning.specs.Fault.{FaultValue, wrong_kind}
 use Rattle.meaning.specs.Symbol.{Accessor, loc, iloc, at, iat}
 use Rattle.table_meaning.specs.Table.{NumberedTable, Table, tuple_value}
-use Rattle.table_meaning.specs.Value.{GivenList, GivenSub, no_given, more_given, key_given, span_given, scalar_in, object_in, tuple_in}
+use Rattle.table_meaning.specs.Value.{GivenList, GivenSub, row, key_given, span_given, object_in, tuple_in}
+use Rattle.form_meaning.specs.Binding.{each, is_scalar, is_tuple_of}
+use Rattle.form_meaning.specs.Select.{labels_of}
+use Rattle.meaning.specs.Operator.{cell_label}
 use Rattle.multi_index.specs.Axes.{AxisValue, HaveLevels}
 use Rattle.pick_meaning.specs.Keys.{LabelKey, all_rows, one_key, each_key, between, PlaceKey, Pick}
 use Rattle.select_meaning.specs.Keys.{Reach}
@@ -28,6 +31,7 @@ use Rattle.indexers.specs.declared.keys.KeyFault.TheVariants as fault
 use Rattle.indexers.specs.Keys.{place_key}
 use Rattle.indexers.specs.Picks.{pick_of, IsSpanned}
 use Rattle.frame_store.specs.World.{IsKnownTable}
+use Rattle.selections.specs.Selected.{scalars_in}
 use Rattle.selections.specs.declared.reaching.Reach.{Reach as CodeReach}
 
 -- a key by label, whose texts are the texts themselves
@@ -43,10 +47,20 @@ bound_value texts bound = option_map (tuple_value texts) bound
 abbrev pub tuples_value : List Text → List (List Label) → List (List LabelValue)
 tuples_value texts tuples = map (tuple_value texts) tuples
 
--- the scalar of a list of one
-abbrev pub one_scalar : GivenList → Option CellValue
-one_scalar (more_given g no_given) = scalar_in g
-one_scalar parts = None
+-- the labels of scalars alone
+abbrev pub labels_in : GivenList → Option (List LabelValue)
+labels_in parts = option_map (map cell_label) (scalars_in parts)
+
+-- a scalar on one level
+abbrev pub label_alone : ℕ → CellValue → Result (List LabelValue) FaultValue
+label_alone levels c = if nat_eq levels 1 then Ok (cell_label c ∷ []) else Err wrong_kind
+
+-- a tuple of scalars alone, and one with a label for each of so many levels
+abbrev pub scalar_tuple : GivenList → Result (List LabelValue) FaultValue
+scalar_tuple parts = if each is_scalar parts then Ok (labels_of parts) else Err wrong_kind
+
+abbrev pub full_tuple : ℕ → GivenList → Result (List LabelValue) FaultValue
+full_tuple levels parts = if is_tuple_of levels (row parts) then Ok (labels_of parts) else Err wrong_kind
 
 -- a whole number, or what the lack of one is
 abbrev pub whole_or_fault : Option ℤ → Result ℤ FaultValue
@@ -72,19 +86,27 @@ pick_value texts picked = pick_of picked
 abbrev pub reach_value : List Text → CodeReach → Reach
 reach_value texts reach = record { rows = pick_of reach.rows; columns = pick_of reach.columns }
 
--- places among so many, which the span lists too where there is one; a single one is one
+-- places among so many, which the span lists too where there is one; a single one is one, and neither loses a level
 pub record PicksBelow (count : ℕ) (picked : Picked) : Type 0 where
   pub below : All (λ place. place < count) picked.places
   pub spanned : IsSpanned count picked
   pub one : picked.single ≡ true → length picked.places ≡ 1
+  pub whole : picked.single ≡ true → picked.dropped ≡ 0
+  pub kept : is_some picked.span ≡ true → picked.dropped ≡ 0
 
--- rows and columns of a table, of which a Series has a single one
+-- rows and columns of a table, of whose levels one is left; a Series has a single column
 pub record ReachesWithin (t : NumberedTable) (reach : CodeReach) : Type 0 where
   pub rows : PicksBelow (length t.labels) reach.rows
+  pub left : reach.rows.dropped < length t.level_names
   pub columns : PicksBelow (length t.columns) reach.columns
   pub frame : reach.columns.single ≡ false → t.shape ≡ Frame
 
--- a table of one level whose parts fit, and whose texts were given their numbers
+-- a table whose parts fit, with a label for each level of each row, and whose texts were given their numbers
+pub record CanSelect (texts : List Text) (t : NumberedTable) : Type 0 where
+  pub known : IsKnownTable texts t
+  pub levels : HaveLevels (length t.level_names) t.labels
+
+-- such a table of one level, whose cells can be set
 pub record CanPick (texts : List Text) (t : NumberedTable) : Type 0 where
   pub known : IsKnownTable texts t
   pub one : length t.level_names ≡ 1

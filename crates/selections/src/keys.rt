@@ -1,5 +1,5 @@
-// The forms of keys on one level, which are tested before anything is looked up.
-ghost use Rattle.std.specs.Prelude.{◌≡◌, ◌∷◌, [], List, map, length, IfOk, IfSome};
+// The forms of keys, which are tested before anything is looked up.
+ghost use Rattle.std.specs.Prelude.{◌≡◌, ◌≤◌, ◌∷◌, [], ℕ, List, map, take, length, IfOk, IfSome};
 ghost use Rattle.std.specs.Option.{option_map};
 ghost use Rattle.cell_core.specs.declared.code.Code.TheVariants as code;
 ghost use Rattle.meaning.specs.Text.{Text as OneText};
@@ -9,19 +9,19 @@ ghost use Rattle.form_meaning.specs.Finish.{try_all};
 ghost use Rattle.select_meaning.specs.Keys as meant;
 ghost use Rattle.form_parts.specs.Labels as labels;
 ghost use Rattle.form_parts.specs.Makes.{MakesBy};
-ghost use Rattle.multi_index.specs.Axes.{HaveLevels};
-ghost use Rattle.indexers.specs.Keys.{HasLevels};
+ghost use Rattle.multi_index.specs.Axes.{HaveLevels, AreLeading};
+ghost use Rattle.indexers.specs.Keys.{FitsLevels};
 ghost use Rattle.frame_store.specs.Shown.{cells_value};
 ghost use Rattle.frame_store.specs.declared.fault.OpFault.TheVariants.{Refused};
 ghost use Rattle.frame_store.specs.Objects.{Tables};
-ghost use Rattle.frame_store.specs.Arguments.{argument_of, subscript_of, items_of};
-ghost use Rattle.selections.specs.Reaches.{label_key_value, bound_value, tuples_value, place_key_value, one_scalar, whole_or_fault};
+ghost use Rattle.frame_store.specs.Arguments.{item_of, argument_of, subscript_of, items_of, IsLiveSubscript};
+ghost use Rattle.selections.specs.Reaches.{accessor_of, label_key_value, bound_value, tuples_value, place_key_value, labels_in, scalar_tuple, label_alone, full_tuple, whole_or_fault};
 ghost use Rattle.selections.specs.Selected.{as_it_is};
 
 use crate::subscripts::scalars_of;
-use cell_core::{Cell, Cells, Code, NoMemory, Tuple, Tuples};
+use cell_core::{Cell, Cells, Code, Label, Tuple, Tuples};
 use form_parts::label_of;
-use frame_store::{Argument, Item, OpFault, Subscript, Value};
+use frame_store::{Argument, Item, Items, OpFault, Selector, Subscript, Value};
 use indexers::{LocKey, PosKey, Positions};
 use std::alloc::Global;
 
@@ -39,62 +39,123 @@ fn single_label(alloc: Global, cell: Cell) -> Tuple
     Tuple::of(alloc, &[label_of(cell)])
 }
 
-// The scalar of a tuple of one.
-fn only_scalar(items: &[Item]) -> Option<Cell>
-    ensures { (live : Tables) (texts : List OneText) → option_map (datum texts) result
-        ≡ one_scalar (items_of live texts items.now) }
+// The labels of scalars alone, in front of missing ones.
+fn scalar_labels(items: &[Item]) -> Option<[Label; 4]>
+    requires { length items.now ≤ 4 }
+    ensures { (live : Tables) (texts : List OneText)
+        → option_map (λ labels. tuple_value texts (take (length items.now) labels)) result
+        ≡ labels_in (items_of live texts items.now) }
 {
-    match items {
-        [item] => item.scalar(),
-        _ => None,
+    let mut labels = [Label::Na; 4];
+    for k in 0..items.len() {
+        match items[k].scalar() {
+            Some(cell) => labels[k] = label_of(cell),
+            None => return None,
+        }
     }
+    Some(labels)
 }
 
-// The tuple of one label, which a tuple of one scalar is.
+// The tuple of scalars alone.
 fn tuple_of(alloc: Global, items: &[Item]) -> Result<Tuple, OpFault>
+    requires some { 1 ≤ length items.now }
+    requires few { length items.now ≤ 4 }
     ensures labels { (live : Tables) (texts : List OneText) → MakesBy tuple_value texts result
-        (meant.tuple_label 1 (items_of live texts items.now)) }
-    ensures single { IfOk result (λ key. length key ≡ 1) }
+        (scalar_tuple (items_of live texts items.now)) }
+    ensures count { IfOk result (λ key. length key ≡ length items.now) }
 {
-    match only_scalar(items) {
-        Some(cell) => Ok(single_label(alloc, cell)),
+    match scalar_labels(items) {
+        Some(labels) => Ok(Tuple::of(alloc, &labels[..items.len()])),
         None => Err(wrong_kind()),
     }
 }
 
-// Each cell as a label in a tuple of its own.
-fn single_labels(alloc: Global, cells: &Cells) -> Result<Tuples, NoMemory>
-    ensures { IfOk result (λ made. made ≡ map (λ cell. labels.label_of cell ∷ []) cells.now) }
+// The leading labels that a tuple names: of at least one level, and at most so many.
+fn leading_labels(alloc: Global, levels: usize, items: &[Item]) -> Result<Tuple, OpFault>
+    requires { levels ≤ 4 }
+    ensures labels { (live : Tables) (texts : List OneText) → MakesBy tuple_value texts result
+        (meant.tuple_label levels (items_of live texts items.now)) }
+    ensures leading { IfOk result (AreLeading levels) }
+{
+    if items.len() == 0 || items.len() > levels {
+        return Err(wrong_kind());
+    }
+    tuple_of(alloc, items)
+}
+
+// The labels of all levels, of which a tuple has one for each.
+fn full_labels(alloc: Global, levels: usize, items: &[Item]) -> Result<Tuple, OpFault>
+    requires some { 1 ≤ levels }
+    requires few { levels ≤ 4 }
+    ensures labels { (live : Tables) (texts : List OneText) → MakesBy tuple_value texts result
+        (full_tuple levels (items_of live texts items.now)) }
+    ensures full { IfOk result (λ key. length key ≡ levels) }
+{
+    if items.len() != levels {
+        return Err(wrong_kind());
+    }
+    tuple_of(alloc, items)
+}
+
+// The label that a scalar is, where there is one level.
+fn lone_label(alloc: Global, levels: usize, cell: Cell) -> Result<Tuple, OpFault>
+    ensures label { (texts : List OneText) → MakesBy tuple_value texts result
+        (label_alone levels (datum texts cell)) }
+    ensures full { IfOk result (λ key. length key ≡ levels) }
+{
+    if levels != 1 {
+        return Err(wrong_kind());
+    }
+    Ok(single_label(alloc, cell))
+}
+
+// An item of a list of keys.
+fn whole_item(alloc: Global, levels: usize, item: &Item) -> Result<Tuple, OpFault>
+    requires some { 1 ≤ levels }
+    requires few { levels ≤ 4 }
+    ensures labels { (live : Tables) (texts : List OneText) → MakesBy tuple_value texts result
+        (meant.whole_item levels (item_of live texts item.now)) }
+    ensures full { IfOk result (λ key. length key ≡ levels) }
+{
+    match item {
+        Item::One(Value::Scalar(cell)) => lone_label(alloc, levels, *cell),
+        Item::One(Value::Object(_)) => Err(wrong_kind()),
+        Item::Row(items) => {
+            if levels == 1 {
+                return Err(wrong_kind());
+            }
+            full_labels(alloc, levels, items.as_slice())
+        }
+    }
+}
+
+// The keys of a list.
+fn listed_keys(alloc: Global, levels: usize, items: &[Item]) -> Result<Tuples, OpFault>
+    requires some { 1 ≤ levels }
+    requires few { levels ≤ 4 }
+    ensures labels { (live : Tables) (texts : List OneText) → MakesBy tuples_value texts result
+        (meant.whole_items levels (items_of live texts items.now)) }
+    ensures full { IfOk result (HaveLevels levels) }
 {
     let mut made = Tuples::new(alloc);
-    for k in 0..cells.len() {
-        made.push(single_label(alloc, *cells.at(k)))?;
+    for k in 0..items.len() {
+        made.push(whole_item(alloc, levels, &items[k])?)?;
     }
     Ok(made)
 }
 
-// The keys of a list of scalars.
-fn listed_keys(alloc: Global, items: &[Item]) -> Result<Tuples, OpFault>
-    ensures labels { (live : Tables) (texts : List OneText) → MakesBy tuples_value texts result
-        (meant.whole_items 1 (items_of live texts items.now)) }
-    ensures single { IfOk result (HaveLevels 1) }
-{
-    match scalars_of(alloc, items)? {
-        Some(cells) => Ok(single_labels(alloc, &cells)?),
-        None => Err(wrong_kind()),
-    }
-}
-
 // An end of a slice of labels.
-fn label_bound(alloc: Global, bound: &Argument) -> Result<Option<Tuple>, OpFault>
+fn label_bound(alloc: Global, levels: usize, bound: &Argument) -> Result<Option<Tuple>, OpFault>
+    requires some { 1 ≤ levels }
+    requires few { levels ≤ 4 }
     ensures bound { (live : Tables) (texts : List OneText) → MakesBy bound_value texts result
-        (meant.label_bound 1 (argument_of live texts bound.now)) }
-    ensures single { IfOk result (λ bound. IfSome bound (λ key. length key ≡ 1)) }
+        (meant.label_bound levels (argument_of live texts bound.now)) }
+    ensures leading { IfOk result (λ bound. IfSome bound (AreLeading levels)) }
 {
     match bound {
         Argument::Nothing => Ok(None),
         Argument::One(Value::Scalar(cell)) => Ok(Some(single_label(alloc, *cell))),
-        Argument::Row(items) => Ok(Some(tuple_of(alloc, items.as_slice())?)),
+        Argument::Row(items) => Ok(Some(leading_labels(alloc, levels, items.as_slice())?)),
         _ => Err(wrong_kind()),
     }
 }
@@ -103,8 +164,8 @@ fn label_bound(alloc: Global, bound: &Argument) -> Result<Option<Tuple>, OpFault
 fn span_between(lower: Option<Tuple>, upper: Option<Tuple>) -> LocKey
     ensures key { (texts : List OneText) → label_key_value texts result
         ≡ meant.span_between (bound_value texts lower) (bound_value texts upper) }
-    ensures single { IfSome lower (λ key. length key ≡ 1) → IfSome upper (λ key. length key ≡ 1)
-        → HasLevels 1 result }
+    ensures fits { (levels : ℕ) → IfSome lower (AreLeading levels) → IfSome upper (AreLeading levels)
+        → FitsLevels levels result }
 {
     match (lower, upper) {
         (None, None) => LocKey::All,
@@ -113,46 +174,112 @@ fn span_between(lower: Option<Tuple>, upper: Option<Tuple>) -> LocKey
 }
 
 // A slice of labels without a step.
-fn label_span(alloc: Global, from: &Argument, to: &Argument) -> Result<LocKey, OpFault>
+fn label_span(
+    alloc: Global,
+    levels: usize,
+    from: &Argument,
+    to: &Argument,
+) -> Result<LocKey, OpFault>
+    requires some { 1 ≤ levels }
+    requires few { levels ≤ 4 }
     ensures key { (live : Tables) (texts : List OneText) → MakesBy label_key_value texts result
-        (meant.label_span 1 (argument_of live texts from.now) (argument_of live texts to.now)) }
-    ensures single { IfOk result (HasLevels 1) }
+        (meant.label_span levels (argument_of live texts from.now) (argument_of live texts to.now)) }
+    ensures fits { IfOk result (FitsLevels levels) }
 {
-    let lower = label_bound(alloc, from)?;
-    let upper = label_bound(alloc, to)?;
+    let lower = label_bound(alloc, levels, from)?;
+    let upper = label_bound(alloc, levels, to)?;
     Ok(span_between(lower, upper))
 }
 
-// A key by label.
-pub(crate) fn label_key(alloc: Global, key: &Subscript) -> Result<LocKey, OpFault>
+// A key by label, on so many levels.
+pub(crate) fn label_key(alloc: Global, levels: usize, key: &Subscript) -> Result<LocKey, OpFault>
+    requires some { 1 ≤ levels }
+    requires few { levels ≤ 4 }
     ensures key { (live : Tables) (texts : List OneText) → MakesBy label_key_value texts result
-        (meant.label_key 1 (subscript_of live texts key.now)) }
-    ensures single { IfOk result (HasLevels 1) }
+        (meant.label_key levels (subscript_of live texts key.now)) }
+    ensures fits { IfOk result (FitsLevels levels) }
 {
     match key {
         Subscript::Key(Argument::One(Value::Scalar(cell))) => {
             Ok(LocKey::One(single_label(alloc, *cell)))
         }
         Subscript::Key(Argument::Row(items)) => {
-            Ok(LocKey::One(tuple_of(alloc, items.as_slice())?))
+            Ok(LocKey::One(leading_labels(alloc, levels, items.as_slice())?))
         }
         Subscript::Key(Argument::Many(items)) => {
-            Ok(LocKey::Many(listed_keys(alloc, items.as_slice())?))
+            Ok(LocKey::Many(listed_keys(alloc, levels, items.as_slice())?))
         }
-        Subscript::Span(from, to, Argument::Nothing) => label_span(alloc, from, to),
+        Subscript::Span(from, to, Argument::Nothing) => label_span(alloc, levels, from, to),
         _ => Err(wrong_kind()),
     }
 }
 
-// The key of `at` and `iat`: a scalar, or a tuple of one.
-pub(crate) fn whole_key(alloc: Global, key: &Subscript) -> Result<Tuple, OpFault>
+// The key of `at` and `iat`: a scalar on one level, or a tuple with a label for each level.
+pub(crate) fn whole_key(alloc: Global, levels: usize, key: &Subscript) -> Result<Tuple, OpFault>
+    requires some { 1 ≤ levels }
+    requires few { levels ≤ 4 }
     ensures labels { (live : Tables) (texts : List OneText) → MakesBy tuple_value texts result
-        (meant.whole_key 1 (subscript_of live texts key.now)) }
-    ensures single { IfOk result (λ key. length key ≡ 1) }
+        (meant.whole_key levels (subscript_of live texts key.now)) }
+    ensures full { IfOk result (λ key. length key ≡ levels) }
 {
     match key {
-        Subscript::Key(Argument::One(Value::Scalar(cell))) => Ok(single_label(alloc, *cell)),
-        Subscript::Key(Argument::Row(items)) => tuple_of(alloc, items.as_slice()),
+        Subscript::Key(Argument::One(Value::Scalar(cell))) => lone_label(alloc, levels, *cell),
+        Subscript::Key(Argument::Row(items)) => full_labels(alloc, levels, items.as_slice()),
+        _ => Err(wrong_kind()),
+    }
+}
+
+// Whether an accessor takes tuples of labels.
+fn takes_tuple(by: Selector) -> bool
+    ensures { result ≡ meant.takes_tuple (accessor_of by) }
+{
+    match by {
+        Selector::Plain => true,
+        Selector::Loc => true,
+        Selector::Iloc => false,
+        Selector::At => true,
+        Selector::Iat => false,
+    }
+}
+
+// The scalar that a key is.
+fn scalar_key(key: &Subscript) -> Option<Cell>
+    ensures { (live : Tables) (texts : List OneText) → option_map (datum texts) result
+        ≡ meant.scalar_of_key (subscript_of live texts key.now) }
+{
+    match key {
+        Subscript::Key(argument) => argument.scalar(),
+        Subscript::Span(_, _, _) => None,
+    }
+}
+
+/// The tuple that two keys of a Series are: two scalars, in `loc` and `at`, where there are several levels.
+///
+/// # Errors
+///
+/// `WrongKind` of all else. `NoMemory` may come in place of any answer.
+pub fn joined_key(
+    alloc: Global,
+    by: Selector,
+    levels: usize,
+    first: &Subscript,
+    second: &Subscript,
+) -> Result<Subscript, OpFault>
+    ensures key { (live : Tables) (texts : List OneText) → MakesBy (subscript_of live) texts result
+        (meant.joined_key (accessor_of by) levels (subscript_of live texts first.now)
+        (subscript_of live texts second.now)) }
+    ensures live { (live : Tables) → IfOk result (IsLiveSubscript live) }
+{
+    if !takes_tuple(by) || levels < 2 {
+        return Err(wrong_kind());
+    }
+    match (scalar_key(first), scalar_key(second)) {
+        (Some(first), Some(second)) => {
+            let mut labels = Items::new(alloc);
+            labels.push(Item::One(Value::Scalar(first)))?;
+            labels.push(Item::One(Value::Scalar(second)))?;
+            Ok(Subscript::Key(Argument::Row(labels)))
+        }
         _ => Err(wrong_kind()),
     }
 }

@@ -27,6 +27,7 @@ mod subscripts;
 mod taking;
 
 pub use headings::different_headings;
+pub use keys::joined_key;
 pub use labels::{column_place, column_places, headings_at, place_of_label};
 pub use new_objects::{as_frame, copied, places_below, renamed};
 pub use reaching::{all_columns, columns_by, expect_one_level, may_stand_alone, rows_by};

@@ -1,24 +1,24 @@
 // Plans of selections: what they take from a table that is read.
-ghost use Rattle.std.specs.Prelude.{◌≡◌, ◌∷◌, [], ℕ, List, length, IfOk, IfSome};
-ghost use Rattle.std.specs.List.{range_with_len};
+ghost use Rattle.std.specs.Prelude.{◌≡◌, ◌<◌, ◌∷◌, [], List, length, IfOk, IfSome};
 ghost use Rattle.std.specs.Option.{option_map};
 ghost use Rattle.cell_core.specs.declared.grid.Shape.TheVariants.{Frame};
 ghost use Rattle.meaning.specs.Text.{Text as OneText};
 ghost use Rattle.table_meaning.specs.Settled.{IsSettled};
 ghost use Rattle.table_meaning.specs.Table.{NumberedTable, table_value};
 ghost use Rattle.table_meaning.specs.Value.{one, key_given};
+ghost use Rattle.select_meaning.specs.Keys.{reach_by};
 ghost use Rattle.select_meaning.specs.Select as meant;
 ghost use Rattle.multi_index.specs.Axes.{HaveLevels};
 ghost use Rattle.frame_store.specs.Objects.{Tables, tables};
 ghost use Rattle.frame_store.specs.Arguments.{object_value, items_of, subscript_of, IsLiveObject};
 ghost use Rattle.frame_store.specs.World.{world, entry_in, subscript_in, IsKnownValue, IsKnownSubscript, IsKnownTable, IsSettledWorld};
-ghost use Rattle.selections.specs.Plans.{rows_in, AreTakenBelow, has_single_row, has_single_column, reach_of_plan, IsPlanFor, PlansBy};
+ghost use Rattle.selections.specs.Plans.{rows_in, TakesPicked, TakesAll, has_single_row, has_single_column, reach_of_plan, IsPlanFor, PlansBy};
 ghost use Rattle.selections.specs.Reaches.{accessor_of, reach_value, PicksBelow, ReachesWithin};
 ghost use Rattle.selections.specs.Selected.{each_truth, way_of};
 
 use crate::keys::wrong_kind;
 use crate::labels::{column_place, column_places};
-use crate::reaching::{Reach, all_columns, expect_one_level, mask_rows, reach_by};
+use crate::reaching::{Reach, all_columns, mask_rows, reach_by};
 use crate::subscripts::scalars_of;
 use cell_core::{Cell, Grid, Places, Rows, Shape, TextDict};
 use form_parts::label_of;
@@ -33,6 +33,8 @@ pub(crate) enum Taken {
     Slice(Rows),
     /// Any rows.
     Listed(Places),
+    /// The rows under leading labels, and of how many levels these are, which the answer loses.
+    Under(Places, usize),
 }
 
 /// In which form a selection answers.
@@ -67,6 +69,7 @@ impl Taken {
         match self {
             Taken::Slice(rows) => rows.count,
             Taken::Listed(places) => places.len(),
+            Taken::Under(places, _) => places.len(),
         }
     }
 
@@ -78,6 +81,7 @@ impl Taken {
         match self {
             Taken::Slice(rows) => rows.start,
             Taken::Listed(places) => *places.at(0),
+            Taken::Under(places, _) => *places.at(0),
         }
     }
 }
@@ -96,11 +100,12 @@ fn form_of(single_row: bool, single_column: bool) -> Form
 
 // The rows that were picked. A slice needs no list.
 fn rows_taken(rows: Picked) -> Taken
-    ensures { (count : ℕ) → PicksBelow count rows
-        → (rows_in result ≡ rows.places) × AreTakenBelow count result }
+    ensures { (t : NumberedTable) → PicksBelow (length t.labels) rows
+        → rows.dropped < length t.level_names → TakesPicked t rows result }
 {
     match rows.span {
         Some(span) => Taken::Slice(span),
+        None if rows.dropped > 0 => Taken::Under(rows.places, rows.dropped),
         None => Taken::Listed(rows.places),
     }
 }
@@ -110,8 +115,7 @@ fn plan_of(reach: Reach) -> Plan
     ensures plan { (texts : List OneText) (t : NumberedTable) → ReachesWithin t reach
         → meant.picked_result (table_value texts t) (reach_of_plan result)
         ≡ meant.picked_result (table_value texts t) (reach_value texts reach) }
-    ensures whole { (t : NumberedTable) → length t.level_names ≡ 1 → ReachesWithin t reach
-        → IsPlanFor t result }
+    ensures whole { (t : NumberedTable) → ReachesWithin t reach → IsPlanFor t result }
 {
     let form = form_of(reach.rows.single, reach.columns.single);
     Plan {
@@ -123,8 +127,7 @@ fn plan_of(reach: Reach) -> Plan
 
 /// All rows of a table.
 pub(crate) fn all_rows(on: &ObjRef<'_>) -> Taken
-    ensures rows { rows_in result ≡ range_with_len 0 (length on.now.labels) }
-    ensures below { AreTakenBelow (length on.now.labels) result }
+    ensures { TakesAll on.now result }
 {
     Taken::Slice(Rows {
         start: 0,
@@ -135,8 +138,7 @@ pub(crate) fn all_rows(on: &ObjRef<'_>) -> Taken
 
 /// All rows of these columns.
 pub(crate) fn whole_columns(on: &ObjRef<'_>, columns: Places, form: Form) -> Plan
-    ensures rows { rows_in result.rows ≡ range_with_len 0 (length on.now.labels) }
-    ensures below { AreTakenBelow (length on.now.labels) result.rows }
+    ensures rows { TakesAll on.now result.rows }
     ensures columns { result.columns ≡ columns }
     ensures form { result.form ≡ form }
 {
@@ -187,7 +189,6 @@ fn mask_plan(
         (object_value (tables store.now) dict.now mask)) }
     ensures whole { IfOk result (IsPlanFor on.now) }
 {
-    expect_one_level(on)?;
     let rows = mask_rows(alloc, store, dict, on, mask)?;
     let columns = all_columns(alloc, on)?;
     Ok(plan_of(Reach { rows, columns }))
@@ -284,12 +285,11 @@ fn access_plan(
     requires settled { IsSettledWorld (world store.now dict.now) }
     requires first { IsKnownSubscript (world store.now dict.now) first.now }
     requires second { IfSome second (λ key. IsKnownSubscript (world store.now dict.now) key.now) }
-    ensures plan { PlansBy dict.now on.now result (meant.access_reach (accessor_of by)
+    ensures plan { PlansBy dict.now on.now result (reach_by on.now.shape (accessor_of by)
         (table_value dict.now on.now) (subscript_in (world store.now dict.now) first.now)
         (option_map (λ key. subscript_in (world store.now dict.now) key.now) second.entry)) }
     ensures whole { IfOk result (IsPlanFor on.now) }
 {
-    expect_one_level(on)?;
     let reach = reach_by(alloc, store, dict, on, by, first, second)?;
     Ok(plan_of(reach))
 }

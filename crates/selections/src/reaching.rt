@@ -1,5 +1,5 @@
 // The rows and columns that keys reach.
-ghost use Rattle.std.specs.Prelude.{◌≡◌, ◌<◌, List, length, map, All, Result, IfOk, IfSome, Some, None, not};
+ghost use Rattle.std.specs.Prelude.{◌≡◌, ◌<◌, ◌≤◌, List, length, map, All, Result, IfOk, IfSome, Some, None, not};
 ghost use Rattle.std.specs.List.{range_with_len};
 ghost use Rattle.std.specs.Option.{option_map, is_some};
 ghost use Rattle.cell_core.specs.declared.grid.Shape.TheVariants.{Series, Frame};
@@ -12,10 +12,10 @@ ghost use Rattle.frame_store.specs.Objects.{Tables, tables};
 ghost use Rattle.frame_store.specs.Arguments.{object_value, subscript_of, IsLiveObject, IsLiveSubscript};
 ghost use Rattle.table_meaning.specs.Settled.{IsSettled};
 ghost use Rattle.frame_store.specs.World.{world, subscript_in, IsKnownSubscript, IsSettledWorld};
-ghost use Rattle.indexers.specs.Keys.{HasLevels};
-ghost use Rattle.selections.specs.Reaches.{label_key_value, tuples_value, accessor_of, pick_value, reach_value, refusal_of, found_result, columns_axis, object_key, PicksBelow, ReachesWithin, CanPick, ExpectsOne, is_series, is_row};
+ghost use Rattle.indexers.specs.Keys.{FitsLevels};
+ghost use Rattle.selections.specs.Reaches.{label_key_value, tuples_value, accessor_of, pick_value, reach_value, refusal_of, found_result, columns_axis, object_key, PicksBelow, ReachesWithin, CanSelect, ExpectsOne, is_series, is_row};
 
-use crate::keys::{label_key, position_key, whole_key, wrong_kind};
+use crate::keys::{joined_key, label_key, position_key, whole_key, wrong_kind};
 use crate::new_objects::places_below;
 use cell_core::{Code, Grid, Kind, NoMemory, Places, Reason, Rows, Shape, TextDict, Tuple, Tuples};
 use frame_store::{Argument, ObjId, ObjRef, OpFault, Selector, Store, Subscript};
@@ -58,7 +58,7 @@ fn found<T>(picked: Result<T, KeyFault>) -> Result<T, OpFault>
     }
 }
 
-/// Refuses a table of several levels by `NotBuilt`: its selections aren't built.
+/// Refuses a table of several levels by `NotBuilt`: its settings aren't built.
 pub fn expect_one_level(on: &ObjRef<'_>) -> Result<(), OpFault>
     ensures { ExpectsOne result (length on.now.level_names) }
 {
@@ -68,15 +68,16 @@ pub fn expect_one_level(on: &ObjRef<'_>) -> Result<(), OpFault>
     Ok(())
 }
 
-// The rows of an axis of one level that a key by label picks.
+// The rows of an axis that a key by label picks.
 fn labelled(alloc: Global, dict: &TextDict, axis: &Axis, key: &LocKey) -> Result<Picked, OpFault>
-    requires one { length axis.now.names ≡ 1 }
-    requires full { HasLevels 1 key.now }
+    requires some { 1 ≤ length axis.now.names }
+    requires fits { FitsLevels (length axis.now.names) key.now }
     requires given { IsSettled tuples_value dict.now axis.now.tuples }
     ensures rows { IsSettled label_key_value dict.now key.now → MakesBy pick_value dict.now result
-        (meant.found_labels 1 (tuples_value dict.now axis.now.tuples)
+        (meant.found_labels (length axis.now.names) (tuples_value dict.now axis.now.tuples)
         (label_key_value dict.now key.now)) }
     ensures within { IfOk result (PicksBelow (length axis.now.tuples)) }
+    ensures left { IfOk result (λ picked. picked.dropped < length axis.now.names) }
 {
     // Equal texts have equal numbers: `TextDict::len` says so.
     let _ = dict.len();
@@ -105,20 +106,21 @@ pub(crate) fn mask_rows(
     on: &ObjRef<'_>,
     mask: ObjId,
 ) -> Result<Picked, OpFault>
-    requires table { CanPick dict.now on.now }
+    requires table { CanSelect dict.now on.now }
     requires settled { IsSettledWorld (world store.now dict.now) }
     requires mask { IsLiveObject (tables store.now) mask }
     ensures rows { MakesBy pick_value dict.now result (meant.mask_pick
         (table_value dict.now on.now) (object_value (tables store.now) dict.now mask)) }
     ensures within { IfOk result (PicksBelow (length on.now.labels)) }
+    ensures left { IfOk result (λ picked. picked.dropped < length on.now.level_names) }
 {
-    // Equal texts have equal numbers: `TextDict::len` says so.
+    // Equal texts have equal numbers: `TextDict::len` says so. Each axis has a level: so says `Axis::levels`.
     let _ = dict.len();
+    let _ = on.axis().levels();
     let mask = store.read(mask);
     if mask.shape() == Shape::Frame || mask.kind(0) != Kind::Boolean {
         return Err(wrong_kind());
     }
-    expect_one_level(&mask)?;
     let places = found(mask_places(alloc, on.axis(), mask.axis(), mask.column(0)))?;
     Ok(Picked {
         places,
@@ -136,18 +138,21 @@ fn loc_rows(
     on: &ObjRef<'_>,
     key: &Subscript,
 ) -> Result<Picked, OpFault>
-    requires table { CanPick dict.now on.now }
+    requires table { CanSelect dict.now on.now }
     requires settled { IsSettledWorld (world store.now dict.now) }
     requires key { IsKnownSubscript (world store.now dict.now) key.now }
     ensures rows { MakesBy pick_value dict.now result (meant.loc_rows
         (table_value dict.now on.now) (subscript_in (world store.now dict.now) key.now)) }
     ensures within { IfOk result (PicksBelow (length on.now.labels)) }
+    ensures left { IfOk result (λ picked. picked.dropped < length on.now.level_names) }
 {
+    let axis = on.axis();
+    let levels = axis.levels();
     if let Some(mask) = object_of(key) {
         return mask_rows(alloc, store, dict, on, mask);
     }
-    let key = label_key(alloc, key)?;
-    labelled(alloc, dict, on.axis(), &key)
+    let key = label_key(alloc, levels, key)?;
+    labelled(alloc, dict, axis, &key)
 }
 
 // The row of a key of `at`, which must stand once.
@@ -157,14 +162,16 @@ fn at_rows(
     on: &ObjRef<'_>,
     key: &Subscript,
 ) -> Result<Picked, OpFault>
-    requires table { CanPick dict.now on.now }
+    requires table { CanSelect dict.now on.now }
     ensures rows { (live : Tables) → IsSettled (subscript_of live) dict.now key.now
         → MakesBy pick_value dict.now result
         (meant.at_rows (table_value dict.now on.now) (subscript_of live dict.now key.now)) }
     ensures within { IfOk result (PicksBelow (length on.now.labels)) }
+    ensures left { IfOk result (λ picked. picked.dropped < length on.now.level_names) }
 {
-    let label = whole_key(alloc, key)?;
-    let rows = labelled(alloc, dict, on.axis(), &LocKey::One(label.copy()))?;
+    let axis = on.axis();
+    let label = whole_key(alloc, axis.levels(), key)?;
+    let rows = labelled(alloc, dict, axis, &LocKey::One(label.copy()))?;
     if rows.single {
         Ok(rows)
     } else {
@@ -177,6 +184,7 @@ fn places_among(alloc: Global, count: usize, key: &Subscript) -> Result<Picked, 
     ensures places { (live : Tables) (texts : List OneText) → MakesBy pick_value texts result
         (meant.place_pick count (subscript_of live texts key.now)) }
     ensures within { IfOk result (PicksBelow count) }
+    ensures left { IfOk result (λ picked. picked.dropped ≡ 0) }
 {
     let key = position_key(alloc, key)?;
     found(iloc_places(alloc, count, &key))
@@ -187,8 +195,9 @@ fn place_among(alloc: Global, count: usize, key: &Subscript) -> Result<Picked, O
     ensures places { (live : Tables) (texts : List OneText) → MakesBy pick_value texts result
         (meant.iat_pick count (subscript_of live texts key.now)) }
     ensures within { IfOk result (PicksBelow count) }
+    ensures left { IfOk result (λ picked. picked.dropped ≡ 0) }
 {
-    let _ = whole_key(alloc, key)?;
+    let _ = whole_key(alloc, 1, key)?;
     places_among(alloc, count, key)
 }
 
@@ -199,7 +208,7 @@ fn place_among(alloc: Global, count: usize, key: &Subscript) -> Result<Picked, O
 /// `WrongKind` of a key of a form that the accessor doesn't take, tested first; then those of what it names: `NoKey` of
 /// a label that isn't there and of an end of a slice that can't be placed, `OutOfRange` of a position, `NoMaskLabel` of a
 /// row that a mask lacks, `BadValue(Argument)` of a step of 0, `BadValue(Repeated)` of a label of `at` that stands several
-/// times, `NotBuilt` of a mask of several levels. `NoMemory` may come in place of any answer.
+/// times. `NoMemory` may come in place of any answer.
 pub fn rows_by(
     alloc: Global,
     store: &Store,
@@ -208,13 +217,16 @@ pub fn rows_by(
     by: Selector,
     key: &Subscript,
 ) -> Result<Picked, OpFault>
-    requires table { CanPick dict.now on.now }
+    requires table { CanSelect dict.now on.now }
     requires settled { IsSettledWorld (world store.now dict.now) }
     requires key { IsKnownSubscript (world store.now dict.now) key.now }
     ensures rows { MakesBy pick_value dict.now result (meant.rows_by (accessor_of by)
         (table_value dict.now on.now) (subscript_in (world store.now dict.now) key.now)) }
     ensures within { IfOk result (PicksBelow (length on.now.labels)) }
+    ensures left { IfOk result (λ picked. picked.dropped < length on.now.level_names) }
 {
+    // Each axis has a level: `Axis::levels` says so.
+    let _ = on.axis().levels();
     match by {
         Selector::Plain => loc_rows(alloc, store, dict, on, key),
         Selector::Loc => loc_rows(alloc, store, dict, on, key),
@@ -263,7 +275,7 @@ fn loc_columns(
     on: &ObjRef<'_>,
     key: &Subscript,
 ) -> Result<Picked, OpFault>
-    requires table { CanPick dict.now on.now }
+    requires table { CanSelect dict.now on.now }
     requires shape { on.now.shape ≡ Frame }
     ensures columns { (live : Tables) → IsSettled (subscript_of live) dict.now key.now
         → MakesBy pick_value dict.now result
@@ -273,7 +285,7 @@ fn loc_columns(
     if is_tuple(key) {
         return Err(wrong_kind());
     }
-    let key = label_key(alloc, key)?;
+    let key = label_key(alloc, 1, key)?;
     let axis = columns_axis(alloc, dict, on, &places_below(alloc, on.columns())?)?;
     labelled(alloc, dict, &axis, &key)
 }
@@ -292,7 +304,7 @@ pub fn columns_by(
     by: Selector,
     key: &Subscript,
 ) -> Result<Picked, OpFault>
-    requires table { CanPick dict.now on.now }
+    requires table { CanSelect dict.now on.now }
     requires shape { on.now.shape ≡ Frame }
     ensures columns { (live : Tables) → IsSettled (subscript_of live) dict.now key.now
         → MakesBy pick_value dict.now result (meant.columns_by (accessor_of by)
@@ -304,7 +316,7 @@ pub fn columns_by(
         Selector::Loc => loc_columns(alloc, dict, on, key),
         Selector::Iloc => places_among(alloc, on.columns(), key),
         Selector::At => {
-            let _ = whole_key(alloc, key)?;
+            let _ = whole_key(alloc, 1, key)?;
             loc_columns(alloc, dict, on, key)
         }
         Selector::Iat => place_among(alloc, on.columns(), key),
@@ -357,7 +369,31 @@ pub fn may_stand_alone(by: Selector, key: &Subscript) -> bool
     }
 }
 
-/// What the keys of an accessor reach: one key on a Series, one or two on a frame.
+// The rows that two keys of a Series pick as one tuple.
+fn rows_by_two(
+    alloc: Global,
+    store: &Store,
+    dict: &TextDict,
+    on: &ObjRef<'_>,
+    by: Selector,
+    first: &Subscript,
+    second: &Subscript,
+) -> Result<Picked, OpFault>
+    requires table { CanSelect dict.now on.now }
+    requires settled { IsSettledWorld (world store.now dict.now) }
+    requires first { IsKnownSubscript (world store.now dict.now) first.now }
+    requires second { IsKnownSubscript (world store.now dict.now) second.now }
+    ensures rows { MakesBy pick_value dict.now result (meant.rows_by_two (accessor_of by)
+        (table_value dict.now on.now) (subscript_in (world store.now dict.now) first.now)
+        (subscript_in (world store.now dict.now) second.now)) }
+    ensures within { IfOk result (PicksBelow (length on.now.labels)) }
+    ensures left { IfOk result (λ picked. picked.dropped < length on.now.level_names) }
+{
+    let key = joined_key(alloc, by, on.levels(), first, second)?;
+    rows_by(alloc, store, dict, on, by, &key)
+}
+
+/// What the keys of an accessor reach: one key on a Series, or two that are one tuple, and one or two on a frame.
 pub(crate) fn reach_by(
     alloc: Global,
     store: &Store,
@@ -367,7 +403,7 @@ pub(crate) fn reach_by(
     first: &Subscript,
     second: Option<&Subscript>,
 ) -> Result<Reach, OpFault>
-    requires table { CanPick dict.now on.now }
+    requires table { CanSelect dict.now on.now }
     requires settled { IsSettledWorld (world store.now dict.now) }
     requires first { IsKnownSubscript (world store.now dict.now) first.now }
     requires second { IfSome second (λ key. IsKnownSubscript (world store.now dict.now) key.now) }
@@ -377,18 +413,27 @@ pub(crate) fn reach_by(
         (option_map (λ key. subscript_in (world store.now dict.now) key.now) second.entry)) }
     ensures within { IfOk result (ReachesWithin on.now) }
 {
-    let takes_one = on.shape() == Shape::Series || may_stand_alone(by, first);
-    match second {
-        None if takes_one => {
+    match (on.shape(), second) {
+        (Shape::Series, None) => {
             let rows = rows_by(alloc, store, dict, on, by, first)?;
             let columns = all_columns(alloc, on)?;
             Ok(Reach { rows, columns })
         }
-        Some(key) if on.shape() == Shape::Frame => {
-            let rows = rows_by(alloc, store, dict, on, by, first)?;
-            let columns = columns_by(alloc, dict, on, by, key)?;
+        (Shape::Series, Some(second)) => {
+            let rows = rows_by_two(alloc, store, dict, on, by, first, second)?;
+            let columns = all_columns(alloc, on)?;
             Ok(Reach { rows, columns })
         }
-        _ => Err(wrong_kind()),
+        (Shape::Frame, None) if may_stand_alone(by, first) => {
+            let rows = rows_by(alloc, store, dict, on, by, first)?;
+            let columns = all_columns(alloc, on)?;
+            Ok(Reach { rows, columns })
+        }
+        (Shape::Frame, None) => Err(wrong_kind()),
+        (Shape::Frame, Some(second)) => {
+            let rows = rows_by(alloc, store, dict, on, by, first)?;
+            let columns = columns_by(alloc, dict, on, by, second)?;
+            Ok(Reach { rows, columns })
+        }
     }
 }

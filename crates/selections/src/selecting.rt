@@ -1,23 +1,23 @@
 // Selections: a plan of a table that is read, which one call of the store carries out.
-ghost use Rattle.std.specs.Prelude.{◌≡◌, ◌<◌, ◌^◌, ◌∷◌, [], true, false, List, length, All, Some, None, IfOk, IfSome, OnErr};
+ghost use Rattle.std.specs.Prelude.{◌≡◌, ◌<◌, ◌^◌, ◌∷◌, [], true, false, List, length, slice_index_or, All, Some, None, IfOk, IfSome, OnErr};
 ghost use Rattle.std.specs.Option.{option_map};
 ghost use Rattle.cell_core.specs.Grids.{AreRowsBelow, place_from, IsPlace};
 ghost use Rattle.cell_core.specs.declared.grid.Shape.TheVariants.{Frame};
 ghost use Rattle.meaning.specs.Text.{Text as OneText};
-ghost use Rattle.table_meaning.specs.Table.{table_value};
+ghost use Rattle.table_meaning.specs.Table.{table_value, tuple_value, heading_value};
 ghost use Rattle.form_meaning.specs.Finish.{limited, finished};
 ghost use Rattle.form_meaning.specs.Select.{columns_frame};
 ghost use Rattle.select_meaning.specs.Select as meant;
 ghost use Rattle.pick_meaning.specs.Rows.{rows_of};
-ghost use Rattle.multi_index.specs.Axes.{HaveLevels, taken_axis};
+ghost use Rattle.multi_index.specs.Axes.{taken_axis};
 ghost use Rattle.form_parts.specs.Makes.{MakesBy};
 ghost use Rattle.frame_store.specs.Objects.{tables, table_at, with_object};
 ghost use Rattle.frame_store.specs.Arguments.{object_value, shape_at, IsLiveObject};
 ghost use Rattle.frame_store.specs.Shown.{Makes};
 ghost use Rattle.frame_store.specs.World.{world, entry_in, subscript_in, IsKnownValue, IsKnownSubscript, IsKnownTable, IsSettledWorld, Forms};
-ghost use Rattle.selections.specs.Plans.{rows_in, has_single_column, reach_of_plan, cut_by, IsPlanFor, CanTake};
+ghost use Rattle.selections.specs.Plans.{taken_table, has_single_column, reach_of_plan, cut_by, IsPlanFor, CanTake};
 ghost use Rattle.selections.specs.Selected.{as_it_is, way_of};
-ghost use Rattle.selections.specs.Chosen.{chosen, AreSettledHeadings};
+ghost use Rattle.selections.specs.Chosen.{AreSettledHeadings};
 ghost use Rattle.selections.specs.Across.{HaveKind, cells_across};
 
 use crate::headings::different_headings;
@@ -26,8 +26,8 @@ use crate::labels::headings_at;
 use crate::new_objects::places_below;
 use crate::planning::{Form, Plan, Taken, plan_for, whole_columns};
 use crate::reaching::columns_axis;
-use crate::taking::chosen_table;
-use cell_core::{Code, Grid, Kind, NoMemory, Places, Rows, Shape, TextDict};
+use crate::taking::{chosen_table, table_under};
+use cell_core::{Code, Grid, Kind, Label, NoMemory, Places, Rows, Shape, TextDict};
 use column_core::Column;
 use form_parts::{headings_of, placed, within_limits};
 use frame_store::{
@@ -74,7 +74,21 @@ fn row_cells(
     Ok(cells)
 }
 
-// A row as a Series over the labels of these columns, named by the row's label.
+// The label of a row as a name. A row of several levels has none.
+fn row_name(on: &ObjRef<'_>, row: usize) -> Option<Label>
+    requires { row < length on.now.labels }
+    ensures { (texts : List OneText) → heading_value texts result
+        ≡ meant.row_name (tuple_value texts (slice_index_or on.now.labels row [])) }
+{
+    let axis = on.axis();
+    if axis.levels() == 1 {
+        Some(axis.label(row, 0))
+    } else {
+        None
+    }
+}
+
+// A row as a Series over the labels of these columns.
 fn row_series(
     alloc: Global,
     dict: &TextDict,
@@ -84,13 +98,12 @@ fn row_series(
 ) -> Result<Table, OpFault>
     requires known { IsKnownTable dict.now on.now }
     requires shape { on.now.shape ≡ Frame }
-    requires one { length on.now.level_names ≡ 1 }
-    requires levels { HaveLevels 1 on.now.labels }
     requires row { row < length on.now.labels }
     requires columns { All (λ place. place < length on.now.columns) columns.now }
     ensures { Makes dict.now result (meant.row_result
         (meant.cut (table_value dict.now on.now) (row ∷ []) columns.now)) }
 {
+    let name = row_name(on, row);
     let kind = kind_across(on, columns)?;
     if !within_limits(columns.len(), 1) {
         return Err(OpFault::Refused(Code::Limit));
@@ -98,7 +111,7 @@ fn row_series(
     let cells = row_cells(alloc, on, kind, row, columns)?;
     let axis = columns_axis(alloc, dict, on, columns)?;
     let mut headings = Headings::new(alloc, None);
-    headings.push(Some(on.label(row, 0)))?;
+    headings.push(name)?;
     let mut blocks = Blocks::new(alloc);
     blocks.push(cells.into_block())?;
     Ok(Table::new(Shape::Series, axis, headings, blocks))
@@ -149,7 +162,7 @@ fn make_taken(
         (table_at (tables store.old) on.0) }
     ensures fresh { IfOk result (λ id. tables store.old id.0 ≡ None) }
     ensures ok { IfOk result (λ id. tables store.new ≡ with_object (tables store.old) id.0
-        (Some (chosen shape headings (rows_in rows.now) columns.now
+        (Some (taken_table shape headings rows.now columns.now
         (table_at (tables store.old) on.0)))) }
     ensures err { OnErr result (tables store.new ≡ tables store.old) }
 {
@@ -161,6 +174,11 @@ fn make_taken(
         Taken::Listed(rows) => {
             let source = store.read(on);
             let table = chosen_table(alloc, &source, shape, rows, columns, headings)?;
+            store.insert(table)
+        }
+        Taken::Under(rows, levels) => {
+            let source = store.read(on);
+            let table = table_under(alloc, &source, shape, rows, *levels, columns, headings)?;
             store.insert(table)
         }
     }
@@ -181,7 +199,7 @@ pub(crate) fn cut_within(
         (table_at (tables store.old) on.0) }
     ensures { (texts : List OneText) → IsSettledWorld (world store.old texts)
         → AreSettledHeadings texts headings → Forms result (limited (table_value texts
-        (chosen shape headings (rows_in rows.now) columns.now (table_at (tables store.old) on.0))))
+        (taken_table shape headings rows.now columns.now (table_at (tables store.old) on.0))))
         (world store.old texts) (world store.new texts) }
 {
     if !within_limits(rows.count(), columns.len()) {
@@ -324,22 +342,23 @@ fn carry_out(
 }
 
 /// A selection: `v[..]`, `v.loc[..]`, `v.iloc[..]`, `v.at[..]` or `v.iat[..]`, as in the pandas
-/// user guide, "Indexing and selecting data". Axes of several levels aren't built yet.
+/// user guide, "Indexing and selecting data" and "MultiIndex / advanced indexing".
 ///
 /// Brackets on a frame take a column by its label, columns by a list of labels, or the rows of a
 /// mask; those of a Series are `loc`. `loc` takes labels, `iloc` positions, on a frame with a key
 /// for the rows and one for the columns, which may be left out; `at` and `iat` take one label or
-/// position for each. A single row and column give a scalar, a single column or row a Series, all
-/// else a Series of a Series and a frame of a frame. The answer is a new object; no other object
-/// changes.
+/// position for each. On several levels a row's labels are a tuple, which two keys of a Series in
+/// `loc` and `at` are too; one of fewer labels gives the rows that begin with it, without its levels.
+/// A single row and column give a scalar, a single column or row a Series, all else a Series of a
+/// Series and a frame of a frame. The answer is a new object; no other object changes.
 ///
 /// # Errors
 ///
 /// `WrongKind` of a scalar that is subscripted, of a key of another form, and of a list of truth
-/// values alone in brackets; `NotBuilt` of axes of several levels. The row key before the column
-/// key: `NoKey` of a label that isn't there, or of the bound of a slice that isn't there or stands
-/// twice where the labels aren't in order; `OutOfRange` of a position; `NoMaskLabel` of a row whose
-/// label stands not just once in a mask of other labels; `BadValue(Argument)` of a step of 0;
+/// values alone in brackets. The row key before the column key: `NoKey` of a label that isn't there,
+/// or, where the labels aren't in order, of the bound of a slice that isn't there or stands twice, or
+/// of any on several levels; `OutOfRange` of a position; `NoMaskLabel` of a row whose label stands
+/// not just once in a mask of other labels; `BadValue(Argument)` of a step of 0;
 /// `BadValue(Repeated)` of a label of `at` that stands more than once. Then `WrongKind` of a row of
 /// several kinds, `BadValue(Repeated)` of the first column that is listed twice, `Limit`.
 /// `NoMemory` may come in place of any answer. After a refusal all objects are as they were.

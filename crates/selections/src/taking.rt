@@ -5,7 +5,7 @@ ghost use Rattle.column_core.specs.Lanes.{lane_row};
 ghost use Rattle.column_core.specs.Moves.{picked_row, IsPlaceOf};
 ghost use Rattle.table_meaning.specs.Valid.{IsWhole, AreHeadings};
 ghost use Rattle.frame_store.specs.Parts.{block_column, IsSingle};
-ghost use Rattle.selections.specs.Chosen.{cells_by_place, columns_at, chosen};
+ghost use Rattle.selections.specs.Chosen.{cells_by_place, columns_at, chosen, chosen_under};
 
 use cell_core::{NoMemory, Places, Shape};
 use column_core::{Borrowed, ColRef, Column, Lane, Nothing, RowOp, Source, Value, by_rows};
@@ -152,5 +152,30 @@ pub fn chosen_table(
 {
     let blocks = chosen_blocks(alloc, on, rows, columns)?;
     let axis = on.axis().take(alloc, rows)?;
+    Ok(Table::new(shape, axis, headings, blocks))
+}
+
+/// The table of these rows and columns of another one without so many of its leading levels, under these
+/// headings, one for each column. `NoMemory` is the only refusal.
+pub(crate) fn table_under(
+    alloc: Global,
+    on: &ObjRef<'_>,
+    shape: Shape,
+    rows: &Places,
+    levels: usize,
+    columns: &Places,
+    headings: Headings,
+) -> Result<Table, NoMemory>
+    requires rows { All (λ row. row < length on.now.labels) rows.now }
+    requires levels { levels < length on.now.level_names }
+    requires columns { All (λ place. place < length on.now.columns) columns.now }
+    requires headed { length headings.labels ≡ length columns.now }
+    requires headings { AreHeadings shape headings.columns_name headings.labels }
+    ensures { IfOk result (λ made. made
+        ≡ chosen_under levels shape headings rows.now columns.now on.now) }
+{
+    let blocks = chosen_blocks(alloc, on, rows, columns)?;
+    let taken = on.axis().take(alloc, rows)?;
+    let axis = taken.drop_levels(alloc, levels)?;
     Ok(Table::new(shape, axis, headings, blocks))
 }

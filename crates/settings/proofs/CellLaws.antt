@@ -1,8 +1,9 @@
 -- Cells that are set: the table that a target grows, with the values.
-use Rattle.std.proofs.Common.{◌≡◌, ◌∙◌, ℕ, zero, suc, ◌+◌, ◌<◌, ◌%◌, ◌/◌, Bool, true, false, ◌&&◌, List, [], ◌∷◌, ◌++◌, length, map, replicate, refl, ap, sym, arith, if◌then◌else◌, Option, Some, None, option_map, Result, Ok, Err}
-use Rattle.std.specs.Prelude.{slice_set, slice_index, slice_index_or, is_some, not, nat_lt}
+use Rattle.std.proofs.Common.{◌≡◌, ◌∙◌, ℕ, zero, suc, ◌+◌, ◌<◌, ◌%◌, ◌/◌, Bool, true, false, ◌&&◌, List, [], ◌∷◌, ◌++◌, length, map, replicate, refl, ap, sym, subst, arith, if◌then◌else◌, Option, Some, None, option_map, Result, Ok, Err}
+use Rattle.std.specs.Prelude.{slice_set, slice_index, slice_index_or, is_some, not, nat_lt, IfOk}
 use Rattle.std.proofs.lemmas.Bool.Decides.{nat_tests}
-use Rattle.std.proofs.lemmas.List.{length-map, length-set, map-append, map-set}
+use Rattle.std.proofs.Math.ListN.{get_or-map}
+use Rattle.std.proofs.lemmas.List.{length-map, length-set, map-append, map-set, get_or_push}
 use Rattle.cell_core.specs.declared.cell.Cell.{Cell}
 use Rattle.cell_core.specs.declared.cell.Cell.TheVariants.{Na}
 use Rattle.cell_core.specs.declared.cell.Kind.{Kind}
@@ -17,12 +18,15 @@ use Rattle.table_meaning.specs.Change.{with_cell, with_cell_at, with_column, wit
 use Rattle.form_meaning.specs.Finish.{within_limits, limited_table}
 use Rattle.form_meaning.specs.Finish.{missing_column as missing_value}
 use Rattle.select_meaning.specs.Set as meant
-use Rattle.frame_store.specs.Shown.{cells_value, columns_value}
+use Rattle.frame_store.specs.Shown.{cells_value, columns_value, labels_value}
 use Rattle.frame_store.proofs.ColumnLaws.{map-put_at}
 use Rattle.frame_store.proofs.Settling.{cells_settled, columns_part}
+use Rattle.multi_index.specs.Axes.{AxisValue, tuples_at, taken_axis}
+use Rattle.frame_store.specs.Parts.{axis_of}
+use Rattle.settings.specs.declared.targets.Reached.{Reached}
 use Rattle.settings.specs.declared.targets.Target.{Target}
-use Rattle.settings.specs.Grown.{column_added, columns_with_gap, grown_table, missing_column, row_added, with_gap}
-use Rattle.settings.specs.Values.{ArePlacesOf, HasKinds, columns_after, count_with, kind_added, kind_there, rows_after, target_value}
+use Rattle.settings.specs.Grown.{column_added, columns_with_gap, grown_table, missing_column, reached_tuples, row_added, with_gap}
+use Rattle.settings.specs.Values.{ArePlacesOf, HasKinds, IsReachedOf, columns_after, count_with, kind_added, kind_there, reached_value, rows_after, target_value}
 use Rattle.settings.proofs.ColumnLaws.{map-replicate}
 use Rattle.settings.proofs.GrowLaws.{grown_columns, grown_rows, reached_below, put_last}
 
@@ -58,6 +62,36 @@ gap_seen texts (c ∷ cs) = λ j. record { kind = c.kind; cells = sym (map-appen
 row_seen : (texts : List Text) (t : NumberedTable) (o : Option Label) → meant.with_row (table_value texts t) (option_map (label_datum texts) o) ≡ table_value texts (row_added t o)
 row_seen texts t None = refl
 row_seen texts t (Some l) = λ j. record (table_value texts t) { labels = sym (map-append (tuple_value texts) t.labels ((l ∷ []) ∷ [])) j; columns = gap_seen texts t.columns j }
+
+-- the tuples of the rows that are reached
+reached_there : (t : NumberedTable) (rows : Reached) → rows.added ≡ None → tuples_at t.labels rows.places ≡ reached_tuples t rows
+reached_there t rows none = ap (λ (o : Option Label). map (λ row. slice_index_or (row_added t o).labels row []) rows.places) (sym none)
+
+pub taken_reached : {E : Type 0} (t : NumberedTable) (rows : Reached) (r : Result AxisValue E) (axis : AxisValue) → axis ≡ axis_of t → rows.added ≡ None → IfOk r (λ made. made ≡ taken_axis axis rows.places) → IfOk r (λ made. made.tuples ≡ reached_tuples t rows)
+taken_reached t rows (Ok made) axis at none is = ap (λ (a : AxisValue). a.tuples) is ∙ ap (λ (a : AxisValue). tuples_at a.tuples rows.places) at ∙ reached_there t rows none
+taken_reached t rows (Err e) axis at none is = tt
+
+pub reached_new : (t : NumberedTable) (rows : Reached) (l : Label) → rows.added ≡ Some l → IsReachedOf (length t.labels) rows → (l ∷ []) ∷ [] ≡ reached_tuples t rows
+reached_new t rows l some reached =
+    let places : rows.places ≡ length t.labels ∷ [] = subst (ArePlacesOf (length t.labels) rows.places) some reached in
+    ap (λ tuple. tuple ∷ []) (sym (get_or_push t.labels (l ∷ []) [] (length t.labels) refl))
+    ∙ (λ j. map (λ row. slice_index_or (row_added t (sym some j)).labels row []) (sym places j))
+
+pub reached_seen : (texts : List Text) (t : NumberedTable) (rows : Reached) → labels_value texts (reached_tuples t rows) ≡ meant.reached_labels (table_value texts t) (reached_value texts rows)
+reached_seen texts t rows = go rows.places
+  where
+    go : (places : List ℕ) → labels_value texts (map (λ row. slice_index_or (row_added t rows.added).labels row []) places)
+        ≡ map (λ row. slice_index_or (meant.with_row (table_value texts t) (option_map (label_datum texts) rows.added)).labels row []) places
+    go [] = refl
+    go (place ∷ places) =
+        let here : tuple_value texts (slice_index_or (row_added t rows.added).labels place []) ≡ slice_index_or (meant.with_row (table_value texts t) (option_map (label_datum texts) rows.added)).labels place [] =
+        sym (get_or-map (tuple_value texts) (row_added t rows.added).labels place []) ∙ ap (λ (u : Table). slice_index_or u.labels place []) (sym (row_seen texts t rows.added)) in
+        λ j. here j ∷ go places j
+
+pub reached_settled : (texts : List Text) (t : NumberedTable) (rows : Reached) (tuples : List (List Label)) → tuples ≡ reached_tuples t rows → IsSettled table_value texts t → IsSettled reached_value texts rows → IsSettled labels_value texts tuples
+reached_settled texts t rows tuples is settled given =
+    subst (IsSettled labels_value texts) (sym is)
+    (λ more. reached_seen (texts ++ more) t rows ∙ (λ j. meant.reached_labels (settled more j) (given more j)) ∙ sym (reached_seen texts t rows))
 
 abbrev column_or : Table → Option LabelValue → Kind → Table
 column_or t None kind = t

@@ -1,8 +1,8 @@
 -- Values for the cells that a setting reaches.
-use Rattle.std.proofs.Common.{◌≡◌, ◌∙◌, ℕ, zero, suc, ◌+◌, ◌*◌, ◌^◌, ◌<◌, ◌%◌, Bool, true, false, ◌&&◌, List, [], ◌∷◌, ◌++◌, length, take, drop, replicate, refl, ap, sym, subst, arith, nat_eq, if◌then◌else◌, Option, Some, None, option_map, Result, Ok, Err}
-use Rattle.std.specs.Prelude.{◌≢◌, slice_get, slice_index, slice_index_or, nat_le, nat_lt, min, IfOk, IsOk}
+use Rattle.std.proofs.Common.{◌≡◌, ◌∙◌, ℕ, zero, suc, ◌+◌, ◌*◌, ◌^◌, ◌<◌, ◌%◌, Bool, true, false, ◌&&◌, List, [], ◌∷◌, ◌++◌, length, take, drop, replicate, refl, ap, sym, arith, nat_eq, if◌then◌else◌, Some, Result, Ok, Err}
+use Rattle.std.specs.Prelude.{slice_get, slice_index, slice_index_or, nat_le, nat_lt, min, IfOk, IsOk}
 use Rattle.std.proofs.lemmas.Bool.Decides.{nat_tests}
-use Rattle.std.proofs.lemmas.List.{take_more, get_or-map}
+use Rattle.std.proofs.lemmas.List.{take_more}
 use Rattle.std.proofs.Math.Seq.{drop-cons, drop-length}
 use Rattle.std.proofs.lemmas.Option.{get_or_from_slice_get}
 use Rattle.cell_core.specs.declared.cell.Cell.{Cell}
@@ -11,25 +11,20 @@ use Rattle.cell_core.specs.declared.cell.Kind.{Kind}
 use Rattle.cell_core.specs.declared.cell.Label.{Label}
 use Rattle.cell_core.specs.declared.cell.Label.TheVariants as label
 use Rattle.multi_index.specs.Axes.{HaveLevels}
-use Rattle.table_meaning.specs.Settled.{IsSettled}
-use Rattle.frame_store.proofs.PartLaws.{number_inside}
 use Rattle.meaning.specs.Text.{Text}
-use Rattle.meaning.specs.Cell.{CellValue, LabelValue, na, datum, label_datum, holds}
+use Rattle.meaning.specs.Cell.{CellValue, datum, holds}
 use Rattle.meaning.specs.Fault.{FaultValue, bad_value, length_of, then_value}
-use Rattle.table_meaning.specs.Table.{ColumnOf, NumberedTable, Table, table_value, tuple_value, column_at}
-use Rattle.form_meaning.specs.Binding.{same_label}
+use Rattle.table_meaning.specs.Table.{ColumnOf, NumberedTable, Table, column_at}
 use Rattle.form_meaning.specs.Finish.{within_limits}
-use Rattle.form_meaning.specs.Infix.{same_tuple, same_tuples}
 use Rattle.form_meaning.specs.Set.{of_length}
-use Rattle.select_meaning.specs.Set.{fit_from, listed_values, with_row, reached_labels}
+use Rattle.select_meaning.specs.Set.{fit_from, listed_values}
 use Rattle.form_parts.specs.Makes.{MakesBy}
 use Rattle.frame_store.specs.declared.fault.OpFault.{OpFault}
 use Rattle.frame_store.specs.declared.fault.OpFault.TheVariants.{Refused, NoMemory}
-use Rattle.frame_store.specs.Shown.{labels_value, cells_value}
+use Rattle.frame_store.specs.Shown.{cells_value}
 use Rattle.selections.specs.Selected.{as_it_is}
 use Rattle.settings.specs.Assigned.{column_listed}
-use Rattle.settings.specs.Values.{kind_there, reached_value, HasKinds, ArePlacesOf, IsReachedOf}
-use Rattle.settings.specs.declared.targets.Reached.{Reached}
+use Rattle.settings.specs.Values.{kind_there, HasKinds}
 
 -- cells so far
 pub replicate_more : (n : ℕ) (c : Cell) → replicate n c ++ c ∷ [] ≡ replicate (n + 1) c
@@ -118,80 +113,17 @@ limits_min most rows columns long wide = go (nat_le rows most) (nat_le columns m
         let same' : min columns most ≡ columns = grind (arith, nat_tests) in
         λ j. within_limits (same j) (same' j)
 
--- tuples of labels, one after the other
-abbrev pub labels_from : List (List LabelValue) → List (List LabelValue) → ℕ → Bool
-labels_from a b k = same_tuples (drop k a) (drop k b)
-
-from_tuple : (a b : List (List LabelValue)) (k : ℕ) (x y : LabelValue) → k < length a → k < length b → x ∷ [] ≡ slice_index_or a k [] → y ∷ [] ≡ slice_index_or b k [] → labels_from a b k ≡ ((same_label x y && true) && labels_from a b (suc k))
-from_tuple a b k x y lt lt' at at' =
-    (λ j. same_tuples (drop-cons a k [] lt j) (drop-cons b k [] lt' j)) ∙ (λ j. same_tuple (sym at j) (sym at' j) && labels_from a b (suc k))
-
-pub tuple_same : (a b : List (List LabelValue)) (k : ℕ) (x y : LabelValue) (r whole : Bool) → k < length a → k < length b → x ∷ [] ≡ slice_index_or a k [] → y ∷ [] ≡ slice_index_or b k [] → r ≡ same_label x y → r ≡ true → labels_from a b k ≡ whole → labels_from a b (k + 1) ≡ whole
-tuple_same a b k x y r whole lt lt' at at' same so before =
-    let next : k + 1 ≡ suc k = omega arith in
-    ap (labels_from a b) next ∙ sym (from_tuple a b k x y lt lt' at at' ∙ ap (λ s. (s && true) && labels_from a b (suc k)) (sym same ∙ so)) ∙ before
-
-pub tuple_other : (a b : List (List LabelValue)) (k : ℕ) (x y : LabelValue) (r whole : Bool) → k < length a → k < length b → x ∷ [] ≡ slice_index_or a k [] → y ∷ [] ≡ slice_index_or b k [] → r ≡ same_label x y → r ≡ false → labels_from a b k ≡ whole → false ≡ whole
-tuple_other a b k x y r whole lt lt' at at' same other before =
-    sym (from_tuple a b k x y lt lt' at at' ∙ ap (λ s. (s && true) && labels_from a b (suc k)) (sym same ∙ other)) ∙ before
-
-pub tuples_done : (a b : List (List LabelValue)) (k : ℕ) (whole : Bool) → k ≡ length a → k ≡ length b → labels_from a b k ≡ whole → true ≡ whole
-tuples_done a b k whole end end' before = sym (λ j. same_tuples ((ap (λ n. drop n a) end ∙ drop-length a) j) ((ap (λ n. drop n b) end' ∙ drop-length b) j)) ∙ before
-
-pub not_as_many : (a b : List (List LabelValue)) → length a ≢ length b → false ≡ same_tuples a b
-not_as_many [] [] other = absurd (other refl)
-not_as_many [] (b ∷ bs) other = refl
-not_as_many (a ∷ as') [] other = refl
-not_as_many (a ∷ as') (b ∷ bs) other = go (same_tuple a b) (not_as_many as' bs (λ e. other (ap suc e)))
-  where
-    go : (r : Bool) → false ≡ same_tuples as' bs → false ≡ (r && same_tuples as' bs)
-    go true later = later
-    go false later = refl
-
-other_levels : (a b : List LabelValue) → length a ≡ 1 → length b ≢ 1 → same_tuple a b ≡ false
-other_levels [] b one other = absurd (omega (arith, one))
-other_levels (x ∷ []) [] one other = refl
-other_levels (x ∷ []) (y ∷ []) one other = absurd (other refl)
-other_levels (x ∷ []) (y ∷ (z ∷ zs)) one other = go (same_label x y)
-  where
-    go : (r : Bool) → (r && false) ≡ false
-    go true = refl
-    go false = refl
-other_levels (x ∷ (y ∷ ys)) b one other = absurd (omega (arith, one))
-
-pub tuple_levels : (a b : List (List LabelValue)) (k levels : ℕ) (x : LabelValue) (whole : Bool) → k < length a → k < length b → x ∷ [] ≡ slice_index_or a k [] → length (slice_index_or b k []) ≡ levels → levels ≢ 1
-    → labels_from a b k ≡ whole → false ≡ whole
-tuple_levels a b k levels x whole lt lt' at long other before =
-    sym ((λ j. same_tuples (drop-cons a k [] lt j) (drop-cons b k [] lt' j))
-    ∙ ap (λ r. r && labels_from a b (suc k)) (other_levels (slice_index_or a k []) (slice_index_or b k []) (ap (λ (t : List LabelValue). length t) (sym at)) (λ e. other (sym long ∙ e)))) ∙ before
-
 -- the label of a row
 single_tuple : (t : List Label) → length t ≡ 1 → t ≡ slice_index_or t 0 label.Na ∷ []
 single_tuple [] one = absurd (omega (arith, one))
 single_tuple (x ∷ []) one = refl
 single_tuple (x ∷ (y ∷ ys)) one = absurd (omega (arith, one))
 
-pub tuple_at : (texts : List Text) (labels : List (List Label)) (k : ℕ) (l : Label) → HaveLevels 1 labels → k < length labels → l ≡ slice_index_or (slice_index_or labels k []) 0 label.Na → label_datum texts l ∷ [] ≡ slice_index_or (labels_value texts labels) k []
-tuple_at texts labels k l levels lt is =
-    ap (λ x. label_datum texts x ∷ []) is ∙ ap (tuple_value texts) (sym (single_tuple (slice_index_or labels k []) (levels k [] lt))) ∙ sym (get_or-map (tuple_value texts) labels k [] [] lt)
-
 pub label_more : (labels : List (List Label)) (k : ℕ) (l : Label) (before after : List (List Label)) → HaveLevels 1 labels → k < length labels → l ≡ slice_index_or (slice_index_or labels k []) 0 label.Na → before ≡ take k labels → after ≡ before ++ (l ∷ []) ∷ []
     → after ≡ take (k + 1) labels
 label_more labels k l before after levels lt is was pushed =
     let here : l ∷ [] ≡ slice_index_or labels k [] = ap (λ x. x ∷ []) is ∙ sym (single_tuple (slice_index_or labels k []) (levels k [] lt)) in
     pushed ∙ (λ j. was j ++ here j ∷ []) ∙ sym (take_more labels k [] lt)
-
-pub reached_at : (texts : List Text) (t : NumberedTable) (rows : Reached) (k place : ℕ) (l : Label) → rows.added ≡ None → HaveLevels 1 t.labels → IsReachedOf (length t.labels) rows → k < length rows.places → slice_get rows.places k ≡ Some place
-    → l ≡ slice_index_or (slice_index_or t.labels place []) 0 label.Na → label_datum texts l ∷ [] ≡ slice_index_or (reached_labels (table_value texts t) (reached_value texts rows)) k []
-reached_at texts t rows k place l none levels reached lt at is =
-    let inside : place < length t.labels = number_inside rows.places (length t.labels) k place (subst (ArePlacesOf (length t.labels) rows.places) none reached) lt at in
-    let row_in : Option Label → ℕ → List LabelValue = λ o row. slice_index_or (with_row (table_value texts t) (option_map (label_datum texts) o)).labels row [] in
-    tuple_at texts t.labels place l levels inside is
-    ∙ sym (get_or-map (row_in rows.added) rows.places k 0 [] lt ∙ ap (row_in rows.added) (get_or_from_slice_get rows.places k place 0 at) ∙ ap (λ o. row_in o place) none)
-
--- labels whose texts were given
-pub tuple_settled : (texts : List Text) (l : Label) (tuple : List Text → List LabelValue) → ((texts : List Text) → label_datum texts l ∷ [] ≡ tuple texts) → ((more : List Text) → tuple (texts ++ more) ≡ tuple texts) → IsSettled label_datum texts l
-tuple_settled texts l tuple is settled = λ more. ap (λ (t : List LabelValue). slice_index_or t 0 na) (is (texts ++ more) ∙ settled more ∙ sym (is texts))
 
 -- as many values as cells that are reached
 times_one : (rows columns n : ℕ) → columns ≡ 1 → rows ≡ n → n ≡ rows * columns

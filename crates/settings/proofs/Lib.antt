@@ -1,3 +1,4 @@
+pub mod AlignLaws
 pub mod CellLaws
 pub mod ColumnLaws
 pub mod FillLaws

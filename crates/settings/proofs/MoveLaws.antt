@@ -41,19 +41,19 @@ column_moves t s l v is = ap (column_set t l) (series_if s.shape s v is).1
 abbrev pub kernel_column : ColumnOf Cell → CellColumn
 kernel_column c = record { kind = c.kind; cells = c.cells }
 
-pub move_meant : (texts : List Text) (t s : NumberedTable) (label : Label) (place rows : ℕ) → IsWhole t → rows ≡ length t.labels → same_tuples (labels_value texts t.labels) (labels_value texts s.labels) ≡ true
+pub move_meant : (texts : List Text) (t s : NumberedTable) (label : Label) (place rows : ℕ) → IsWhole t → rows ≡ length t.labels → length (column_at s.columns 0).cells ≡ length s.labels → same_tuples (labels_value texts t.labels) (labels_value texts s.labels) ≡ true
     → put_place rows (headings_value texts t.headings) (label_datum texts label) ≡ Ok place
     → series_set (table_value texts t) (label_datum texts label) (table_value texts s) ≡ Ok (table_value texts (with_column t place (Some label) (column_at s.columns 0)))
-move_meant texts t s label place rows whole count same placed =
-    series_fits texts t s (label_datum texts label) same
+move_meant texts t s label place rows whole count many same placed =
+    series_fits texts t s (label_datum texts label) many same
     ∙ ap (λ (c : ColumnOf CellValue). put_result (table_value texts t) (label_datum texts label) c) (first_column texts s.columns)
     ∙ put_meant texts t place rows label (kernel_column (column_at s.columns 0)) (with_column t place (Some label) (column_at s.columns 0)) whole count placed refl
 
-pub move_refused : (texts : List Text) (t s : NumberedTable) (label : Label) (rows : ℕ) → IsWhole t → rows ≡ length t.labels → same_tuples (labels_value texts t.labels) (labels_value texts s.labels) ≡ true
+pub move_refused : (texts : List Text) (t s : NumberedTable) (label : Label) (rows : ℕ) → IsWhole t → rows ≡ length t.labels → length (column_at s.columns 0).cells ≡ length s.labels → same_tuples (labels_value texts t.labels) (labels_value texts s.labels) ≡ true
     → then_value (put_place rows (headings_value texts t.headings) (label_datum texts label)) (put_there (table_value texts t) (label_datum texts label) (column_at (table_value texts s).columns 0))
     ≡ series_set (table_value texts t) (label_datum texts label) (table_value texts s)
-move_refused texts t s label rows whole count same =
-    put_refused_of texts t rows label (column_at (table_value texts s).columns 0) whole count ∙ sym (series_fits texts t s (label_datum texts label) same)
+move_refused texts t s label rows whole count many same =
+    put_refused_of texts t rows label (column_at (table_value texts s).columns 0) whole count ∙ sym (series_fits texts t s (label_datum texts label) many same)
 
 pub move_settled : (texts : List Text) (t s : NumberedTable) (label : Label) (place : ℕ) → IsSettled table_value texts t → IsSettled label_datum texts label → IsWhole s → s.shape ≡ Series → IsSettled table_value texts s
     → IsSettled table_value texts (with_column t place (Some label) (column_at s.columns 0))

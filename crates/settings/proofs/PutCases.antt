@@ -1,16 +1,18 @@
 -- Columns for the rows of a frame, and rows that a frame gets with a column.
 use Rattle.std.proofs.Common.{◌≡◌, ◌∙◌, ℕ, zero, suc, pos, ◌<◌, Bool, true, false, ◌&&◌, List, [], ◌∷◌, ◌++◌, length, map, replicate, refl, ap, sym, subst, arith, nat_eq, if◌then◌else◌, Option, Some, None, Result, Ok, Err}
-use Rattle.std.specs.Prelude.{◌≢◌, not}
+use Rattle.std.specs.Prelude.{◌≢◌, not, IfOk}
 use Rattle.std.specs.List.{range_with_len}
 use Rattle.std.proofs.lemmas.Bool.Decides.{nat_tests}
 use Rattle.std.proofs.lemmas.List.{length-map}
 use Rattle.std.proofs.lemmas.List.FromFn.{length-map-range_with_len}
 use Rattle.std.proofs.lemmas.List.Elements.{All-cons, All-nil}
 use Rattle.cell_core.specs.declared.cell.Cell.{Cell}
+use Rattle.cell_core.specs.declared.cell.Cell.TheVariants.{Na}
+use Rattle.meaning.specs.Column.{taken}
 use Rattle.cell_core.specs.declared.cell.Label.{Label}
 use Rattle.meaning.specs.Text.{Text}
 use Rattle.meaning.specs.Cell.{CellValue, LabelValue, int, datum, label_datum, na_cell, IsGiven, AreGiven}
-use Rattle.meaning.specs.Fault.{FaultValue, bad_value, length_of, not_built, then_value}
+use Rattle.meaning.specs.Fault.{FaultValue, bad_value, length_of, then_value}
 use Rattle.index_core.specs.Ranges.{number_label}
 use Rattle.multi_index.specs.Axes.{AxisValue, range_axis, single_tuples}
 use Rattle.column_core.specs.Columns.{CellColumn}
@@ -21,16 +23,20 @@ use Rattle.table_meaning.specs.Valid.{IsWhole}
 use Rattle.form_meaning.specs.Finish.{default_labels}
 use Rattle.form_meaning.specs.Infix.{same_tuple, same_tuples}
 use Rattle.form_meaning.specs.Set.{of_length}
-use Rattle.select_meaning.specs.Set.{put_result, with_rows, has_none, list_set, series_set}
-use Rattle.frame_store.specs.Shown.{labels_value, headings_value, columns_value}
+use Rattle.select_meaning.specs.Set.{put_result, with_rows, has_none, list_set, column_at_rows, aligned_column, series_set}
+use Rattle.frame_store.specs.Parts.{axis_of}
+use Rattle.frame_store.specs.Shown.{labels_value, headings_value, columns_value, cells_value}
 use Rattle.frame_store.proofs.Settling.{cell_given, cells_given, columns_given, columns_part}
 use Rattle.cell_core.specs.declared.grid.Shape.TheVariants.{Series}
 use Rattle.select_meaning.specs.Set as meant
 use Rattle.frame_store.specs.Objects.{Tables}
+use Rattle.frame_store.specs.declared.fault.OpFault.{OpFault}
 use Rattle.settings.specs.declared.values.SetValue.{SetValue}
 use Rattle.settings.specs.declared.values.SetValue.TheVariants.{Same, Listed}
 use Rattle.settings.specs.Values.{value_in}
+use Rattle.settings.specs.Aligned.{aligned_set}
 use Rattle.settings.specs.Assigned.{table_column, column_seen, put_place, with_axis}
+use Rattle.settings.proofs.AlignLaws.{own_column, taken_seen}
 use Rattle.settings.proofs.PutLaws.{put_by, put_there, put_settled, rows_seen, rows_settled, column_put}
 
 -- the cells of a column were given
@@ -113,15 +119,15 @@ list_rows texts t l c none some =
     (λ j. list_or (table_value texts t) l (column_seen texts c) (none_of (tuple_value texts) t.labels none j && not (some_of (datum texts) c.cells some j)))
     ∙ ap (λ n. put_result (with_rows (table_value texts t) (default_labels n) (None ∷ [])) l (column_seen texts c)) (length-map c.cells (datum texts))
 
-other_rows : (texts : List Text) (ls : List (List Label)) (cs : List Cell) → (length ls ≡ 0 → 0 < length cs → ⊥) → (has_none (labels_value texts ls) && not (has_none (map (datum texts) cs))) ≡ false
-other_rows texts [] [] unless = refl
-other_rows texts [] (c ∷ cs) unless = absurd (unless refl (omega arith))
-other_rows texts (l ∷ ls) cs unless = refl
+other_rows : {A B C D : Type 0} (f : A → B) (g : C → D) (ls : List A) (cs : List C) → (length ls ≡ 0 → 0 < length cs → ⊥) → (has_none (map f ls) && not (has_none (map g cs))) ≡ false
+other_rows f g [] [] unless = refl
+other_rows f g [] (c ∷ cs) unless = absurd (unless refl (omega arith))
+other_rows f g (l ∷ ls) cs unless = refl
 
 list_by_rows : (texts : List Text) (t : NumberedTable) (l : LabelValue) (c : CellColumn) → (length t.labels ≡ 0 → 0 < length c.cells → ⊥)
     → list_set (table_value texts t) l (column_seen texts c) ≡ of_length (length t.labels) (length c.cells) (put_result (table_value texts t) l (column_seen texts c))
 list_by_rows texts t l c unless =
-    ap (list_or (table_value texts t) l (column_seen texts c)) (other_rows texts t.labels c.cells unless)
+    ap (list_or (table_value texts t) l (column_seen texts c)) (other_rows (tuple_value texts) (datum texts) t.labels c.cells unless)
     ∙ (λ j. of_length (length-map t.labels (tuple_value texts) j) (length-map c.cells (datum texts) j) (put_result (table_value texts t) l (column_seen texts c)))
 
 same_count : (m n : ℕ) → m ≡ n → nat_eq m n ≡ true
@@ -140,25 +146,38 @@ pub list_misfits : (texts : List Text) (t : NumberedTable) (l : LabelValue) (c :
 list_misfits texts t l c unless other =
     list_by_rows texts t l c unless ∙ ap (λ b. if b then put_result (table_value texts t) l (column_seen texts c) else Err (bad_value (length_of (length t.labels) (length c.cells)))) (other_count (length t.labels) (length c.cells) other)
 
--- a Series goes by rows, and gives a frame without rows its own
+-- the column of a Series
+pub first_column : (texts : List Text) (columns : List (ColumnOf Cell)) → column_at (columns_value texts columns) 0 ≡ column_value texts (column_at columns 0)
+first_column texts [] = refl
+first_column texts (c ∷ cs) = refl
+
+pub own_seen : (texts : List Text) (s : NumberedTable) → length (column_at s.columns 0).cells ≡ length s.labels → length (column_at (columns_value texts s.columns) 0).cells ≡ length (labels_value texts s.labels)
+own_seen texts s many = ap (λ (c : ColumnOf CellValue). length c.cells) (first_column texts s.columns) ∙ length-map (column_at s.columns 0).cells (datum texts) ∙ many ∙ sym (length-map s.labels (tuple_value texts))
+
+-- a Series gives a frame without rows its own, and else is aligned
 abbrev series_or : Table → LabelValue → Table → Bool → Result Table FaultValue
-series_or t l s b = if b then put_result (with_rows t s.labels s.level_names) l (column_at s.columns 0) else Err not_built
+series_or t l s b = if b then put_result (with_rows t s.labels s.level_names) l (column_at s.columns 0) else aligned_set t l s
 
-series_others : (texts : List Text) (t s : NumberedTable) (l : LabelValue) → same_tuples (labels_value texts t.labels) (labels_value texts s.labels) ≡ false
-    → series_set (table_value texts t) l (table_value texts s) ≡ series_or (table_value texts t) l (table_value texts s) (has_none (labels_value texts t.labels))
-series_others texts t s l other = ap (λ b. if b then put_result (table_value texts t) l (column_at (columns_value texts s.columns) 0) else series_or (table_value texts t) l (table_value texts s) (has_none (labels_value texts t.labels))) other
-
-pub series_fits : (texts : List Text) (t s : NumberedTable) (l : LabelValue) → same_tuples (labels_value texts t.labels) (labels_value texts s.labels) ≡ true
-    → series_set (table_value texts t) l (table_value texts s) ≡ put_result (table_value texts t) l (column_at (columns_value texts s.columns) 0)
-series_fits texts t s l same = ap (λ b. if b then put_result (table_value texts t) l (column_at (columns_value texts s.columns) 0) else series_or (table_value texts t) l (table_value texts s) (has_none (labels_value texts t.labels))) same
-
-pub series_rows : (texts : List Text) (t s : NumberedTable) (l : LabelValue) → same_tuples (labels_value texts t.labels) (labels_value texts s.labels) ≡ false → length t.labels ≡ 0
+pub series_rows : (texts : List Text) (t s : NumberedTable) (l : LabelValue) → length t.labels ≡ 0 → 0 < length s.labels
     → series_set (table_value texts t) l (table_value texts s) ≡ put_result (with_rows (table_value texts t) (labels_value texts s.labels) (headings_value texts s.level_names)) l (column_at (columns_value texts s.columns) 0)
-series_rows texts t s l other none = series_others texts t s l other ∙ ap (series_or (table_value texts t) l (table_value texts s)) (none_of (tuple_value texts) t.labels none)
+series_rows texts t s l none some = λ j. series_or (table_value texts t) l (table_value texts s) (none_of (tuple_value texts) t.labels none j && not (some_of (tuple_value texts) s.labels some j))
 
-pub series_misfits : (texts : List Text) (t s : NumberedTable) (l : LabelValue) → same_tuples (labels_value texts t.labels) (labels_value texts s.labels) ≡ false → 0 < length t.labels
-    → series_set (table_value texts t) l (table_value texts s) ≡ Err not_built
-series_misfits texts t s l other some = series_others texts t s l other ∙ ap (series_or (table_value texts t) l (table_value texts s)) (some_of (tuple_value texts) t.labels some)
+pub series_aligned : (texts : List Text) (t s : NumberedTable) (l : LabelValue) → (length t.labels ≡ 0 → 0 < length s.labels → ⊥)
+    → series_set (table_value texts t) l (table_value texts s) ≡ aligned_set (table_value texts t) l (table_value texts s)
+series_aligned texts t s l unless = ap (series_or (table_value texts t) l (table_value texts s)) (other_rows (tuple_value texts) (tuple_value texts) t.labels s.labels unless)
+
+pub aligned_set_is : (texts : List Text) (t : NumberedTable) (axis : AxisValue) (l : LabelValue) (s : Table) → axis ≡ axis_of t
+    → then_value (aligned_column (length axis.names) (labels_value texts axis.tuples) s) (put_result (table_value texts t) l) ≡ aligned_set (table_value texts t) l s
+aligned_set_is texts t axis l s at =
+    (λ j. then_value (aligned_column (length (at j).names) (labels_value texts (at j).tuples) s) (put_result (table_value texts t) l))
+    ∙ ap (λ n. then_value (aligned_column n (labels_value texts t.labels) s) (put_result (table_value texts t) l)) (sym (length-map t.level_names (heading_value texts)))
+
+pub series_fits : (texts : List Text) (t s : NumberedTable) (l : LabelValue) → length (column_at s.columns 0).cells ≡ length s.labels → same_tuples (labels_value texts t.labels) (labels_value texts s.labels) ≡ true
+    → series_set (table_value texts t) l (table_value texts s) ≡ put_result (table_value texts t) l (column_at (columns_value texts s.columns) 0)
+series_fits texts t s l many same =
+    let as_long : length s.labels ≡ length t.labels = rows_as_many texts t.labels s.labels true (sym same) refl in
+    series_aligned texts t s l (λ none some. omega (arith, none, some, as_long))
+    ∙ ap (λ (r : Result (ColumnOf CellValue) FaultValue). then_value r (put_result (table_value texts t) l)) (own_column (length (table_value texts t).level_names) (labels_value texts t.labels) (table_value texts s) same (own_seen texts s many))
 
 -- the frame with the rows of an axis and a column
 pub rows_meant : (texts : List Text) (t : NumberedTable) (axis : AxisValue) (place rows : ℕ) (label : Label) (c : CellColumn) (u : NumberedTable) → IsWhole t → rows ≡ length axis.tuples
@@ -175,16 +194,26 @@ pub rows_given : (texts : List Text) (t : NumberedTable) (axis : AxisValue) (pla
 rows_given texts t axis place label c u settled tuples names named given made =
     subst (IsSettled table_value texts) (sym made) (put_settled texts (with_axis t axis) place label (table_column c) (rows_settled texts t axis settled tuples names) named given)
 
--- the column of a Series
-pub first_column : (texts : List Text) (columns : List (ColumnOf Cell)) → column_at (columns_value texts columns) 0 ≡ column_value texts (column_at columns 0)
-first_column texts [] = refl
-first_column texts (c ∷ cs) = refl
-
+-- the column of a Series, as that of a kernel
 pub series_column : (texts : List Text) (s : NumberedTable) (c copy : CellColumn) → column_at s.columns 0 ≡ record { kind = c.kind; cells = c.cells } → copy ≡ c → column_at (columns_value texts s.columns) 0 ≡ column_seen texts copy
 series_column texts s c copy is same = first_column texts s.columns ∙ ap (column_value texts) is ∙ ap (column_seen texts) (sym same)
 
+-- at the rows that labels take
+pub taken_column : (texts : List Text) (s : NumberedTable) (rows : List (Option ℕ)) (c made : CellColumn) → column_at s.columns 0 ≡ record { kind = c.kind; cells = c.cells } → made.kind ≡ c.kind → made.cells ≡ taken Na c.cells rows
+    → column_at_rows (column_at (columns_value texts s.columns) 0) rows ≡ column_seen texts made
+taken_column texts s rows c made is kind cells =
+    ap (λ (v : ColumnOf CellValue). column_at_rows v rows) (first_column texts s.columns ∙ ap (column_value texts) is)
+    ∙ (λ j. record { kind = sym kind j; cells = (sym (taken_seen texts c.cells rows) ∙ ap (cells_value texts) (sym cells)) j })
+
 pub has_column : (s : NumberedTable) → IsWhole s → s.shape ≡ Series → 0 < length s.columns
 has_column s whole series = omega (arith, whole.headings.single series, whole.headed)
+
+pub own_cells : (s : NumberedTable) → IsWhole s → s.shape ≡ Series → length (column_at s.columns 0).cells ≡ length s.labels
+own_cells s whole series = whole.filled 0 no_column (has_column s whole series)
+
+pub own_given : (texts : List Text) (s : NumberedTable) (r : Result (List Cell) OpFault) → IsWhole s → s.shape ≡ Series → IsSettled table_value texts s → IfOk r (λ cells. cells ≡ (column_at s.columns 0).cells) → IfOk r (AreGiven texts)
+own_given texts s (Ok cells) whole series settled is = subst (AreGiven texts) (sym is) (columns_given texts s.columns (columns_part texts s settled) 0 no_column (has_column s whole series))
+own_given texts s (Err fault) whole series settled is = tt
 
 -- the value of a setting, whose texts were given
 abbrev same_in : meant.SetValue → CellValue

@@ -1,5 +1,5 @@
 -- Tables that get a row or a column of missing cells.
-use Rattle.std.specs.Prelude.{ℕ, List, [], ◌∷◌, ◌++◌, length, map, replicate, Option, Some, None}
+use Rattle.std.specs.Prelude.{ℕ, List, [], ◌∷◌, ◌++◌, length, map, replicate, slice_index_or, Option, Some, None}
 use Rattle.cell_core.specs.declared.cell.Cell.{Cell}
 use Rattle.cell_core.specs.declared.cell.Cell.TheVariants.{Na}
 use Rattle.cell_core.specs.declared.cell.Kind.{Kind}
@@ -7,6 +7,7 @@ use Rattle.cell_core.specs.declared.cell.Label.{Label}
 use Rattle.table_meaning.specs.Table.{ColumnOf, NumberedTable, column_at}
 use Rattle.table_meaning.specs.Change.{with_column, with_values_from}
 use Rattle.multi_index.specs.Axes.{AxisValue}
+use Rattle.settings.specs.declared.targets.Reached.{Reached}
 use Rattle.settings.specs.declared.targets.Target.{Target}
 
 abbrev pub axis_with : NumberedTable → Label → AxisValue
@@ -32,6 +33,10 @@ new_column kind count rows values = column_at (with_values_from 0 (missing_colum
 abbrev pub row_added : NumberedTable → Option Label → NumberedTable
 row_added t None = t
 row_added t (Some label) = with_row t label
+
+-- the tuples of the rows that are reached
+abbrev pub reached_tuples : NumberedTable → Reached → List (List Label)
+reached_tuples t rows = map (λ row. slice_index_or (row_added t rows.added).labels row []) rows.places
 
 abbrev pub column_added : NumberedTable → Option Label → Kind → NumberedTable
 column_added t None kind = t

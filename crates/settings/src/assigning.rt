@@ -182,28 +182,34 @@ fn setting_for(
 /// A setting: `v[..] = value`, `v.loc[..] = value` and so on, as in the pandas user guide,
 /// "Indexing and selecting data" ("Setting with enlargement" among it). Only the table of `on`
 /// changes, and no other object with it (PDEP-7: each object behaves as a copy). A value that is
-/// [`Moved`](NewValue::Moved) ends with the setting. Axes of several levels, and a Series that
-/// would be aligned to other labels, aren't built yet.
+/// [`Moved`](NewValue::Moved) ends with the setting. Cells of axes of several levels aren't built
+/// yet.
 ///
 /// Brackets on a frame make or replace a whole column: a scalar in each row, a list by rows, a
-/// Series by position where its row labels are the frame's. A frame without rows gets those of
-/// the Series, or the labels 0, 1 and so on for a list; its other columns are missing there. Else
-/// the cells that the keys pick are set, as a selection would pick them: a scalar in each, a list
-/// by rows in one column or by columns in one row, a Series by position in `iloc` and `iat` and
-/// by label in `loc` and `at`. Where a cell is picked twice, the later value stays. A scalar key
-/// of `loc` and `at` that isn't there adds a row or a column.
+/// Series aligned to the rows. A frame without rows gets those of the Series, or the labels 0, 1
+/// and so on for a list; its other columns are missing there. Else the cells that the keys pick are
+/// set, as a selection would pick them: a scalar in each, a list by rows in one column or by
+/// columns in one row, a Series by position in `iloc` and `iat` and aligned to the labels of the
+/// rows in `loc` and `at`. Where a cell is picked twice, the later value stays. A scalar key of
+/// `loc` and `at` that isn't there adds a row or a column.
+///
+/// A Series is aligned ("Intro to data structures", "Data alignment"): it goes by position where
+/// its labels are those of the rows, in one order, and else each row takes the cell at its label,
+/// and is missing where there is none.
 ///
 /// # Errors
 ///
 /// `WrongKind` where `on` is a scalar. Of a whole column: `WrongKind` of a subscript or a value of
-/// another form and of scalars of different kinds, `BadValue(Length)` of a list, `NotBuilt` of a
-/// Series of other rows, `Limit`. Of cells: `NotBuilt` of several levels; `WrongKind` of a value of
-/// another form; the refusals of the keys as in a selection (see
-/// [`rows_by`](selections::rows_by)); `BadValue(NoColumns)` of a new row of a frame without columns;
-/// `BadValue(Length)` of a list; `WrongKind` of a Series for several columns; `BadValue(Length)` or
-/// `NotBuilt` of a Series of other rows; `WrongKind` of a cell that its column's kind doesn't hold;
-/// `Limit`. `NoMemory` may come in place of any answer. After a refusal all objects are as they
-/// were, and none ends.
+/// another form and of scalars of different kinds; `BadValue(Length)` of a list, or
+/// `BadValue(Levels)` of a Series on another number of levels than the rows and then
+/// `BadValue(Repeated)` of one that repeats a label, unless its labels are those of the rows;
+/// `Limit`. Of cells: `NotBuilt` of several levels; `WrongKind` of a value of another form; the
+/// refusals of the keys as in a selection (see [`rows_by`](selections::rows_by));
+/// `BadValue(NoColumns)` of a new row of a frame without columns; `BadValue(Length)` of a list;
+/// `WrongKind` of a Series for several columns; `BadValue(Length)` of a Series by position, and
+/// `BadValue(Levels)` and `BadValue(Repeated)` of one that is aligned, as above; `WrongKind` of a
+/// cell that its column's kind doesn't hold; `Limit`. `NoMemory` may come in place of any answer.
+/// After a refusal all objects are as they were, and none ends.
 pub fn assign(
     alloc: Global,
     store: &mut Store,

@@ -1,14 +1,13 @@
 // The values for the cells that a setting reaches, and what is tested of them.
-ghost use Rattle.std.specs.Prelude.{◌≡◌, ◌<◌, ◌-◌, ◌*◌, ◌^◌, ◌⊎◌, min, ◌∷◌, [], ℕ, List, length, replicate, slice_index_or, IfOk};
+ghost use Rattle.std.specs.Prelude.{◌≡◌, ◌<◌, ◌-◌, ◌*◌, ◌^◌, ◌⊎◌, min, ℕ, List, length, replicate, IfOk};
 ghost use Rattle.cell_core.specs.declared.code.Code.TheVariants as code;
 ghost use Rattle.cell_core.specs.declared.code.Reason.TheVariants as reason;
 ghost use Rattle.cell_core.specs.declared.grid.Shape.TheVariants.{Series};
 ghost use Rattle.meaning.specs.Text.{Text as OneText};
-ghost use Rattle.meaning.specs.Cell.{AreGiven, CellValue, label_datum};
-ghost use Rattle.multi_index.specs.Axes.{HaveLevels};
+ghost use Rattle.meaning.specs.Cell.{AreGiven, CellValue};
 ghost use Rattle.table_meaning.specs.Settled.{IsSettled};
-ghost use Rattle.table_meaning.specs.Table.{Table as OneTable, table_value};
-ghost use Rattle.form_meaning.specs.Infix.{same_tuples};
+ghost use Rattle.table_meaning.specs.Table.{Table as OneTable, table_value, column_at};
+ghost use Rattle.table_meaning.specs.Valid.{IsWhole};
 ghost use Rattle.form_meaning.specs.Finish as finish;
 ghost use Rattle.select_meaning.specs.Set as meant;
 ghost use Rattle.form_parts.specs.Makes.{MakesBy};
@@ -18,15 +17,20 @@ ghost use Rattle.frame_store.specs.Shown.{cells_value};
 ghost use Rattle.frame_store.specs.World.{world, IsKnownTable, IsSettledWorld};
 ghost use Rattle.selections.specs.Reaches.{accessor_of, CanPick};
 ghost use Rattle.selections.specs.Selected.{as_it_is};
+ghost use Rattle.settings.specs.Grown.{reached_tuples};
 ghost use Rattle.settings.specs.Values.{value_in, reached_value, target_value, IsLiveSetValue, IsReachedOf, IsTargetOf, Tests, TestsThat, cells_reached, kind_there, HasKinds, count_with, rows_after, columns_after};
 
+use crate::aligning::aligned_cells;
 use crate::columns::{list_kind, present_kind};
 use crate::targets::{Reached, Target};
 use crate::values::{SetValue, wrong_kind};
-use cell_core::{Cell, Cells, Code, Grid, Kind, Label, NoMemory, Places, Reason, TextDict};
+use cell_core::{
+    Cell, Cells, Code, Grid, Kind, Label, NoMemory, Places, Reason, TextDict, Tuple, Tuples,
+};
 use column_core::ColRef;
-use form_parts::{same_label, within_limits};
+use form_parts::within_limits;
 use frame_store::{ObjRef, OpFault, Selector, Store};
+use multi_index::Axis;
 use std::alloc::Global;
 
 // The refusal of another number than is expected.
@@ -77,49 +81,67 @@ fn expect_listed(rows: usize, columns: usize, count: usize) -> Result<(), OpFaul
     Ok(())
 }
 
-// The label of the row that is reached at a place of those that are.
-fn label_at(on: &ObjRef<'_>, rows: &Reached, k: usize) -> Label
-    requires one { length on.now.level_names ≡ 1 }
-    requires levels { HaveLevels 1 on.now.labels }
+// The axis of the rows that are reached.
+fn reached_axis(
+    alloc: Global,
+    dict: &TextDict,
+    on: &ObjRef<'_>,
+    rows: &Reached,
+) -> Result<Axis, NoMemory>
+    requires table { CanPick dict.now on.now }
     requires rows { IsReachedOf (length on.now.labels) rows.now }
-    requires place { k < length rows.now.places }
-    ensures { (texts : List OneText) → label_datum texts result ∷ []
-        ≡ slice_index_or (meant.reached_labels (table_value texts on.now)
-        (reached_value texts rows.now)) k [] }
+    ensures tuples { IfOk result (λ axis. axis.tuples ≡ reached_tuples on.now rows.now) }
+    ensures levels { IfOk result (λ axis. length axis.names ≡ length on.now.level_names) }
 {
     match rows.added {
-        Some(label) => label,
-        None => on.label(*rows.places.at(k), 0),
+        None => on.axis().take(alloc, &rows.places),
+        Some(label) => {
+            let mut labels = Tuples::new(alloc);
+            labels.push(Tuple::of(alloc, &[label]))?;
+            Axis::from_tuples(alloc, dict, &labels, 1)
+        }
     }
 }
 
-// Whether a Series has the labels of the rows that are reached, in their order.
-fn has_labels(dict: &TextDict, on: &ObjRef<'_>, rows: &Reached, series: &ObjRef<'_>) -> bool
+// The cells of a Series by position, of which there must be so many.
+fn values_by_position(alloc: Global, count: usize, series: &ObjRef<'_>) -> Result<Cells, OpFault>
+    requires known { IsWhole series.now }
+    requires single { series.now.shape ≡ Series }
+    ensures values { (texts : List OneText) → MakesBy cells_value texts result
+        (meant.placed_values count (table_value texts series.now)) }
+    ensures count { IfOk result (λ cells. length cells ≡ count) }
+    ensures cells { IfOk result (λ cells. cells ≡ (column_at series.now.columns 0).cells) }
+{
+    if series.rows() != count {
+        return Err(wrong_length(count, series.rows()));
+    }
+    Ok(cells_of(alloc, series.column(0))?)
+}
+
+// The cells of a Series, aligned to the labels of the rows that are reached.
+fn values_by_label(
+    alloc: Global,
+    dict: &TextDict,
+    on: &ObjRef<'_>,
+    rows: &Reached,
+    series: &ObjRef<'_>,
+) -> Result<Cells, OpFault>
     requires table { CanPick dict.now on.now }
     requires rows { IsReachedOf (length on.now.labels) rows.now }
     requires given { IsSettled reached_value dict.now rows.now }
     requires series { IsKnownTable dict.now series.now }
-    ensures { result ≡ same_tuples (meant.reached_labels (table_value dict.now on.now)
-        (reached_value dict.now rows.now)) (table_value dict.now series.now).labels }
+    requires single { series.now.shape ≡ Series }
+    ensures values { MakesBy cells_value dict.now result
+        (meant.aligned_values (table_value dict.now on.now) (reached_value dict.now rows.now)
+        (table_value dict.now series.now)) }
+    ensures count { IfOk result (λ cells. length cells ≡ length rows.now.places) }
+    ensures given { IfOk result (AreGiven dict.now) }
 {
-    let count = rows.places.len();
-    if series.rows() != count {
-        return false;
-    }
-    let levels = series.axis().levels();
-    for k in 0..count {
-        let label = label_at(on, rows, k);
-        if levels != 1 {
-            return false;
-        }
-        if !same_label(dict, label, series.label(k, 0)) {
-            return false;
-        }
-    }
-    true
+    let labels = reached_axis(alloc, dict, on, rows)?;
+    aligned_cells(alloc, dict, &labels, series)
 }
 
-// The cells of a Series: by position in `iloc` and `iat`, and else by label.
+// The cells of a Series: by position in `iloc` and `iat`, and else aligned.
 fn series_values(
     alloc: Global,
     dict: &TextDict,
@@ -139,15 +161,11 @@ fn series_values(
     ensures count { IfOk result (λ cells. length cells ≡ length rows.now.places) }
     ensures given { IfOk result (AreGiven dict.now) }
 {
-    let count = rows.places.len();
-    if matches!(by, Selector::Iloc | Selector::Iat) {
-        if series.rows() != count {
-            return Err(wrong_length(count, series.rows()));
-        }
-    } else if !has_labels(dict, on, rows, series) {
-        return Err(OpFault::Refused(Code::NotBuilt));
+    match by {
+        Selector::Iloc => values_by_position(alloc, rows.places.len(), series),
+        Selector::Iat => values_by_position(alloc, rows.places.len(), series),
+        _ => values_by_label(alloc, dict, on, rows, series),
     }
-    Ok(cells_of(alloc, series.column(0))?)
 }
 
 // A value for each row and column that is reached, row by row.

@@ -4,7 +4,8 @@
 //! away. Both change the table of one object in place, and no other; a value that is
 //! [`NewValue::Moved`] ends with the setting. A setting is read into one change (`changes`),
 //! which is tested whole before the first cell: the form of the value (`values`), the places that
-//! the keys reach (`targets`), and the cells for them (`filling`) or a whole column (`putting`).
+//! the keys reach (`targets`), and the cells for them (`filling`) or a whole column (`putting`), of
+//! which those of a Series are aligned to the rows (`aligning`).
 //! A table that grows is made anew and takes the old one's place at the end, so that a refusal
 //! leaves all as it was and ends no object.
 //!
@@ -17,6 +18,7 @@
 //! ```
 #![tactic(auto)]
 
+mod aligning;
 mod assigning;
 mod changes;
 mod columns;

@@ -14,10 +14,12 @@ ghost use Rattle.frame_store.specs.Shown.{labels_value, headings_value};
 ghost use Rattle.frame_store.specs.World.{world, IsKnownTable, IsSettledWorld};
 ghost use Rattle.selections.specs.Selected.{as_it_is};
 ghost use Rattle.table_meaning.specs.Change.{with_column};
+ghost use Rattle.settings.specs.Aligned.{aligned_set};
 ghost use Rattle.settings.specs.Assigned.{column_seen, table_column, count_after, put_place as place_for, with_axis};
 ghost use Rattle.settings.specs.Values.{value_in, IsLiveSetValue};
 ghost use Rattle.settings.specs.Changes.{changed, ChangesBy, SetsBy, IsChangeOf, IsSettingOf, MayHead};
 
+use crate::aligning::aligned_column;
 use crate::changes::{Change, Setting};
 use crate::columns::{list_column, missing_columns, scalar_column};
 use crate::filling::wrong_length;
@@ -146,8 +148,29 @@ fn list_change(
     put_change(dict, on, label, column)
 }
 
-// The cells of a Series: by position where it has the frame's rows; it gives them to a frame
-// without rows.
+// The cells of a Series, aligned to the rows of the frame.
+fn aligned_change(
+    alloc: Global,
+    dict: &TextDict,
+    on: &ObjRef<'_>,
+    label: Label,
+    series: &ObjRef<'_>,
+) -> Result<Change, OpFault>
+    requires known { IsKnownTable dict.now on.now }
+    requires shape { on.now.shape ≡ Frame }
+    requires label { IsSettled label_datum dict.now label }
+    requires series { IsKnownTable dict.now series.now }
+    requires single { series.now.shape ≡ Series }
+    ensures change { ChangesBy dict.now on.now result
+        (aligned_set (table_value dict.now on.now) (label_datum dict.now label)
+        (table_value dict.now series.now)) }
+    ensures fits { IfOk result (IsChangeOf on.now) }
+{
+    let column = aligned_column(alloc, dict, on.axis(), series)?;
+    put_change(dict, on, label, column)
+}
+
+// The cells of a Series, which gives its rows to a frame without rows.
 fn series_change(
     alloc: Global,
     dict: &TextDict,
@@ -165,17 +188,13 @@ fn series_change(
         (table_value dict.now series.now)) }
     ensures fits { IfOk result (IsChangeOf on.now) }
 {
-    if same_rows(dict, on.axis(), series.axis()) {
+    if on.rows() == 0 && series.rows() > 0 {
+        let place = put_place(dict, on, label, series.rows())?;
         let column = series.column(0).to_column(alloc)?;
-        return put_change(dict, on, label, column);
+        let axis = series.axis().copy(alloc)?;
+        return Ok(rows_change(alloc, on, axis, place, label, column)?);
     }
-    if on.rows() > 0 {
-        return Err(OpFault::Refused(Code::NotBuilt));
-    }
-    let place = put_place(dict, on, label, series.rows())?;
-    let column = series.column(0).to_column(alloc)?;
-    let axis = series.axis().copy(alloc)?;
-    Ok(rows_change(alloc, on, axis, place, label, column)?)
+    aligned_change(alloc, dict, on, label, series)
 }
 
 // A whole column of a frame, under a label.

@@ -1,22 +1,26 @@
 -- Operators make valid tables of valid values.
-use Rattle.std.proofs.Common.{◌≡◌, ◌∙◌, refl, ap, sym, subst, ℕ, suc, pos, List, [], ◌∷◌, length, map, arith}
-use Rattle.std.specs.Prelude.{replicate, Bool, true, false, ◌&&◌, if◌then◌else◌, Option, Some, Result, Ok, Err, IfOk, All}
+use Rattle.std.proofs.Common.{◌≡◌, ◌∙◌, ◌≤◌, refl, ap, sym, subst, ℕ, suc, pos, List, [], ◌∷◌, length, map, arith}
+use Rattle.std.specs.Prelude.{replicate, Bool, true, false, if◌then◌else◌, Option, Some, None, Result, Ok, Err, IfOk, All}
 use Rattle.std.specs.List.{list_all}
 use Rattle.std.proofs.lemmas.List.{length-map}
 use Rattle.std.proofs.lemmas.List.Elements.{All-nil, All-cons, All-head, All-tail}
 use Rattle.cell_core.specs.declared.grid.Shape.{Shape}
 use Rattle.cell_core.specs.declared.grid.Shape.TheVariants.{Series, Frame}
-use Rattle.meaning.specs.Cell.{CellValue, int_cell, Kind, LabelValue}
+use Rattle.meaning.specs.Cell.{CellValue, int_cell, na_cell, Kind, LabelValue}
+use Rattle.meaning.specs.Column.{gap_cell, taken}
 use Rattle.meaning.specs.Symbol.{Binary, sub}
-use Rattle.meaning.specs.Fault.{FaultValue, wrong_kind, limit, then_value, not_built}
+use Rattle.meaning.specs.Fault.{FaultValue, wrong_kind, bad_value, not_aligned, limit, then_value, not_built}
+use Rattle.align_meaning.specs.Faults.{AlignRefusal, met_rows}
+use Rattle.align_meaning.specs.Joins.{outer}
+use Rattle.align_meaning.proofs.InsideLaws.{AreInside, joined_inside}
 use Rattle.table_meaning.specs.Table.{ColumnOf, Table, column_at}
 use Rattle.table_meaning.specs.Valid.{IsValid, within_limits}
 use Rattle.table_meaning.specs.Value.{Entry, cell, table}
 use Rattle.form_meaning.specs.Finish.{same_heading, try_all, with_columns}
-use Rattle.form_meaning.specs.Infix.{Meeting, swapped, meets, met, infix_table, with_scalar, beside, across, turned, scalar_infix, on_levels, same_tuple, same_tuples, same_headings, are_headings, has_one, common_name, first_heading, rows_infix, series_infix, frame_infix, across_series, across_infix, table_infix, infix_result, is_truth_column, inverted_column, inverted, sign_result}
+use Rattle.form_meaning.specs.Infix.{Meeting, swapped, meets, met, infix_table, with_scalar, beside, across, turned, scalar_infix, on_levels, same_tuple, same_tuples, tuple_before, same_headings, are_headings, same_count, has_one, common_name, common_names, first_heading, compares, Joined, joined_rows, on_rows, with_joined, joined_infix, unequal_infix, rows_infix, series_infix, frame_infix, across_series, across_infix, table_infix, infix_result, is_truth_column, inverted_column, inverted, sign_result}
 use Rattle.table_laws.specs.Validity.{IsValidObject, IsValidEntry}
-use Rattle.table_laws.proofs.ListLaws.{both_true, all_made, then_keeps, try_keeps}
-use Rattle.table_laws.proofs.CellLaws.{Held}
+use Rattle.table_laws.proofs.ListLaws.{both_true, all_made, all_mapped, at_or, then_keeps, try_keeps}
+use Rattle.table_laws.proofs.CellLaws.{Held, na_held}
 use Rattle.table_laws.proofs.ColumnLaws.{side, IsColumn, IsMeeting, met_keeps, scalar_meets, inverted_keeps, spread_column}
 use Rattle.table_laws.proofs.TableLaws.{IsShaped, shaped, valid, with_columns_shaped, column_of_table, series_heading, frame_headings, one_column}
 
@@ -111,11 +115,93 @@ beside_meetings a b t s r rows count rows' count' = record {
       (beside_meet (length a.labels) a.columns b.columns s.columns (subst (λ n. All (IsColumn n) b.columns) (sym rows) r.columns));
 }
 
-rows_keep : (op : Binary) (a b t : Table) → IsShaped t → AreMeetings t (beside a.columns b.columns) → IfOk (rows_infix op a b t) IsValidEntry
-rows_keep op a b t s m = levels_keep _ _ (infix_table op t (beside a.columns b.columns)) (infix_keeps op t (beside a.columns b.columns) s m)
+-- columns on other rows
+gap_held : (kind : Kind) (cells : List CellValue) (gap : Option ℕ) → All (Held kind) cells → Held kind (gap_cell na_cell cells gap)
+gap_held kind cells None h = na_held kind
+gap_held kind cells (Some place) h = at_or (Held kind) cells place na_cell (na_held kind) h
+
+columns_on : (n count : ℕ) (rows : List (Option ℕ)) (cs : List (ColumnOf CellValue)) → length rows ≡ count → All (IsColumn n) cs → All (IsColumn count) (on_rows na_cell rows cs)
+columns_on n count rows cs same h =
+    all_made (IsColumn n) (IsColumn count) (λ c. record { kind = c.kind; cells = taken na_cell c.cells rows })
+    (λ c k. record { filled = length-map rows (gap_cell na_cell c.cells) ∙ same; held = all_mapped (Held c.kind) (gap_cell na_cell c.cells) (λ gap. gap_held c.kind c.cells gap k.held) rows }) cs h
+
+length_names : (as' bs : List (Option LabelValue)) → length as' ≡ length bs → length (common_names as' bs) ≡ length as'
+length_names [] bs e = refl
+length_names (a ∷ as') [] e = absurd (Prim.omega arith)
+length_names (a ∷ as') (b ∷ bs) e = ap suc (length_names as' bs (Prim.omega arith))
+
+length_count : {A B : Type 0} (as' : List A) (bs : List B) → same_count as' bs ≡ true → length as' ≡ length bs
+length_count [] [] e = refl
+length_count [] (b ∷ bs) e = Prim.cc
+length_count (a ∷ as') [] e = Prim.cc
+length_count (a ∷ as') (b ∷ bs) e = ap suc (length_count as' bs e)
+
+met_is : (r : Result Joined (AlignRefusal (List LabelValue))) (rows : Joined) → met_rows r ≡ Ok rows → r ≡ Ok rows
+met_is (Ok joined) rows e = let same : joined ≡ rows = Prim.cc in ap Ok same
+met_is (Err refusal) rows e = Prim.cc
+
+-- Two tables whose columns meet in order, and the frame of the answer.
+module _ (op : Binary) (a b t : Table) (s : IsShaped a) (r : IsShaped b) (frame : IsShaped t) (columns : length t.columns ≡ length a.columns) (columns' : length a.columns ≡ length b.columns) (levels : length a.level_names ≡ length b.level_names) where
+  module _ (rows : Joined) (inside : AreInside (λ tuple. length tuple ≡ length a.level_names) (length a.labels) (length b.labels) rows) where
+    abbrev left : List (ColumnOf CellValue)
+    left = on_rows na_cell rows.left a.columns
+
+    abbrev right : List (ColumnOf CellValue)
+    right = on_rows na_cell rows.right b.columns
+
+    -- the answer is that of a table on these rows
+    abbrev on_these : Table
+    on_these = with_columns (with_joined a b t rows) left
+
+    size : length left ≡ length a.columns
+    size = length-map a.columns _
+
+    many : length left ≡ length right
+    many = size ∙ columns' ∙ sym (length-map b.columns _)
+
+    names : length (common_names a.level_names b.level_names) ≡ length a.level_names
+    names = length_names a.level_names b.level_names levels
+
+    joined_shaped : IsShaped on_these
+    joined_shaped = record {
+      some = subst (λ n. 1 ≤ n) (sym names) s.some;
+      few = subst (λ n. n ≤ 4) (sym names) s.few;
+      levels = subst (λ n. All (λ tuple. length tuple ≡ n) rows.keys) (sym names) inside.keyed;
+      headed = frame.headed ∙ columns ∙ sym size;
+      columns = columns_on (length a.labels) (length rows.keys) rows.left a.columns inside.left_count s.columns;
+      headings = frame.headings;
+    }
+
+    joined_keep : IfOk (joined_infix op a b t rows) IsValidEntry
+    joined_keep =
+        infix_keeps op on_these (beside left right) joined_shaped record {
+          count = length_beside left right many;
+          each = beside_meet (length rows.keys) left right joined_shaped.columns (columns_on (length b.labels) (length rows.keys) rows.right b.columns inside.right_count r.columns);
+        }
+
+  unequal_keep : IfOk (unequal_infix op a b t) IsValidEntry
+  unequal_keep = by (compares op) (joined_rows a.labels b.labels) refl
+    where
+      by : (c : Bool) (met : Result Joined FaultValue) → joined_rows a.labels b.labels ≡ met → IfOk (if c then Err (bad_value not_aligned) else then_value met (joined_infix op a b t)) IsValidEntry
+      by true met e = tt
+      by false (Err fault) e = tt
+      by false (Ok rows) e =
+          joined_keep rows (joined_inside (λ tuple. length tuple ≡ length a.level_names) same_tuple tuple_before a.labels b.labels s.levels
+          (subst (λ n. All (λ tuple. length tuple ≡ n) b.labels) (sym levels) r.levels) rows (met_is (outer same_tuple tuple_before a.labels b.labels) rows e))
+
+rows_keep : (op : Binary) (a b t : Table) → IsShaped a → IsShaped b → IsShaped t → length t.labels ≡ length a.labels → length t.columns ≡ length a.columns → length a.columns ≡ length b.columns
+    → IfOk (rows_infix op a b t) IsValidEntry
+rows_keep op a b t s r frame rows columns columns' = by (list_all (meets op) (beside a.columns b.columns)) (same_count a.level_names b.level_names) (same_tuples a.labels b.labels) refl refl
+  where
+    by : (k l e : Bool) → same_count a.level_names b.level_names ≡ l → same_tuples a.labels b.labels ≡ e
+        → IfOk (on_levels k l (if e then infix_table op t (beside a.columns b.columns) else unequal_infix op a b t)) IsValidEntry
+    by false l e counted same = tt
+    by true false e counted same = tt
+    by true true true counted same = infix_keeps op t (beside a.columns b.columns) frame (beside_meetings a b t s r (length_tuples a.labels b.labels same) columns' rows columns)
+    by true true false counted same = unequal_keep op a b t s r frame columns columns' (length_count a.level_names b.level_names counted)
 
 series_keep : (op : Binary) (a b : Table) → IsShaped a → IsShaped b → a.shape ≡ Series → b.shape ≡ Series → IfOk (series_infix op a b) IsValidEntry
-series_keep op a b s r is is' = by (same_tuples a.labels b.labels) refl
+series_keep op a b s r is is' = rows_keep op a b t s r fits refl refl (one_column a s is ∙ sym (one_column b r is'))
   where
     t : Table
     t = record a { headings = common_name (first_heading a.headings) (first_heading b.headings) ∷ [] }
@@ -123,12 +209,8 @@ series_keep op a b s r is is' = by (same_tuples a.labels b.labels) refl
     fits : IsShaped t
     fits = record { some = s.some; few = s.few; levels = s.levels; headed = sym (one_column a s is); columns = s.columns; headings = series_heading a.shape a.columns_name _ is (s.headings.nameless is) }
 
-    by : (c : Bool) → same_tuples a.labels b.labels ≡ c → IfOk (if c then rows_infix op a b t else Err not_built) IsValidEntry
-    by true e = rows_keep op a b t fits (beside_meetings a b t s r (length_tuples a.labels b.labels e) (one_column a s is ∙ sym (one_column b r is')) refl refl)
-    by false e = tt
-
 frames_keep : (op : Binary) (a b : Table) → IsShaped a → IsShaped b → a.shape ≡ Frame → IfOk (frame_infix op a b) IsValidEntry
-frames_keep op a b s r is = by (same_tuples a.labels b.labels && same_headings a.headings b.headings) refl
+frames_keep op a b s r is = by (same_headings a.headings b.headings) refl
   where
     t : Table
     t = record a { columns_name = common_name a.columns_name b.columns_name }
@@ -143,10 +225,8 @@ frames_keep op a b s r is = by (same_tuples a.labels b.labels && same_headings a
       headings = frame_headings a.shape _ a.headings is (s.headings.labelled is) (s.headings.different is);
     }
 
-    by : (c : Bool) → (same_tuples a.labels b.labels && same_headings a.headings b.headings) ≡ c → IfOk (if c then rows_infix op a b t else Err not_built) IsValidEntry
-    by true e =
-        let both = both_true (same_tuples a.labels b.labels) (same_headings a.headings b.headings) e in
-        rows_keep op a b t fits (beside_meetings a b t s r (length_tuples a.labels b.labels both.0) (sym s.headed ∙ length_headings a.headings b.headings both.1 ∙ r.headed) refl refl)
+    by : (c : Bool) → same_headings a.headings b.headings ≡ c → IfOk (if c then rows_infix op a b t else Err not_built) IsValidEntry
+    by true e = rows_keep op a b t s r fits refl refl (sym s.headed ∙ length_headings a.headings b.headings e ∙ r.headed)
     by false e = tt
 
 across_keep : (op : Binary) (left : Bool) (f s : Table) → IsShaped f → IsShaped s → s.shape ≡ Series → IfOk (across_infix op left f s) IsValidEntry

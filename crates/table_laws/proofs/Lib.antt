@@ -8,6 +8,7 @@ pub mod SelectLaws
 pub mod ReachLaws
 pub mod SetLaws
 pub mod RowLaws
+pub mod LevelLaws
 pub mod MethodLaws
 pub mod MakeLaws
 pub mod CsvLaws

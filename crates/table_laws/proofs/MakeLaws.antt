@@ -1,33 +1,36 @@
 -- The constructors make valid tables.
-use Rattle.std.proofs.Common.{◌≡◌, ◌≢◌, ◌∙◌, refl, ap, sym, subst, ℕ, List, [], ◌∷◌, length, map, arith}
-use Rattle.std.specs.Prelude.{Bool, true, false, if◌then◌else◌, option_map, Option, Some, None, IsSome, Result, Ok, Err, IfOk, All, AllPairs}
+use Rattle.std.proofs.Common.{◌≡◌, ◌≢◌, ◌∙◌, refl, ap, sym, subst, ℕ, ◌≤◌, List, [], ◌∷◌, length, map, arith}
+use Rattle.std.specs.Prelude.{Bool, true, false, nat_le, if◌then◌else◌, option_map, Option, Some, None, IsSome, Result, Ok, Err, IfOk, All, AllPairs}
 use Rattle.std.specs.List.{list_all}
-use Rattle.std.proofs.lemmas.List.{length-map}
+use Rattle.std.proofs.lemmas.Bool.Decides.{nat_tests}
+use Rattle.std.proofs.lemmas.List.{length-map, length-replicate}
 use Rattle.std.proofs.lemmas.List.Elements.{All-nil, All-cons, All-head, All-tail}
 use Rattle.std.proofs.lemmas.List.Kept.{AllPairs-cons}
 use Rattle.cell_core.specs.declared.grid.Shape.TheVariants.{Series, Frame}
 use Rattle.meaning.specs.Text.{Text}
 use Rattle.meaning.specs.Cell.{CellValue, LabelValue, Kind}
 use Rattle.meaning.specs.Operator.{cell_label}
-use Rattle.meaning.specs.Fault.{FaultValue, wrong_kind, not_built, then_value}
+use Rattle.meaning.specs.Fault.{FaultValue, wrong_kind, limit, then_value}
 use Rattle.table_meaning.specs.Table.{ColumnOf}
 use Rattle.table_meaning.specs.Value.{Entry, Given, GivenList, GivenPairs, NamedGiven, no_entries, more_entries, list_in, dict_in, scalar_in}
 use Rattle.form_meaning.specs.declared.Function.{Function}
 use Rattle.form_meaning.specs.declared.Function.TheVariants as function
 use Rattle.form_meaning.specs.Signature.{function_named, function_parameters}
-use Rattle.form_meaning.specs.Binding.{same_label, bound_of, on_bound}
+use Rattle.form_meaning.specs.Binding.{Bound, not_taken, not_listed, bound, same_label, argument_at, bound_of, on_bound}
 use Rattle.form_meaning.specs.Finish.{limited, default_labels, try_all}
 use Rattle.form_meaning.specs.Select.{cells_of}
 use Rattle.form_meaning.specs.Set.{list_column}
-use Rattle.form_meaning.specs.Make.{cast_to, kind_given, single_labels, with_index, series_table, frame_table, series_of, series_result, with_pair, pairs_onto, pairs_in, is_scalar_list, cells_given, all_of_length, labels_given, frame_with, frame_of, frame_result}
-use Rattle.form_meaning.specs.Functions.{has_levels, constructed, is_constructor, made_by, made_named, make_result}
+use Rattle.form_meaning.specs.Make.{cast_to, kind_given, index_labels, level_count, nameless, AreAlike, few_levels, with_index, series_table, frame_table, series_of, series_result, with_pair, pairs_onto, pairs_in, is_scalar_list, cells_given, all_of_length, labels_given, frame_with, frame_of, frame_result}
+use Rattle.form_meaning.specs.Functions.{constructed, made_by, made_named, make_result}
+use Rattle.form_meaning.proofs.BoundLaws.{bound_list}
+use Rattle.form_meaning.proofs.IndexLaws.{GivesAlike, index_taken}
 use Rattle.table_laws.specs.Validity.{IsValidEntry}
 use Rattle.table_laws.proofs.ListLaws.{all_made, all_mapped, then_keeps, try_keeps, of_length_keeps}
 use Rattle.table_laws.proofs.ColumnLaws.{IsColumn, list_keeps, cast_to_keeps}
 use Rattle.table_laws.proofs.TableLaws.{IsShaped, limited_keeps, series_heading, frame_headings}
 use Rattle.table_laws.proofs.HeadingLaws.{label_decides}
 use Rattle.table_laws.proofs.SetLaws.{length_default, default_levels}
-use Rattle.table_laws.proofs.MethodLaws.{on_keeps, on_bound_keeps}
+use Rattle.table_laws.proofs.MethodLaws.{on_keeps}
 
 -- a column of its own number of rows
 abbrev IsOwnColumn : ColumnOf CellValue → Type 0
@@ -37,41 +40,66 @@ own : (rows : ℕ) (r : Result (ColumnOf CellValue) FaultValue) → IfOk r (IsCo
 own rows (Ok c) h = record { filled = refl; held = h.held }
 own rows (Err fault) h = tt
 
--- labels of rows: one to each
+-- labels of rows, of one to four levels
 record AreRowLabels (rows : ℕ) (labels : List (List LabelValue)) : Type 0 where
   count : length labels ≡ rows
-  single : All (λ tuple. length tuple ≡ 1) labels
+  alike : AreAlike labels
+  few : level_count labels ≤ 4
 
-single_are : (cells : List CellValue) → AreRowLabels (length cells) (single_labels cells)
-single_are cells = record { count = length-map cells _; single = all_mapped (λ (tuple : List LabelValue). length tuple ≡ 1) (λ c. cell_label c ∷ []) (λ c. refl) cells }
+one_level : (labels : List (List LabelValue)) → All (λ tuple. length tuple ≡ 1) labels → level_count labels ≡ 1
+one_level [] h = refl
+one_level (tuple ∷ rest) h = All-head (λ (tuple : List LabelValue). length tuple ≡ 1) tuple rest h
 
-index_keeps : (rows : ℕ) (index : Option GivenList) (go : List (List LabelValue) → Result Entry FaultValue) → ((labels : List (List LabelValue)) → AreRowLabels rows labels → IfOk (go labels) IsValidEntry)
+single_are : (rows : ℕ) (labels : List (List LabelValue)) → length labels ≡ rows → All (λ tuple. length tuple ≡ 1) labels → AreRowLabels rows labels
+single_are rows labels count h =
+    let one : level_count labels ≡ 1 = one_level labels h in
+    record {
+      count = count;
+      alike = record { some = Prim.omega (arith, one); each = subst (λ n. All (λ tuple. length tuple ≡ n) labels) (sym one) h };
+      few = Prim.omega (arith, one);
+    }
+
+few_keeps : (labels : List (List LabelValue)) (rest : Result Entry FaultValue) → (level_count labels ≤ 4 → IfOk rest IsValidEntry) → IfOk (few_levels labels rest) IsValidEntry
+few_keeps labels rest h = by (nat_le (level_count labels) 4) refl
+  where
+    by : (b : Bool) → nat_le (level_count labels) 4 ≡ b → IfOk (if b then rest else Err limit) IsValidEntry
+    by true e = h (Prim.grind (arith, nat_tests))
+    by false e = tt
+
+index_keeps : (rows : ℕ) (index : Option GivenList) (go : List (List LabelValue) → Result Entry FaultValue) → GivesAlike index → ((labels : List (List LabelValue)) → AreRowLabels rows labels → IfOk (go labels) IsValidEntry)
     → IfOk (with_index rows index go) IsValidEntry
-index_keeps rows None go h = h (default_labels rows) record { count = length_default rows; single = default_levels rows }
-index_keeps rows (Some parts) go h =
-    of_length_keeps IsValidEntry rows (length (cells_of parts)) (go (single_labels (cells_of parts)))
-    (λ e. h (single_labels (cells_of parts)) record { count = (single_are (cells_of parts)).count ∙ sym e; single = (single_are (cells_of parts)).single })
+index_keeps rows None go alike h = h (default_labels rows) (single_are rows (default_labels rows) (length_default rows) (default_levels rows))
+index_keeps rows (Some parts) go alike h =
+    let labels = index_labels parts in
+    of_length_keeps IsValidEntry rows (length labels) (few_levels labels (go labels))
+    (λ e. few_keeps labels (go labels) (λ few. h labels record { count = sym e; alike = alike; few = few }))
+
+-- as many levels as labels
+names_count : {L : Type 0} (labels : List (List L)) → length (nameless labels) ≡ level_count labels
+names_count labels = length-replicate (level_count labels) None
+
+named_levels : (rows : ℕ) (labels : List (List LabelValue)) → AreRowLabels rows labels → All (λ tuple. length tuple ≡ length (nameless labels)) labels
+named_levels rows labels h = subst (λ n. All (λ tuple. length tuple ≡ n) labels) (sym (names_count labels)) h.alike.each
 
 series_shaped : (name : Option LabelValue) (labels : List (List LabelValue)) (c : ColumnOf CellValue) → IsOwnColumn c → AreRowLabels (length c.cells) labels → IsShaped (series_table name labels c)
 series_shaped name labels c h rows = record {
-  some = Prim.omega arith;
-  few = Prim.omega arith;
-  levels = rows.single;
+  some = subst (λ n. 1 ≤ n) (sym (names_count labels)) rows.alike.some;
+  few = subst (λ n. n ≤ 4) (sym (names_count labels)) rows.few;
+  levels = named_levels (length c.cells) labels rows;
   headed = refl;
   columns = All-cons (IsColumn (length labels)) c [] (subst (λ n. IsColumn n c) (sym rows.count) h) (All-nil (IsColumn (length labels)));
   headings = series_heading Series None name refl refl;
 }
 
-series_of_keeps : (values : GivenList) (index : Option GivenList) (name : Option LabelValue) (kind : Option Kind) → IfOk (series_of values index name kind) IsValidEntry
-series_of_keeps values index name kind =
+series_of_keeps : (values : GivenList) (index : Option GivenList) (name : Option LabelValue) (kind : Option Kind) → GivesAlike index → IfOk (series_of values index name kind) IsValidEntry
+series_of_keeps values index name kind alike =
     then_keeps IsOwnColumn IsValidEntry (list_column (cells_of values)) _ (own (length (cells_of values)) (list_column (cells_of values)) (list_keeps (cells_of values)))
     (λ c h. then_keeps IsOwnColumn IsValidEntry (cast_to kind c) _ (own (length c.cells) (cast_to kind c) (cast_to_keeps kind (length c.cells) c h))
-    (λ c h. index_keeps (length c.cells) index (λ labels. limited (series_table name labels c)) (λ labels rows. limited_keeps (series_table name labels c) (series_shaped name labels c h rows))))
+    (λ c h. index_keeps (length c.cells) index (λ labels. limited (series_table name labels c)) alike (λ labels rows. limited_keeps (series_table name labels c) (series_shaped name labels c h rows))))
 
-series_result_keeps : (gs : List Given) → IfOk (series_result gs) IsValidEntry
-series_result_keeps (values ∷ index ∷ name ∷ dtype ∷ []) =
-    on_keeps IsValidEntry (list_in values) _ (λ parts. series_of_keeps parts (list_in index) (option_map cell_label (scalar_in name)) (kind_given (scalar_in dtype)))
-series_result_keeps gs = tt
+series_result_keeps : (values index name dtype : Given) → GivesAlike (list_in index) → IfOk (series_result (values ∷ index ∷ name ∷ dtype ∷ [])) IsValidEntry
+series_result_keeps values index name dtype alike =
+    on_keeps IsValidEntry (list_in values) _ (λ parts. series_of_keeps parts (list_in index) (option_map cell_label (scalar_in name)) (kind_given (scalar_in dtype)) alike)
 
 -- labels that differ
 abbrev Differ : List LabelValue → Type 0
@@ -122,36 +150,40 @@ lengths_keep expected (c ∷ cs) rest h =
     of_length_keeps IsValidEntry expected (length c.cells) (all_of_length expected cs rest)
     (λ e. lengths_keep expected cs rest (λ more. h (All-cons (λ (c : ColumnOf CellValue). expected ≡ length c.cells) c cs e more)))
 
-frame_shaped : (labels : List (List LabelValue)) (headings : List LabelValue) (columns : List (ColumnOf CellValue)) → All (λ tuple. length tuple ≡ 1) labels → Differ headings → length headings ≡ length columns → All (IsColumn (length labels)) columns
+frame_shaped : (rows : ℕ) (labels : List (List LabelValue)) (headings : List LabelValue) (columns : List (ColumnOf CellValue)) → AreRowLabels rows labels → Differ headings → length headings ≡ length columns → All (IsColumn (length labels)) columns
     → IsShaped (frame_table labels headings columns)
-frame_shaped labels headings columns single differ size h = record {
-  some = Prim.omega arith;
-  few = Prim.omega arith;
-  levels = single;
+frame_shaped rows labels headings columns are differ size h = record {
+  some = subst (λ n. 1 ≤ n) (sym (names_count labels)) are.alike.some;
+  few = subst (λ n. n ≤ 4) (sym (names_count labels)) are.few;
+  levels = named_levels rows labels are;
   headed = length-map headings _ ∙ size;
   columns = h;
   headings = frame_headings Frame None (map (λ l. Some l) headings) refl (all_mapped IsSome (λ l. Some l) (λ l. refl) headings) (headings_differ headings differ);
 }
 
-given_single : (index : Option GivenList) → All (λ tuple. length tuple ≡ 1) (labels_given index)
-given_single None = All-nil (λ (tuple : List LabelValue). length tuple ≡ 1)
-given_single (Some parts) = (single_are (cells_of parts)).single
+given_alike : (index : Option GivenList) → GivesAlike index → AreAlike (labels_given index)
+given_alike None alike = record { some = Prim.omega arith; each = All-nil (λ (tuple : List LabelValue). length tuple ≡ 1) }
+given_alike (Some parts) alike = alike
 
 equal_rows : (rows : ℕ) (cs : List (ColumnOf CellValue)) → All IsOwnColumn cs → All (λ (c : ColumnOf CellValue). rows ≡ length c.cells) cs → All (IsColumn rows) cs
 equal_rows rows cs h same = λ k d lt. record { filled = sym (same k d lt); held = (h k d lt).held }
 
-frame_with_keeps : (headings : List LabelValue) (columns : List (ColumnOf CellValue)) (index : Option GivenList) → Differ headings → length headings ≡ length columns → All IsOwnColumn columns → IfOk (frame_with headings columns index) IsValidEntry
-frame_with_keeps headings [] index differ size h =
-    limited_keeps (frame_table (labels_given index) headings []) (frame_shaped (labels_given index) headings [] (given_single index) differ size (All-nil (IsColumn (length (labels_given index)))))
-frame_with_keeps headings (c ∷ cs) index differ size h =
+frame_with_keeps : (headings : List LabelValue) (columns : List (ColumnOf CellValue)) (index : Option GivenList) → GivesAlike index → Differ headings → length headings ≡ length columns → All IsOwnColumn columns
+    → IfOk (frame_with headings columns index) IsValidEntry
+frame_with_keeps headings [] index alike differ size h =
+    let labels = labels_given index in
+    few_keeps labels (limited (frame_table labels headings []))
+    (λ few. limited_keeps (frame_table labels headings [])
+    (frame_shaped (length labels) labels headings [] record { count = refl; alike = given_alike index alike; few = few } differ size (All-nil (IsColumn (length labels)))))
+frame_with_keeps headings (c ∷ cs) index alike differ size h =
     lengths_keep (length c.cells) cs (with_index (length c.cells) index (λ labels. limited (frame_table labels headings (c ∷ cs))))
-    (λ same. index_keeps (length c.cells) index (λ labels. limited (frame_table labels headings (c ∷ cs)))
-    (λ labels rows. limited_keeps (frame_table labels headings (c ∷ cs)) (frame_shaped labels headings (c ∷ cs) rows.single differ size
+    (λ same. index_keeps (length c.cells) index (λ labels. limited (frame_table labels headings (c ∷ cs))) alike
+    (λ labels rows. limited_keeps (frame_table labels headings (c ∷ cs)) (frame_shaped (length c.cells) labels headings (c ∷ cs) rows differ size
     (subst (λ n. All (IsColumn n) (c ∷ cs)) (sym rows.count)
     (All-cons (IsColumn (length c.cells)) c cs (All-head IsOwnColumn c cs h) (equal_rows (length c.cells) cs (All-tail IsOwnColumn c cs h) same))))))
 
-frame_of_keeps : (pairs : List (LabelValue × Given)) (index : Option GivenList) → Differ (keys pairs) → IfOk (frame_of pairs index) IsValidEntry
-frame_of_keeps pairs index differ = by (list_all is_scalar_list pairs)
+frame_of_keeps : (pairs : List (LabelValue × Given)) (index : Option GivenList) → GivesAlike index → Differ (keys pairs) → IfOk (frame_of pairs index) IsValidEntry
+frame_of_keeps pairs index alike differ = by (list_all is_scalar_list pairs)
   where
     columns_made : Result (List (ColumnOf CellValue)) FaultValue
     columns_made = try_all (λ (p : LabelValue × Given). list_column (cells_given p.1)) pairs
@@ -162,26 +194,37 @@ frame_of_keeps pairs index differ = by (list_all is_scalar_list pairs)
     by : (b : Bool) → IfOk (if b then then_value columns_made (λ columns. frame_with (map (λ p. p.0) pairs) columns index) else Err wrong_kind) IsValidEntry
     by true =
         then_keeps (λ columns. (length columns ≡ length pairs) × All IsOwnColumn columns) IsValidEntry columns_made _ made
-        (λ columns h. frame_with_keeps (keys pairs) columns index differ (length-map pairs _ ∙ sym h.0) h.1)
+        (λ columns h. frame_with_keeps (keys pairs) columns index alike differ (length-map pairs _ ∙ sym h.0) h.1)
     by false = tt
 
-frame_result_keeps : (gs : List Given) → IfOk (frame_result gs) IsValidEntry
-frame_result_keeps (columns ∷ index ∷ []) = on_keeps IsValidEntry (dict_in columns) _ (λ pairs. frame_of_keeps (pairs_in pairs) (list_in index) (pairs_differ [] pairs tt))
-frame_result_keeps gs = tt
+frame_result_keeps : (columns index : Given) → GivesAlike (list_in index) → IfOk (frame_result (columns ∷ index ∷ [])) IsValidEntry
+frame_result_keeps columns index alike = on_keeps IsValidEntry (dict_in columns) _ (λ pairs. frame_of_keeps (pairs_in pairs) (list_in index) alike (pairs_differ [] pairs tt))
 
-constructed_keeps : (f : Function) (gs : List Given) → IfOk (constructed f gs) IsValidEntry
-constructed_keeps function.Series gs = series_result_keeps gs
-constructed_keeps function.DataFrame gs = frame_result_keeps gs
-constructed_keeps function.ReadCsv gs = tt
-constructed_keeps function.Concat gs = tt
+-- arguments that are bound
+bound_keeps : (b : Bound) (go : List Given → Result Entry FaultValue) → ((l : List Given) → b ≡ bound l → IfOk (go l) IsValidEntry) → IfOk (on_bound b go) IsValidEntry
+bound_keeps not_taken go h = tt
+bound_keeps not_listed go h = tt
+bound_keeps (bound l) go h = h l refl
+
+series_keeps : (gs : List NamedGiven) → IfOk (on_bound (bound_of (function_parameters function.Series) gs) (constructed function.Series)) IsValidEntry
+series_keeps gs =
+    let ps = function_parameters function.Series in
+    bound_keeps (bound_of ps gs) (constructed function.Series)
+    (λ l is. subst (λ l. IfOk (series_result l) IsValidEntry) (sym (bound_list ps gs l is))
+    (series_result_keeps (argument_at ps gs 0) (argument_at ps gs 1) (argument_at ps gs 2) (argument_at ps gs 3) (index_taken ps gs 1 _ l is refl refl)))
+
+frame_keeps : (gs : List NamedGiven) → IfOk (on_bound (bound_of (function_parameters function.DataFrame) gs) (constructed function.DataFrame)) IsValidEntry
+frame_keeps gs =
+    let ps = function_parameters function.DataFrame in
+    bound_keeps (bound_of ps gs) (constructed function.DataFrame)
+    (λ l is. subst (λ l. IfOk (frame_result l) IsValidEntry) (sym (bound_list ps gs l is))
+    (frame_result_keeps (argument_at ps gs 0) (argument_at ps gs 1) (index_taken ps gs 1 _ l is refl refl)))
 
 made_by_keeps : (f : Function) (gs : List NamedGiven) → IfOk (made_by f gs) IsValidEntry
-made_by_keeps f gs = by (is_constructor f) (has_levels f gs)
-  where
-    by : (b c : Bool) → IfOk (if b then (if c then Err not_built else on_bound (bound_of (function_parameters f) gs) (constructed f)) else Err not_built) IsValidEntry
-    by false c = tt
-    by true true = tt
-    by true false = on_bound_keeps (bound_of (function_parameters f) gs) (constructed f) (constructed_keeps f)
+made_by_keeps function.Series gs = series_keeps gs
+made_by_keeps function.DataFrame gs = frame_keeps gs
+made_by_keeps function.ReadCsv gs = tt
+made_by_keeps function.Concat gs = tt
 
 made_named_keeps : (o : Option Function) (name : Text) (gs : List NamedGiven) → IfOk (made_named o name gs) IsValidEntry
 made_named_keeps None name gs = tt

@@ -34,6 +34,7 @@ use Rattle.table_laws.proofs.TableLaws.{IsShaped, shaped, limited_keeps, with_co
 use Rattle.table_laws.proofs.HeadingLaws.{different, finished_keeps}
 use Rattle.table_laws.proofs.SelectLaws.{kind_is}
 use Rattle.table_laws.proofs.RowLaws.{head_keeps, tail_keeps, dropna_keeps, duplicated_keeps, sort_values_keeps, sort_by_keeps, sorted_keeps, drop_keeps}
+use Rattle.table_laws.proofs.LevelLaws.{rename_axis_keeps, set_index_keeps}
 use Rattle.method_meaning.specs.Rows.{all_places}
 
 -- each column by itself
@@ -159,6 +160,7 @@ suits method.RenameSeries Frame = false
 suits method.RenameFrame Series = false
 suits method.ToFrame Frame = false
 suits method.DropColumns Series = false
+suits method.SetIndex Series = false
 suits m s = true
 
 series_of : (t : Table) (m : Method) → suits m Frame ≡ false → suits m t.shape ≡ true → t.shape ≡ Series
@@ -207,6 +209,8 @@ answer_keeps method.SortValuesFrame (by ∷ ascending ∷ []) t s fit = on_keeps
 answer_keeps method.SortIndex (ascending ∷ []) t s fit = on_keeps IsValidEntry (truth_in ascending) _ (λ b. sorted_keeps t b t.labels s refl)
 answer_keeps method.RenameSeries (name ∷ []) t s fit = renamed_series_keeps t (option_map cell_label (scalar_in name)) s (series_of t method.RenameSeries refl fit)
 answer_keeps method.RenameFrame (columns ∷ []) t s fit = on_keeps IsValidEntry (dict_in columns) _ (λ pairs. renamed_frame_keeps t (pairs_in pairs) s (frame_of t method.RenameFrame refl fit))
+answer_keeps method.RenameAxis (names ∷ []) t s fit = rename_axis_keeps t names s
+answer_keeps method.SetIndex (keys ∷ []) t s fit = set_index_keeps t keys s (frame_of t method.SetIndex refl fit)
 answer_keeps method.DropColumns (columns ∷ []) t s fit = drop_keeps t columns s (frame_of t method.DropColumns refl fit)
 answer_keeps method.ToFrame gs t s fit = as_frame_keeps t s (series_of t method.ToFrame refl fit)
 answer_keeps method.ToCsv (index ∷ []) t s fit = on_keeps IsValidEntry (truth_in index) _ (λ b. csv_keeps b t)

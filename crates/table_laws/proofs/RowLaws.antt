@@ -52,7 +52,7 @@ tail_keeps t n s = by (int_eq n (pos 0))
     by false = placed_keep t (place_slice (Some (neg_ℤ n)) None None) s
 
 -- a list of cells for each row
-rows_counted : (t : Table) (places : List ℕ) → length (cells_by_row t places) ≡ length t.labels
+pub rows_counted : (t : Table) (places : List ℕ) → length (cells_by_row t places) ≡ length t.labels
 rows_counted t places = length-map (rows_of na_cell (columns_frame t places)) _ ∙ length_tabulate (length t.labels) _
 
 pub dropna_keeps : (t : Table) → IsShaped t → IfOk (dropna_result t) IsValidEntry
@@ -76,7 +76,7 @@ marks_shaped t marks s size = record {
   headings = series_heading Series None None refl refl;
 }
 
-anything : {A : Type 0} (r : Result A FaultValue) → IfOk r (λ a. Unit {0})
+pub anything : {A : Type 0} (r : Result A FaultValue) → IfOk r (λ a. Unit {0})
 anything (Ok a) = tt
 anything (Err fault) = tt
 
@@ -113,7 +113,7 @@ sort_by_keeps t ascending by s =
     then_keeps (λ places. Unit {0}) IsValidEntry (column_places t (labels_in by)) (sort_values_result t ascending) (anything (column_places t (labels_in by))) (λ places h. sort_values_keeps t ascending places s)
 
 -- the columns that stay
-kept_shaped : (t : Table) (places : List ℕ) → IsShaped t → t.shape ≡ Frame → All (λ place. place < length t.columns) places → first_repeated (columns_frame t places).headings ≡ None → IsShaped (columns_frame t places)
+pub kept_shaped : (t : Table) (places : List ℕ) → IsShaped t → t.shape ≡ Frame → All (λ place. place < length t.columns) places → first_repeated (columns_frame t places).headings ≡ None → IsShaped (columns_frame t places)
 kept_shaped t places s is below none =
     let some : All IsSome (map (heading_at t) places) = all_made (λ place. place < length t.columns) IsSome (heading_at t) (λ place lt. s.headings.labelled is place None (omega (arith, lt, s.headed))) places below in
     record {

@@ -1,8 +1,8 @@
 -- Selections give valid tables of valid ones, and cells that columns can hold.
-use Rattle.std.proofs.Common.{◌≡◌, ◌∙◌, refl, sym, subst, ℕ, ◌<◌, pos, List, [], ◌∷◌, length, map, arith}
+use Rattle.std.proofs.Common.{◌≡◌, ◌∙◌, refl, ap, sym, subst, ℕ, ◌<◌, ◌-◌, drop, pos, List, [], ◌∷◌, length, map, arith}
 use Rattle.std.specs.Prelude.{Bool, true, false, if◌then◌else◌, slice_index_or, unwrap_or, Option, None, IsSome, Ok, Err, IfOk, All}
 use Rattle.std.specs.List.{list_all}
-use Rattle.std.proofs.lemmas.List.{length-map}
+use Rattle.std.proofs.lemmas.List.{length-map, length-drop}
 use Rattle.std.proofs.lemmas.List.Elements.{All-nil, All-cons}
 use Rattle.cell_core.specs.declared.cell.Kind.{Kind}
 use Rattle.cell_core.specs.declared.grid.Shape.{Shape}
@@ -15,7 +15,7 @@ use Rattle.table_meaning.specs.Value.{Entry, cell, table}
 use Rattle.form_meaning.specs.Finish.{limited, same_kind}
 use Rattle.form_meaning.specs.Select.{heading_at, length_result}
 use Rattle.select_meaning.specs.Keys.{Reach}
-use Rattle.select_meaning.specs.Select.{column_rows, rows_taken, cut, as_series, row_name, first_cell, kind_across, row_series, row_result, shown_as, picked_result}
+use Rattle.select_meaning.specs.Select.{column_rows, rows_taken, without_leading, cut, as_series, row_name, first_cell, kind_across, row_series, row_result, shown_as, picked_result}
 use Rattle.table_laws.specs.Validity.{IsHeldCell, IsValidEntry}
 use Rattle.table_laws.proofs.ListLaws.{all_made, all_mapped, all_pass, at_or}
 use Rattle.table_laws.proofs.CellLaws.{Held, na_held, held_cell, wrap_fits}
@@ -23,9 +23,11 @@ use Rattle.table_laws.proofs.ColumnLaws.{IsColumn}
 use Rattle.table_laws.proofs.TableLaws.{IsShaped, limited_keeps, column_of_table, series_heading, frame_headings}
 use Rattle.table_laws.proofs.HeadingLaws.{different, finished_keeps}
 
--- what is reached lies in the table; single columns are one, and where they aren't single the table is a frame
+-- what is reached lies in the table, of whose levels one is left; single columns are one, and where they aren't single the
+-- table is a frame
 pub record IsReach (t : Table) (reach : Reach) : Type 0 where
   pub rows : All (λ row. row < length t.labels) reach.rows.rows
+  pub levels : reach.rows.dropped < length t.level_names
   pub columns : All (λ place. place < length t.columns) reach.columns.rows
   pub one : reach.columns.single ≡ true → length reach.columns.rows ≡ 1
   pub frame : reach.columns.single ≡ false → t.shape ≡ Frame
@@ -51,6 +53,19 @@ rows_shaped t rows s inside = record {
       (all_made (IsColumn (length t.labels)) (IsColumn (length rows)) (column_rows rows) (rows_of_column (length t.labels) rows) t.columns s.columns);
   headings = s.headings;
 }
+
+-- without its leading levels
+pub leading_shaped : (t : Table) (count : ℕ) → IsShaped t → count < length t.level_names → IsShaped (without_leading count t)
+leading_shaped t count s left =
+    let levels : length (drop count t.level_names) ≡ length t.level_names - count = length-drop count t.level_names in
+    record {
+      some = omega (arith, levels, left);
+      few = omega (arith, levels, s.few);
+      levels = all_made (λ tuple. length tuple ≡ length t.level_names) (λ tuple. length tuple ≡ length (drop count t.level_names)) (drop count) (λ tuple same. length-drop count tuple ∙ ap (λ (n : ℕ). n - count) same ∙ sym levels) t.labels s.levels;
+      headed = s.headed;
+      columns = subst (λ n. All (IsColumn n) t.columns) (sym (length-map t.labels (drop count))) s.columns;
+      headings = s.headings;
+    }
 
 -- the rows and columns that were picked: a heading for each column, and as many cells as rows
 cut_headed : (t : Table) (rows places : List ℕ) → length (cut t rows places).headings ≡ length (cut t rows places).columns
@@ -80,14 +95,19 @@ one_heading t [] e = Prim.cc
 one_heading t (place ∷ []) e = series_heading Series None (heading_at t place) refl refl
 one_heading t (place ∷ (other ∷ places)) e = Prim.cc
 
-series_keeps : (t : Table) (rows places : List ℕ) → IsShaped t → All (λ row. row < length t.labels) rows → All (λ place. place < length t.columns) places → length places ≡ 1 → IfOk (shown_as false true (cut t rows places)) IsValidEntry
-series_keeps t rows places s inside below e = limited_keeps (as_series (cut t rows places)) (cut_shaped t rows places Series None s inside below (one_heading t places e))
+series_keeps : (t : Table) (count : ℕ) (rows places : List ℕ) → IsShaped t → count < length t.level_names → All (λ row. row < length t.labels) rows → All (λ place. place < length t.columns) places → length places ≡ 1
+    → IfOk (shown_as false true (without_leading count (cut t rows places))) IsValidEntry
+series_keeps t count rows places s left inside below e =
+    let made = as_series (cut t rows places) in
+    limited_keeps (without_leading count made) (leading_shaped made count (cut_shaped t rows places Series None s inside below (one_heading t places e)) left)
 
 -- a frame
-frame_keeps : (t : Table) (rows places : List ℕ) → IsShaped t → t.shape ≡ Frame → All (λ row. row < length t.labels) rows → All (λ place. place < length t.columns) places → IfOk (shown_as false false (cut t rows places)) IsValidEntry
-frame_keeps t rows places s is inside below =
+frame_keeps : (t : Table) (count : ℕ) (rows places : List ℕ) → IsShaped t → t.shape ≡ Frame → count < length t.level_names → All (λ row. row < length t.labels) rows → All (λ place. place < length t.columns) places
+    → IfOk (shown_as false false (without_leading count (cut t rows places))) IsValidEntry
+frame_keeps t count rows places s is left inside below =
     let some : All IsSome (map (heading_at t) places) = all_made (λ place. place < length t.columns) IsSome (heading_at t) (λ place lt. s.headings.labelled is place None (omega (arith, lt, s.headed))) places below in
-    finished_keeps (cut t rows places) (λ none. cut_shaped t rows places t.shape t.columns_name s inside below (frame_headings t.shape t.columns_name (map (heading_at t) places) is some (different (map (heading_at t) places) some none)))
+    finished_keeps (without_leading count (cut t rows places))
+    (λ none. leading_shaped (cut t rows places) count (cut_shaped t rows places t.shape t.columns_name s inside below (frame_headings t.shape t.columns_name (map (heading_at t) places) is some (different (map (heading_at t) places) some none))) left)
 
 -- a row across columns of one kind
 pub kind_is : (a b : Kind) → same_kind a b ≡ true → a ≡ b
@@ -138,11 +158,17 @@ picked_keeps t reach s r = by reach.rows.single reach.columns.single refl
     places : List ℕ
     places = reach.columns.rows
 
-    by : (a b : Bool) → reach.columns.single ≡ b → IfOk (shown_as a b (cut t rows places)) IsValidEntry
-    by true true e = cell_keeps (length (cut t rows places).labels) (cut t rows places).columns (cut_columns t rows places s r.columns)
-    by false true e = series_keeps t rows places s r.rows r.columns (r.one e)
-    by true false e = row_keeps (cut t rows places) (length (cut t rows places).labels) (cut_headed t rows places) (cut_columns t rows places s r.columns)
-    by false false e = frame_keeps t rows places s (r.frame e) r.rows r.columns
+    count : ℕ
+    count = length (cut t rows places).labels
+
+    taken : Table
+    taken = without_leading reach.rows.dropped (cut t rows places)
+
+    by : (a b : Bool) → reach.columns.single ≡ b → IfOk (shown_as a b taken) IsValidEntry
+    by true true e = cell_keeps count taken.columns (cut_columns t rows places s r.columns)
+    by false true e = series_keeps t reach.rows.dropped rows places s r.levels r.rows r.columns (r.one e)
+    by true false e = row_keeps taken count (cut_headed t rows places) (cut_columns t rows places s r.columns)
+    by false false e = frame_keeps t reach.rows.dropped rows places s (r.frame e) r.levels r.rows r.columns
 
 -- the number of rows
 pub length_result_keeps : (v : Entry) → IfOk (length_result v) IsValidEntry

@@ -11,10 +11,11 @@ use Rattle.std.proofs.lemmas.List.Quantifiers.{all_pairs_remove}
 use Rattle.std.proofs.lemmas.Nat.{mul-le}
 use Rattle.cell_core.specs.declared.grid.Shape.{Shape}
 use Rattle.cell_core.specs.declared.grid.Shape.TheVariants.{Series, Frame}
-use Rattle.meaning.specs.Cell.{CellValue, na_cell, LabelValue, int, Int64, holds}
+use Rattle.meaning.specs.Column.{gap_cell}
+use Rattle.meaning.specs.Cell.{CellValue, na_cell, LabelValue, Kind, int, Int64, holds}
 use Rattle.meaning.specs.Operator.{cell_label, scalar_kind}
 use Rattle.meaning.specs.Symbol.{Accessor, loc}
-use Rattle.meaning.specs.Fault.{FaultValue, wrong_kind, bad_value, no_columns, not_built, then_value}
+use Rattle.meaning.specs.Fault.{FaultValue, wrong_kind, bad_value, levels, no_columns, not_built, then_value}
 use Rattle.table_meaning.specs.Table.{ColumnOf, Table, column_at}
 use Rattle.table_meaning.specs.Change.{put_at, without_column, with_cell_at, with_cell, with_values_from, with_values}
 use Rattle.table_meaning.specs.Valid.{IsValid, within_limits}
@@ -25,16 +26,18 @@ use Rattle.form_meaning.specs.Infix.{same_tuple, same_tuples}
 use Rattle.form_meaning.specs.Select.{place_of_label, column_place, cells_of}
 use Rattle.form_meaning.specs.Set.{list_column, of_length}
 use Rattle.pick_meaning.specs.Keys.{Pick}
+use Rattle.align_meaning.specs.Faults.{AlignRefusal, met_rows}
+use Rattle.align_meaning.specs.Targets.{reindexed}
+use Rattle.align_meaning.proofs.FoundLaws.{reindexed_count}
 use Rattle.select_meaning.specs.Keys.{columns_by, all_columns, only_column, may_stand_alone}
 use Rattle.select_meaning.specs.Select.{Way, plain, through}
-use Rattle.select_meaning.specs.Set.{SetValue, same, listed, aligned, set_value, with_labelled, put_result, with_rows, has_none, list_set, series_set, scalar_column, column_set, frame_set, Reached, picked, added_label, or_added, rows_set, columns_set, Target, target_of, target_by, lacks_columns, with_gap, with_row, values_for, kind_of_value, with_new_column, fit_from, filled_table, target_set, access_set, item_set, assign_result, removal_result}
+use Rattle.select_meaning.specs.Set.{SetValue, same, listed, aligned, set_value, with_labelled, put_result, with_rows, has_none, list_set, aligned_rows, column_at_rows, aligned_column, series_set, scalar_column, column_set, frame_set, Reached, picked, added_label, or_added, rows_set, columns_set, Target, target_of, target_by, lacks_columns, with_gap, with_row, values_for, kind_of_value, with_new_column, fit_from, filled_table, target_set, access_set, item_set, assign_result, removal_result}
 use Rattle.table_laws.specs.Validity.{IsValidObject, IsHeldCell, IsValidGiven}
-use Rattle.table_laws.proofs.ListLaws.{both_true, all_made, all_mapped, then_keeps, All-put_at, length-put_at, All-remove, of_length_keeps}
+use Rattle.table_laws.proofs.ListLaws.{both_true, all_made, all_mapped, at_or, then_keeps, All-put_at, length-put_at, All-remove, of_length_keeps}
 use Rattle.table_laws.proofs.CellLaws.{Held, na_held}
 use Rattle.table_laws.proofs.ColumnLaws.{IsColumn, list_keeps, spread_column}
 use Rattle.table_laws.proofs.TableLaws.{IsShaped, shaped, valid, limited_table_keeps, column_of_table, frame_headings, one_column}
 use Rattle.table_laws.proofs.HeadingLaws.{put_heading, column_place_found}
-use Rattle.table_laws.proofs.InfixLaws.{length_tuples}
 
 -- a column in the place of its label, or last
 put_keeps : (t : Table) (l : LabelValue) (c : ColumnOf CellValue) → IsShaped t → t.shape ≡ Frame → IsColumn (length t.labels) c → IfOk (put_result t l c) IsValid
@@ -81,8 +84,35 @@ list_set_keeps t l c s is h = by (has_none t.labels && not (has_none c.cells))
         is (subst (λ n. IsColumn n c) (sym (length_default (length c.cells))) h)
     by false = of_length_keeps IsValid (length t.labels) (length c.cells) (put_result t l c) (λ e. put_keeps t l c s is (subst (λ n. IsColumn n c) (sym e) h))
 
+-- the column of a Series at the rows that labels take
+met_keeps : {A : Type 0} (P : A → Type 0) (r : Result A (AlignRefusal (List LabelValue))) → IfOk r P → IfOk (met_rows r) P
+met_keeps P (Ok a) h = h
+met_keeps P (Err refusal) h = tt
+
+aligned_count : (level_count : ℕ) (labels : List (List LabelValue)) (u : Table) → IfOk (aligned_rows level_count labels u) (λ rows. length rows ≡ length labels)
+aligned_count level_count labels u = by (same_tuples labels u.labels || nat_eq level_count (length u.level_names))
+  where
+    by : (b : Bool) → IfOk (if b then met_rows (reindexed same_tuple u.labels labels) else Err (bad_value levels)) (λ rows. length rows ≡ length labels)
+    by true = met_keeps (λ rows. length rows ≡ length labels) (reindexed same_tuple u.labels labels) (reindexed_count same_tuple u.labels labels)
+    by false = tt
+
+gap_held : (kind : Kind) (cells : List CellValue) (row : Option ℕ) → All (Held kind) cells → Held kind (gap_cell na_cell cells row)
+gap_held kind cells None held = na_held kind
+gap_held kind cells (Some place) held = at_or (Held kind) cells place na_cell (na_held kind) held
+
+column_at_rows_is : (c : ColumnOf CellValue) (rows : List (Option ℕ)) → All (Held c.kind) c.cells → IsColumn (length rows) (column_at_rows c rows)
+column_at_rows_is c rows held = record {
+  filled = length-map rows (gap_cell na_cell c.cells);
+  held = all_mapped (Held c.kind) (gap_cell na_cell c.cells) (λ row. gap_held c.kind c.cells row held) rows;
+}
+
+aligned_keeps : (level_count : ℕ) (labels : List (List LabelValue)) (u : Table) → All (Held (column_at u.columns 0).kind) (column_at u.columns 0).cells → IfOk (aligned_column level_count labels u) (IsColumn (length labels))
+aligned_keeps level_count labels u held =
+    then_keeps (λ rows. length rows ≡ length labels) (IsColumn (length labels)) (aligned_rows level_count labels u) _ (aligned_count level_count labels u)
+    (λ rows count. subst (λ n. IsColumn n (column_at_rows (column_at u.columns 0) rows)) count (column_at_rows_is (column_at u.columns 0) rows held))
+
 series_set_keeps : (t : Table) (l : LabelValue) (u : Table) → IsShaped t → t.shape ≡ Frame → IsShaped u → u.shape ≡ Series → IfOk (series_set t l u) IsValid
-series_set_keeps t l u s is r is' = by (same_tuples t.labels u.labels) (has_none t.labels) refl
+series_set_keeps t l u s is r is' = by (has_none t.labels && not (has_none u.labels))
   where
     c : ColumnOf CellValue
     c = column_at u.columns 0
@@ -90,10 +120,11 @@ series_set_keeps t l u s is r is' = by (same_tuples t.labels u.labels) (has_none
     fits : IsColumn (length u.labels) c
     fits = column_of_table u r 0 (Prim.omega (arith, one_column u r is'))
 
-    by : (b d : Bool) → same_tuples t.labels u.labels ≡ b → IfOk (if b then put_result t l c else if d then put_result (with_rows t u.labels u.level_names) l c else Err not_built) IsValid
-    by true d e = put_keeps t l c s is (subst (λ n. IsColumn n c) (sym (length_tuples t.labels u.labels e)) fits)
-    by false true e = put_keeps (with_rows t u.labels u.level_names) l c (rows_shaped t u.labels u.level_names s record { some = r.some; few = r.few; levels = r.levels }) is fits
-    by false false e = tt
+    by : (b : Bool) → IfOk (if b then put_result (with_rows t u.labels u.level_names) l c else then_value (aligned_column (length t.level_names) t.labels u) (put_result t l)) IsValid
+    by true = put_keeps (with_rows t u.labels u.level_names) l c (rows_shaped t u.labels u.level_names s record { some = r.some; few = r.few; levels = r.levels }) is fits
+    by false =
+        then_keeps (IsColumn (length t.labels)) IsValid (aligned_column (length t.level_names) t.labels u) (put_result t l) (aligned_keeps (length t.level_names) t.labels u fits.held)
+        (λ d h. put_keeps t l d s is h)
 
 -- the value of a setting is valid
 abbrev pub IsValidValue : SetValue → Type 0

@@ -2,7 +2,7 @@
 ghost use Rattle.std.specs.Prelude.{◌≡◌, ◌∷◌, [], true, length, IfOk};
 ghost use Rattle.cell_core.specs.declared.cell.Cell.TheVariants.{Bool, Na};
 ghost use Rattle.cell_core.specs.declared.cell.Kind.TheVariants.{Boolean};
-ghost use Rattle.indexers.specs.Keys.{HasLevels};
+ghost use Rattle.indexers.specs.Keys.{FitsLevels};
 ghost use Rattle.table_tests.specs.Orders.{is_sooner, sooner_is_weak};
 
 use cell_core::{Cell, Kind, Label, NoMemory, Places, Rows, TextDict, Tuple, Tuples};
@@ -91,7 +91,7 @@ fn an_axis_answers_for_its_labels(rt: HostRuntime) -> Result<(), Fail> {
 // Whether a key of `loc` picks these rows.
 fn loc_is(alloc: Global, axis: &Axis, key: &LocKey, expected: &[usize]) -> bool
     requires one { length axis.now.names ≡ 1 }
-    requires full { HasLevels 1 key.now }
+    requires full { FitsLevels 1 key.now }
 {
     let dict = TextDict::new(alloc);
     match loc_places(alloc, &dict, axis, key) {

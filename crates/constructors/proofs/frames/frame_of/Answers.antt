@@ -2,21 +2,21 @@ use Rattle.std.proofs.Common.{List, [], Option}
 use Rattle.std.specs.Option.{option_map}
 use Rattle.std.proofs.lemmas.Result.{err_from_is_err_and}
 use Rattle.meaning.specs.Text.{Text}
-use Rattle.meaning.specs.Cell.{CellValue}
-use Rattle.signatures.specs.Scalars.{scalars}
+use Rattle.meaning.specs.Cell.{LabelValue}
+use Rattle.constructors.specs.Index.{rows_labels}
 use Rattle.constructors.proofs.FrameLaws.{columns_refused, rows_refused, frame_answer, frame_settled, frame_whole}
 use Rattle.constructors.proofs.frames.frame_of.Goals as goal
 
 pub returns-in_err-columns : goal.returns-in_err-columns
 returns-in_err-columns c = λ live.
     let p = err_from_is_err_and c.from_residual-in_err-columns.result c.from_residual-in_err-columns.ensures.1 in
-    rw (p.1, p.2) (columns_refused live c.args.dict.now c.args.pairs.now c.in_ok-places.places.entries (option_map (λ items. scalars c.args.dict.now items.now) c.args.index) c.in_err-columns.field-0.0
+    rw (p.1, p.2) (columns_refused live c.args.dict.now c.args.pairs.now c.in_ok-places.places.entries (option_map (λ items. rows_labels c.args.dict.now items.now) c.args.index) c.in_err-columns.field-0.0
     (c.in_ok-places.ensures.pairs live) (c.in_err-columns.ensures.columns c.args.dict.now))
 
 pub returns-in_err-axis : goal.returns-in_err-axis
 returns-in_err-axis c = λ live.
     let p = err_from_is_err_and c.from_residual-in_err-axis.result c.from_residual-in_err-axis.ensures.1 in
-    rw (p.1, p.2) (rows_refused live c.args.dict.now c.args.pairs.now c.in_ok-places.places.entries (option_map (λ items. scalars c.args.dict.now items.now) c.args.index) c.in_ok-columns.columns c.in_err-axis.field-0.0
+    rw (p.1, p.2) (rows_refused live c.args.dict.now c.args.pairs.now c.in_ok-places.places.entries (option_map (λ items. rows_labels c.args.dict.now items.now) c.args.index) c.in_ok-columns.columns c.in_err-axis.field-0.0
     (c.in_ok-places.ensures.pairs live) (c.in_ok-columns.ensures.columns c.args.dict.now) (c.in_err-axis.ensures.labels c.args.dict.now))
 
 pub new-requires-clause-whole : goal.new-requires-clause-whole
@@ -26,7 +26,7 @@ new-requires-clause-whole c =
 
 pub returns : goal.returns
 returns c = λ live.
-    let index : List Text → Option (List CellValue) = λ texts. option_map (λ items. scalars texts items.now) c.args.index in (
+    let index : List Text → Option (List (List LabelValue)) = λ texts. option_map (λ items. rows_labels texts items.now) c.args.index in (
       frame_answer live c.args.dict.now c.args.pairs.now c.in_ok-places.places.entries (index c.args.dict.now) c.in_ok-columns.columns c.in_ok-axis.axis c.in_ok-headings.headings c.new.result
           (c.in_ok-places.ensures.pairs live) (c.in_ok-columns.ensures.columns c.args.dict.now) (c.in_ok-axis.ensures.labels c.args.dict.now) c.in_ok-axis.ensures.names c.in_ok-headings.ensures.labels c.new.ensures,
       frame_settled c.args.dict.now c.args.pairs.now c.in_ok-places.places.entries index c.in_ok-columns.columns c.in_ok-axis.axis c.in_ok-headings.headings c.new.result

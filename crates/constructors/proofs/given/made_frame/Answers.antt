@@ -1,15 +1,16 @@
-use Rattle.std.proofs.Common.{◌∙◌, ap, sym, subst, List, Bor, Result}
+use Rattle.std.proofs.Common.{◌∙◌, ap, sym, subst, refl, List, Bor, Result}
 use Rattle.meaning.specs.Fault.{FaultValue}
 use Rattle.table_meaning.specs.Settled.{IsSettled}
 use Rattle.table_meaning.specs.Value.{Entry}
 use Rattle.form_meaning.specs.Binding.{bound_of}
-use Rattle.form_meaning.specs.Functions.{levels_among}
+use Rattle.form_meaning.specs.declared.Function.TheVariants as function
+use Rattle.form_meaning.specs.Signature.{function_parameters}
 use Rattle.frame_store.specs.declared.arguments.Item.{Item}
 use Rattle.frame_store.specs.Objects.{tables}
 use Rattle.frame_store.specs.Arguments.{arguments_of}
 use Rattle.frame_store.specs.Shown.{Makes}
 use Rattle.frame_store.specs.World.{world}
-use Rattle.constructors.proofs.GivenLaws.{list_settled}
+use Rattle.constructors.proofs.GivenLaws.{index_settled, index_levels}
 use Rattle.constructors.proofs.DictLaws.{keys_given, lists_given, frame_given}
 use Rattle.constructors.proofs.given.made_frame.Goals as goal
 
@@ -23,10 +24,21 @@ frame_of-requires-clause-values c =
     let live = tables c.args.store.now in
     lists_given c.in_ok-bound.bound 0 c.dict.result.now live c.args.dict.now c.dict.ensures.value (subst (IsSettled (arguments_of live) c.args.dict.now) (sym c.in_ok-bound.ensures.2) c.requires.given)
 
+pub frame_of-requires-clause-levels : goal.frame_of-requires-clause-levels
+frame_of-requires-clause-levels c =
+    let live = tables c.args.store.now in
+    let dict = c.args.dict.now in
+    let w = world c.args.store.now dict in
+    let b = c.in_ok-bound.bound in
+    let is = c.function_parameters-parameters.ensures in
+    index_levels (function_parameters function.DataFrame) _ _ w b c.list_or_none.result
+    (ap (λ ps. bound_of ps (arguments_of live dict b.args.now)) (sym is) ∙ ap (λ gs. bound_of c.function_parameters-parameters.result.now (arguments_of live dict gs)) c.in_ok-bound.ensures.2 ∙ c.in_ok-bound.ensures.0)
+    (c.in_ok-bound.ensures.1 ∙ is) refl refl (c.list_or_none.ensures.value live dict)
+
 pub frame_of-requires-clause-index : goal.frame_of-requires-clause-index
 frame_of-requires-clause-index c =
     let live = tables c.args.store.now in
-    list_settled (λ (b : Bor (List Item)). b.now) c.in_ok-bound.bound 1 c.list_or_none.result live c.args.dict.now c.list_or_none.ensures.value
+    index_settled (λ (b : Bor (List Item)). b.now) c.in_ok-bound.bound 1 c.list_or_none.result live c.args.dict.now c.list_or_none.ensures.value
     (subst (IsSettled (arguments_of live) c.args.dict.now) (sym c.in_ok-bound.ensures.2) c.requires.given)
 
 pub returns : goal.returns
@@ -35,9 +47,8 @@ returns c =
     let dict = c.args.dict.now in
     let gs = arguments_of live dict c.args.args.now in
     let is = c.function_parameters-parameters.ensures in
-    let levels = ap (λ ps. levels_among ps 0 gs) (sym is) ∙ sym (c.has_levels.ensures live dict) ∙ c.if-has_levels.false in
     subst (λ (m : Result Entry FaultValue). Makes dict c.frame_of.result m)
     (frame_given (λ (b : Bor (List Item)). b.now) gs (world c.args.store.now dict) c.in_ok-bound.bound c.dict.result.now c.list_or_none.result
-    levels (ap (λ ps. bound_of ps gs) (sym is) ∙ c.in_ok-bound.ensures.0) (c.in_ok-bound.ensures.1 ∙ is)
+    (ap (λ ps. bound_of ps gs) (sym is) ∙ c.in_ok-bound.ensures.0) (c.in_ok-bound.ensures.1 ∙ is)
     (c.dict.ensures.value live dict) (c.list_or_none.ensures.value live dict))
     (c.frame_of.ensures live)

@@ -98,3 +98,12 @@ returns-in-ToCsv c =
     (ap (λ o. on o (λ b. csv_answer b t)) (c.truth.ensures w.tables w.texts)
     ∙ answer_by w (method_of call.built) method.ToCsv call.bound t (λ a. on (truth_in (a 0)) (λ b. csv_answer b t)) (ap method_of c.in-ToCsv.is) c.requires.call.parameters refl)
     (c.answer_made-in-ToCsv.ensures c.args.dict.now _ c.to_csv-text.ensures.longer c.requires.settled c.to_csv-text.ensures.answer)
+
+-- a table under other labels
+pub returns-in-Levels : goal.returns-in-Levels
+returns-in-Levels c =
+    let w = world c.args.store.now c.args.dict.now in
+    let call = c.args.call.now in
+    let t = table_value c.args.dict.now (table_at (tables c.args.store.now) c.args.on.0) in
+    forms_so _ _ _ _ _ (ap (λ b. answer_in w (method_of b) call.bound t) (sym c.in-Levels.is))
+    (c.placed-in-Levels.ensures.answers c.args.dict.now _ (longer_self c.args.dict.now) c.requires.settled c.levels_made-table.ensures)

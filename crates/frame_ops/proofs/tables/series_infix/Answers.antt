@@ -1,8 +1,8 @@
-use Rattle.std.proofs.Common.{◌≡◌, ◌∙◌, sym, true, rules}
-use Rattle.form_meaning.specs.Infix.{same_tuples}
-use Rattle.frame_store.specs.Shown.{labels_value}
+use Rattle.std.proofs.Common.{ap}
 use Rattle.nullable_array.specs.Tasks.{operator_of}
-use Rattle.frame_ops.proofs.InfixLaws.{makes_as, series_is_meant, series_opposite, axes_same, table_given, name_settled}
+use Rattle.table_meaning.specs.Table.{table_value}
+use Rattle.form_meaning.specs.Infix.{rows_infix}
+use Rattle.frame_ops.proofs.InfixLaws.{makes_as, series_named, series_columns, name_settled}
 use Rattle.frame_ops.proofs.tables.series_infix.Goals as goal
 
 pub common_name-name-requires-clause-a : goal.common_name-name-requires-clause-a
@@ -11,21 +11,11 @@ common_name-name-requires-clause-a c = name_settled c.args.dict.now c.args.a.now
 pub common_name-name-requires-clause-b : goal.common_name-name-requires-clause-b
 common_name-name-requires-clause-b c = name_settled c.args.dict.now c.args.b c.heading-2.result c.requires.known_b.whole c.requires.series_b c.requires.known_b.given c.heading-2.ensures.value
 
-pub table_met-requires-clause-opposite : goal.table_met-requires-clause-opposite
-table_met-requires-clause-opposite c =
-    let same : c.same_rows.result ≡ true = search rules in
-    series_opposite c.args.dict.now c.args.a.now c.args.b c.requires.known_a.whole c.requires.known_b.whole c.requires.series_a c.requires.series_b
-    (sym (axes_same c.args.dict.now c.axis.result.now c.axis-2.result.now c.args.a.now c.args.b c.axis.ensures c.axis-2.ensures) ∙ sym c.same_rows.ensures ∙ same)
-
-pub table_met-requires-clause-other : goal.table_met-requires-clause-other
-table_met-requires-clause-other c = table_given c.args.dict.now c.args.b c.requires.known_b.given
+pub rows_infix-requires-clause-columns : goal.rows_infix-requires-clause-columns
+rows_infix-requires-clause-columns c = series_columns c.args.a.now c.args.b c.requires.known_a.whole c.requires.known_b.whole c.requires.series_a c.requires.series_b
 
 pub returns-clause-makes : goal.returns-clause-makes
 returns-clause-makes c =
-    let same : c.same_rows.result ≡ true = search rules in
-    let rows : same_tuples (labels_value c.args.dict.now c.args.a.now.labels) (labels_value c.args.dict.now c.args.b.labels) ≡ true =
-    sym (axes_same c.args.dict.now c.axis.result.now c.axis-2.result.now c.args.a.now c.args.b c.axis.ensures c.axis-2.ensures) ∙ sym c.same_rows.ensures ∙ same in
-    makes_as _ _ _ _ c.table_met.ensures.makes
-    (series_is_meant (operator_of c.args.op) c.args.dict.now c.args.a.now c.args.b c.heading.result c.heading-2.result c.common_name-name.result rows
-    (series_opposite c.args.dict.now c.args.a.now c.args.b c.requires.known_a.whole c.requires.known_b.whole c.requires.series_a c.requires.series_b rows).0
-    c.heading.ensures.value c.heading-2.ensures.value c.common_name-name.ensures.name)
+    makes_as _ _ _ _ c.rows_infix.ensures.makes
+    (ap (rows_infix (operator_of c.args.op) (table_value c.args.dict.now c.args.a.now) (table_value c.args.dict.now c.args.b))
+    (series_named c.args.dict.now c.args.a.now c.args.b c.heading.result c.heading-2.result c.common_name-name.result c.heading.ensures.value c.heading-2.ensures.value c.common_name-name.ensures.name))

@@ -1,4 +1,6 @@
 use Rattle.std.proofs.Common.{◌∙◌, [], arith}
+use Rattle.cell_core.specs.declared.cell.Label.TheVariants.{Na}
+use Rattle.index_core.specs.Labels.{order_in}
 use Rattle.index_core.specs.Ranges.{range_labels}
 use Rattle.index_core.proofs.RangeLaws.{length-range_labels}
 use Rattle.index_core.proofs.SplitLaws.{rows_of_splits}
@@ -8,4 +10,4 @@ pub run_of-requires : goal.run_of-requires
 run_of-requires c = let within = (c.end_within.ensures []).within in omega (arith, length-range_labels c.args.n)
 
 pub returns-clause-rows : goal.returns-clause-rows
-returns-clause-rows c = λ texts. c.run_of.ensures.rows ∙ rows_of_splits texts c.args.lower c.args.upper (range_labels c.args.n) _ _ (c.first_reached.ensures texts) (c.end_within.ensures texts)
+returns-clause-rows c = λ texts. c.run_of.ensures.rows ∙ rows_of_splits (order_in texts) Na c.args.lower c.args.upper (range_labels c.args.n) _ _ (c.first_reached.ensures texts) (c.end_within.ensures texts)

@@ -1,14 +1,9 @@
-use Rattle.std.proofs.Common.{ℕ, subst}
-use Rattle.multi_index.specs.Axes.{HaveLevels}
 use Rattle.selections.proofs.PlanLaws.{reached_plan}
 use Rattle.selections.proofs.planning.access_plan.Goals as goal
 
-pub reach_by-requires-clause-table : goal.reach_by-requires-clause-table
-reach_by-requires-clause-table c = record { known = c.requires.known; one = c.in_ok-expect_one_level.ensures; levels = subst (λ (n : ℕ). HaveLevels n c.args.on.now.labels) c.in_ok-expect_one_level.ensures c.requires.levels }
-
 pub returns-clause-plan : goal.returns-clause-plan
 returns-clause-plan c =
-    reached_plan c.args.dict.now c.args.on.now _ c.in_ok-reach.reach c.plan_of.result c.in_ok-expect_one_level.ensures c.in_ok-reach.ensures.reach (c.plan_of.ensures.plan c.args.dict.now c.args.on.now c.in_ok-reach.ensures.within)
+    reached_plan c.args.dict.now c.args.on.now _ c.in_ok-reach.reach c.plan_of.result c.in_ok-reach.ensures.reach (c.plan_of.ensures.plan c.args.dict.now c.args.on.now c.in_ok-reach.ensures.within)
 
 pub returns-clause-whole : goal.returns-clause-whole
-returns-clause-whole c = c.plan_of.ensures.whole c.args.on.now c.in_ok-expect_one_level.ensures c.in_ok-reach.ensures.within
+returns-clause-whole c = c.plan_of.ensures.whole c.args.on.now c.in_ok-reach.ensures.within

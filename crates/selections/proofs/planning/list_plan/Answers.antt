@@ -17,4 +17,4 @@ returns-in_ok-places-in-Some-clause-plan c = λ live.
 
 pub returns-in_ok-places-in-Some-clause-whole : goal.returns-in_ok-places-in-Some-clause-whole
 returns-in_ok-places-in-Some-clause-whole c =
-    list_whole c.args.on.now c.whole_columns.result c.in_ok-places-in-Some.places c.requires.shape c.whole_columns.ensures.below c.whole_columns.ensures.columns c.whole_columns.ensures.form c.in_ok-places-in-Some.ensures.inside
+    list_whole c.args.on.now c.whole_columns.result c.in_ok-places-in-Some.places c.requires.shape c.whole_columns.ensures.rows c.whole_columns.ensures.columns c.whole_columns.ensures.form c.in_ok-places-in-Some.ensures.inside

@@ -29,4 +29,4 @@ returns-in_ok-push-in-Scalar-clause-plan c =
 pub returns-in_ok-push-in-Scalar-clause-whole : goal.returns-in_ok-push-in-Scalar-clause-whole
 returns-in_ok-push-in-Scalar-clause-whole c =
     let columns : c.whole_columns.result.columns ≡ c.in_ok-place-in-Scalar.place ∷ [] = search rules in
-    column_whole c.args.on.now c.whole_columns.result c.in_ok-place-in-Scalar.place c.whole_columns.ensures.below columns c.whole_columns.ensures.form c.in_ok-place-in-Scalar.ensures.inside
+    column_whole c.args.on.now c.whole_columns.result c.in_ok-place-in-Scalar.place c.whole_columns.ensures.rows columns c.whole_columns.ensures.form c.in_ok-place-in-Scalar.ensures.inside

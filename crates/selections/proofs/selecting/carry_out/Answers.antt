@@ -5,7 +5,7 @@ use Rattle.table_meaning.specs.Table.{NumberedTable, table_value}
 use Rattle.table_meaning.specs.Value.{Entry}
 use Rattle.select_meaning.specs.Select.{cut, row_result, shown_as}
 use Rattle.frame_store.specs.Arguments.{object_value}
-use Rattle.frame_store.specs.Objects.{tables}
+use Rattle.frame_store.specs.Objects.{tables, table_at}
 use Rattle.frame_store.specs.World.{world, Forms}
 use Rattle.frame_store.proofs.Settling.{longer_self, object_settled}
 use Rattle.selections.specs.Plans.{has_single_row, has_single_column, cut_by}
@@ -18,7 +18,7 @@ use Rattle.selections.proofs.selecting.carry_out.Goals as goal
 
 pub cell-cell-requires-clause-row : goal.cell-cell-requires-clause-row
 cell-cell-requires-clause-row c =
-    subst (λ (t : NumberedTable). c.first.result < length t.labels) (sym (read_is _ c.read.result c.read.ensures.table)) (row_inside c.args.plan.rows _ c.first.result c.requires.plan.rows c.first.ensures)
+    subst (λ (t : NumberedTable). c.first.result < length t.labels) (sym (read_is _ c.read.result c.read.ensures.table)) (row_inside c.args.plan.rows (table_at (tables c.args.store.now) c.args.on.0) c.first.result c.requires.plan.rows c.first.ensures)
 
 pub row_series-series-requires-clause-known : goal.row_series-series-requires-clause-known
 row_series-series-requires-clause-known c =
@@ -29,20 +29,20 @@ row_series-series-requires-clause-known c =
 
 pub row_series-series-requires-clause-row : goal.row_series-series-requires-clause-row
 row_series-series-requires-clause-row c =
-    subst (λ (t : NumberedTable). c.first-row.result < length t.labels) (sym (read_is _ c.read-in-Row.result c.read-in-Row.ensures.table)) (row_inside c.args.plan.rows _ c.first-row.result c.requires.plan.rows c.first-row.ensures)
+    subst (λ (t : NumberedTable). c.first-row.result < length t.labels) (sym (read_is _ c.read-in-Row.result c.read-in-Row.ensures.table)) (row_inside c.args.plan.rows (table_at (tables c.args.store.now) c.args.on.0) c.first-row.result c.requires.plan.rows c.first-row.ensures)
 
 pub returns-in-Cell : goal.returns-in-Cell
 returns-in-Cell c =
     let plan = c.args.plan in
     cell_made c.args.dict.now c.args.store.now c.args.on c.read.result plan c.first.result c.at.result.now c.cell-cell.result c.read.ensures.table c.requires.settled c.in-Cell.is
-    c.first.ensures (only_place plan.columns c.at.result.now (c.requires.plan.one_column (ap has_single_column c.in-Cell.is)) c.at.ensures) c.cell-cell.ensures
+    c.first.ensures (c.requires.plan.whole_row (ap has_single_row c.in-Cell.is)) (only_place plan.columns c.at.result.now (c.requires.plan.one_column (ap has_single_column c.in-Cell.is)) c.at.ensures) c.cell-cell.ensures
 
 pub returns-in-Row : goal.returns-in-Row
 returns-in-Row c =
     let dict = c.args.dict.now in
     let plan = c.args.plan in
     subst (λ (m : Result Entry FaultValue). Forms c.placed.result m (world c.args.store.now dict) (world c.placed.new.store dict))
-    (plan_meant dict (tables c.args.store.now) c.args.on c.read-in-Row.result plan answer.Row (c.first-row.result ∷ []) plan.columns c.read-in-Row.ensures.table c.in-Row.is c.first-row.ensures refl)
+    (plan_meant dict (tables c.args.store.now) c.args.on c.read-in-Row.result plan answer.Row (c.first-row.result ∷ []) plan.columns c.read-in-Row.ensures.table c.in-Row.is c.first-row.ensures (c.requires.plan.whole_row (ap has_single_row c.in-Row.is)) refl)
     (c.placed.ensures.answers dict (row_result (cut (table_value dict c.read-in-Row.result) (c.first-row.result ∷ []) plan.columns)) (longer_self dict) c.requires.settled c.row_series-series.ensures)
 
 pub returns-in-Column : goal.returns-in-Column

@@ -1,14 +1,15 @@
 use Rattle.std.proofs.Common.{◌∙◌, ◌<◌, ℕ, List, ap, subst, sym, length, All}
-use Rattle.std.specs.List.{range_with_len}
 use Rattle.form_meaning.specs.Select.{columns_frame}
 use Rattle.table_meaning.specs.Table.{NumberedTable, Table, table_value}
 use Rattle.table_meaning.specs.Valid.{IsWhole}
 use Rattle.form_meaning.specs.Finish.{finished}
 use Rattle.frame_store.specs.Objects.{tables, table_at}
 use Rattle.frame_store.specs.World.{world, Forms}
-use Rattle.selections.specs.Plans.{rows_in, AreTakenBelow}
+use Rattle.select_meaning.specs.Select.{cut, without_leading}
+use Rattle.selections.specs.Plans.{rows_in, TakesAll}
 use Rattle.selections.proofs.BracketLaws.{list_whole}
 use Rattle.selections.proofs.PickedLaws.{read_is}
+use Rattle.selections.proofs.PlanLaws.{without_none}
 use Rattle.selections.proofs.CutLaws.{all_rows_cut}
 use Rattle.selections.proofs.selecting.columns_of.Goals as goal
 
@@ -16,8 +17,8 @@ pub take_frame-requires-clause-plan : goal.take_frame-requires-clause-plan
 take_frame-requires-clause-plan c =
     let t = table_at (tables c.args.store.now) c.args.on.0 in
     let at = read_is _ c.read.result c.read.ensures.table in
-    let below = subst (λ (n : NumberedTable). AreTakenBelow (length n.labels) c.whole_columns-plan.result.rows) at c.whole_columns-plan.ensures.below in
-    list_whole t c.whole_columns-plan.result c.args.columns c.requires.frame below c.whole_columns-plan.ensures.columns c.whole_columns-plan.ensures.form c.requires.columns
+    let all = subst (λ (n : NumberedTable). TakesAll n c.whole_columns-plan.result.rows) at c.whole_columns-plan.ensures.rows in
+    list_whole t c.whole_columns-plan.result c.args.columns c.requires.frame all c.whole_columns-plan.ensures.columns c.whole_columns-plan.ensures.form c.requires.columns
 
 pub returns : goal.returns
 returns c =
@@ -25,8 +26,9 @@ returns c =
     let t = table_at (tables c.args.store.now) c.args.on.0 in
     let plan = c.whole_columns-plan.result in
     let at = read_is _ c.read.result c.read.ensures.table in
-    let rows = c.whole_columns-plan.ensures.rows ∙ ap (λ (n : NumberedTable). range_with_len 0 (length n.labels)) at in
+    let all = subst (λ (n : NumberedTable). TakesAll n plan.rows) at c.whole_columns-plan.ensures.rows in
+    let taken = cut (table_value dict t) (rows_in plan.rows) plan.columns in
     let below = subst (λ (l : List ℕ). All (λ place. place < length t.columns) l) (sym c.whole_columns-plan.ensures.columns) c.requires.columns in
     subst (λ (v : Table). Forms c.take_frame.result (finished v) (world c.args.store.now dict) (world c.take_frame.new.store dict))
-    (all_rows_cut dict t (rows_in plan.rows) plan.columns (subst IsWhole at c.read.ensures.whole) below rows ∙ ap (columns_frame (table_value dict t)) c.whole_columns-plan.ensures.columns)
+    (ap (λ (n : ℕ). without_leading n taken) all.lost ∙ without_none taken ∙ all_rows_cut dict t (rows_in plan.rows) plan.columns (subst IsWhole at c.read.ensures.whole) below all.rows ∙ ap (columns_frame (table_value dict t)) c.whole_columns-plan.ensures.columns)
     c.take_frame.ensures

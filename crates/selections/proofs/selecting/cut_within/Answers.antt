@@ -5,7 +5,7 @@ use Rattle.frame_store.specs.Shown.{shown}
 use Rattle.frame_store.specs.declared.fault.OpFault.TheVariants.{NoMemory}
 use Rattle.frame_store.proofs.Settling.{longer_self}
 use Rattle.selections.specs.Plans.{rows_in}
-use Rattle.selections.proofs.TakenLaws.{chosen_answers}
+use Rattle.selections.proofs.TakenLaws.{taken_answers}
 use Rattle.selections.proofs.selecting.cut_within.Goals as goal
 
 pub returns-in_err-id : goal.returns-in_err-id
@@ -16,4 +16,4 @@ returns-in_err-id c = λ texts settled given.
 pub returns : goal.returns
 returns c = λ texts settled given.
     let within : within_limits (length (rows_in c.args.rows.now)) (length c.args.columns.now) ≡ true = search rules in
-    chosen_answers texts c.args.store.now c.make_taken.new.store c.args.on.0 c.in_ok-id.id c.args.shape c.args.headings (rows_in c.args.rows.now) c.args.columns.now c.requires.live c.in_ok-id.ensures.fresh c.in_ok-id.ensures.ok within settled given
+    taken_answers texts c.args.store.now c.make_taken.new.store c.args.on.0 c.in_ok-id.id c.args.shape c.args.headings c.args.rows.now c.args.columns.now c.requires.live c.in_ok-id.ensures.fresh c.in_ok-id.ensures.ok within settled given

@@ -18,18 +18,18 @@ returns-then-not-within_limits c =
     let t = c.args.on.now in
     let beyond : within_limits (length c.args.columns.now) 1 ≡ false = search rules in
     let below = subst (λ (n : ℕ). All (λ place. place < n) c.args.columns.now) (sym c.requires.known.whole.headed) c.requires.columns in
-    (row_beyond t c.args.row c.in_ok-kind.kind c.args.columns.now (c.requires.known.whole.headings.labelled c.requires.shape) below c.requires.levels c.requires.row c.args.dict.now (c.in_ok-kind.ensures.kind c.args.dict.now) beyond, λ more. refl)
+    (row_beyond t c.args.row c.row_name-name.result c.in_ok-kind.kind c.args.columns.now (c.requires.known.whole.headings.labelled c.requires.shape) below c.row_name-name.ensures c.args.dict.now (c.in_ok-kind.ensures.kind c.args.dict.now) beyond, λ more. refl)
 
 pub returns : goal.returns
 returns c =
     let t = c.args.on.now in
     let within : within_limits (length c.args.columns.now) 1 ≡ true = search rules in
     let below = subst (λ (n : ℕ). All (λ place. place < n) c.args.columns.now) (sym c.requires.known.whole.headed) c.requires.columns in
-    let heading : c.push.new.self ≡ row_heading t c.args.row = search rules in
+    let heading : c.push.new.self ≡ row_heading c.row_name-name.result = search rules in
     let blocks : c.push-2.new.self ≡ c.into_block.result ∷ [] = search rules in
     let column : block_column c.into_block.result ≡ record { kind = c.in_ok-kind.kind; cells = map (cell_across t c.args.row) c.args.columns.now } =
     ap block_column c.into_block.ensures ∙ (λ j. record { kind = (c.in_ok-cells.ensures j).kind; cells = (c.in_ok-cells.ensures j).cells }) in
-    row_made t c.args.row c.in_ok-kind.kind c.args.columns.now (c.requires.known.whole.headings.labelled c.requires.shape) below c.requires.levels c.requires.row c.args.dict.now c.new.result
+    row_made t c.args.row c.row_name-name.result c.in_ok-kind.kind c.args.columns.now (c.requires.known.whole.headings.labelled c.requires.shape) below c.row_name-name.ensures c.args.dict.now c.new.result
     (c.in_ok-kind.ensures.kind c.args.dict.now) within
-    (c.new.ensures ∙ (λ j. table_with Series (c.in_ok-axis.ensures j) (heading j) (map block_column (blocks j))) ∙ ap (λ x. table_with Series (columns_axis t c.args.columns.now) (row_heading t c.args.row) (x ∷ [])) column)
+    (c.new.ensures ∙ (λ j. table_with Series (c.in_ok-axis.ensures j) (heading j) (map block_column (blocks j))) ∙ ap (λ x. table_with Series (columns_axis t c.args.columns.now) (row_heading c.row_name-name.result) (x ∷ [])) column)
     c.requires.known.given

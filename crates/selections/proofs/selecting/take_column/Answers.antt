@@ -3,12 +3,11 @@ use Rattle.table_meaning.specs.Table.{NumberedTable, Table}
 use Rattle.form_meaning.specs.Finish.{limited}
 use Rattle.frame_store.specs.Objects.{tables, table_at}
 use Rattle.frame_store.specs.World.{world, Forms}
-use Rattle.selections.specs.Plans.{rows_in}
 use Rattle.selections.proofs.AnswerLaws.{table_is_settled}
 use Rattle.selections.proofs.PickedLaws.{read_is}
 use Rattle.selections.proofs.PlanLaws.{first_of, only_place}
 use Rattle.selections.proofs.TakeLaws.{place_inside}
-use Rattle.selections.proofs.CutLaws.{series_taken, series_seen, series_given}
+use Rattle.selections.proofs.CutLaws.{series_taken, series_shown, series_given}
 use Rattle.selections.proofs.CarryLaws.{single_heading}
 use Rattle.selections.proofs.selecting.take_column.Goals as goal
 
@@ -37,5 +36,5 @@ returns c = λ texts settled.
     let one = c.requires.plan.one_column c.requires.single in
     let made : c.push.new.self ≡ record { columns_name = None; labels = c.heading.result ∷ [] } = search rules in
     let headed = single_heading c.read-source.result t plan.columns c.at.result.now c.heading.result c.push.new.self (read_is _ c.read-source.result c.read-source.ensures.table) (only_place plan.columns c.at.result.now one c.at.ensures) c.heading.ensures.value made in
-    subst (λ (v : Table). Forms c.cut_within.result (limited v) (world c.args.store.now texts) (world c.cut_within.new.store texts)) (series_seen texts (rows_in plan.rows) plan.columns t c.push.new.self headed)
+    subst (λ (v : Table). Forms c.cut_within.result (limited v) (world c.args.store.now texts) (world c.cut_within.new.store texts)) (series_shown texts plan.rows plan.columns t c.push.new.self headed)
     (c.cut_within.ensures texts settled (series_given texts t plan.columns c.push.new.self headed (table_is_settled texts (tables c.args.store.now) c.args.on.0 c.requires.live settled)))

@@ -10,7 +10,7 @@ use Rattle.frame_store.specs.Objects.{tables, table_at}
 use Rattle.frame_store.specs.World.{world, Forms}
 use Rattle.frame_store.proofs.Settling.{headings_part}
 use Rattle.selections.specs.Headings.{NamesRepeated, repeated_heading}
-use Rattle.selections.specs.Plans.{rows_in}
+use Rattle.selections.specs.Plans.{rows_in, levels_lost}
 use Rattle.selections.proofs.AnswerLaws.{table_is_settled}
 use Rattle.selections.proofs.PickedLaws.{read_is}
 use Rattle.selections.proofs.CutLaws.{frame_taken, frame_given, frame_meant, frame_refused}
@@ -31,7 +31,7 @@ returns-in_err-headings c =
     let why = c.in_err-headings.field-0.0 in
     let named = subst (λ (l : List (Option Label)). NamesRepeated why (repeated_heading l)) labels c.in_err-headings.ensures.refused in
     let p = err_from_is_err_and c.from_residual-in_err-headings.result c.from_residual-in_err-headings.ensures.1 in
-    rw (p.1, p.2) (frame_refused dict c.args.store.now t (rows_in plan.rows) plan.columns why c.len.ensures.distinct settled named c.requires.settled)
+    rw (p.1, p.2) (frame_refused dict c.args.store.now t (levels_lost plan.rows) (rows_in plan.rows) plan.columns why c.len.ensures.distinct settled named c.requires.settled)
 
 pub cut_within-requires-clause-taken : goal.cut_within-requires-clause-taken
 cut_within-requires-clause-taken c =
@@ -53,5 +53,5 @@ returns c =
     let headed = gathered_with c.read-source.result t plan.columns c.columns_name.result c.deref.result.now c.in_ok-headings.headings at c.columns_name.ensures labels c.in_ok-headings.ensures.made in
     let settled = table_is_settled dict (tables c.args.store.now) c.args.on.0 c.requires.live c.requires.settled in
     subst (λ (m : Result Entry FaultValue). Forms c.cut_within.result m (world c.args.store.now dict) (world c.cut_within.new.store dict))
-    (frame_meant dict t (rows_in plan.rows) plan.columns c.in_ok-headings.headings c.len.ensures.distinct (headings_part dict t settled) (c.requires.plan.frame c.requires.several) headed (ap repeated_heading (sym labels) ∙ c.in_ok-headings.ensures.different))
+    (frame_meant dict t plan.rows plan.columns c.in_ok-headings.headings c.len.ensures.distinct (headings_part dict t settled) (c.requires.plan.frame c.requires.several) headed (ap repeated_heading (sym labels) ∙ c.in_ok-headings.ensures.different))
     (c.cut_within.ensures dict c.requires.settled (frame_given dict t plan.columns c.in_ok-headings.headings headed settled))

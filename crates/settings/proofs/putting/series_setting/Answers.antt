@@ -4,6 +4,7 @@ use Rattle.meaning.specs.Cell.{label_datum}
 use Rattle.multi_index.specs.Axes.{AxisValue}
 use Rattle.table_meaning.specs.Settled.{IsSettled}
 use Rattle.table_meaning.specs.Table.{NumberedTable, table_value, column_at}
+use Rattle.table_meaning.specs.Valid.{IsWhole}
 use Rattle.form_meaning.specs.Infix.{same_tuples}
 use Rattle.select_meaning.specs.Set.{series_set}
 use Rattle.frame_store.specs.Objects.{tables, table_at, table_or}
@@ -15,7 +16,7 @@ use Rattle.settings.specs.Assigned.{put_place}
 use Rattle.settings.specs.Changes.{table_after}
 use Rattle.settings.specs.declared.changes.Setting.TheVariants.{Change}
 use Rattle.settings.proofs.MoveLaws.{move_meant, move_refused, move_settled}
-use Rattle.settings.proofs.PutCases.{rows_as_many}
+use Rattle.settings.proofs.PutCases.{own_cells, rows_as_many}
 use Rattle.settings.proofs.PutLaws.{put_there}
 use Rattle.settings.proofs.SetLaws.{gives_so, part_refused, refuses_so}
 use Rattle.settings.proofs.putting.series_setting.Goals as goal
@@ -64,7 +65,7 @@ returns-in_err-place-clause-setting c =
     (λ j. same_tuples (labels_value texts (sym c.axis.ensures j).tuples) (labels_value texts ((sym (ap (λ (u : NumberedTable). u.labels) at)) j))) ∙ (λ j. same_tuples (labels_value texts c.axis.result.now.tuples) (labels_value texts (sym c.axis-2.ensures j).tuples)) ∙ sym c.same_rows.ensures ∙ so in
     let p = err_from_is_err_and c.from_residual-in_err-place.result c.from_residual-in_err-place.ensures.1 in
     rw (p.1, p.2)
-    (refuses_so texts c.in_err-place.field-0.0 _ _ (move_refused texts t s c.args.label c.rows.result c.requires.known.whole c.rows.ensures same)
+    (refuses_so texts c.in_err-place.field-0.0 _ _ (move_refused texts t s c.args.label c.rows.result c.requires.known.whole c.rows.ensures (own_cells s (subst IsWhole at c.read-source.ensures.whole) c.requires.single) same)
     (part_refused as_it_is texts (put_place c.rows.result (headings_value texts t.headings) l) (put_there (table_value texts t) l (column_at (table_value texts s).columns 0)) c.in_err-place.field-0.0 c.in_err-place.ensures.answer))
 
 pub returns-clause-setting : goal.returns-clause-setting
@@ -82,7 +83,7 @@ returns-clause-setting c =
       whole = c.read-source.ensures.whole;
       given = object_settled texts (tables c.args.store.now) c.args.series.0 c.read-source.result c.read-source.ensures.table c.requires.settled;
     }) in (
-      move_meant texts t s c.args.label c.in_ok-place.place c.rows.result c.requires.known.whole c.rows.ensures same c.in_ok-place.ensures.answer,
+      move_meant texts t s c.args.label c.in_ok-place.place c.rows.result c.requires.known.whole c.rows.ensures (own_cells s known.whole c.requires.single) same c.in_ok-place.ensures.answer,
       move_settled texts t s c.args.label c.in_ok-place.place c.requires.known.given c.requires.label known.whole c.requires.single known.given,
     )
 

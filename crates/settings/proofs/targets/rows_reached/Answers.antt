@@ -8,9 +8,13 @@ use Rattle.form_parts.specs.Makes.{MakesBy}
 use Rattle.frame_store.specs.Objects.{tables}
 use Rattle.frame_store.specs.Arguments.{subscript_of}
 use Rattle.selections.specs.Reaches.{accessor_of}
+use Rattle.selections.proofs.ReachLaws.{can_select}
 use Rattle.settings.specs.Values.{reached_value, TellsAbsence}
 use Rattle.settings.proofs.TargetLaws.{label_settled, rows_tell, single_rows}
 use Rattle.settings.proofs.targets.rows_reached.Goals as goal
+
+pub rows_by-rows-requires-clause-table : goal.rows_by-rows-requires-clause-table
+rows_by-rows-requires-clause-table c = can_select c.args.dict.now c.args.on.now c.requires.table
 
 pub returns-clause-rows : goal.returns-clause-rows
 returns-clause-rows c =

@@ -1,11 +1,25 @@
-use Rattle.std.proofs.Common.{◌∙◌, ◌∷◌, [], ap}
-use Rattle.multi_index.proofs.PickLaws.{rows_seen, fault_lifted}
-use Rattle.multi_index.specs.Picks.{as_it_is}
-use Rattle.pick_meaning.specs.Faults.{pick_seen}
+use Rattle.std.proofs.Common.{◌∙◌, ap, sym, subst, arith}
+use Rattle.pick_meaning.specs.Labels.{rows_of_key}
+use Rattle.pick_meaning.specs.Leading.{leads}
+use Rattle.index_core.specs.Labels.{same_number}
+use Rattle.multi_index.specs.Axes.{AxisValue}
+use Rattle.multi_index.specs.Picks.{PicksBy, as_it_is}
+use Rattle.multi_index.specs.Views.{kept_tuples, IsKeptAs}
+use Rattle.multi_index.proofs.NameLaws.{count_of_names}
 use Rattle.multi_index.proofs.axis.Axis.places.Goals as goal
 
-pub returns-in-Ok : goal.returns-in-Ok
-returns-in-Ok c = rows_seen _ _ _ _ c.only_level.ensures c.requires.full c.at.ensures ∙ ap (pick_seen (λ x. x ∷ [])) c.in-Ok.ensures
+pub single_places-requires : goal.single_places-requires
+single_places-requires c =
+    let one = subst (IsKeptAs c.self.inside.levels) c.in-Single.is c.self.invariant.kept in
+    let count = count_of_names c.self.inside.names c.args.self.now.names c.self.inside.levels (ap (λ (a : AxisValue). a.names) c.self.view_is) c.self.invariant.room c.self.invariant.few in
+    omega (arith, one, count, c.requires.0, c.requires.1)
 
-pub returns-in-Err : goal.returns-in-Err
-returns-in-Err c = rw c.axis_fault.ensures (fault_lifted _ as_it_is c.in-Err.fault _ _ (rows_seen _ _ _ _ c.only_level.ensures c.requires.full c.at.ensures) c.in-Err.ensures)
+pub returns-in-Single : goal.returns-in-Single
+returns-in-Single c =
+    let seen = ap kept_tuples (sym c.in-Single.is) ∙ ap (λ (a : AxisValue). a.tuples) c.self.view_is in
+    subst (λ ts. PicksBy as_it_is c.single_places.result (rows_of_key (leads same_number) ts c.args.leading.now)) seen c.single_places.ensures
+
+pub returns-in-Listed : goal.returns-in-Listed
+returns-in-Listed c =
+    let seen = ap kept_tuples (sym c.in-Listed.is) ∙ ap (λ (a : AxisValue). a.tuples) c.self.view_is in
+    subst (λ ts. PicksBy as_it_is c.places_of.result (rows_of_key (leads same_number) ts c.args.leading.now)) seen c.places_of.ensures

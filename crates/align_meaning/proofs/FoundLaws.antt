@@ -1,0 +1,76 @@
+-- What is found for targets: a row or a gap for each, rows that are there, and a repeated key that is one of the keys.
+use Rattle.std.proofs.Common.{◌≡◌, ◌∙◌, ap, refl, subst, arith, ℕ, ◌<◌, Bool, true, false, if◌then◌else◌, List, [], ◌∷◌, map, length, All, Option, Some, None, Result, Ok, Err}
+use Rattle.std.specs.Prelude.{IfOk, IfSome}
+use Rattle.std.specs.List.{range_with_len}
+use Rattle.std.specs.Cmp.Lexicographic.{pointwise, as_long}
+use Rattle.std.proofs.lemmas.List.{length-map}
+use Rattle.std.proofs.lemmas.List.FromFn.{length-map-range_with_len, length-range_with_len, get_or-range_with_len}
+use Rattle.std.proofs.lemmas.List.Elements.{All-head, All-tail, All-map, All-from_get_or}
+use Rattle.pick_meaning.specs.Rows.{rows_where, only_row}
+use Rattle.pick_meaning.proofs.InsideLaws.{rows_inside}
+use Rattle.align_meaning.specs.Faults.{AlignRefusal, duplicate_labels}
+use Rattle.align_meaning.specs.Targets.{first_where, first_repeated, unless_repeated, rows_of_targets, reindexed}
+
+unless_keeps : {K A : Type 0} (P : A → Type 0) (repeated : Option K) (answer : A) → P answer → IfOk (unless_repeated repeated answer) P
+unless_keeps P None answer holds = holds
+unless_keeps P (Some key) answer holds = tt
+
+only_keeps : (P : ℕ → Type 0) (rows : List ℕ) → All P rows → IfSome (only_row rows) P
+only_keeps P [] all = tt
+only_keeps P (row ∷ []) all = All-head P row [] all
+only_keeps P (row ∷ (other ∷ rows)) all = tt
+
+first_among : {K : Type 0} (P : K → Type 0) (p : K → Bool) (xs : List K) → All P xs → IfSome (first_where p xs) P
+first_among P p [] all = tt
+first_among P p (x ∷ xs) all =
+    elim (p x) as (λ b. IfSome (if b then Some x else first_where p xs) P) [ true ↦ All-head P x xs all | false ↦ first_among P p xs (All-tail P x xs all) ]
+
+abbrev key_or : {K : Type 0} → K → AlignRefusal K → K
+key_or d (duplicate_labels key) = key
+key_or d other = d
+
+abbrev refusal_or : {K A : Type 0} → AlignRefusal K → Result A (AlignRefusal K) → AlignRefusal K
+refusal_or d (Ok answer) = d
+refusal_or d (Err refusal) = refusal
+
+module _ {K : Type 0} (same : K → K → Bool) (keys targets : List K) where
+  -- the rows that are found, where the targets are the keys and where they aren't
+  abbrev found_if : Bool → Result (List (Option ℕ)) (AlignRefusal K)
+  found_if b = if b then Ok (map Some (range_with_len 0 (length keys))) else unless_repeated (first_repeated same keys) (rows_of_targets same keys targets)
+
+  -- for each target
+  pub reindexed_count : IfOk (reindexed same keys targets) (λ rows. length rows ≡ length targets)
+  reindexed_count = by (pointwise same keys targets) refl
+    where
+      by : (b : Bool) → pointwise same keys targets ≡ b → IfOk (found_if b) (λ rows. length rows ≡ length targets)
+      by true e = length-map-range_with_len Some 0 (length keys) ∙ as_long same keys targets e
+      by false e = unless_keeps (λ rows. length rows ≡ length targets) (first_repeated same keys) (rows_of_targets same keys targets) (length-map targets (λ target. only_row (rows_where (same target) 0 keys)))
+
+  -- among the keys
+  abbrev IsThere : Option ℕ → Type 0
+  IsThere row = IfSome row (λ place. place < length keys)
+
+  pub reindexed_below : IfOk (reindexed same keys targets) (All IsThere)
+  reindexed_below = by (pointwise same keys targets)
+    where
+      in_order : All (λ k. k < length keys) (range_with_len 0 (length keys))
+      in_order = All-from_get_or (λ k. k < length keys) (range_with_len 0 (length keys)) 0 (λ k lt. omega (arith, lt, length-range_with_len 0 (length keys), get_or-range_with_len 0 (length keys) k 0 (omega (arith, lt, length-range_with_len 0 (length keys)))))
+
+      by : (b : Bool) → IfOk (found_if b) (All IsThere)
+      by true = All-map IsThere Some (range_with_len 0 (length keys)) in_order
+      by false =
+          unless_keeps (All IsThere) (first_repeated same keys) (rows_of_targets same keys targets)
+          (All-map IsThere (λ target. only_row (rows_where (same target) 0 keys)) targets
+          (λ k d lt. only_keeps (λ place. place < length keys) _ (rows_inside (same _) keys)))
+
+  -- a key that is refused
+  pub repeat_given : (P : K → Type 0) (key : K) → All P keys → reindexed same keys targets ≡ Err (duplicate_labels key) → P key
+  repeat_given P key all is = by (pointwise same keys targets) is
+    where
+      of : (o : Option K) → IfSome o P → unless_repeated o (rows_of_targets same keys targets) ≡ Err (duplicate_labels key) → P key
+      of None h e = cc
+      of (Some other) h e = subst P (ap (λ r. key_or other (refusal_or (duplicate_labels other) r)) e) h
+
+      by : (b : Bool) → found_if b ≡ Err (duplicate_labels key) → P key
+      by true e = cc
+      by false e = of (first_repeated same keys) (first_among P _ keys all) e

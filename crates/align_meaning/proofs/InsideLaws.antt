@@ -1,0 +1,81 @@
+-- The rows of an outer join lie within their sides, and its keys are those of either side.
+use Rattle.std.proofs.Common.{◌≡◌, ◌∙◌, ◌<◌, ◌≤◌, refl, subst, sym, ℕ, Bool, true, false, cond, List, [], ◌∷◌, ◌++◌, map, length, All, Option, Some, None, Result, Ok, Err, nat_lt}
+use Rattle.std.specs.Prelude.{IfSome}
+use Rattle.std.proofs.lemmas.Bool.{ltb-false}
+use Rattle.std.proofs.lemmas.List.{length-map}
+use Rattle.std.proofs.lemmas.List.Elements.{All-nil, All-cons, All-head, All-tail, All-map}
+use Rattle.meaning.specs.Reduce.{distinct}
+use Rattle.pick_meaning.specs.Rows.{rows_where}
+use Rattle.pick_meaning.proofs.InsideLaws.{rows_inside, ok_same}
+use Rattle.align_meaning.proofs.OrderLaws.{all_append, all_flat, all_distinct, all_in_order}
+use Rattle.align_meaning.specs.Faults.{AlignRefusal, too_large}
+use Rattle.align_meaning.specs.Joins.{Entry, Lists, or_gap, entry, entries_with, entries_of, keys_in_order, outer_entries, most_rows, lists_of, outer}
+
+-- a row of so many, or none
+abbrev pub IsRowOf : ℕ → Option ℕ → Type 0
+IsRowOf count gap = IfSome gap (λ row. row < count)
+
+-- an entry of rows of its sides, with a key of which this is true
+record IsInside {K : Type 0} (P : K → Type 0) (lefts rights : ℕ) (e : Entry K) : Type 0 where
+  keyed : P e.key
+  left : IsRowOf lefts e.left
+  right : IsRowOf rights e.right
+
+-- as many rows on either side as keys, at most as many as a table may have
+pub record AreInside {K : Type 0} (P : K → Type 0) (lefts rights : ℕ) (rows : Lists K) : Type 0 where
+  pub few : length rows.keys ≤ most_rows
+  pub left_count : length rows.left ≡ length rows.keys
+  pub right_count : length rows.right ≡ length rows.keys
+  pub keyed : All P rows.keys
+  pub left : All (IsRowOf lefts) rows.left
+  pub right : All (IsRowOf rights) rows.right
+
+gaps_inside : (count : ℕ) (rows : List ℕ) → All (λ row. row < count) rows → All (IsRowOf count) (or_gap rows)
+gaps_inside count [] all = All-cons (IsRowOf count) None [] tt (All-nil (IsRowOf count))
+gaps_inside count (row ∷ rows) all =
+    All-cons (IsRowOf count) (Some row) (map Some rows) (All-head (λ row. row < count) row rows all) (All-map (IsRowOf count) Some rows (All-tail (λ row. row < count) row rows all))
+
+module _ {K : Type 0} (P : K → Type 0) (same less : K → K → Bool) (left right : List K) where
+  abbrev Inside : Entry K → Type 0
+  Inside = IsInside P (length left) (length right)
+
+  abbrev of_key : K → List (Entry K)
+  of_key key = entries_of key (rows_where (same key) 0 left) (rows_where (same key) 0 right)
+
+  key_inside : (key : K) → P key → All Inside (of_key key)
+  key_inside key here =
+      let lefts = gaps_inside (length left) (rows_where (same key) 0 left) (rows_inside (same key) left) in
+      let rights = gaps_inside (length right) (rows_where (same key) 0 right) (rows_inside (same key) right) in
+      all_flat Inside (IsRowOf (length left)) (entries_with key (rows_where (same key) 0 right))
+      (λ gap at. All-map Inside (entry key gap) (or_gap (rows_where (same key) 0 right)) (λ k d lt. record { keyed = here; left = at; right = rights k d lt }))
+      (or_gap (rows_where (same key) 0 left)) lefts
+
+  module _ (lefts : All P left) (rights : All P right) where
+    abbrev entries : List (Entry K)
+    entries = outer_entries same less left right
+
+    abbrev limited : Bool → Result (Lists K) (AlignRefusal K)
+    limited beyond = cond beyond (Err too_large) (Ok (lists_of entries))
+
+    entries_inside : All Inside entries
+    entries_inside =
+        all_flat Inside P of_key key_inside (keys_in_order same less (left ++ right))
+        (all_in_order P less (distinct same (left ++ right)) (all_distinct P same (left ++ right) (all_append P left right lefts rights)))
+
+    lists_inside : length entries ≤ most_rows → AreInside P (length left) (length right) (lists_of entries)
+    lists_inside few = record {
+      few = subst (λ n. n ≤ most_rows) (sym (length-map entries (λ e. e.key))) few;
+      left_count = length-map entries (λ e. e.left) ∙ sym (length-map entries (λ e. e.key));
+      right_count = length-map entries (λ e. e.right) ∙ sym (length-map entries (λ e. e.key));
+      keyed = All-map P (λ e. e.key) entries (λ k d lt. (entries_inside k d lt).keyed);
+      left = All-map (IsRowOf (length left)) (λ e. e.left) entries (λ k d lt. (entries_inside k d lt).left);
+      right = All-map (IsRowOf (length right)) (λ e. e.right) entries (λ k d lt. (entries_inside k d lt).right);
+    }
+
+    -- so it is of what is joined
+    pub joined_inside : (rows : Lists K) → outer same less left right ≡ Ok rows → AreInside P (length left) (length right) rows
+    joined_inside rows is = go (nat_lt most_rows (length entries)) refl is
+      where
+        go : (b : Bool) → nat_lt most_rows (length entries) ≡ b → limited b ≡ Ok rows → AreInside P (length left) (length right) rows
+        go true e made = cc
+        go false e made = subst (AreInside P (length left) (length right)) (ok_same (lists_of entries) rows made) (lists_inside (ltb-false most_rows (length entries) e))

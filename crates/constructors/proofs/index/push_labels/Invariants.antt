@@ -1,0 +1,13 @@
+use Rattle.std.proofs.Common.{◌≡◌, ◌++◌, map, length, List}
+use Rattle.meaning.specs.Text.{Text}
+use Rattle.meaning.specs.Operator.{cell_label}
+use Rattle.table_meaning.specs.Table.{tuple_value}
+use Rattle.signatures.specs.Scalars.{scalars}
+use Rattle.constructors.proofs.index.push_labels.Given as goal
+
+-- the labels so far, before the others
+abbrev pub invariant-loop-rest : goal.invariant-loop-rest
+invariant-loop-rest l = (texts : List Text) → tuple_value texts l.labels.items ++ map cell_label (scalars texts l.rest) ≡ tuple_value texts l.fn.labels.items ++ map cell_label (scalars texts l.parts)
+
+abbrev pub decreases-loop-rest : goal.decreases-loop-rest
+decreases-loop-rest l = length l.rest

@@ -1,0 +1,13 @@
+use Rattle.std.proofs.Common.{◌≡◌, ◌++◌, drop, List}
+use Rattle.meaning.specs.Text.{Text}
+use Rattle.multi_index.specs.Axes.{HaveLevels}
+use Rattle.frame_store.specs.Shown.{labels_value}
+use Rattle.constructors.specs.Index.{rows_labels}
+use Rattle.constructors.proofs.index.row_tuples.Given as goal
+
+-- the labels so far, before those of the other rows
+abbrev pub invariant-loop-row : goal.invariant-loop-row
+invariant-loop-row l = record {
+  levels : HaveLevels l.levels l.tuples;
+  labels : (texts : List Text) → labels_value texts l.tuples ++ rows_labels texts (drop l.row-index l.index) ≡ rows_labels texts l.index;
+}

@@ -1,0 +1,159 @@
+-- The groups of rows whose keys are tuples of labels.
+use Rattle.std.proofs.Common.{◌≡◌, ◌∙◌, ◌<◌, ◌==◌, ap, sym, subst, arith, ℕ, Bool, true, false, cond, List, [], map, filter, length, slice_index_or, All, Option}
+use Rattle.std.specs.List.{list_any, position, range_with_len}
+use Rattle.std.specs.Cmp.Lexicographic.{lists_total}
+use Rattle.std.proofs.lemmas.List.{length-map, get_or-map, map-id}
+use Rattle.std.proofs.lemmas.List.Sums.{passes_at_first}
+use Rattle.std.proofs.lemmas.List.Sorted.{ranks_by}
+use Rattle.std.proofs.lemmas.List.Elements.{All-map, All-filter}
+use Rattle.meaning.specs.Text.{Text}
+use Rattle.meaning.specs.Reduce.{distinct}
+use Rattle.cell_core.specs.declared.cell.Label.{Label}
+use Rattle.column_core.specs.Moves.{IsPlaceOf}
+use Rattle.multi_index.specs.Axes.{HaveLevels, tuples_at}
+use Rattle.row_keys.specs.Keys.{same_tuple, place_among, codes_of, first_rows}
+use Rattle.std.proofs.lemmas.List.FromFn.{length-map-range_with_len}
+use Rattle.row_keys.proofs.KeyLaws.{position_in, all_known, any_at}
+use Rattle.row_keys.proofs.RecodeLaws.{All-distinct, firsts_inside, first_keys}
+use Rattle.label_align.specs.Tuples.{tuple_seen, tuple_less}
+use Rattle.label_align.proofs.OrderLaws.{row_agrees}
+use Rattle.label_align.proofs.SameLaws.{tuple_decides, tuple_laws}
+use Rattle.group_meaning.specs.Keys.{is_na, is_kept, ordered_if, group_keys, group_of, group_codes}
+use Rattle.factorize.specs.Keys.{seen_rules}
+use Rattle.factorize.specs.Numbers.{first_row, number_less, row_holds_na, kept_numbers, places_of, recoded}
+use Rattle.group_meaning.specs.Grouping.{AreGroups}
+use Rattle.group_meaning.proofs.ListLaws.{map_map, map_on}
+use Rattle.sorting.specs.Sorting.{in_order}
+use Rattle.align_meaning.proofs.OrderLaws.{all_in_order}
+use Rattle.cell_core.proofs.LabelLaws.{label_total}
+use Rattle.factorize.proofs.LawOfGroups.{are_groups}
+use Rattle.factorize.proofs.LabelLaws.{labels_there}
+use Rattle.factorize.proofs.PlaceLaws.{place_inside}
+use Rattle.factorize.proofs.NumberLaws as law
+
+module _ (texts : List Text) (keys : List (List Label)) (levels : ℕ) (alike : HaveLevels levels keys) (sorted dropna : Bool) where
+  abbrev firsts : List ℕ
+  firsts = first_rows same_tuple keys
+
+  abbrev how_many : ℕ
+  how_many = length (distinct same_tuple keys)
+
+  abbrev less : ℕ → ℕ → Bool
+  less = number_less texts keys levels firsts
+
+  abbrev holds_na : ℕ → Bool
+  holds_na number = row_holds_na texts keys levels (first_row firsts number)
+
+  pub firsts_counted : length firsts ≡ how_many
+  firsts_counted = length-map (distinct same_tuple keys) (place_among same_tuple keys)
+
+  abbrev key_at : ℕ → List Label
+  key_at number = slice_index_or (distinct same_tuple keys) number []
+
+  inside : (i : ℕ) → i < how_many → first_row firsts i < length keys
+  inside i lt = firsts_inside same_tuple tuple_decides tuple_laws keys i 0 (omega (arith, firsts_counted, lt))
+
+  key_there : (i : ℕ) → i < how_many → key_at i ≡ slice_index_or keys (first_row firsts i) []
+  key_there i lt =
+      ap (λ ks. slice_index_or ks i []) (sym (first_keys same_tuple tuple_decides tuple_laws keys []))
+      ∙ get_or-map (λ r. slice_index_or keys r []) firsts i 0 [] (omega (arith, firsts_counted, lt))
+
+  below : (i j : ℕ) → i < how_many → j < how_many → tuple_less texts (key_at i) (key_at j) ≡ less i j
+  below i j hi hj =
+      (λ k. tuple_less texts (key_there i hi k) (key_there j hj k))
+      ∙ sym (row_agrees texts keys levels (first_row firsts i) (first_row firsts j) alike (inside i hi) (inside j hj))
+
+  missing : (i : ℕ) → i < how_many → list_any is_na (tuple_seen texts (key_at i)) ≡ holds_na i
+  missing i lt =
+      ap (λ key. list_any is_na (tuple_seen texts key)) (key_there i lt)
+      ∙ ap (list_any is_na) (sym (labels_there texts keys levels (first_row firsts i) alike (inside i lt)))
+
+  abbrev pub kept : List ℕ
+  kept = kept_numbers sorted dropna less holds_na how_many
+
+  pub kept_below : All (λ number. number < how_many) kept
+  kept_below = law.kept_below (seen_rules texts) tuple_laws [] sorted dropna keys less holds_na below missing
+
+  pub keys_counted : length (group_keys (seen_rules texts) sorted dropna keys) ≡ length kept
+  keys_counted = law.keys_counted (seen_rules texts) tuple_laws [] sorted dropna keys less holds_na below missing
+
+  pub codes_recoded : group_codes (seen_rules texts) sorted dropna keys ≡ recoded (places_of kept how_many) (codes_of same_tuple keys)
+  codes_recoded = law.codes_recoded (seen_rules texts) tuple_laws [] sorted dropna keys less holds_na below missing
+
+  pub firsts_kept : map (place_among same_tuple keys) (group_keys (seen_rules texts) sorted dropna keys) ≡ map (first_row firsts) kept
+  firsts_kept = law.firsts_kept (seen_rules texts) tuple_laws [] sorted dropna keys less holds_na below missing
+
+  -- what is made step by step
+  module _ (firsts' ordered kept' : List ℕ) (first : firsts' ≡ firsts) (in_order : ordered ≡ ordered_if sorted (number_less texts keys levels firsts') (range_with_len 0 (length firsts')))
+      (without : kept' ≡ filter (is_kept dropna (λ number. row_holds_na texts keys levels (first_row firsts' number))) ordered) where
+    pub count_is : length firsts' ≡ how_many
+    count_is = ap length first ∙ firsts_counted
+
+    pub kept_is : kept' ≡ kept
+    kept_is =
+        without
+        ∙ ap (filter (is_kept dropna (λ number. row_holds_na texts keys levels (first_row firsts' number)))) in_order
+        ∙ (λ i. filter (is_kept dropna (λ number. row_holds_na texts keys levels (first_row (first i) number))) (ordered_if sorted (number_less texts keys levels (first i)) (range_with_len 0 (length (first i)))))
+        ∙ ap (kept_numbers sorted dropna less holds_na) firsts_counted
+
+    pub below_count : All (λ number. number < length firsts') kept'
+    below_count = subst (λ n. All (λ number. number < n) kept') (sym count_is) (subst (All (λ number. number < how_many)) (sym kept_is) kept_below)
+
+    pub groups_counted : length kept' ≡ length (group_keys (seen_rules texts) sorted dropna keys)
+    groups_counted = ap length kept_is ∙ sym keys_counted
+
+    pub rows_are : (rows : List ℕ) → rows ≡ map (first_row firsts') kept' → rows ≡ map (place_among same_tuple keys) (group_keys (seen_rules texts) sorted dropna keys)
+    rows_are rows made = made ∙ (λ i. map (first_row (first i)) (kept_is i)) ∙ sym firsts_kept
+
+    module _ (codes : List ℕ) (coded : codes ≡ codes_of same_tuple keys) (places : List (Option ℕ)) (placed : places ≡ places_of kept' (length firsts')) where
+      pub codes_below : All (λ code. code < length places) codes
+      codes_below =
+          let size : length places ≡ how_many = ap length placed ∙ length-map-range_with_len (λ number. position (λ k. number == k) kept') 0 (length firsts') ∙ count_is in
+          subst (λ n. All (λ code. code < n) codes) (sym size) (subst (All (λ code. code < how_many)) (sym coded)
+          (All-map (λ code. code < how_many) (place_among same_tuple (distinct same_tuple keys)) keys
+          (λ k d lt. position_in (same_tuple (slice_index_or keys k d)) (distinct same_tuple keys) (all_known same_tuple tuple_laws keys k d lt))))
+
+      pub codes_are : (made : List (Option ℕ)) → made ≡ recoded places codes → made ≡ group_codes (seen_rules texts) sorted dropna keys
+      codes_are made is = is ∙ (λ i. recoded ((placed ∙ (λ j. places_of (kept_is j) (count_is j))) i) (coded i)) ∙ sym codes_recoded
+
+      pub codes_are_places : (made : List (Option ℕ)) → made ≡ recoded places codes → All (IsPlaceOf (length kept')) made
+      codes_are_places made is =
+          subst (λ n. All (IsPlaceOf n) made) (sym groups_counted) (subst (All (IsPlaceOf (length (group_keys (seen_rules texts) sorted dropna keys)))) (sym (codes_are made is))
+          (All-map (IsPlaceOf (length (group_keys (seen_rules texts) sorted dropna keys))) (group_of same_tuple (group_keys (seen_rules texts) sorted dropna keys)) keys
+          (λ k d lt. place_inside (same_tuple (slice_index_or keys k d)) (group_keys (seen_rules texts) sorted dropna keys))))
+
+-- the tuples of groups, and the law of groups for tuples
+module _ (texts : List Text) (keys : List (List Label)) (sorted dropna : Bool) where
+  abbrev group_tuples : List (List Label)
+  group_tuples = group_keys (seen_rules texts) sorted dropna keys
+
+  abbrev IsThere : List Label → Type 0
+  IsThere key = list_any (same_tuple key) keys ≡ true
+
+  all_there : All IsThere (distinct same_tuple keys)
+  all_there = All-distinct IsThere same_tuple keys (λ k d lt. any_at (same_tuple (slice_index_or keys k d)) keys k d lt (tuple_laws.refl (slice_index_or keys k d)))
+
+  groups_there : All IsThere group_tuples
+  groups_there =
+      All-filter (is_kept dropna (seen_rules texts).holds_na) IsThere (ordered_if sorted (tuple_less texts) (distinct same_tuple keys))
+      (elim sorted as (λ b. All IsThere (cond b (in_order (tuple_less texts) (distinct same_tuple keys)) (distinct same_tuple keys))) [
+        | true ↦ all_in_order IsThere (tuple_less texts) (distinct same_tuple keys) all_there
+        | false ↦ all_there
+      ])
+
+  -- each group's first row is a row, and has the group's tuple
+  pub rows_inside : All (λ row. row < length keys) (map (place_among same_tuple keys) group_tuples)
+  rows_inside = All-map (λ row. row < length keys) (place_among same_tuple keys) group_tuples (λ k d lt. position_in (same_tuple (slice_index_or group_tuples k d)) keys (groups_there k d lt))
+
+  pub tuples_there : tuples_at keys (map (place_among same_tuple keys) group_tuples) ≡ group_tuples
+  tuples_there =
+      map_map (λ row. slice_index_or keys row []) (place_among same_tuple keys) group_tuples
+      ∙ map_on IsThere (λ key. slice_index_or keys (place_among same_tuple keys key) []) (λ key. key)
+      (λ key here. sym ((tuple_decides key (slice_index_or keys (place_among same_tuple keys key) [])).0 (passes_at_first (same_tuple key) keys [] (position_in (same_tuple key) keys here)))) group_tuples groups_there
+      ∙ map-id group_tuples
+
+  pub law_of : (tuples : List (List Label)) (codes : List (Option ℕ)) → tuples ≡ group_tuples → codes ≡ group_codes (seen_rules texts) sorted dropna keys → AreGroups (seen_rules texts) sorted dropna keys tuples codes
+  law_of tuples codes keyed coded =
+      subst (λ ts. AreGroups (seen_rules texts) sorted dropna keys ts codes) (sym keyed)
+      (subst (λ cs. AreGroups (seen_rules texts) sorted dropna keys group_tuples cs) (sym coded)
+      (are_groups (seen_rules texts) tuple_laws (ranks_by (lists_total label_total) (tuple_seen texts)) (λ a b e. ap (λ key. list_any is_na (tuple_seen texts key)) ((tuple_decides a b).0 e)) sorted dropna keys))

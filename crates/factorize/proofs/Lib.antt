@@ -1,0 +1,5 @@
+pub mod LabelLaws
+pub mod PlaceLaws
+pub mod NumberLaws
+pub mod GroupLaws
+pub mod LawOfGroups

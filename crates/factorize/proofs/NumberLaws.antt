@@ -1,0 +1,105 @@
+-- What is made of the numbers of keys is what is made of the keys.
+use Rattle.std.proofs.Common.{◌≡◌, ◌∙◌, ◌==◌, ◌<◌, ap, refl, sym, ℕ, Bool, true, false, not, cond, List, map, filter, length, All, slice_index_or, None, arith}
+use Rattle.std.specs.List.{list_any, position, range_with_len}
+use Rattle.std.specs.Cmp.{IsEquivalence}
+use Rattle.std.proofs.lemmas.List.{length-map, get_or-map}
+use Rattle.std.proofs.lemmas.List.FromFn.{fill_by_all, get_or-map-range_with_len}
+use Rattle.std.proofs.lemmas.List.Elements.{All-filter}
+use Rattle.meaning.specs.Reduce.{distinct}
+use Rattle.sorting.specs.Sorting.{in_order}
+use Rattle.align_meaning.proofs.OrderLaws.{all_in_order, in_order_map}
+use Rattle.row_keys.specs.Keys.{place_among, codes_of, first_rows}
+use Rattle.row_keys.proofs.KeyLaws.{place_tells, all_known, position_in, any_at}
+use Rattle.row_keys.proofs.RecodeLaws.{place_there}
+use Rattle.label_align.proofs.OrderLaws.{below_range}
+use Rattle.group_meaning.specs.Keys.{KeyRules, is_kept, ordered_if, group_keys, group_of, group_codes}
+use Rattle.group_meaning.proofs.ListLaws.{map_map, map_on, filter_seen, position_seen}
+use Rattle.factorize.specs.Numbers.{first_row, kept_numbers, places_of, recoded}
+
+module _ {K : Type 0} (rules : KeyRules K) (laws : IsEquivalence rules.same) (d : K) (sorted dropna : Bool) (rows : List K) where
+  abbrev keys : List K
+  keys = distinct rules.same rows
+
+  abbrev pub how_many : ℕ
+  how_many = length keys
+
+  abbrev pub key_at : ℕ → K
+  key_at number = slice_index_or keys number d
+
+  abbrev rank : K → ℕ
+  rank = place_among rules.same keys
+
+  abbrev IsNumber : ℕ → Type 0
+  IsNumber number = number < how_many
+
+  abbrev numbers : List ℕ
+  numbers = range_with_len 0 how_many
+
+  all_numbers : All IsNumber numbers
+  all_numbers = below_range how_many
+
+  keys_numbered : keys ≡ map key_at numbers
+  keys_numbered = fill_by_all key_at keys how_many d refl (λ k lt. refl)
+
+  module _ (less : ℕ → ℕ → Bool) (holds_na : ℕ → Bool) (below : (i j : ℕ) → IsNumber i → IsNumber j → rules.less (key_at i) (key_at j) ≡ less i j)
+      (missing : (i : ℕ) → IsNumber i → rules.holds_na (key_at i) ≡ holds_na i) where
+    abbrev ordered : List ℕ
+    ordered = ordered_if sorted less numbers
+
+    abbrev pub kept : List ℕ
+    kept = kept_numbers sorted dropna less holds_na how_many
+
+    ordered_numbers : All IsNumber ordered
+    ordered_numbers = elim sorted as (λ b. All IsNumber (cond b (in_order less numbers) numbers)) [ true ↦ all_in_order IsNumber less numbers all_numbers | false ↦ all_numbers ]
+
+    pub kept_below : All IsNumber kept
+    kept_below = All-filter (is_kept dropna holds_na) IsNumber ordered ordered_numbers
+
+    ordered_keys : ordered_if sorted rules.less keys ≡ map key_at ordered
+    ordered_keys =
+        ap (ordered_if sorted rules.less) keys_numbered
+        ∙ (elim sorted as (λ b. cond b (in_order rules.less (map key_at numbers)) (map key_at numbers) ≡ map key_at (cond b (in_order less numbers) numbers)) [
+          | true ↦ in_order_map IsNumber key_at less rules.less below numbers all_numbers
+          | false ↦ refl
+        ])
+
+    kept_agrees : (i : ℕ) → IsNumber i → is_kept dropna rules.holds_na (key_at i) ≡ is_kept dropna holds_na i
+    kept_agrees i lt = ap (λ b. cond dropna (not b) true) (missing i lt)
+
+    -- the keys of the groups are those of the numbers that are kept
+    pub keys_kept : group_keys rules sorted dropna rows ≡ map key_at kept
+    keys_kept =
+        ap (filter (is_kept dropna rules.holds_na)) ordered_keys
+        ∙ filter_seen IsNumber key_at (is_kept dropna rules.holds_na) (is_kept dropna holds_na) kept_agrees ordered ordered_numbers
+
+    pub keys_counted : length (group_keys rules sorted dropna rows) ≡ length kept
+    keys_counted = ap length keys_kept ∙ length-map kept key_at
+
+    abbrev IsKnown : K → Type 0
+    IsKnown k = list_any (rules.same k) keys ≡ true
+
+    known_at : (i : ℕ) → IsNumber i → IsKnown (key_at i)
+    known_at i lt = any_at (rules.same (key_at i)) keys i d lt (laws.refl (key_at i))
+
+    same_number : (k : K) (i : ℕ) → IsNumber i → rules.same k (key_at i) ≡ (rank k == i)
+    same_number k i lt = place_tells rules.same laws keys k (key_at i) (known_at i lt) ∙ ap (λ n. rank k == n) (place_there rules.same laws rows i d lt)
+
+    group_by_number : (k : K) → group_of rules.same (group_keys rules sorted dropna rows) k ≡ position (λ i. rank k == i) kept
+    group_by_number k =
+        ap (λ ks. group_of rules.same ks k) keys_kept
+        ∙ position_seen IsNumber key_at (rules.same k) (λ i. rank k == i) (same_number k) kept kept_below
+
+    -- the group of each row is the place of its number
+    pub codes_recoded : group_codes rules sorted dropna rows ≡ recoded (places_of kept how_many) (codes_of rules.same rows)
+    codes_recoded =
+        map_on IsKnown (group_of rules.same (group_keys rules sorted dropna rows)) (λ k. slice_index_or (places_of kept how_many) (rank k) None)
+        (λ k known. group_by_number k ∙ sym (get_or-map-range_with_len (λ n. position (λ i. n == i) kept) 0 how_many (rank k) (rank k) None (position_in (rules.same k) keys known) (omega arith)))
+        rows (all_known rules.same laws rows)
+        ∙ sym (map_map (λ n. slice_index_or (places_of kept how_many) n None) rank rows)
+
+    -- the first row of each group is that of its number
+    pub firsts_kept : map (place_among rules.same rows) (group_keys rules sorted dropna rows) ≡ map (first_row (first_rows rules.same rows)) kept
+    firsts_kept =
+        ap (map (place_among rules.same rows)) keys_kept
+        ∙ map_map (place_among rules.same rows) key_at kept
+        ∙ map_on IsNumber (λ i. place_among rules.same rows (key_at i)) (first_row (first_rows rules.same rows)) (λ i lt. sym (get_or-map (place_among rules.same rows) keys i d 0 lt)) kept kept_below

@@ -1,0 +1,18 @@
+use Rattle.std.proofs.Common.{◌∙◌, ◌<◌, ◌≤◌, length, [], ap, sym, arith, slice_index_or}
+use Rattle.std.proofs.lemmas.Option.{get_or_from_slice_get}
+use Rattle.multi_index.proofs.SideLaws.{one_row_more, every_row}
+use Rattle.factorize.proofs.codes.tuples_of.Goals as goal
+
+pub loop-place-preserved : goal.loop-place-preserved
+loop-place-preserved c =
+    let tuples = c.args.tuples.now in
+    let rows = c.args.rows.now in
+    let lt : c.loop-place.place < length rows = omega arith in
+    one_row_more (λ row. slice_index_or tuples row []) rows c.loop-place.place 0 c.copy.result [] c.loop-place.made c.push.new.self lt
+    (c.copy.ensures ∙ sym (ap (λ row. slice_index_or tuples row []) (get_or_from_slice_get rows c.loop-place.place c.at.result.now 0 c.at.ensures) ∙ get_or_from_slice_get tuples c.at.result.now c.at-in-loop-place.result.now [] c.at-in-loop-place.ensures))
+    c.loop-place.invariant c.in_ok-push.ensures.ok
+
+pub returns : goal.returns
+returns c =
+    let end : length c.args.rows.now ≤ c.loop-place.place = omega arith in
+    every_row (λ row. slice_index_or c.args.tuples.now row []) c.args.rows.now c.loop-place.place [] c.loop-place.made end c.loop-place.invariant

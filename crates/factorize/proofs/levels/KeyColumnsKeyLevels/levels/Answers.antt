@@ -1,0 +1,5 @@
+use Rattle.factorize.proofs.LabelLaws.{columns_alike}
+use Rattle.factorize.proofs.levels.KeyColumnsKeyLevels.levels.Goals as goal
+
+pub returns-clause-alike : goal.returns-clause-alike
+returns-clause-alike c = columns_alike c.args.self.now.columns.now c.args.self.now.count

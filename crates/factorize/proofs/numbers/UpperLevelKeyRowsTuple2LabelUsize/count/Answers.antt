@@ -1,0 +1,10 @@
+use Rattle.std.proofs.Common.{arith, map}
+use Rattle.std.proofs.lemmas.List.{length-map}
+use Rattle.row_keys.specs.Keys.{label_in}
+use Rattle.row_keys.proofs.ZipLaws.{length_zip}
+use Rattle.factorize.proofs.numbers.UpperLevelKeyRowsTuple2LabelUsize.count.Goals as goal
+
+pub returns : goal.returns
+returns g c =
+    let keys = g.R.KeyLevels.keys c.args.self.now.rows.now in
+    grind (arith, length_zip (map (label_in c.args.self.now.level) keys) c.args.self.now.codes.now, length-map keys (label_in c.args.self.now.level))

@@ -1,0 +1,51 @@
+use Rattle.std.proofs.Common.{◌≡◌, ◌+◌, ◌-◌, ◌<◌, length, map, drop, ap, ◌∙◌, arith, All}
+use Rattle.std.specs.List.{zip}
+use Rattle.std.proofs.lemmas.List.Elements.{All-weaker}
+use Rattle.cell_core.specs.declared.cell.Label.TheVariants as label
+use Rattle.cell_core.specs.contracts.cell.LabelEq.TheImpl.Laws.{laws-law}
+use Rattle.index_core.specs.Labels.{same_number}
+use Rattle.row_keys.specs.Keys.{same_tuple, label_in, codes_of, first_rows}
+use Rattle.row_keys.proofs.RecodeLaws.{last_level, one_level, drop_none, same_pair}
+use Rattle.factorize.proofs.numbers.numbered.Goals as goal
+
+pub loop-level-init : goal.loop-level-init
+loop-level-init g c =
+    let rows = g.R.KeyLevels.keys c.args.rows.now in
+    let levels = c.levels-levels.result in
+    let last = levels - 1 in
+    let all : All (λ t. length t ≡ last + 1) rows = All-weaker (λ t. length t ≡ levels) (λ t. length t ≡ last + 1) (λ t h. omega (arith, h, c.levels-levels.ensures.some)) rows c.levels-levels.ensures.alike in
+    record {
+      inside = omega (arith, c.levels-levels.ensures.some);
+      numbered = last_level same_number laws-law label.Na last rows c.in_ok-numbers.numbers.codes.items c.in_ok-numbers.numbers.firsts.items all (record { coded = c.in_ok-numbers.ensures.codes; first = c.in_ok-numbers.ensures.firsts });
+    }
+
+pub loop-level-preserved : goal.loop-level-preserved
+loop-level-preserved g c =
+    let rows = g.R.KeyLevels.keys c.args.rows.now in
+    let levels = c.levels-levels.result in
+    let here = c.loop-level.level - 1 in
+    let next : c.loop-level.level ≡ here + 1 = omega (arith, c.loop-level-test.true) in
+    let seen : zip (map (label_in here) rows) c.deref.result.now ≡ zip (map (label_in here) rows) c.loop-level.numbers.codes.items
+    = ap (zip (map (label_in here) rows)) c.deref.ensures.value in
+    let all : All (λ t. here < length t) rows = All-weaker (λ t. length t ≡ levels) (λ t. here < length t) (λ t h. omega (arith, h, c.loop-level.invariant.inside)) rows c.levels-levels.ensures.alike in
+    record {
+      inside = omega (arith, c.loop-level.invariant.inside);
+      numbered = one_level same_number laws-law label.Na here rows c.loop-level.numbers.codes.items c.in_ok-numbers-2.numbers.codes.items c.in_ok-numbers-2.numbers.firsts.items all
+          (c.loop-level.invariant.numbered.coded ∙ ap (λ n. codes_of same_tuple (map (drop n) rows)) next)
+          (record {
+            coded = c.in_ok-numbers-2.ensures.codes ∙ ap (codes_of (same_pair same_number)) seen;
+            first = c.in_ok-numbers-2.ensures.firsts ∙ ap (first_rows (same_pair same_number)) seen;
+          });
+    }
+
+pub returns-clause-codes : goal.returns-clause-codes
+returns-clause-codes g c =
+    let rows = g.R.KeyLevels.keys c.args.rows.now in
+    let none : c.loop-level.level ≡ 0 = omega (arith, c.loop-level-test.false) in
+    c.loop-level.invariant.numbered.coded ∙ ap (λ n. codes_of same_tuple (map (drop n) rows)) none ∙ ap (codes_of same_tuple) (drop_none rows)
+
+pub returns-clause-firsts : goal.returns-clause-firsts
+returns-clause-firsts g c =
+    let rows = g.R.KeyLevels.keys c.args.rows.now in
+    let none : c.loop-level.level ≡ 0 = omega (arith, c.loop-level-test.false) in
+    c.loop-level.invariant.numbered.first ∙ ap (λ n. first_rows same_tuple (map (drop n) rows)) none ∙ ap (first_rows same_tuple) (drop_none rows)

@@ -1,0 +1,37 @@
+use Rattle.std.proofs.Common.{◌≡◌, ◌∙◌, ◌<◌, ◌||◌, ap, sym, arith, ℕ, false, [], ◌∷◌, map, slice_index_or}
+use Rattle.std.specs.List.{list_any, range_with_len}
+use Rattle.std.proofs.lemmas.List.Folds.{list_any-append}
+use Rattle.std.proofs.lemmas.List.FromFn.{map-range_with_len_more}
+use Rattle.cell_core.specs.Values.{LabelValue, na, label_datum}
+use Rattle.row_keys.specs.Keys.{label_in}
+use Rattle.row_keys.proofs.KeyLaws.{any_at}
+use Rattle.label_align.specs.Tuples.{labels_of}
+use Rattle.label_align.proofs.OrderLaws.{label_there, labels_counted}
+use Rattle.group_meaning.specs.Keys.{is_na}
+use Rattle.factorize.proofs.LabelLaws.{na_told}
+use Rattle.factorize.proofs.places.holds_na.Goals as goal
+
+pub returns-then-eq : goal.returns-then-eq
+returns-then-eq g c = λ texts.
+    let keys = g.R.KeyLevels.keys c.args.rows.now in
+    let level = c.loop-level.level in
+    let lt : level < c.args.levels = omega arith in
+    sym (any_at is_na (labels_of texts keys c.args.levels c.args.row) level na (omega (arith, lt, labels_counted texts keys c.args.levels c.args.row))
+    (ap is_na (label_there texts keys c.args.levels c.args.row level na lt) ∙ ap (λ l. is_na (label_datum texts l)) (sym c.label.ensures) ∙ na_told texts c.label.result ∙ sym c.eq.ensures ∙ c.if-eq.true))
+
+pub loop-level-preserved : goal.loop-level-preserved
+loop-level-preserved g c = λ texts.
+    let keys = g.R.KeyLevels.keys c.args.rows.now in
+    let level = c.loop-level.level in
+    let label : ℕ → LabelValue = λ l. label_datum texts (label_in l (slice_index_or keys c.args.row [])) in
+    let present : is_na (label level) ≡ false = ap (λ l. is_na (label_datum texts l)) (sym c.label.ensures) ∙ na_told texts c.label.result ∙ sym c.eq.ensures ∙ c.if-eq.false in
+    ap (list_any is_na) (map-range_with_len_more label 0 level level (omega arith))
+    ∙ list_any-append is_na (map label (range_with_len 0 level)) (label level ∷ [])
+    ∙ (λ i. c.loop-level.invariant texts i || (present i || false))
+
+pub returns : goal.returns
+returns g c = λ texts.
+    let keys = g.R.KeyLevels.keys c.args.rows.now in
+    let label : ℕ → LabelValue = λ l. label_datum texts (label_in l (slice_index_or keys c.args.row [])) in
+    let end : c.loop-level.level ≡ c.args.levels = omega arith in
+    sym (c.loop-level.invariant texts) ∙ ap (λ n. list_any is_na (map label (range_with_len 0 n))) end

@@ -1,0 +1,11 @@
+use Rattle.std.proofs.Common.{◌≡◌, ℕ, false, List, [], map, slice_index_or}
+use Rattle.std.specs.List.{list_any, range_with_len}
+use Rattle.cell_core.specs.Values.{label_datum}
+use Rattle.row_keys.specs.Keys.{label_in}
+use Rattle.group_meaning.specs.Keys.{is_na}
+use Rattle.factorize.proofs.places.holds_na.Given as goal
+
+-- no label so far is missing
+abbrev pub invariant-loop-level : goal.invariant-loop-level
+invariant-loop-level g l =
+    (texts : List (List ℕ)) → list_any is_na (map (λ level. label_datum texts (label_in level (slice_index_or (g.R.KeyLevels.keys l.rows) l.row []))) (range_with_len 0 l.level)) ≡ false

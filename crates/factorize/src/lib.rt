@@ -1,0 +1,22 @@
+//! The groups of rows by their keys.
+//!
+//! [`factorize`] numbers tuples of labels, and [`group_by_keys`] the rows of any [`KeyLevels`], as the cells of some
+//! columns ([`KeyColumns`]), without a tuple a row. What is answered is defined in `group_meaning`.
+//!
+//! ```text
+//! let codes = factorize(alloc, &dict, &keys, true, true)?;
+//! let first = codes.code(0);
+//! let groups = group_by_keys(alloc, &dict, &KeyColumns::of(&columns, rows), true, true)?;
+//! ```
+#![tactic(auto)]
+
+mod codes;
+mod factor;
+mod levels;
+mod numbers;
+mod order;
+mod places;
+
+pub use codes::{Codes, factorize};
+pub use factor::{KeyGroups, group_by_keys};
+pub use levels::{KeyColumns, KeyLevels, KeyTuples};

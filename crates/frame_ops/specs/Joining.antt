@@ -1,0 +1,32 @@
+-- Rows that are joined by their labels, with texts by number.
+use Rattle.std.specs.Prelude.{◌≡◌, ◌≤◌, ◌^◌, ℕ, List, length, Option, All}
+use Rattle.cell_core.specs.declared.cell.Cell.TheVariants.{Na}
+use Rattle.meaning.specs.Text.{Text}
+use Rattle.column_core.specs.Moves.{IsPlaceOf}
+use Rattle.multi_index.specs.Axes.{AxisValue, HaveLevels, range_axis}
+use Rattle.label_align.specs.declared.joined.Joined.{Joined}
+use Rattle.table_meaning.specs.Table.{NumberedTable}
+use Rattle.form_meaning.specs.Infix as meant
+use Rattle.form_meaning.specs.Infix.{on_rows}
+use Rattle.frame_store.specs.Parts.{table_with, headings_of}
+use Rattle.frame_store.specs.Shown.{labels_value}
+
+-- the joined rows with their texts
+abbrev pub joined_value : List Text → Joined → meant.Joined
+joined_value texts rows = record { keys = labels_value texts rows.tuples; left = rows.left; right = rows.right }
+
+-- a row of a side for each joined row, if it has one there
+pub record AreSideRows (count : ℕ) (side : AxisValue) (rows : List (Option ℕ)) : Type 0 where
+  pub count_is : length rows ≡ count
+  pub places : All (IsPlaceOf (length side.tuples)) rows
+
+-- joined rows of two axes, no more than a table may have
+pub record IsJoined (a b : AxisValue) (rows : Joined) : Type 0 where
+  pub few : length rows.tuples ≤ 2 ^ 26
+  pub levels : HaveLevels (length a.names) rows.tuples
+  pub left : AreSideRows (length rows.tuples) a rows.left
+  pub right : AreSideRows (length rows.tuples) b rows.right
+
+-- a side on joined rows, which are numbered
+abbrev pub side_on : NumberedTable → List (Option ℕ) → NumberedTable
+side_on t rows = table_with t.shape (range_axis (length rows)) (headings_of t) (on_rows Na rows t.columns)

@@ -1,0 +1,166 @@
+// Tables whose rows are joined by their labels.
+ghost use Rattle.std.specs.Prelude.{◌≡◌, ◌≤◌, ◌^◌, length, true, All, IfOk};
+ghost use Rattle.std.specs.List.{list_all};
+ghost use Rattle.cell_core.specs.declared.cell.Cell.TheVariants.{Na};
+ghost use Rattle.meaning.specs.Cell.{IsLonger};
+ghost use Rattle.meaning.specs.Fault.{then_value};
+ghost use Rattle.column_core.specs.Moves.{IsPlaceOf};
+ghost use Rattle.multi_index.specs.Axes.{HaveLevels};
+ghost use Rattle.nullable_array.specs.Tasks.{operator_of};
+ghost use Rattle.table_meaning.specs.Settled.{IsSettled};
+ghost use Rattle.table_meaning.specs.Table.{table_value};
+ghost use Rattle.table_meaning.specs.Valid.{IsWhole};
+ghost use Rattle.form_meaning.specs.Infix as meant;
+ghost use Rattle.form_meaning.specs.Infix.{on_rows, common_names};
+ghost use Rattle.frame_store.specs.Parts.{axis_of, columns_of, IsSingle};
+ghost use Rattle.frame_store.specs.Shown.{Makes, labels_value, headings_value};
+ghost use Rattle.frame_store.specs.World.{IsKnownTable};
+ghost use Rattle.form_parts.specs.Makes.{MakesBy, AreColumns, blocks_value};
+ghost use Rattle.frame_ops.specs.declared.other.Other.TheVariants.{Beside};
+ghost use Rattle.frame_ops.specs.Joining.{joined_value, side_on, IsJoined};
+ghost use Rattle.frame_ops.specs.Namings.{named_by, IsNaming, IsSettledNaming};
+ghost use Rattle.frame_ops.specs.Pairs.{all_met, kinds_meet, columns_meant};
+
+use crate::columns::infix_columns;
+use crate::naming::{Naming, headings_by};
+use crate::other::Other;
+use cell_core::{Code, Gaps, Grid, NoMemory, TextDict, Tuples};
+use column_core::take;
+use form_parts::{align_refusal, common_name, headings_of, within_limits};
+use frame_store::{Blocks, ObjRef, OpFault, Table};
+use label_align::{Joined, outer};
+use multi_index::Axis;
+use nullable_array::Binary;
+use std::alloc::Global;
+
+// The rows of two axes by the labels that either has. `Limit` where they are too many.
+fn joined_rows(alloc: Global, dict: &TextDict, a: &Axis, b: &Axis) -> Result<Joined, OpFault>
+    requires levels { length a.now.names ≡ length b.now.names }
+    requires given_a { IsSettled labels_value dict.now a.now.tuples }
+    requires given_b { IsSettled labels_value dict.now b.now.tuples }
+    ensures rows { MakesBy joined_value dict.now result (meant.joined_rows
+        (labels_value dict.now a.now.tuples) (labels_value dict.now b.now.tuples)) }
+    ensures given { IfOk result (λ rows. IsSettled labels_value dict.now rows.tuples) }
+    ensures inside { IfOk result (IsJoined a.now b.now) }
+{
+    // Equal texts have equal numbers: `TextDict::len` says so. Each row has a label for each level: `Axis::levels` does.
+    let _ = (dict.len(), a.levels(), b.levels());
+    match outer(alloc, dict, a, b) {
+        Ok(rows) => Ok(rows),
+        Err(fault) => Err(align_refusal(fault)),
+    }
+}
+
+// The axis of joined rows: a level's name stays where both sides have it.
+fn joined_axis(
+    alloc: Global,
+    dict: &TextDict,
+    a: &Axis,
+    b: &Axis,
+    tuples: &Tuples,
+) -> Result<Axis, NoMemory>
+    requires levels { length a.now.names ≡ length b.now.names }
+    requires alike { HaveLevels (length a.now.names) tuples.now }
+    requires given_a { IsSettled headings_value dict.now a.now.names }
+    requires given_b { IsSettled headings_value dict.now b.now.names }
+    ensures tuples { IfOk result (λ axis. axis.tuples ≡ tuples.now) }
+    ensures names { IfOk result (λ axis. headings_value dict.now axis.names ≡ common_names
+        (headings_value dict.now a.now.names) (headings_value dict.now b.now.names)) }
+    ensures given { IfOk result (λ axis. IsSettled headings_value dict.now axis.names) }
+{
+    let mut axis = Axis::from_tuples(alloc, dict, tuples, a.levels())?;
+    for level in 0..a.levels() {
+        axis.set_name(level, common_name(dict, a.name(level), b.name(level)));
+    }
+    Ok(axis)
+}
+
+// The columns on other rows, each of which is one of theirs or missing.
+fn columns_on(alloc: Global, on: &ObjRef<'_>, rows: &Gaps) -> Result<Blocks, NoMemory>
+    requires { All (IsPlaceOf (length on.now.labels)) rows.now }
+    ensures single { IfOk result (All IsSingle) }
+    ensures columns { IfOk result (λ made. columns_of made
+        ≡ on_rows Na rows.now on.now.columns) }
+{
+    let mut made = Blocks::new(alloc);
+    for place in 0..on.columns() {
+        let column = take(alloc, on.column(place), rows)?;
+        made.push(column.into_block())?;
+    }
+    Ok(made)
+}
+
+// A side on joined rows, which are numbered.
+fn side_on(alloc: Global, on: &ObjRef<'_>, rows: &Gaps) -> Result<Table, NoMemory>
+    requires whole { IsWhole on.now }
+    requires few { length rows.now ≤ 2 ^ 26 }
+    requires rows { All (IsPlaceOf (length on.now.labels)) rows.now }
+    ensures { IfOk result (λ made. made ≡ side_on on.now rows.now) }
+{
+    let axis = Axis::range(alloc, rows.len())?;
+    let headings = headings_of(alloc, on)?;
+    let blocks = columns_on(alloc, on, rows)?;
+    Ok(Table::new(on.shape(), axis, headings, blocks))
+}
+
+// What the operator makes of the columns of two tables on the joined rows. `Limit` before a row is made, then `ZeroDivide`.
+fn joined_columns(
+    alloc: Global,
+    dict: &mut TextDict,
+    op: Binary,
+    a: &ObjRef<'_>,
+    b: &ObjRef<'_>,
+    rows: &Joined,
+) -> Result<Blocks, OpFault>
+    requires known_a { IsKnownTable dict.old a.now }
+    requires known_b { IsKnownTable dict.old b.now }
+    requires columns { length b.now.columns ≡ length a.now.columns }
+    requires kinds { list_all (kinds_meet (operator_of op)) (all_met a.now (Beside b.now)) ≡ true }
+    requires inside { IsJoined (axis_of a.now) (axis_of b.now) rows.now }
+    ensures longer { IsLonger dict.old dict.new }
+    ensures columns { IfOk result (AreColumns dict.new
+        (length rows.now.tuples) (length a.now.columns)) }
+    ensures made { MakesBy blocks_value dict.new result
+        (columns_meant (operator_of op) (length rows.now.tuples) true (meant.joined_columns
+        (table_value dict.old a.now) (table_value dict.old b.now) (joined_value dict.old rows.now))) }
+{
+    if !within_limits(rows.tuples.len(), a.columns()) {
+        return Err(OpFault::Refused(Code::Limit));
+    }
+    let left = side_on(alloc, a, &rows.left)?;
+    let right = side_on(alloc, b, &rows.right)?;
+    let on = left.read();
+    let other = Other::Beside(right.read());
+    infix_columns(alloc, dict, op, &on, &other)
+}
+
+/// Two tables whose columns meet in order, and whose rows are joined: each row meets each row of its label, or none.
+///
+/// `Limit` before a row is made, then `ZeroDivide`. `NoMemory` may come in place of any answer.
+pub(crate) fn joined_infix(
+    alloc: Global,
+    dict: &mut TextDict,
+    op: Binary,
+    a: &ObjRef<'_>,
+    b: &ObjRef<'_>,
+    naming: Naming,
+) -> Result<Table, OpFault>
+    requires known_a { IsKnownTable dict.old a.now }
+    requires known_b { IsKnownTable dict.old b.now }
+    requires columns { length b.now.columns ≡ length a.now.columns }
+    requires levels { length a.now.level_names ≡ length b.now.level_names }
+    requires kinds { list_all (kinds_meet (operator_of op)) (all_met a.now (Beside b.now)) ≡ true }
+    requires naming { IsNaming a.now naming }
+    requires name { IsSettledNaming dict.old naming }
+    ensures longer { IsLonger dict.old dict.new }
+    ensures makes { Makes dict.new result (then_value
+        (meant.joined_rows (table_value dict.old a.now).labels (table_value dict.old b.now).labels)
+        (meant.joined_infix (operator_of op) (table_value dict.old a.now)
+        (table_value dict.old b.now) (table_value dict.old (named_by a.now naming)))) }
+{
+    let rows = joined_rows(alloc, dict, a.axis(), b.axis())?;
+    let axis = joined_axis(alloc, dict, a.axis(), b.axis(), &rows.tuples)?;
+    let blocks = joined_columns(alloc, dict, op, a, b, &rows)?;
+    let headings = headings_by(alloc, a, naming)?;
+    Ok(Table::new(a.shape(), axis, headings, blocks))
+}

@@ -1,0 +1,61 @@
+-- What is gathered with one cell more.
+use Rattle.std.proofs.Common.{◌≡◌, ◌∙◌, ◌<◌, ◌^◌, ap, refl, sym, subst, mod-eq_of_lt, ℕ, true, false, cond, arith, All, map, ℤ, pos, ◌+ℤ◌, List, [], ◌∷◌, ◌++◌, length, slice_index_or, set, fold, Option, Some, None}
+use Rattle.std.specs.Int.{int_wrap, cast_signed, w64}
+use Rattle.std.proofs.lemmas.Bool.{eqb-false}
+use Rattle.std.proofs.lemmas.List.{length-set, get_or-set_same, get_or-set_other, length-map, get_or-map}
+use Rattle.std.proofs.lemmas.List.FromFn.{fill_by_all}
+use Rattle.std.proofs.lemmas.List.Elements.{filter-append}
+use Rattle.std.proofs.lemmas.List.Sums.{fold-append}
+use Rattle.cell_core.specs.declared.cell.Cell.{Cell}
+use Rattle.cell_core.specs.declared.cell.Cell.TheVariants.{Na}
+use Rattle.cell_core.specs.declared.cell.Kind.{Kind}
+use Rattle.meaning.specs.Cell.{CellValue, na_cell, int_cell, datum, holds, AreGiven}
+use Rattle.column_core.specs.Columns.{CellColumn}
+use Rattle.meaning.specs.Reduce.{is_present, present}
+use Rattle.group_meaning.specs.Rows.{GroupsValue, is_in, cells_of_group}
+use Rattle.group_meaning.specs.Reductions.{GroupReduction, group_cell, reduced_cells}
+use Rattle.group_by.specs.Cells.{IsCellOf}
+use Rattle.group_by.specs.Gathered.{if_present, plus, total_of, total_cell, TakesIn, HaveGathered}
+
+-- a number of rows is a number of 64 bits as it stands
+pub count_wraps : (n : ℕ) → n < 2 ^ 64 → int_wrap w64 (pos n) ≡ cast_signed w64 n
+unfolding int_wrap
+count_wraps n lt = ap (cast_signed w64) (mod-eq_of_lt lt)
+
+folded_more : {S : Type 0} (g : S → CellValue → S) (s : S) (cells : List CellValue) (c : CellValue) → fold g s (present (cells ++ c ∷ [])) ≡ cond (is_present c) (g (fold g s (present cells)) c) (fold g s (present cells))
+folded_more g s cells c =
+    ap (fold g s) (filter-append is_present cells (c ∷ []))
+    ∙ fold-append g s (present cells) (cond (is_present c) (c ∷ []) [])
+    ∙ (elim (is_present c) as (λ b. fold g (fold g s (present cells)) (cond b (c ∷ []) []) ≡ cond b (g (fold g s (present cells)) c) (fold g s (present cells))) [ true ↦ refl | false ↦ refl ])
+
+-- a total with one cell more
+pub total_more : (amount : CellValue → ℤ) (cells : List CellValue) (c : CellValue) → int_cell (plus (total_of amount cells) (if_present c (amount c))) ≡ total_cell amount (cells ++ c ∷ [])
+total_more amount cells c =
+    let total = total_of amount cells in
+    ap int_cell (sym (folded_more (λ total c. int_wrap w64 (total +ℤ amount c)) (pos 0) cells c
+    ∙ (elim (is_present c) as (λ b. cond b (int_wrap w64 (total +ℤ amount c)) total ≡ plus total (cond b (Some (amount c)) None)) [ true ↦ refl | false ↦ refl ])))
+
+-- a cell is taken into what is gathered of its group
+pub takes_at : (op : GroupReduction) (texts : List (List ℕ)) (group : Option ℕ) (g : ℕ) (cell r : Cell) (before : List Cell) → group ≡ Some g → g < length before
+    → ((cells : List CellValue) → datum texts (slice_index_or before g Na) ≡ group_cell op cells → datum texts r ≡ group_cell op (cells ++ datum texts cell ∷ [])) → TakesIn op texts group cell before (set before g r)
+takes_at op texts group g cell r before is lt step = record {
+  size = length-set before g r;
+  here = λ h mine cells was.
+      let same : g ≡ h = (let e : Some g ≡ Some h = sym is ∙ mine in cc) in
+      subst (λ k. datum texts (slice_index_or (set before g r) k Na) ≡ group_cell op (cells ++ datum texts cell ∷ [])) same
+      (ap (datum texts) (get_or-set_same before g r Na lt) ∙ step cells (subst (λ k. datum texts (slice_index_or before k Na) ≡ group_cell op cells) (sym same) was));
+  others = λ h other. get_or-set_other before g h r Na (eqb-false h g (ap (is_in h) (sym is) ∙ other));
+}
+
+-- what was gathered of each group, as the cells of a column
+pub gathered_cells : (op : GroupReduction) (texts : List (List ℕ)) (groups : GroupsValue) (cells : List CellValue) (gathered : List Cell) → length gathered ≡ groups.count → HaveGathered op texts groups.codes groups.count cells gathered
+    → map (datum texts) gathered ≡ reduced_cells op groups cells
+gathered_cells op texts groups cells gathered size have =
+    fill_by_all (λ group. group_cell op (cells_of_group group groups.codes cells)) (map (datum texts) gathered) groups.count na_cell (length-map gathered (datum texts) ∙ size)
+    (λ k lt. get_or-map (datum texts) gathered k Na na_cell (omega (arith, size, lt)) ∙ have k lt)
+
+pub column_given : (texts : List (List ℕ)) (kind : Kind) (cells : List Cell) (column : CellColumn) → column ≡ record { kind = kind; cells = cells } → All (IsCellOf texts kind) cells → AreGiven texts column.cells
+column_given texts kind cells column is all = subst (λ (c : CellColumn). AreGiven texts c.cells) (sym is) (λ k d lt. (all k d lt).given)
+
+pub cells_held : (texts : List (List ℕ)) (kind : Kind) (cells : List Cell) → All (IsCellOf texts kind) cells → All (λ (c : Cell). (dict : List (List ℕ)) → holds kind (datum dict c) ≡ true) cells
+cells_held texts kind cells all k d lt = (all k d lt).held

@@ -1,0 +1,5 @@
+pub mod RowLaws
+pub mod GatherLaws
+pub mod NumberLaws
+pub mod DistinctLaws
+pub mod CallLaws

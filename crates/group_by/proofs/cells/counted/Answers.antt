@@ -1,0 +1,10 @@
+use Rattle.std.proofs.Common.{rules, ap, sym, ◌∙◌, FitsSigned, to_z-of_z}
+use Rattle.std.specs.Int.{w64}
+use Rattle.meaning.specs.Cell.{int_cell}
+use Rattle.group_by.proofs.GatherLaws.{count_wraps}
+use Rattle.group_by.proofs.cells.counted.Goals as goal
+
+pub returns-clause-value : goal.returns-clause-value
+returns-clause-value c = λ texts.
+    let fits : FitsSigned w64 c.cast_signed.result = search rules in
+    ap int_cell (to_z-of_z fits ∙ c.cast_signed.ensures ∙ sym (count_wraps c.args.count (search rules)))

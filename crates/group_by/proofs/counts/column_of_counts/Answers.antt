@@ -1,0 +1,29 @@
+use Rattle.std.proofs.Common.{◌∙◌, ◌<◌, ◌≤◌, ◌+◌, ◌∷◌, [], ap, arith, map, take, length, slice_index_or}
+use Rattle.std.proofs.lemmas.List.{take_more, take_all, map-append}
+use Rattle.cell_core.specs.declared.cell.Kind.{Kind}
+use Rattle.meaning.specs.Cell.{datum, holds}
+use Rattle.group_meaning.specs.Reductions.{count_cell}
+use Rattle.group_by.proofs.NumberLaws.{no_numbers, numbers_more, same_numbers}
+use Rattle.group_by.proofs.counts.column_of_counts.Goals as goal
+
+pub loop-count-init : goal.loop-count-init
+loop-count-init c = no_numbers c.new-column.result c.new-column.ensures
+
+pub push-requires : goal.push-requires
+push-requires c = λ texts. ap (λ (k : Kind). holds k (datum texts c.counted.result)) c.loop-count.invariant.kind ∙ c.counted.ensures.held texts
+
+pub loop-count-preserved : goal.loop-count-preserved
+loop-count-preserved c =
+    let counts = c.args.counts.now in
+    let k = c.loop-count.count-index in
+    let n = slice_index_or counts k 0 in
+    let lt : k < length counts = omega arith in
+    numbers_more c.loop-count.column c.push.new.self (λ texts. map count_cell (take k counts)) (λ texts. map count_cell (take (k + 1) counts)) c.counted.result (λ texts. count_cell n)
+    c.loop-count.invariant c.counted.ensures.held c.counted.ensures.value c.in_ok-push.ensures.ok
+    (λ texts. ap (map count_cell) (take_more counts k 0 lt) ∙ map-append count_cell (take k counts) (n ∷ []))
+
+pub returns : goal.returns
+returns c =
+    let counts = c.args.counts.now in
+    let end : length counts ≤ c.loop-count.count-index = omega arith in
+    same_numbers c.loop-count.column (λ texts. map count_cell (take c.loop-count.count-index counts)) (λ texts. map count_cell counts) c.loop-count.invariant (λ texts. ap (map count_cell) (take_all c.loop-count.count-index counts end))

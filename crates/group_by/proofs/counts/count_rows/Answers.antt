@@ -1,0 +1,34 @@
+use Rattle.std.proofs.Common.{◌≡◌, ◌∙◌, ◌<◌, ◌≤◌, ◌^◌, ap, sym, subst, arith, rules, length, slice_index_or, None}
+use Rattle.std.proofs.lemmas.List.{take_all}
+use Rattle.std.proofs.lemmas.Option.{get_or_from_slice_get}
+use Rattle.column_core.specs.Moves.{IsPlaceOf}
+use Rattle.group_meaning.specs.Rows.{rows_of_group}
+use Rattle.group_by.proofs.NumberLaws.{room, rows_counted}
+use Rattle.group_by.proofs.counts.count_rows.Goals as goal
+
+pub count_one-requires-clause-below : goal.count_one-requires-clause-below
+count_one-requires-clause-below c = subst (λ n. IsPlaceOf n c.code.result) (sym c.loop-row.invariant.size) c.code.ensures.below
+
+pub count_one-requires-clause-room : goal.count_one-requires-clause-room
+count_one-requires-clause-room c =
+    let small : c.rows-row-end.result < 2 ^ 64 = search rules in
+    room c.args.groups.now.codes c.loop-row.row c.args.groups.now.count c.loop-row.counts (omega arith) (subst (λ n. n < 2 ^ 64) c.rows-row-end.ensures small) c.loop-row.invariant.size c.loop-row.invariant.each
+
+pub loop-row-init : goal.loop-row-init
+loop-row-init c = record { size = c.requires.size; each = λ g lt. c.requires.zero g 0 (omega arith) }
+
+pub loop-row-preserved : goal.loop-row-preserved
+loop-row-preserved c =
+    let codes = c.args.groups.now.codes in
+    let row = c.loop-row.row in
+    let is : slice_index_or codes row None ≡ c.code.result = get_or_from_slice_get codes row c.code.result None c.code.ensures.code in
+    record {
+      size = c.count_one.ensures.size ∙ c.loop-row.invariant.size;
+      each = rows_counted codes row c.args.groups.now.count c.code.result c.loop-row.counts c.count_one.new.counts (omega arith) is c.count_one.ensures c.loop-row.invariant.size c.loop-row.invariant.each;
+    }
+
+pub returns-clause-counted : goal.returns-clause-counted
+returns-clause-counted c = λ g lt.
+    let codes = c.args.groups.now.codes in
+    let end : length codes ≤ c.loop-row.row = omega arith in
+    c.loop-row.invariant.each g lt ∙ ap (λ l. length (rows_of_group g l)) (take_all c.loop-row.row codes end)

@@ -1,0 +1,14 @@
+use Rattle.std.proofs.Common.{◌≡◌, ◌<◌, ℕ, length, map, take, slice_index_or}
+use Rattle.std.specs.List.{range_with_len}
+use Rattle.group_meaning.specs.Rows.{rows_of_group}
+use Rattle.group_meaning.specs.Reductions.{count_before}
+use Rattle.group_by.specs.Counted.{AreNumbers}
+use Rattle.group_by.proofs.counts.place_rows.Given as goal
+
+-- how many rows each group has so far, and the places so far
+abbrev pub invariant-loop-row : goal.invariant-loop-row
+invariant-loop-row l = record {
+  size : length l.counts ≡ l.groups.count;
+  each : (g : ℕ) → g < l.groups.count → slice_index_or l.counts g 0 ≡ length (rows_of_group g (take l.row l.groups.codes));
+  made : AreNumbers l.column (λ texts. map (count_before l.groups.codes) (range_with_len 0 l.row));
+}

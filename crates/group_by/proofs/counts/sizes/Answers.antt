@@ -1,0 +1,22 @@
+use Rattle.std.proofs.Common.{rules, ◌≡◌, ◌∙◌, ap, sym, subst, refl, arith, length, map, All}
+use Rattle.std.proofs.lemmas.List.{with_items_is, length-replicate}
+use Rattle.std.proofs.lemmas.List.Elements.{All-replicate}
+use Rattle.group_meaning.specs.Rows.{rows_of_group}
+use Rattle.group_meaning.specs.Reductions.{count_cell, group_sizes}
+use Rattle.group_by.proofs.NumberLaws.{same_numbers, counts_cells, if_ok_more}
+use Rattle.group_by.proofs.counts.sizes.Goals as goal
+
+pub count_rows-requires-clause-size : goal.count_rows-requires-clause-size
+count_rows-requires-clause-size c = ap length (c.deref_mut.ensures.value ∙ c.in_ok-counts.ensures.items_if_clones_equal (λ y h. search rules)) ∙ length-replicate c.count.result 0 ∙ c.count.ensures
+
+pub count_rows-requires-clause-zero : goal.count_rows-requires-clause-zero
+count_rows-requires-clause-zero c = subst (All (λ n. n ≡ 0)) (sym (c.deref_mut.ensures.value ∙ c.in_ok-counts.ensures.items_if_clones_equal (λ y h. search rules))) (All-replicate (λ n. n ≡ 0) c.count.result 0 refl)
+
+pub returns : goal.returns
+returns c =
+    let groups = c.args.groups.now in
+    let counts = c.count_rows.new.counts in
+    let items = c.deref.ensures.value ∙ with_items_is c.in_ok-counts.counts counts (omega (arith, c.count_rows.ensures.size, c.in_ok-counts.ensures.len, c.count.ensures)) in
+    if_ok_more (λ column are. same_numbers column (λ texts. map count_cell c.deref.result.now) (λ texts. (group_sizes groups).cells) are
+    (λ texts. ap (map count_cell) items ∙ counts_cells counts groups.count (λ g. length (rows_of_group g groups.codes)) c.count_rows.ensures.size c.count_rows.ensures.counted))
+    c.column_of_counts.result c.column_of_counts.ensures

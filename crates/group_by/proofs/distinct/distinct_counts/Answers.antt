@@ -1,0 +1,25 @@
+use Rattle.std.proofs.Common.{rules, ◌≡◌, ◌∙◌, ap, sym, subst, refl, arith, length, map, All}
+use Rattle.std.proofs.lemmas.List.{with_items_is, length-replicate}
+use Rattle.std.proofs.lemmas.List.Elements.{All-replicate}
+use Rattle.meaning.specs.Cell.{datum}
+use Rattle.meaning.specs.Reduce.{distinct_count}
+use Rattle.group_meaning.specs.Rows.{cells_of_group}
+use Rattle.group_meaning.specs.Reductions.{count_cell, nunique, reduced_cells}
+use Rattle.group_by.proofs.NumberLaws.{same_numbers, counts_cells, if_ok_more}
+use Rattle.group_by.proofs.distinct.distinct_counts.Goals as goal
+
+pub count_distinct-requires-clause-size : goal.count_distinct-requires-clause-size
+count_distinct-requires-clause-size c = ap length (c.deref_mut.ensures.value ∙ c.in_ok-counts.ensures.items_if_clones_equal (λ y h. search rules)) ∙ length-replicate c.count.result 0 ∙ c.count.ensures
+
+pub count_distinct-requires-clause-zero : goal.count_distinct-requires-clause-zero
+count_distinct-requires-clause-zero c = subst (All (λ n. n ≡ 0)) (sym (c.deref_mut.ensures.value ∙ c.in_ok-counts.ensures.items_if_clones_equal (λ y h. search rules))) (All-replicate (λ n. n ≡ 0) c.count.result 0 refl)
+
+pub returns : goal.returns
+returns c =
+    let groups = c.args.groups.now in
+    let counts = c.count_distinct.new.counts in
+    let cells = map (datum c.args.dict.now) c.args.a.now.cells in
+    let items = c.deref.ensures.value ∙ with_items_is c.in_ok-counts.counts counts (omega (arith, c.count_distinct.ensures.size, c.in_ok-counts.ensures.len, c.count.ensures)) in
+    if_ok_more (λ column are. same_numbers column (λ texts. map count_cell c.deref.result.now) (λ texts. reduced_cells nunique groups cells) are
+    (λ texts. ap (map count_cell) items ∙ counts_cells counts groups.count (λ g. distinct_count (cells_of_group g groups.codes cells)) c.count_distinct.ensures.size c.in_ok-count_distinct.ensures.counted))
+    c.column_of_counts.result c.column_of_counts.ensures

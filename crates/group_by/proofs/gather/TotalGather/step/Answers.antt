@@ -1,0 +1,22 @@
+use Rattle.std.proofs.Common.{◌∙◌, [], ◌∷◌, ◌++◌, ap, sym, subst}
+use Rattle.cell_core.specs.declared.cell.Kind.{Kind as CellKind}
+use Rattle.meaning.specs.Cell.{int_cell, datum}
+use Rattle.group_by.specs.Cells.{IsCellOf}
+use Rattle.group_by.specs.Gathered.{plus, total_of}
+use Rattle.group_by.proofs.GatherLaws.{total_more}
+use Rattle.group_by.proofs.gather.TotalGather.step.Goals as goal
+
+pub returns-clause-value : goal.returns-clause-value
+returns-clause-value g c = λ cells was.
+    let amount = g.N.Amount.amount_of in
+    let dict = c.args._dict.now in
+    let totals = g.met.N.Amount.totals in
+    c.added.ensures.value dict (total_of amount cells) (was ∙ totals cells)
+    ∙ ap (λ o. int_cell (plus (total_of amount cells) o)) (c.amount.ensures dict)
+    ∙ total_more amount cells (datum dict c.args.cell)
+    ∙ sym (totals (cells ++ datum dict c.args.cell ∷ []))
+
+pub returns-clause-held : goal.returns-clause-held
+returns-clause-held g c = λ kind far here.
+    let numbers = g.met.N.Amount.numbers kind in
+    subst (λ (k : CellKind). IsCellOf c.args._dict.now k c.added.result) (sym numbers) (c.added.ensures.held c.args._dict.now (subst (λ (k : CellKind). IsCellOf c.args._dict.now k c.args.so_far) numbers far))

@@ -1,0 +1,8 @@
+use Rattle.std.proofs.Common.{◌∙◌, ap}
+use Rattle.group_meaning.specs.Reductions.{group_places}
+use Rattle.group_by.proofs.NumberLaws.{numbers_value, if_ok_more}
+use Rattle.group_by.proofs.groups.group_cumcount.Goals as goal
+
+pub returns-clause-answer : goal.returns-clause-answer
+returns-clause-answer g c = λ texts.
+    if_ok_more (λ column are. numbers_value column (λ ts. (group_places c.groups.result.now).cells) are texts ∙ ap group_places c.groups.ensures) c.places.result c.places.ensures

@@ -1,0 +1,43 @@
+use Rattle.std.proofs.Common.{rules, ◌≡◌, ◌∙◌, [], ap, sym, subst, arith, length, map, All}
+use Rattle.std.proofs.lemmas.List.{with_items_is, length-replicate}
+use Rattle.std.proofs.lemmas.List.Elements.{All-replicate}
+use Rattle.cell_core.specs.declared.cell.Cell.{Cell}
+use Rattle.cell_core.specs.declared.cell.Kind.{Kind}
+use Rattle.meaning.specs.Cell.{datum}
+use Rattle.column_core.specs.Columns.{CellColumn, column_value}
+use Rattle.group_meaning.specs.Reductions.{group_cell, group_kind}
+use Rattle.group_by.specs.Cells.{IsCellOf}
+use Rattle.group_by.proofs.GatherLaws.{gathered_cells, column_given, cells_held}
+use Rattle.group_by.proofs.NumberLaws.{if_ok_more}
+use Rattle.group_by.proofs.reduce.gathered.Goals as goal
+
+pub gather_rows-requires-clause-size : goal.gather_rows-requires-clause-size
+gather_rows-requires-clause-size g c = ap length (c.deref_mut.ensures.value ∙ c.in_ok-cells.ensures.items_if_clones_equal (λ y h. search rules)) ∙ length-replicate c.count.result c.start.result ∙ c.count.ensures
+
+pub gather_rows-requires-clause-start : goal.gather_rows-requires-clause-start
+gather_rows-requires-clause-start g c =
+    let P = λ (x : Cell). datum c.args.dict.now x ≡ group_cell g.G.Gather.op [] in
+    subst (All P) (sym (c.deref_mut.ensures.value ∙ c.in_ok-cells.ensures.items_if_clones_equal (λ y h. search rules))) (All-replicate P c.count.result c.start.result (c.start.ensures.value c.args.dict.now))
+
+pub gather_rows-requires-clause-held : goal.gather_rows-requires-clause-held
+gather_rows-requires-clause-held g c =
+    let P = IsCellOf c.args.dict.now (group_kind g.G.Gather.op c.args.a.now.kind) in
+    subst (All P) (sym (c.deref_mut.ensures.value ∙ c.in_ok-cells.ensures.items_if_clones_equal (λ y h. search rules))) (All-replicate P c.count.result c.start.result (c.start.ensures.held c.args.dict.now c.args.a.now.kind))
+
+pub column_of-requires : goal.column_of-requires
+column_of-requires g c =
+    let all = subst (All (IsCellOf c.args.dict.now (group_kind g.G.Gather.op c.args.a.now.kind))) (sym (c.deref.ensures.value ∙ with_items_is c.in_ok-cells.cells c.gather_rows.new.gathered (omega (arith, c.gather_rows.ensures.size, c.in_ok-cells.ensures.len, c.count.ensures)))) c.gather_rows.ensures.held in
+    cells_held c.args.dict.now c.args.kind c.deref.result.now (subst (λ (k : Kind). All (IsCellOf c.args.dict.now k) c.deref.result.now) (sym c.requires.kind) all)
+
+pub returns-clause-given : goal.returns-clause-given
+returns-clause-given g c =
+    if_ok_more (λ column is. column_given c.args.dict.now c.args.kind c.deref.result.now column is (subst (λ (k : Kind). All (IsCellOf c.args.dict.now k) c.deref.result.now) (sym c.requires.kind)
+    (subst (All (IsCellOf c.args.dict.now (group_kind g.G.Gather.op c.args.a.now.kind))) (sym (c.deref.ensures.value ∙ with_items_is c.in_ok-cells.cells c.gather_rows.new.gathered (omega (arith, c.gather_rows.ensures.size, c.in_ok-cells.ensures.len, c.count.ensures)))) c.gather_rows.ensures.held)))
+    c.column_of.result c.column_of.ensures
+
+pub returns-clause-made : goal.returns-clause-made
+returns-clause-made g c =
+    let items = c.deref.ensures.value ∙ with_items_is c.in_ok-cells.cells c.gather_rows.new.gathered (omega (arith, c.gather_rows.ensures.size, c.in_ok-cells.ensures.len, c.count.ensures)) in
+    if_ok_more (λ column is. ap (λ (col : CellColumn). column_value c.args.dict.now col) is
+    ∙ (λ i. record { kind = c.args.kind; cells = (ap (map (datum c.args.dict.now)) items ∙ gathered_cells g.G.Gather.op c.args.dict.now c.args.groups.now (map (datum c.args.dict.now) c.args.a.now.cells) c.gather_rows.new.gathered c.gather_rows.ensures.size c.gather_rows.ensures.value) i }))
+    c.column_of.result c.column_of.ensures

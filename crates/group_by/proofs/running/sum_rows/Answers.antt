@@ -1,0 +1,73 @@
+use Rattle.std.proofs.Common.{◌≡◌, ◌∙◌, ◌<◌, ◌+◌, [], ap, sym, subst, refl, arith, length, map, take, slice_index_or, true, ℕ, List, None}
+use Rattle.std.specs.List.{range_with_len}
+use Rattle.std.proofs.lemmas.List.{get_or-map}
+use Rattle.std.proofs.lemmas.List.FromFn.{map-range_with_len_more}
+use Rattle.std.proofs.lemmas.Option.{get_or_from_slice_get}
+use Rattle.cell_core.specs.declared.cell.Cell.{Cell}
+use Rattle.cell_core.specs.declared.cell.Cell.TheVariants.{Na}
+use Rattle.cell_core.specs.declared.cell.Kind.{Kind}
+use Rattle.cell_core.specs.declared.cell.Kind.TheVariants.{Int64}
+use Rattle.meaning.specs.Cell.{na_cell, datum, holds}
+use Rattle.meaning.specs.Cumulate.{unless_missing}
+use Rattle.column_core.specs.Moves.{IsPlaceOf}
+use Rattle.group_meaning.specs.Rows.{cells_of_group}
+use Rattle.group_meaning.specs.Reductions.{of_group, group_cell, sum, running_cell}
+use Rattle.group_by.proofs.RowLaws.{taken_in}
+use Rattle.group_by.proofs.NumberLaws.{no_numbers, numbers_more, same_numbers, of_one_group}
+use Rattle.group_by.proofs.running.sum_rows.Goals as goal
+
+pub loop-row-init : goal.loop-row-init
+loop-row-init c = record {
+  size = c.requires.size;
+  held = λ k d lt. λ texts. subst (λ (s : Cell). holds Int64 (datum texts s) ≡ true) (sym (c.requires.zero k d lt)) refl;
+  sums = λ texts g lt. ap (datum texts) (c.requires.zero g Na (omega arith));
+  made = no_numbers c.new-column.result c.new-column.ensures;
+}
+
+pub add_cell-requires : goal.add_cell-requires
+add_cell-requires c = subst (λ n. IsPlaceOf n c.code-group.result) (sym c.loop-row.invariant.size) c.code-group.ensures.below
+
+pub sum_of-requires-clause-below : goal.sum_of-requires-clause-below
+sum_of-requires-clause-below c = subst (λ n. IsPlaceOf n c.code-group.result) (sym ((c.add_cell.ensures.takes []).size ∙ c.loop-row.invariant.size)) c.code-group.ensures.below
+
+pub sum_of-requires-clause-held : goal.sum_of-requires-clause-held
+sum_of-requires-clause-held c = c.add_cell.ensures.held c.loop-row.invariant.held
+
+pub push-requires : goal.push-requires
+push-requires c = λ texts. ap (λ (k : Kind). holds k (datum texts c.sum_of.result)) c.loop-row.invariant.made.kind ∙ c.sum_of.ensures.held texts
+
+pub loop-row-preserved : goal.loop-row-preserved
+loop-row-preserved c =
+    let codes = c.args.groups.now.codes in
+    let count = c.args.groups.now.count in
+    let cells = c.args.a.now.cells in
+    let row = c.loop-row.row in
+    let code = c.code-group.result in
+    let cell = c.cell-cell.result in
+    let values = λ (texts : List (List ℕ)). map (datum texts) cells in
+    let inside : row < length codes = omega arith in
+    let lt : row < length cells = omega (arith, inside, c.requires.rows) in
+    let here : (texts : List (List ℕ)) → slice_index_or (values texts) row na_cell ≡ datum texts cell = λ texts. get_or-map (datum texts) cells row cell na_cell lt ∙ ap (datum texts) (get_or_from_slice_get cells row cell cell c.cell-cell.ensures.cell) in
+    let is : slice_index_or codes row None ≡ code = get_or_from_slice_get codes row code None c.code-group.ensures.code in
+    let sums : (texts : List (List ℕ)) (g : ℕ) → g < count → datum texts (slice_index_or c.add_cell.new.sums g Na) ≡ group_cell sum (cells_of_group g (take (row + 1) codes) (values texts))
+    = λ texts g below. taken_in codes row inside (values texts) sum texts code cell c.loop-row.sums c.add_cell.new.sums is (here texts) (c.add_cell.ensures.takes texts) g (c.loop-row.invariant.sums texts g below) in
+    record {
+      size = (c.add_cell.ensures.takes []).size ∙ c.loop-row.invariant.size;
+      held = c.add_cell.ensures.held c.loop-row.invariant.held;
+      sums = sums;
+      made = numbers_more c.loop-row.column c.push.new.self (λ texts. map (running_cell codes (values texts)) (range_with_len 0 row)) (λ texts. map (running_cell codes (values texts)) (range_with_len 0 (row + 1))) c.sum_of.result (λ texts. running_cell codes (values texts) row)
+          c.loop-row.invariant.made c.sum_of.ensures.held
+          (λ texts. c.sum_of.ensures.value texts
+          ∙ of_one_group code count (λ g. unless_missing (datum texts cell) (datum texts (slice_index_or c.add_cell.new.sums g Na))) (λ g. unless_missing (slice_index_or (values texts) row na_cell) (group_cell sum (cells_of_group g (take (row + 1) codes) (values texts)))) c.code-group.ensures.below
+          (λ g below. λ i. unless_missing (sym (here texts) i) (sums texts g below i))
+          ∙ ap (λ o. of_group o (λ g. unless_missing (slice_index_or (values texts) row na_cell) (group_cell sum (cells_of_group g (take (row + 1) codes) (values texts))))) (sym is))
+          c.in_ok-push.ensures.ok
+          (λ texts. map-range_with_len_more (running_cell codes (values texts)) 0 row row (omega arith));
+    }
+
+pub returns : goal.returns
+returns c =
+    let codes = c.args.groups.now.codes in
+    let end : c.loop-row.row ≡ length codes = omega arith in
+    same_numbers c.loop-row.column (λ texts. map (running_cell codes (map (datum texts) c.args.a.now.cells)) (range_with_len 0 c.loop-row.row)) (λ texts. map (running_cell codes (map (datum texts) c.args.a.now.cells)) (range_with_len 0 (length codes))) c.loop-row.invariant.made
+    (λ texts. ap (λ n. map (running_cell codes (map (datum texts) c.args.a.now.cells)) (range_with_len 0 n)) end)

@@ -1,0 +1,20 @@
+use Rattle.std.proofs.Common.{◌≡◌, ◌<◌, ◌≤◌, length, All, arith, rules, subst, slice_index_or}
+use Rattle.std.proofs.lemmas.Grind.{common_steps}
+use Rattle.std.proofs.lemmas.List.{take_all}
+use Rattle.std.proofs.lemmas.List.Elements.{All-more}
+use Rattle.column_core.specs.Columns.{CellColumn}
+use Rattle.group_tests.proofs.groups.have_rows.Goals as goal
+
+pub loop-column-preserved : goal.loop-column-preserved
+loop-column-preserved c =
+    let columns = c.args.columns.now in
+    let k = c.loop-column.column-index in
+    let lt : k < length columns = omega arith in
+    let here : length (slice_index_or columns k c.column-item.result).cells ≡ c.args.rows = first_of (search rules, grind (arith, common_steps)) in
+    All-more (λ (column : CellColumn). length column.cells ≡ c.args.rows) columns k c.column-item.result lt c.loop-column.invariant here
+
+pub returns : goal.returns
+returns c = λ _.
+    let columns = c.args.columns.now in
+    let end : length columns ≤ c.loop-column.column-index = omega arith in
+    subst (All (λ (column : CellColumn). length column.cells ≡ c.args.rows)) (take_all c.loop-column.column-index columns end) c.loop-column.invariant

@@ -1,0 +1,11 @@
+use Rattle.std.proofs.Common.{◌≡◌, ℕ, List}
+use Rattle.cell_core.specs.declared.cell.Kind.TheVariants.{Int64}
+use Rattle.meaning.specs.Cell.{AreGiven}
+use Rattle.group_tests.proofs.groups.numbers.Given as goal
+
+-- numbers so far
+abbrev pub invariant-loop-value : goal.invariant-loop-value
+invariant-loop-value l = record {
+  kind : l.column.kind ≡ Int64;
+  given : (texts : List (List ℕ)) → AreGiven texts l.column.cells;
+}

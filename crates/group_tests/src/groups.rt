@@ -1,0 +1,126 @@
+// Rows grouped by the cells of columns, and what is made of the groups.
+ghost use Rattle.std.specs.Prelude.{◌≡◌, ℕ, true, List, length, All, IfOk};
+ghost use Rattle.meaning.specs.Cell.{AreGiven};
+ghost use Rattle.cell_core.specs.declared.cell.Kind.TheVariants.{Int64};
+
+use cell_core::{Kind, Label, NoMemory, TextDict, Tuple, Tuples};
+use column_core::{ColRef, Column, cell_of_number};
+use factorize::{KeyColumns, KeyGroups, factorize, group_by_keys};
+use group_by::{GroupOp, group_reduce};
+use std::alloc::Global;
+use std::process::Abort;
+use std::test::Fail;
+
+fn numbers(alloc: Global, values: &[Option<i64>]) -> Result<Column, NoMemory>
+    ensures kind { IfOk result (λ c. c.kind ≡ Int64) }
+    ensures given { IfOk result (λ c. (texts : List (List ℕ)) → AreGiven texts c.cells) }
+{
+    let mut column = Column::new(alloc, Kind::Int64);
+    for value in values {
+        column.push(cell_of_number(*value))?;
+    }
+    Ok(column)
+}
+
+fn assert_cells(rt: &impl Abort, found: ColRef<'_>, wanted: &[Option<i64>]) {
+    assert_eq!(rt; found.len(), wanted.len());
+    for (row, value) in wanted.iter().enumerate() {
+        assert_eq!(rt; found.cell(row), cell_of_number(*value), "at row {row}");
+    }
+}
+
+fn have_rows(columns: &[ColRef<'_>], rows: usize) -> bool
+    ensures { result ≡ true → All (λ column. length column.cells ≡ rows) columns.now }
+{
+    for column in columns {
+        if column.len() != rows {
+            return false;
+        }
+    }
+    true
+}
+
+// The columns of these numbers.
+fn columns_of(alloc: Global, values: &[&[Option<i64>]]) -> Result<Vec<Column>, NoMemory> {
+    let mut columns = Vec::new(alloc);
+    for column in values {
+        columns.push(numbers(alloc, column)?)?;
+    }
+    Ok(columns)
+}
+
+fn keyed(
+    rt: &impl Abort,
+    alloc: Global,
+    dict: &TextDict,
+    columns: &[Column],
+    sorted: bool,
+) -> Result<KeyGroups, NoMemory> {
+    assert!(rt; 1 <= columns.len());
+    let rows = columns[0].as_ref().len();
+    let mut borrowed = Vec::new(alloc);
+    for column in columns {
+        borrowed.push(column.as_ref())?;
+    }
+    let keys: &[ColRef<'_>] = &borrowed;
+    assert!(rt; 1 <= keys.len());
+    assert!(rt; have_rows(keys, rows));
+    group_by_keys(alloc, dict, &KeyColumns::of(keys, rows), sorted, true)
+}
+
+// What a reduction makes of the groups of these keys, in order of first sight.
+fn assert_reduced(
+    rt: &impl Abort,
+    alloc: Global,
+    keys: &[&[Option<i64>]],
+    values: &[Option<i64>],
+    op: GroupOp,
+    wanted: &[Option<i64>],
+) -> Result<(), Fail> {
+    let dict = TextDict::new(alloc);
+    let columns = columns_of(alloc, keys)?;
+    let grouped = keyed(rt, alloc, &dict, &columns, false)?;
+    let column = numbers(alloc, values)?;
+    let cells = column.as_ref();
+    assert_eq!(rt; grouped.groups.rows(), cells.len());
+    let made = group_reduce(alloc, &dict, &grouped.groups, cells, op)?;
+    assert_cells(rt, made.as_ref(), wanted);
+    Ok(())
+}
+
+// As `df.groupby(["g", "h"], sort=False)["v"].sum()`.
+#[test]
+fn keys_stand_by_sight(rt: HostRuntime) -> Result<(), Fail> {
+    let alloc = rt.alloc();
+    let g = [Some(8), Some(3), None, Some(8)];
+    let h = [Some(1), Some(1), Some(2), Some(1)];
+    let v = [None, Some(5), Some(7), None];
+    assert_reduced(&rt, alloc, &[&g, &h], &v, GroupOp::Sum, &[Some(0), Some(5)])?;
+    assert_reduced(&rt, alloc, &[&g], &v, GroupOp::Max, &[None, Some(5)])?;
+    assert_reduced(
+        &rt,
+        alloc,
+        &[&g, &g, &g, &g, &h],
+        &v,
+        GroupOp::Count,
+        &[Some(0), Some(1)],
+    )?;
+    Ok(())
+}
+
+#[test]
+fn tuples_have_codes(rt: HostRuntime) -> Result<(), Fail> {
+    let alloc = rt.alloc();
+    let dict = TextDict::new(alloc);
+    let mut keys = Tuples::new(alloc);
+    keys.push(Tuple::of(alloc, &[Label::Int(7)]))?;
+    keys.push(Tuple::of(alloc, &[Label::Na]))?;
+    keys.push(Tuple::of(alloc, &[Label::Int(5)]))?;
+    let codes = factorize(alloc, &dict, &keys, true, true)?;
+    assert_eq!(rt; codes.len(), 3);
+    assert_eq!(rt; codes.keys().len(), 2);
+    assert_eq!(rt; codes.code(0), Some(1));
+    assert_eq!(rt; codes.code(1), None);
+    assert_eq!(rt; codes.code(2), Some(0));
+    Ok(())
+}

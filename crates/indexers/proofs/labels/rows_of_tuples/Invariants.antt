@@ -1,0 +1,10 @@
+use Rattle.std.proofs.Common.{◌≡◌, drop}
+use Rattle.pick_meaning.specs.Labels.{rows_of_keys}
+use Rattle.pick_meaning.specs.Leading.{leads}
+use Rattle.index_core.specs.Labels.{same_number}
+use Rattle.indexers.proofs.TurnLaws.{added}
+use Rattle.indexers.proofs.labels.rows_of_tuples.Given as goal
+
+-- the rows so far, before those of the other tuples
+abbrev pub invariant-loop-k : goal.invariant-loop-k
+invariant-loop-k l = added l.places (rows_of_keys (leads same_number) l.axis.tuples (drop l.k l.tuples)) ≡ rows_of_keys (leads same_number) l.axis.tuples l.tuples

@@ -1,0 +1,45 @@
+use Rattle.std.proofs.Common.{◌≡◌, ◌≤◌, ◌∙◌, ap, sym, subst, map, length, arith}
+use Rattle.index_core.specs.Labels.{labels_at}
+use Rattle.multi_index.specs.Axes.{HaveLevels, single_tuples}
+use Rattle.multi_index.specs.Views.{kept_tuples, IsKeptAs}
+use Rattle.multi_index.proofs.LevelLaws.{levels_at, only_place}
+use Rattle.multi_index.proofs.axis.Axis.of_levels.Goals as goal
+use Rattle.multi_index.proofs.axis.Axis.of_levels.Goals.{then-order-eq1+in_ok-labels_of, else-order-eq1+in_ok-tuples_of}
+
+pub invariant_of-result : goal.invariant_of-result
+invariant_of-result c =
+    let tuples = c.args.self.now.tuples in
+    let order = c.args.order.now in
+    record {
+      room = c.names_of.ensures.room;
+      some = c.requires.some;
+      few = c.requires.few;
+      alike = elim c.if-order-eq1.branch [
+        | then-order-eq1+in_ok-labels_of w ↦
+            let one : length order ≡ 1 = omega arith in
+            let made = ap kept_tuples w.rows-is ∙ ap single_tuples w.from_vec.ensures ∙ w.in_ok-labels_of.ensures ∙ ap (λ o. map (λ tuple. labels_at tuple o) tuples) (only_place order one) in
+            subst (HaveLevels (length order)) (sym made) (levels_at tuples order)
+        | else-order-eq1+in_ok-tuples_of w ↦
+            let made = ap kept_tuples w.rows-is ∙ w.in_ok-tuples_of.ensures in
+            subst (HaveLevels (length order)) (sym made) (levels_at tuples order)
+      ];
+      kept = elim c.if-order-eq1.branch [
+        | then-order-eq1+in_ok-labels_of w ↦ let one : length order ≡ 1 = omega arith in subst (IsKeptAs (length order)) (sym w.rows-is) one
+        | else-order-eq1+in_ok-tuples_of w ↦ let some = c.requires.some in let several : 2 ≤ length order = omega arith in subst (IsKeptAs (length order)) (sym w.rows-is) several
+      ];
+    }
+
+pub returns : goal.returns
+returns c =
+    let tuples = c.args.self.now.tuples in
+    let order = c.args.order.now in
+    let names = c.names_of.ensures.names in
+    elim c.if-order-eq1.branch [
+      | then-order-eq1+in_ok-labels_of w ↦
+          let one : length order ≡ 1 = omega arith in
+          let made = ap kept_tuples w.rows-is ∙ ap single_tuples w.from_vec.ensures ∙ w.in_ok-labels_of.ensures ∙ ap (λ o. map (λ tuple. labels_at tuple o) tuples) (only_place order one) in
+          λ i. record { tuples = made i; names = names i }
+      | else-order-eq1+in_ok-tuples_of w ↦
+          let made = ap kept_tuples w.rows-is ∙ w.in_ok-tuples_of.ensures in
+          λ i. record { tuples = made i; names = names i }
+    ]

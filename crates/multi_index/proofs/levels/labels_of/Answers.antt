@@ -1,0 +1,19 @@
+use Rattle.std.proofs.Common.{◌<◌, ◌≤◌, ◌∙◌, ◌∷◌, [], ap, sym, length, arith}
+use Rattle.std.proofs.lemmas.List.{map-append}
+use Rattle.index_core.specs.Labels.{labels_at}
+use Rattle.multi_index.specs.Axes.{single_tuples}
+use Rattle.multi_index.proofs.SideLaws.{one_row_more, every_row, label_there}
+use Rattle.multi_index.proofs.levels.labels_of.Goals as goal
+
+pub loop-row-preserved : goal.loop-row-preserved
+loop-row-preserved c =
+    let axis = c.args.axis.now in
+    let lt : c.loop-row.row < length axis.tuples = omega arith in
+    one_row_more (λ tuple. labels_at tuple (c.args.level ∷ [])) axis.tuples c.loop-row.row [] (c.label.result ∷ []) [] (single_tuples c.loop-row.labels.items) (single_tuples c.push.new.self.items) lt
+    (ap (λ l. l ∷ []) (sym (label_there axis c.loop-row.row c.args.level c.label.result lt c.label.ensures))) c.loop-row.invariant
+    (ap single_tuples c.in_ok-push.ensures.items ∙ map-append (λ l. l ∷ []) c.loop-row.labels.items (c.label.result ∷ []))
+
+pub returns : goal.returns
+returns c =
+    let end : length c.args.axis.now.tuples ≤ c.loop-row.row = omega arith in
+    every_row (λ tuple. labels_at tuple (c.args.level ∷ [])) c.args.axis.now.tuples c.loop-row.row [] (single_tuples c.loop-row.labels.items) end c.loop-row.invariant

@@ -1,0 +1,28 @@
+use Rattle.std.proofs.Common.{◌≡◌, ◌∙◌, ◌<◌, [], length, map, take, ap, sym, slice_index_or, arith}
+use Rattle.std.proofs.lemmas.List.{take_all, length-set}
+use Rattle.cell_core.specs.declared.cell.Label.TheVariants.{Na}
+use Rattle.multi_index.proofs.LevelLaws.{one_read_more}
+use Rattle.multi_index.proofs.SideLaws.{label_there}
+use Rattle.multi_index.proofs.levels.tuple_of.Goals as goal
+
+pub loop-k-preserved : goal.loop-k-preserved
+loop-k-preserved c =
+    let tuple = slice_index_or c.args.axis.now.tuples c.args.row [] in
+    let order = c.args.order.now in
+    let lt : c.loop-k.k < length order = omega arith in
+    let room : c.loop-k.k < length c.loop-k.labels = omega (arith, c.loop-k.invariant.room, c.requires.few) in
+    record {
+      room = length-set c.loop-k.labels c.loop-k.k c.label.result ∙ c.loop-k.invariant.room;
+      so_far = one_read_more (λ level. slice_index_or tuple level Na) c.loop-k.labels order c.loop-k.k c.label.result room lt
+          (sym (label_there c.args.axis.now c.args.row (slice_index_or order c.loop-k.k 0) c.label.result c.requires.row c.label.ensures)) c.loop-k.invariant.so_far;
+    }
+
+pub returns : goal.returns
+returns c =
+    let tuple = slice_index_or c.args.axis.now.tuples c.args.row [] in
+    let order = c.args.order.now in
+    let end : length order ≡ c.loop-k.k = omega arith in
+    c.of.ensures
+    ∙ ap (λ n. take n c.loop-k.labels) end
+    ∙ c.loop-k.invariant.so_far
+    ∙ ap (map (λ level. slice_index_or tuple level Na)) (take_all c.loop-k.k order (omega arith))

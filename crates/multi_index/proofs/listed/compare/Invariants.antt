@@ -1,0 +1,8 @@
+use Rattle.std.proofs.Common.{◌≡◌, drop}
+use Rattle.pick_meaning.specs.Leading.{leading_cmp}
+use Rattle.index_core.specs.Labels.{order_in}
+use Rattle.multi_index.proofs.listed.compare.Given as goal
+
+-- the labels so far tie
+abbrev pub invariant-loop-level : goal.invariant-loop-level
+invariant-loop-level l = leading_cmp (order_in l.dict) (drop l.level l.tuple) (drop l.level l.bound) ≡ leading_cmp (order_in l.dict) l.tuple l.bound

@@ -1,0 +1,10 @@
+use Rattle.std.proofs.Common.{◌≡◌, ◌<◌, ℕ, List, false, slice_index_or}
+use Rattle.std.specs.Ordering.{is_gt}
+use Rattle.cell_core.specs.declared.cell.Label.{Label}
+use Rattle.pick_meaning.specs.Leading.{leading_cmp}
+use Rattle.index_core.specs.Labels.{order_in}
+use Rattle.multi_index.proofs.listed.end_within.Given as goal
+
+-- the rows so far aren't above the bound
+abbrev pub invariant-loop-row : goal.invariant-loop-row
+invariant-loop-row l = (k : ℕ) → k < l.row → (d : List Label) → is_gt (leading_cmp (order_in l.dict) (slice_index_or l.tuples k d) l.bound) ≡ false

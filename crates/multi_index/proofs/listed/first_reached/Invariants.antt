@@ -1,0 +1,10 @@
+use Rattle.std.proofs.Common.{◌≡◌, ◌<◌, ℕ, List, true, slice_index_or}
+use Rattle.std.specs.Ordering.{is_lt}
+use Rattle.cell_core.specs.declared.cell.Label.{Label}
+use Rattle.pick_meaning.specs.Leading.{leading_cmp}
+use Rattle.index_core.specs.Labels.{order_in}
+use Rattle.multi_index.proofs.listed.first_reached.Given as goal
+
+-- the rows so far are below the bound
+abbrev pub invariant-loop-row : goal.invariant-loop-row
+invariant-loop-row l = (k : ℕ) → k < l.row → (d : List Label) → is_lt (leading_cmp (order_in l.dict) (slice_index_or l.tuples k d) l.bound) ≡ true

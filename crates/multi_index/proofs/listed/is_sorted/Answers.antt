@@ -1,0 +1,28 @@
+use Rattle.std.proofs.Common.{arith, ◌≡◌, ◌∙◌, ◌-◌, [], ap, sym, slice_index_or}
+use Rattle.std.specs.Ordering.{is_lt}
+use Rattle.std.proofs.lemmas.Option.{get_or_from_slice_get}
+use Rattle.index_core.specs.Labels.{order_in}
+use Rattle.pick_meaning.specs.Leading.{leading_cmp}
+use Rattle.pick_meaning.proofs.OrderLaws.{order_goes_on, order_broken, order_kept}
+use Rattle.multi_index.proofs.listed.is_sorted.Goals as goal
+
+pub loop-row-preserved : goal.loop-row-preserved
+loop-row-preserved c =
+    let cmp = leading_cmp (order_in c.args.dict.now) in
+    let tuples = c.args.tuples.now in
+    let row = c.loop-row.row in
+    let read : is_lt (cmp (slice_index_or tuples row []) (slice_index_or tuples (row - 1) [])) ≡ is_lt (cmp c.at.result.now c.at-in-loop-row.result.now)
+    = λ j. is_lt (cmp (get_or_from_slice_get tuples row c.at.result.now [] c.at.ensures j) (get_or_from_slice_get tuples (row - 1) c.at-in-loop-row.result.now [] c.at-in-loop-row.ensures j)) in
+    order_goes_on cmp tuples row [] _ c.loop-row.auto.row (omega arith) (read ∙ ap is_lt (sym c.compare.ensures) ∙ sym c.is_lt.ensures ∙ c.if-is_lt.false) c.loop-row.invariant
+
+pub returns : goal.returns
+returns c = order_kept (leading_cmp (order_in c.args.dict.now)) c.args.tuples.now c.loop-row.row _ (omega arith) c.loop-row.invariant
+
+pub returns-then-is_lt : goal.returns-then-is_lt
+returns-then-is_lt c =
+    let cmp = leading_cmp (order_in c.args.dict.now) in
+    let tuples = c.args.tuples.now in
+    let row = c.loop-row.row in
+    let read : is_lt (cmp (slice_index_or tuples row []) (slice_index_or tuples (row - 1) [])) ≡ is_lt (cmp c.at.result.now c.at-in-loop-row.result.now)
+    = λ j. is_lt (cmp (get_or_from_slice_get tuples row c.at.result.now [] c.at.ensures j) (get_or_from_slice_get tuples (row - 1) c.at-in-loop-row.result.now [] c.at-in-loop-row.ensures j)) in
+    order_broken cmp tuples row [] _ c.loop-row.auto.row (omega arith) (read ∙ ap is_lt (sym c.compare.ensures) ∙ sym c.is_lt.ensures ∙ c.if-is_lt.true) c.loop-row.invariant

@@ -1,0 +1,9 @@
+use Rattle.std.proofs.Common.{◌≡◌, ◌-◌, drop}
+use Rattle.pick_meaning.specs.Leading.{leading_cmp}
+use Rattle.pick_meaning.specs.Slices.{is_in_order}
+use Rattle.index_core.specs.Labels.{order_in}
+use Rattle.multi_index.proofs.listed.is_sorted.Given as goal
+
+-- all are in order where those from the last row on are
+abbrev pub invariant-loop-row : goal.invariant-loop-row
+invariant-loop-row l = is_in_order (leading_cmp (order_in l.dict)) (drop (l.row - 1) l.tuples) ≡ is_in_order (leading_cmp (order_in l.dict)) l.tuples

@@ -1,0 +1,30 @@
+use Rattle.std.proofs.Common.{◌≡◌, ◌∙◌, true, false, slice_index_or, arith, rules}
+use Rattle.std.proofs.lemmas.Option.{get_or_from_slice_get}
+use Rattle.cell_core.specs.declared.cell.Label.TheVariants.{Na}
+use Rattle.index_core.specs.Labels.{same_number}
+use Rattle.multi_index.proofs.ListedLaws.{leads_more, leads_not, leads_all, leads_short}
+use Rattle.multi_index.proofs.listed.leads.Goals as goal
+
+pub returns-then-ne : goal.returns-then-ne
+returns-then-ne c =
+    let key = c.args.leading.now in
+    let tuple = c.args.tuple.now in
+    let apart : same_number c.at.result c.at-in-loop-level.result ≡ false = search rules in
+    let read : same_number (slice_index_or key c.loop-level.level Na) (slice_index_or tuple c.loop-level.level Na) ≡ same_number c.at.result c.at-in-loop-level.result
+    = (λ j. same_number (get_or_from_slice_get key c.loop-level.level c.at.result Na c.at.ensures j) (get_or_from_slice_get tuple c.loop-level.level c.at-in-loop-level.result Na c.at-in-loop-level.ensures j)) in
+    leads_not same_number key tuple c.loop-level.level Na _ (omega arith) (omega arith) (read ∙ apart) c.loop-level.invariant
+
+pub loop-level-preserved : goal.loop-level-preserved
+loop-level-preserved c =
+    let key = c.args.leading.now in
+    let tuple = c.args.tuple.now in
+    let same : same_number c.at.result c.at-in-loop-level.result ≡ true = search rules in
+    let read : same_number (slice_index_or key c.loop-level.level Na) (slice_index_or tuple c.loop-level.level Na) ≡ same_number c.at.result c.at-in-loop-level.result
+    = (λ j. same_number (get_or_from_slice_get key c.loop-level.level c.at.result Na c.at.ensures j) (get_or_from_slice_get tuple c.loop-level.level c.at-in-loop-level.result Na c.at-in-loop-level.ensures j)) in
+    leads_more same_number key tuple c.loop-level.level Na _ (omega arith) (omega arith) (read ∙ same) c.loop-level.invariant
+
+pub returns : goal.returns
+returns c = leads_all same_number c.args.leading.now c.args.tuple.now c.loop-level.level _ (omega arith) c.loop-level.invariant
+
+pub returns-then-len : goal.returns-then-len
+returns-then-len c = leads_short same_number c.args.leading.now c.args.tuple.now (omega arith)

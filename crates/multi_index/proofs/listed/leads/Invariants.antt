@@ -1,0 +1,8 @@
+use Rattle.std.proofs.Common.{◌≡◌, drop}
+use Rattle.pick_meaning.specs.Leading.{leads}
+use Rattle.index_core.specs.Labels.{same_number}
+use Rattle.multi_index.proofs.listed.leads.Given as goal
+
+-- they lead where those from a level on do
+abbrev pub invariant-loop-level : goal.invariant-loop-level
+invariant-loop-level l = leads same_number (drop l.level l.leading) (drop l.level l.tuple) ≡ leads same_number l.leading l.tuple

@@ -1,0 +1,9 @@
+use Rattle.std.proofs.Common.{◌≡◌, take}
+use Rattle.pick_meaning.specs.Leading.{leads}
+use Rattle.pick_meaning.specs.Rows.{rows_where}
+use Rattle.index_core.specs.Labels.{same_number}
+use Rattle.multi_index.proofs.listed.places_of.Given as goal
+
+-- the rows so far
+abbrev pub invariant-loop-row : goal.invariant-loop-row
+invariant-loop-row l = l.places ≡ rows_where (leads same_number l.leading) 0 (take l.row l.tuples)

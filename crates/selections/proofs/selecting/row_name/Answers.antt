@@ -1,0 +1,18 @@
+use Rattle.std.proofs.Common.{◌≡◌, ◌≢◌, ◌∙◌, ap, sym, subst, length, List, []}
+use Rattle.std.specs.Prelude.{slice_get, slice_index_or, Some, option_and_then}
+use Rattle.cell_core.specs.declared.cell.Label.{Label}
+use Rattle.multi_index.specs.Axes.{AxisValue, HaveLevels, label_at}
+use Rattle.selections.proofs.SeriesLaws.{label_first, name_of_one, name_of_several}
+use Rattle.selections.proofs.selecting.row_name.Goals as goal
+
+pub returns-then-levels-eq1 : goal.returns-then-levels-eq1
+returns-then-levels-eq1 c = λ texts.
+    let tuples = c.args.on.now.labels in
+    let alike = subst (λ (a : AxisValue). HaveLevels c.levels.result a.tuples) c.axis-axis.ensures c.levels.ensures.alike in
+    let at = subst (λ (a : AxisValue). label_at a c.args.row 0 ≡ Some c.label.result) c.axis-axis.ensures c.label.ensures in
+    name_of_one texts (slice_index_or tuples c.args.row []) c.label.result (alike c.args.row [] c.requires ∙ c.if-levels-eq1.true) (label_first tuples c.args.row c.label.result at)
+
+pub returns-else-levels-eq1 : goal.returns-else-levels-eq1
+returns-else-levels-eq1 c = λ texts.
+    let alike = subst (λ (a : AxisValue). HaveLevels c.levels.result a.tuples) c.axis-axis.ensures c.levels.ensures.alike in
+    name_of_several texts (slice_index_or c.args.on.now.labels c.args.row []) (λ one. c.if-levels-eq1.false (sym (alike c.args.row [] c.requires) ∙ one))

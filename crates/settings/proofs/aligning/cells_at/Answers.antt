@@ -1,0 +1,21 @@
+use Rattle.std.proofs.Common.{◌≡◌, ◌∙◌, ◌<◌, length, ap, arith}
+use Rattle.cell_core.specs.declared.cell.Cell.TheVariants.{Na}
+use Rattle.meaning.specs.Column.{taken}
+use Rattle.settings.proofs.AlignLaws.{gap_more, place_there}
+use Rattle.settings.proofs.FillLaws.{take_whole}
+use Rattle.settings.proofs.aligning.cells_at.Goals as goal
+
+pub cell_or_na-requires : goal.cell_or_na-requires
+cell_or_na-requires c =
+    let lt : c.loop-k.k < length c.args.rows.now = omega arith in
+    place_there (length c.args.column.cells) c.args.rows.now c.loop-k.k c.at.result.now c.requires lt c.at.ensures
+
+pub loop-k-preserved : goal.loop-k-preserved
+loop-k-preserved c =
+    let lt : c.loop-k.k < length c.args.rows.now = omega arith in
+    gap_more c.args.column.cells c.args.rows.now c.loop-k.k c.at.result.now c.cell_or_na.result c.loop-k.cells c.push.new.self lt c.at.ensures c.cell_or_na.ensures c.loop-k.invariant c.in_ok-push.ensures.ok
+
+pub returns : goal.returns
+returns c =
+    let end : c.loop-k.k ≡ length c.args.rows.now = omega arith in
+    c.loop-k.invariant ∙ ap (taken Na c.args.column.cells) (take_whole c.args.rows.now c.loop-k.k end)

@@ -1,0 +1,8 @@
+use Rattle.std.proofs.Common.{◌≡◌, take}
+use Rattle.cell_core.specs.declared.cell.Cell.TheVariants.{Na}
+use Rattle.meaning.specs.Column.{taken}
+use Rattle.settings.proofs.aligning.cells_at.Given as goal
+
+-- the cells so far
+abbrev pub invariant-loop-k : goal.invariant-loop-k
+invariant-loop-k l = l.cells ≡ taken Na l.fn.column.cells (take l.k l.rows)
