@@ -2,3 +2,4 @@ pub mod OrderLaws
 pub mod SeenLaws
 pub mod FoundLaws
 pub mod InsideLaws
+pub mod DifferLaws

@@ -34,7 +34,11 @@ impl Model for Block {
 impl Column {
     /// The column as a block of one column. Takes no memory.
     pub fn into_block(self) -> Block
-        ensures { result ≡ record { kind = self.kind; rows = length self.cells; columns = self.cells ∷ [] } }
+        ensures { result ≡ record {
+          kind = self.kind;
+          rows = length self.cells;
+          columns = self.cells ∷ [];
+        } }
     {
         let rows = self.as_ref().len();
         Block {
@@ -48,7 +52,8 @@ impl Column {
 impl Block {
     /// A block of so many columns and rows whose cells are all NA. `NoMemory` may come in place of it.
     pub fn new(alloc: Global, kind: Kind, columns: usize, rows: usize) -> Result<Block, NoMemory>
-        ensures { IfOk result (λ b. b ≡ record { kind = kind; rows = rows; columns = filled_with Na columns rows }) }
+        ensures { IfOk result (λ b. b
+            ≡ record { kind = kind; rows = rows; columns = filled_with Na columns rows }) }
     {
         match columns.checked_mul(rows) {
             Some(count) => Ok(Block {
@@ -86,7 +91,11 @@ impl Block {
         requires column { column < length self.old.columns }
         requires row { row < self.old.rows }
         requires held { (texts : List (List ℕ)) → holds self.old.kind (datum texts cell) ≡ true }
-        ensures { self.new ≡ record { kind = self.old.kind; rows = self.old.rows; columns = with_cell self.old.columns column row cell } }
+        ensures { self.new ≡ record {
+          kind = self.old.kind;
+          rows = self.old.rows;
+          columns = with_cell self.old.columns column row cell;
+        } }
     {
         put_kept(&mut self.lanes, column * self.rows + row, cell);
     }
@@ -119,7 +128,8 @@ impl Block {
 
 // So many missing cells.
 fn missing(alloc: Global, kind: Kind, count: usize) -> Result<Kept, NoMemory>
-    ensures { IfOk result (λ k. kept_column k ≡ record { kind = kind; cells = replicate count Na }) }
+    ensures { IfOk result (λ k. kept_column k
+        ≡ record { kind = kind; cells = replicate count Na }) }
 {
     match kind {
         Kind::Int64 => Ok(Kept::Ints(Owned::missing(alloc, 0, count)?)),
@@ -130,8 +140,13 @@ fn missing(alloc: Global, kind: Kind, count: usize) -> Result<Kept, NoMemory>
 
 fn put_kept(lanes: &mut Kept, at: usize, cell: Cell)
     requires at { at < length (kept_column lanes.old).cells }
-    requires held { (texts : List (List ℕ)) → holds (kept_column lanes.old).kind (datum texts cell) ≡ true }
-    ensures { kept_column lanes.new ≡ record { kind = (kept_column lanes.old).kind; cells = slice_set (kept_column lanes.old).cells at cell } }
+    requires held { (texts : List (List ℕ)) →
+        holds (kept_column lanes.old).kind (datum texts cell) ≡ true }
+    ensures { kept_column lanes.new
+        ≡ record {
+          kind = (kept_column lanes.old).kind;
+          cells = slice_set (kept_column lanes.old).cells at cell;
+        } }
 {
     match lanes {
         Kept::Ints(rows) => rows.put(0, at, number_in(cell)),

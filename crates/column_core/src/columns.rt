@@ -109,7 +109,8 @@ impl Value for i64 {
     }
 
     fn column(rows: Owned<i64>) -> Column
-        ensures { result ≡ column_with Int64 number_cell (length rows.values.items) (option_at rows.values.items rows.present.items) }
+        ensures { result ≡ column_with Int64 number_cell (length rows.values.items)
+            (option_at rows.values.items rows.present.items) }
     {
         Column {
             lanes: Kept::Ints(rows),
@@ -129,7 +130,8 @@ impl Value for bool {
     }
 
     fn column(rows: Owned<bool>) -> Column
-        ensures { result ≡ column_with Boolean truth_cell (length rows.values.items) (option_at rows.values.items rows.present.items) }
+        ensures { result ≡ column_with Boolean truth_cell (length rows.values.items)
+            (option_at rows.values.items rows.present.items) }
     {
         Column {
             lanes: Kept::Truths(rows),
@@ -149,7 +151,8 @@ impl Value for TextId {
     }
 
     fn column(rows: Owned<TextId>) -> Column
-        ensures { result ≡ column_with string text_cell (length rows.values.items) (option_at rows.values.items rows.present.items) }
+        ensures { result ≡ column_with string text_cell (length rows.values.items)
+            (option_at rows.values.items rows.present.items) }
     {
         Column {
             lanes: Kept::Texts(rows),
@@ -186,7 +189,8 @@ impl Column {
     /// Appends a cell, which the column's kind holds. `NoMemory` leaves the column as it was.
     pub fn push(&mut self, cell: Cell) -> Result<(), NoMemory>
         requires { (texts : List (List ℕ)) → holds self.old.kind (datum texts cell) ≡ true }
-        ensures ok { OnOk result (self.new ≡ record { kind = self.old.kind; cells = self.old.cells ++ cell ∷ [] }) }
+        ensures ok { OnOk result (self.new
+            ≡ record { kind = self.old.kind; cells = self.old.cells ++ cell ∷ [] }) }
         ensures err { OnErr result (self.new ≡ self.old) }
     {
         push_kept(&mut self.lanes, cell)
@@ -206,7 +210,8 @@ fn repeated_value<T: Value>(
     value: Option<T>,
     count: usize,
 ) -> Result<Column, NoMemory>
-    ensures { IfOk result (λ c. c ≡ record { kind = T.kind; cells = replicate count (T.cell value) }) }
+    ensures { IfOk result (λ c. c
+        ≡ record { kind = T.kind; cells = replicate count (T.cell value) }) }
 {
     let rows = Owned::filled(alloc, T::blank(), value, count)?;
     Ok(T::column(rows))
@@ -230,8 +235,13 @@ pub fn whole(lanes: &Kept) -> ColRef<'_>
 }
 
 fn push_kept(lanes: &mut Kept, cell: Cell) -> Result<(), NoMemory>
-    requires { (texts : List (List ℕ)) → holds (kept_column lanes.old).kind (datum texts cell) ≡ true }
-    ensures ok { OnOk result (kept_column lanes.new ≡ record { kind = (kept_column lanes.old).kind; cells = (kept_column lanes.old).cells ++ cell ∷ [] }) }
+    requires { (texts : List (List ℕ)) →
+        holds (kept_column lanes.old).kind (datum texts cell) ≡ true }
+    ensures ok { OnOk result (kept_column lanes.new
+        ≡ record {
+          kind = (kept_column lanes.old).kind;
+          cells = (kept_column lanes.old).cells ++ cell ∷ [];
+        }) }
     ensures err { OnErr result (kept_column lanes.new ≡ kept_column lanes.old) }
 {
     match lanes {

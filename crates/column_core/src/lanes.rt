@@ -1,5 +1,5 @@
 // Values of one type, each present or not: of its own, or borrowed with a stride.
-ghost use Rattle.std.specs.Prelude.{◌≡◌, ◌<◌, ℕ, Bool, false, length, replicate, slice_set, vec_len, unwrap_or, is_some, IfOk, OnOk, OnErr, Option, None};
+ghost use Rattle.std.specs.Prelude.{◌≡◌, ◌<◌, ℕ, Bool, false, length, replicate, slice_set, vec_len, unwrap_or, is_some, IfOk, OnOk, OnErr, Option, None, ⊤};
 ghost use Rattle.column_core.specs.Lanes.{LaneFits, lane_place, lane_row, option_at, IsPushed};
 
 use cell_core::NoMemory;
@@ -25,6 +25,10 @@ pub struct Lane<'a, T> {
 impl<T: Copy> Copy for Lane<'_, T> {}
 
 impl<T: Copy> Clone for Lane<'_, T> {
+    ghost is_clone = { λ lane copy. copy ≡ lane };
+
+    ghost is_infallible = { λ _. ⊤ };
+
     fn clone(&self) -> Result<Self, AllocError> {
         Ok(*self)
     }
@@ -48,7 +52,8 @@ impl<T: Copy> Lane<'_, T> {
     #[inline(always)]
     pub fn get(&self, row: usize) -> Option<T>
         requires { row < self.now.count }
-        ensures { result ≡ lane_row self.now.values.now self.now.present.now self.now.start self.now.stride self.now.back row }
+        ensures { result ≡ lane_row self.now.values.now self.now.present.now self.now.start
+            self.now.stride self.now.back row }
     {
         let place = self.place(row);
         if self.present[place] {
@@ -83,7 +88,8 @@ impl<T: Copy + Drop> Owned<T> {
     /// So many rows without values.
     pub fn missing(alloc: Global, blank: T, count: usize) -> Result<Owned<T>, NoMemory>
         ensures count { IfOk result (λ o. length o.values.items ≡ count) }
-        ensures rows { IfOk result (λ o. (row : ℕ) → option_at o.values.items o.present.items row ≡ None) }
+        ensures rows { IfOk result (λ o. (row : ℕ) →
+            option_at o.values.items o.present.items row ≡ None) }
     {
         let values = repeated(alloc, blank, count)?;
         let present = repeated(alloc, false, count)?;
@@ -98,7 +104,8 @@ impl<T: Copy + Drop> Owned<T> {
         count: usize,
     ) -> Result<Owned<T>, NoMemory>
         ensures count { IfOk result (λ o. length o.values.items ≡ count) }
-        ensures rows { IfOk result (λ o. (row : ℕ) → row < count → option_at o.values.items o.present.items row ≡ value) }
+        ensures rows { IfOk result (λ o. (row : ℕ) → row < count →
+            option_at o.values.items o.present.items row ≡ value) }
     {
         let values = repeated(alloc, value.unwrap_or(blank), count)?;
         let present = repeated(alloc, value.is_some(), count)?;
@@ -108,8 +115,10 @@ impl<T: Copy + Drop> Owned<T> {
     /// Puts a value, or none, at a row. Takes no memory.
     pub fn put(&mut self, blank: T, row: usize, value: Option<T>)
         requires { row < length self.old.values.items }
-        ensures values { self.new.values.items ≡ slice_set self.old.values.items row (unwrap_or value blank) }
-        ensures present { self.new.present.items ≡ slice_set self.old.present.items row (is_some value) }
+        ensures values { self.new.values.items
+            ≡ slice_set self.old.values.items row (unwrap_or value blank) }
+        ensures present { self.new.present.items
+            ≡ slice_set self.old.present.items row (is_some value) }
     {
         self.present[row] = value.is_some();
         self.values[row] = value.unwrap_or(blank);
@@ -117,8 +126,10 @@ impl<T: Copy + Drop> Owned<T> {
 
     /// Adds a row. `NoMemory` leaves the rows as they were.
     pub fn push(&mut self, blank: T, value: Option<T>) -> Result<(), NoMemory>
-        ensures ok { OnOk result (IsPushed self.old.values.items self.old.present.items value self.new.values.items self.new.present.items) }
-        ensures err { OnErr result ((self.new.values.items ≡ self.old.values.items) × (self.new.present.items ≡ self.old.present.items)) }
+        ensures ok { OnOk result (IsPushed self.old.values.items self.old.present.items value
+            self.new.values.items self.new.present.items) }
+        ensures err { OnErr result ((self.new.values.items ≡ self.old.values.items)
+            × (self.new.present.items ≡ self.old.present.items)) }
     {
         self.present.push(value.is_some())?;
         if self.values.push(value.unwrap_or(blank)).is_err() {
@@ -131,7 +142,9 @@ impl<T: Copy + Drop> Owned<T> {
     /// All rows, borrowed.
     pub fn lane(&self) -> Lane<'_, T>
         ensures count { result.count ≡ length self.now.values.items }
-        ensures rows { (row : ℕ) → lane_row result.values.now result.present.now result.start result.stride result.back row ≡ option_at self.now.values.items self.now.present.items row }
+        ensures rows { (row : ℕ) → lane_row result.values.now result.present.now result.start
+            result.stride result.back row
+            ≡ option_at self.now.values.items self.now.present.items row }
     {
         Lane {
             values: self.values.as_slice(),

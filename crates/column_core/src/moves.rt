@@ -51,7 +51,8 @@ impl<T, A: Source<T>> Source<T> for Moved<'_, A> {
     #[inline(always)]
     fn get(&self, row: usize) -> Option<T>
         requires { row < A.count_of self.now.source.now }
-        ensures { result ≡ moved_row (A.count_of self.now.source.now) (A.row_of self.now.source.now) self.now.distance self.now.ahead row }
+        ensures { result ≡ moved_row (A.count_of self.now.source.now)
+            (A.row_of self.now.source.now) self.now.distance self.now.ahead row }
     {
         if self.ahead {
             if self.distance < self.source.count() - row {
@@ -128,7 +129,9 @@ pub fn copied<T: Value, A: Source<T>>(alloc: Global, a: &A) -> Result<Column, No
 
 /// The rows of a lane, as a column: two slices are copied where the values lie side by side.
 pub fn copied_lane<T: Value>(alloc: Global, a: &Lane<'_, T>) -> Result<Column, NoMemory>
-    ensures { IfOk result (λ c. c ≡ column_with T.kind T.cell a.now.count (lane_row a.now.values.now a.now.present.now a.now.start a.now.stride a.now.back)) }
+    ensures { IfOk result (λ c. c
+        ≡ column_with T.kind T.cell a.now.count
+        (lane_row a.now.values.now a.now.present.now a.now.start a.now.stride a.now.back)) }
 {
     match a.dense() {
         Some(side) => copied_side(alloc, &side),
@@ -137,7 +140,9 @@ pub fn copied_lane<T: Value>(alloc: Global, a: &Lane<'_, T>) -> Result<Column, N
 }
 
 fn copied_side<T: Value>(alloc: Global, a: &Dense<'_, T>) -> Result<Column, NoMemory>
-    ensures { IfOk result (λ c. c ≡ column_with T.kind T.cell (length a.now.values.now) (option_at a.now.values.now a.now.present.now)) }
+    ensures { IfOk result (λ c. c
+        ≡ column_with T.kind T.cell (length a.now.values.now)
+        (option_at a.now.values.now a.now.present.now)) }
 {
     let values = Vec::from_slice(alloc, a.values)?;
     let present = Vec::from_slice(alloc, a.present)?;
@@ -160,7 +165,9 @@ impl ColRef<'_> {
 // The rows of a source at these places.
 fn picked<T: Value, A: Source<T>>(alloc: Global, a: &A, places: &Gaps) -> Result<Column, NoMemory>
     requires { All (IsPlaceOf (A.count_of a.now)) places.now }
-    ensures { IfOk result (λ c. c ≡ column_with T.kind T.cell (length places.now) (λ k. picked_row (A.row_of a.now) (gap_at places.now k))) }
+    ensures { IfOk result (λ c. c
+        ≡ column_with T.kind T.cell (length places.now)
+        (λ k. picked_row (A.row_of a.now) (gap_at places.now k))) }
 {
     // No row is refused.
     match by_rows(
@@ -198,7 +205,11 @@ fn shift_lane<T: Value>(
     ahead: bool,
 ) -> Result<Column, NoMemory>
     ensures kind { IfOk result (λ c. c.kind ≡ T.kind) }
-    ensures cells { (p : ℤ) → distance ≡ distance_of p → ahead ≡ is_ahead p → IfOk result (λ c. c.cells ≡ shifted Na (column_with T.kind T.cell a.now.count (lane_row a.now.values.now a.now.present.now a.now.start a.now.stride a.now.back)).cells p) }
+    ensures cells { (p : ℤ) → distance ≡ distance_of p → ahead ≡ is_ahead p →
+        IfOk result (λ c. c.cells
+        ≡ shifted Na (column_with T.kind T.cell a.now.count
+        (lane_row a.now.values.now a.now.present.now a.now.start a.now.stride a.now.back)).cells
+        p) }
 {
     match a.dense() {
         Some(side) => shift_side(alloc, &side, distance, ahead),
@@ -214,7 +225,10 @@ fn shift_side<T: Value>(
     ahead: bool,
 ) -> Result<Column, NoMemory>
     ensures kind { IfOk result (λ c. c.kind ≡ T.kind) }
-    ensures cells { (p : ℤ) → distance ≡ distance_of p → ahead ≡ is_ahead p → IfOk result (λ c. c.cells ≡ shifted Na (column_with T.kind T.cell (length a.now.values.now) (option_at a.now.values.now a.now.present.now)).cells p) }
+    ensures cells { (p : ℤ) → distance ≡ distance_of p → ahead ≡ is_ahead p →
+        IfOk result (λ c. c.cells
+        ≡ shifted Na (column_with T.kind T.cell (length a.now.values.now)
+        (option_at a.now.values.now a.now.present.now)).cells p) }
 {
     let moved = moved_side(alloc, a, distance, ahead)?;
     Ok(T::column(moved))
@@ -228,7 +242,8 @@ fn moved_side<T: Value>(
 ) -> Result<Owned<T>, NoMemory>
     ensures count { IfOk result (λ o. length o.values.items ≡ length a.now.values.now) }
     ensures rows { IfOk result (λ o. (k : ℕ) → k < length a.now.values.now → option_at o.values.items o.present.items k
-        ≡ moved_row (length a.now.values.now) (option_at a.now.values.now a.now.present.now) distance ahead k) }
+        ≡ moved_row (length a.now.values.now)
+        (option_at a.now.values.now a.now.present.now) distance ahead k) }
 {
     let count = a.values.len();
     if count <= distance {
@@ -269,7 +284,8 @@ fn moved_down<T: Copy>(
     blank: T,
 ) -> Result<Vec<T>, NoMemory>
     requires { distance ≤ length items.now }
-    ensures { IfOk result (λ v. v.items ≡ replicate distance blank ++ take (length items.now - distance) items.now) }
+    ensures { IfOk result (λ v. v.items
+        ≡ replicate distance blank ++ take (length items.now - distance) items.now) }
 {
     let mut moved = Vec::with_capacity(alloc, items.len())?;
     moved.resize(distance, blank)?;
@@ -284,7 +300,9 @@ fn shift_rows<T: Value, A: Source<T>>(
     ahead: bool,
 ) -> Result<Column, NoMemory>
     ensures kind { IfOk result (λ c. c.kind ≡ T.kind) }
-    ensures cells { (p : ℤ) → distance ≡ distance_of p → ahead ≡ is_ahead p → IfOk result (λ c. c.cells ≡ shifted Na (column_with T.kind T.cell (A.count_of a.now) (A.row_of a.now)).cells p) }
+    ensures cells { (p : ℤ) → distance ≡ distance_of p → ahead ≡ is_ahead p →
+        IfOk result (λ c. c.cells
+        ≡ shifted Na (column_with T.kind T.cell (A.count_of a.now) (A.row_of a.now)).cells p) }
 {
     let moved = Moved {
         source: a,
@@ -324,7 +342,10 @@ pub fn take(alloc: Global, a: ColRef<'_>, places: &Gaps) -> Result<Column, NoMem
 fn take_lane<T: Value>(alloc: Global, a: &Lane<'_, T>, places: &Gaps) -> Result<Column, NoMemory>
     requires { All (IsPlaceOf a.now.count) places.now }
     ensures kind { IfOk result (λ c. c.kind ≡ T.kind) }
-    ensures cells { IfOk result (λ c. c.cells ≡ taken Na (column_with T.kind T.cell a.now.count (lane_row a.now.values.now a.now.present.now a.now.start a.now.stride a.now.back)).cells places.now) }
+    ensures cells { IfOk result (λ c. c.cells
+        ≡ taken Na (column_with T.kind T.cell a.now.count
+        (lane_row a.now.values.now a.now.present.now a.now.start a.now.stride a.now.back)).cells
+        places.now) }
 {
     match a.dense() {
         Some(side) => take_rows(alloc, &side, places),
@@ -339,7 +360,9 @@ fn take_rows<T: Value, A: Source<T>>(
 ) -> Result<Column, NoMemory>
     requires { All (IsPlaceOf (A.count_of a.now)) places.now }
     ensures kind { IfOk result (λ c. c.kind ≡ T.kind) }
-    ensures cells { IfOk result (λ c. c.cells ≡ taken Na (column_with T.kind T.cell (A.count_of a.now) (A.row_of a.now)).cells places.now) }
+    ensures cells { IfOk result (λ c. c.cells
+        ≡ taken Na (column_with T.kind T.cell (A.count_of a.now) (A.row_of a.now)).cells
+        places.now) }
 {
     picked(alloc, a, places)
 }

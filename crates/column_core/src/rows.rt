@@ -82,9 +82,13 @@ fn fill<X, Y, U: Copy, O: RowOp<X, Y, U>, A: Source<X>, B: Source<Y>>(
     requires values { length values.old ≡ A.count_of a.now }
     requires present { length present.old ≡ A.count_of a.now }
     requires same { A.count_of a.now ≡ B.count_of b.now }
-    requires takes { (k : ℕ) → k < A.count_of a.now → O.takes op.now (A.row_of a.now k) (B.row_of b.now k) }
-    ensures written { OnOk result (AreWritten (λ k. O.row_of op.now (A.row_of a.now k) (B.row_of b.now k)) (A.count_of a.now) values.new present.new) }
-    ensures refused { IfErr result (λ row. IsFirstRefused (λ k. O.row_of op.now (A.row_of a.now k) (B.row_of b.now k)) (A.count_of a.now) row) }
+    requires takes { (k : ℕ) → k < A.count_of a.now →
+        O.takes op.now (A.row_of a.now k) (B.row_of b.now k) }
+    ensures written { OnOk result (AreWritten
+        (λ k. O.row_of op.now (A.row_of a.now k) (B.row_of b.now k))
+        (A.count_of a.now) values.new present.new) }
+    ensures refused { IfErr result (λ row. IsFirstRefused
+        (λ k. O.row_of op.now (A.row_of a.now k) (B.row_of b.now k)) (A.count_of a.now) row) }
 {
     for row in 0..present.len() {
         match op.row(a.get(row), b.get(row)) {
@@ -108,10 +112,13 @@ pub fn by_rows<X, Y, U: Copy + Drop, O: RowOp<X, Y, U>, A: Source<X>, B: Source<
     b: &B,
 ) -> Result<Owned<U>, RowFault>
     requires same { A.count_of a.now ≡ B.count_of b.now }
-    requires takes { (k : ℕ) → k < A.count_of a.now → O.takes op.now (A.row_of a.now k) (B.row_of b.now k) }
+    requires takes { (k : ℕ) → k < A.count_of a.now →
+        O.takes op.now (A.row_of a.now k) (B.row_of b.now k) }
     ensures count { IfOk result (λ made. length made.values.items ≡ A.count_of a.now) }
     ensures rows { let whole = try_rows (A.count_of a.now) (λ k. O.row_of op.now (A.row_of a.now k) (B.row_of b.now k)) in
-        MatchResult result (λ made. whole ≡ Ok (made_rows (A.count_of a.now) made.values.items made.present.items)) (Refuses whole) }
+        MatchResult result
+        (λ made. whole ≡ Ok (made_rows (A.count_of a.now) made.values.items made.present.items))
+        (Refuses whole) }
 {
     let mut values = repeated(alloc, blank, a.count())?;
     let mut present = repeated(alloc, false, a.count())?;

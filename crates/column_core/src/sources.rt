@@ -1,5 +1,5 @@
 // Rows that lie side by side, one value in each row, and rows of nothing.
-ghost use Rattle.std.specs.Prelude.{◌≡◌, ◌<◌, ◌+◌, ◌*◌, ℕ, length, IfSome, None};
+ghost use Rattle.std.specs.Prelude.{◌≡◌, ◌<◌, ◌+◌, ◌*◌, ◌&&◌, ℕ, not, nat_eq, nat_lt, length, is_some, IfSome, None};
 ghost use Rattle.column_core.specs.Lanes.{option_at, lane_row};
 
 use crate::lanes::Lane;
@@ -81,11 +81,14 @@ impl Source<()> for Nothing {
 }
 
 impl<'a, T: Copy> Lane<'a, T> {
-    /// The values, where they lie side by side.
+    /// The values, exactly where there are some and they lie side by side.
     pub fn dense(&self) -> Option<Dense<'a, T>>
+        ensures found { is_some result
+            ≡ (nat_eq self.now.stride 1 && not self.now.back && nat_lt 0 self.now.count) }
         ensures count { IfSome result (λ d. length d.values.now ≡ self.now.count) }
         ensures rows { IfSome result (λ d. (row : ℕ) → row < self.now.count → option_at d.values.now d.present.now row
-            ≡ lane_row self.now.values.now self.now.present.now self.now.start self.now.stride self.now.back row) }
+            ≡ lane_row self.now.values.now self.now.present.now self.now.start self.now.stride
+            self.now.back row) }
     {
         if self.stride != 1 || self.back || self.count == 0 {
             return None;

@@ -16,7 +16,8 @@ impl<'a, T: Copy> Lane<'a, T> {
         requires { AreRowsBelow rows self.now.count }
         ensures count { result.count ≡ rows.count }
         ensures rows { (row : ℕ) → row < rows.count → lane_row result.values.now result.present.now result.start result.stride result.back row
-            ≡ lane_row self.now.values.now self.now.present.now self.now.start self.now.stride self.now.back (place_from rows.start rows.step row) }
+            ≡ lane_row self.now.values.now self.now.present.now self.now.start self.now.stride
+            self.now.back (place_from rows.start rows.step row) }
     {
         if rows.count == 0 {
             return self.by_ones(0, 0);

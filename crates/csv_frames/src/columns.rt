@@ -61,7 +61,8 @@ pub(crate) fn tuples_of(
 ) -> Result<Tuples, NoMemory>
     ensures longer { IsLonger dict.old dict.new }
     ensures settled { IfOk result (IsSettled tuples_seen dict.new) }
-    ensures labels { IfOk result (λ tuples. tuples_seen dict.new tuples ≡ label_tuples (texts_seen labels.now)) }
+    ensures labels { IfOk result (λ tuples. tuples_seen dict.new tuples
+        ≡ label_tuples (texts_seen labels.now)) }
 {
     let mut tuples = Tuples::new(alloc);
     let mut rest = labels;

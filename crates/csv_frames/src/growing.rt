@@ -27,7 +27,8 @@ pub(crate) enum Growing {
 
 // Missing cells, so many.
 fn missing_cells(alloc: Global, kind: Kind, rows: usize) -> Result<Column, NoMemory>
-    ensures { IfOk result (λ column. column ≡ record { kind = kind; cells = replicate rows cell.Na }) }
+    ensures { IfOk result (λ column. column
+        ≡ record { kind = kind; cells = replicate rows cell.Na }) }
 {
     let mut column = Column::new(alloc, kind);
     for _row in 0..rows {
@@ -69,7 +70,8 @@ fn push_truth(rows: &mut Owned<bool>, field: &str) -> Result<bool, NoMemory>
 fn text_of_field(dict: &mut TextDict, field: &str) -> Result<Option<TextId>, NoMemory>
     ensures longer { IsLonger dict.old dict.new }
     ensures settled { IfOk result (λ text. IsSettled datum dict.new (text_cell text)) }
-    ensures value { IfOk result (λ text. datum dict.new (text_cell text) ≡ meant.cell_of_field string field.now) }
+    ensures value { IfOk result (λ text. datum dict.new (text_cell text)
+        ≡ meant.cell_of_field string field.now) }
 {
     if is_missing(field) {
         return Ok(None);
@@ -91,8 +93,10 @@ fn push_text(dict: &mut TextDict, rows: &mut Owned<TextId>, field: &str) -> Resu
 // Appends a field to what is kept, missing where it can't be a cell of its kind, and says whether it can.
 fn push_kept(dict: &mut TextDict, lanes: &mut Kept, field: &str) -> Result<bool, NoMemory>
     ensures longer { IsLonger dict.old dict.new }
-    ensures fits { IfOk result (λ fits. fits ≡ meant.is_of_kind (kept_column lanes.old).kind field.now) }
-    ensures grown { OnOk result (IsGrownBy dict.old dict.new field.now (kept_column lanes.old) (kept_column lanes.new)) }
+    ensures fits { IfOk result (λ fits. fits
+        ≡ meant.is_of_kind (kept_column lanes.old).kind field.now) }
+    ensures grown { OnOk result (IsGrownBy dict.old dict.new field.now (kept_column lanes.old)
+        (kept_column lanes.new)) }
 {
     match lanes {
         Kept::Ints(rows) => push_number(rows, field),
@@ -146,7 +150,9 @@ impl Growing {
         field: &str,
     ) -> Result<(), NoMemory>
         ensures longer { IsLonger dict.old dict.new }
-        ensures grown { OnOk result ((fields : List (List ℕ)) → length fields ≡ rows → Grown dict.old named fields self.old → Grown dict.new named (fields ++ field.now ∷ []) self.new) }
+        ensures grown { OnOk result ((fields : List (List ℕ)) → length fields ≡ rows →
+            Grown dict.old named fields self.old →
+            Grown dict.new named (fields ++ field.now ∷ []) self.new) }
     {
         match self {
             Growing::Missing => {

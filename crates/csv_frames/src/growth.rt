@@ -73,7 +73,9 @@ fn push_fields(
 ) -> Result<(), NoMemory>
     requires { length columns.old ≡ length kinds.now }
     ensures longer { IsLonger dict.old dict.new }
-    ensures grown { OnOk result ((before : List (List (List ℕ))) → length before ≡ rows → AreGrown dict.old kinds.now before columns.old → AreGrown dict.new kinds.now (before ++ fields_of row.now ∷ []) columns.new) }
+    ensures grown { OnOk result ((before : List (List (List ℕ))) → length before ≡ rows →
+        AreGrown dict.old kinds.now before columns.old →
+        AreGrown dict.new kinds.now (before ++ fields_of row.now ∷ []) columns.new) }
 {
     for place in 0..kinds.len() {
         columns[place].push(alloc, dict, kinds[place], rows, field_in(row, place))?;
@@ -95,7 +97,8 @@ pub(crate) struct Growth {
 impl Growth {
     // No record.
     fn new(alloc: Global, kinds: &[Option<Kind>]) -> Result<Growth, NoMemory>
-        ensures { IfOk result (λ growth. (texts : List (List ℕ)) → GrownTo texts kinds.now [] growth) }
+        ensures { IfOk result (λ growth. (texts : List (List ℕ)) →
+            GrownTo texts kinds.now [] growth) }
     {
         let columns = if is_within_limits(0, kinds.len()) {
             new_columns(alloc, kinds)?
@@ -112,7 +115,11 @@ impl Growth {
     // Counts a record, and sees whether its fields are of the named kinds.
     fn count(&mut self, kinds: &[Option<Kind>], row: &StringRecord)
         requires { self.old.rows < 2 ^ 32 }
-        ensures { self.new ≡ record { rows = self.old.rows + 1; fits = self.old.fits && not (meant.has_misfit kinds.now (fields_of row.now)); columns = self.old.columns } }
+        ensures { self.new ≡ record {
+          rows = self.old.rows + 1;
+          fits = self.old.fits && not (meant.has_misfit kinds.now (fields_of row.now));
+          columns = self.old.columns;
+        } }
     {
         self.fits = self.fits && !has_misfit(kinds, row);
         self.rows += 1;
@@ -126,9 +133,12 @@ impl Growth {
         row: &StringRecord,
     ) -> Result<(), NoMemory>
         requires few { self.old.rows < 2 ^ 32 }
-        requires grown { (before : List (List (List ℕ))) × GrownTo dict.old kinds.now before self.old }
+        requires grown { (before : List (List (List ℕ)))
+            × GrownTo dict.old kinds.now before self.old }
         ensures longer { IsLonger dict.old dict.new }
-        ensures grown { OnOk result ((before : List (List (List ℕ))) → GrownTo dict.old kinds.now before self.old → GrownTo dict.new kinds.now (before ++ fields_of row.now ∷ []) self.new) }
+        ensures grown { OnOk result ((before : List (List (List ℕ))) →
+            GrownTo dict.old kinds.now before self.old →
+            GrownTo dict.new kinds.now (before ++ fields_of row.now ∷ []) self.new) }
     {
         let rows = self.rows;
         self.count(kinds, row);
@@ -152,7 +162,8 @@ pub(crate) fn growth_of(
     ensures longer { IsLonger dict.old dict.new }
     ensures grown { IfOk result (GrownTo dict.new kinds.now (file_rows bytes.now)) }
     ensures short { OnOk result (meant.first_long width 2 (file_rows bytes.now) ≡ None) }
-    ensures long { IfErr result (λ fault. IfSome (refusal_of fault) (λ refusal. meant.first_long width 2 (file_rows bytes.now) ≡ Some refusal)) }
+    ensures long { IfErr result (λ fault. IfSome (refusal_of fault)
+        (λ refusal. meant.first_long width 2 (file_rows bytes.now) ≡ Some refusal)) }
 {
     let mut reader = reader_of(alloc, bytes);
     let mut row = StringRecord::new(alloc);

@@ -15,7 +15,9 @@ fn kinds_by_label(
     dict: &TextDict,
     kinds: &Entries,
 ) -> Result<IndexMap<String, Kind>, NoMemory>
-    ensures { IfOk result (λ named. (label : OneText) → kind_at (kinds_seen named.entries) label ≡ meant.named_kind (entries_seen dict.now kinds.now) label) }
+    ensures { IfOk result (λ named. (label : OneText) →
+        kind_at (kinds_seen named.entries) label
+        ≡ meant.named_kind (entries_seen dict.now kinds.now) label) }
 {
     let mut named = IndexMap::new(alloc);
     for k in 0..kinds.len() {
@@ -39,7 +41,8 @@ pub(crate) fn kinds_of_labels(
     kinds: &Entries,
     labels: &[String],
 ) -> Result<Vec<Option<Kind>>, NoMemory>
-    ensures { IfOk result (λ named. named.items ≡ map (meant.named_kind (entries_seen dict.now kinds.now)) (texts_seen labels.now)) }
+    ensures { IfOk result (λ named. named.items
+        ≡ map (meant.named_kind (entries_seen dict.now kinds.now)) (texts_seen labels.now)) }
 {
     let by_label = kinds_by_label(alloc, dict, kinds)?;
     let mut named = Vec::new(alloc);

@@ -26,7 +26,8 @@ fn label_named(alloc: Global, place: usize, label: &str) -> Result<String, NoMem
 
 // The labels that the header names.
 fn labels_named(alloc: Global, header: &StringRecord) -> Result<Vec<String>, NoMemory>
-    ensures { IfOk result (λ labels. texts_seen labels.items ≡ meant.labels_named 0 (fields_of header.now)) }
+    ensures { IfOk result (λ labels. texts_seen labels.items
+        ≡ meant.labels_named 0 (fields_of header.now)) }
 {
     let mut labels = Vec::new(alloc);
     for place in 0..header.len() {
@@ -81,7 +82,8 @@ fn free_label(
     requires columns { 0 < columns }
     requires some { 1 ≤ first }
     requires skipped { IsSkipped taken.old label.now first }
-    ensures label { IfOk result (λ free. string_bytes free.0 ≡ meant.free_label columns taken.old label.now) }
+    ensures label { IfOk result (λ free. string_bytes free.0
+        ≡ meant.free_label columns taken.old label.now) }
     ensures taken { IfOk result (λ free. taken.new ≡ with_text taken.old (string_bytes free.0)) }
     ensures some { IfOk result (λ free. 1 ≤ free.1) }
     ensures skipped { IfOk result (λ free. IsSkipped taken.new label.now free.1) }
@@ -106,10 +108,13 @@ fn next_label(
 ) -> Result<String, NoMemory>
     requires columns { 0 < columns }
     requires skipped { AreSkipped labels.old.before labels.old.taken labels.old.next.items }
-    ensures label { IfOk result (λ next. string_bytes next ≡ meant.next_label columns labels.old.before labels.old.taken label.now) }
+    ensures label { IfOk result (λ next. string_bytes next
+        ≡ meant.next_label columns labels.old.before labels.old.taken label.now) }
     ensures before { OnOk result (labels.new.before ≡ with_text labels.old.before label.now) }
-    ensures taken { IfOk result (λ next. labels.new.taken ≡ with_text labels.old.taken (string_bytes next)) }
-    ensures skipped { OnOk result (AreSkipped labels.new.before labels.new.taken labels.new.next.items) }
+    ensures taken { IfOk result (λ next. labels.new.taken
+        ≡ with_text labels.old.taken (string_bytes next)) }
+    ensures skipped { OnOk result (AreSkipped labels.new.before labels.new.taken
+        labels.new.next.items) }
 {
     let known = labels.before.len();
     let number = labels.before.intern(label)?.0 as usize;
@@ -126,7 +131,8 @@ fn next_label(
 
 // The labels, of which those that stood before get a number.
 fn different_labels(alloc: Global, header: &[String]) -> Result<Vec<String>, NoMemory>
-    ensures { IfOk result (λ different. texts_seen different.items ≡ meant.different_labels (texts_seen header.now)) }
+    ensures { IfOk result (λ different. texts_seen different.items
+        ≡ meant.different_labels (texts_seen header.now)) }
 {
     let mut labels = Labels {
         before: TextDict::new(alloc),
@@ -145,7 +151,8 @@ fn different_labels(alloc: Global, header: &[String]) -> Result<Vec<String>, NoM
 
 /// The labels of the columns that the header gives, which all differ.
 pub(crate) fn labels_of(alloc: Global, header: &StringRecord) -> Result<Vec<String>, NoMemory>
-    ensures labels { IfOk result (λ labels. texts_seen labels.items ≡ meant.labels_of (fields_of header.now)) }
+    ensures labels { IfOk result (λ labels. texts_seen labels.items
+        ≡ meant.labels_of (fields_of header.now)) }
     ensures different { IfOk result (λ labels. IsDistinct same_text (texts_seen labels.items)) }
 {
     let labels = labels_named(alloc, header)?;

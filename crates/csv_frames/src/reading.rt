@@ -39,7 +39,8 @@ fn columns_read(
     requires grown { AreGrown dict.old kinds.now (file_rows bytes.now) growth.columns.items }
     ensures longer { IsLonger dict.old dict.new }
     ensures settled { IfOk result (IsSettled columns_seen dict.new) }
-    ensures read { IfOk result (λ columns. columns_seen dict.new columns ≡ meant.columns_from 0 kinds.now (file_rows bytes.now)) }
+    ensures read { IfOk result (λ columns. columns_seen dict.new columns
+        ≡ meant.columns_from 0 kinds.now (file_rows bytes.now)) }
     ensures fault { IfErr result (λ fault. refusal_of fault ≡ None) }
 {
     let rows = growth.rows;
@@ -70,7 +71,8 @@ fn labelled_columns(
     ensures parts { IfOk result PartsFit }
     ensures longer { IsLonger dict.old dict.new }
     ensures settled { IfOk result (IsSettled csv_seen dict.new) }
-    ensures read { IfOk result (λ table. csv_seen dict.new table ≡ meant.labelled_columns (texts_seen labels.now) kinds.now (file_rows bytes.now)) }
+    ensures read { IfOk result (λ table. csv_seen dict.new table
+        ≡ meant.labelled_columns (texts_seen labels.now) kinds.now (file_rows bytes.now)) }
     ensures fault { IfErr result (λ fault. refusal_of fault ≡ None) }
 {
     let rows = growth.rows;
@@ -98,7 +100,9 @@ fn columns_of_rows(
     ensures longer { IsLonger dict.old dict.new }
     ensures settled { IfOk result (IsSettled csv_seen dict.new) }
     ensures parts { IfOk result PartsFit }
-    ensures answer { ReadsAs dict.new result (meant.unless_refused (meant.first_long (length kinds.now) 2 (file_rows bytes.now)) (meant.columns_of_rows (texts_seen labels.now) kinds.now (file_rows bytes.now))) }
+    ensures answer { ReadsAs dict.new result
+        (meant.unless_refused (meant.first_long (length kinds.now) 2 (file_rows bytes.now))
+        (meant.columns_of_rows (texts_seen labels.now) kinds.now (file_rows bytes.now))) }
 {
     let growth = growth_of(alloc, dict, bytes, kinds.len(), kinds)?;
     if !growth.fits {
@@ -123,7 +127,8 @@ fn columns_under(
     ensures longer { IsLonger dict.old dict.new }
     ensures settled { IfOk result (IsSettled csv_seen dict.new) }
     ensures parts { IfOk result PartsFit }
-    ensures answer { ReadsAs dict.new result (meant.columns_of_records (entries_seen dict.old kinds.now) (file_records bytes.now)) }
+    ensures answer { ReadsAs dict.new result
+        (meant.columns_of_records (entries_seen dict.old kinds.now) (file_records bytes.now)) }
 {
     // Without named kinds no label is asked for one, so none is made for a table that is too wide.
     if kinds.len() == 0 && MOST_COLUMNS < header.len() {
@@ -146,7 +151,8 @@ fn columns_of_text(
     ensures longer { IsLonger dict.old dict.new }
     ensures settled { IfOk result (IsSettled csv_seen dict.new) }
     ensures parts { IfOk result PartsFit }
-    ensures answer { ReadsAs dict.new result (meant.columns_of_records (entries_seen dict.old kinds.now) (file_records bytes.now)) }
+    ensures answer { ReadsAs dict.new result
+        (meant.columns_of_records (entries_seen dict.old kinds.now) (file_records bytes.now)) }
 {
     let mut reader = reader_of(alloc, bytes);
     let mut header = StringRecord::new(alloc);
@@ -183,7 +189,8 @@ pub fn read_csv(
     ensures longer { IsLonger dict.old dict.new }
     ensures settled { IfOk result (IsSettled csv_seen dict.new) }
     ensures parts { IfOk result PartsFit }
-    ensures answer { ReadAnswers dict.old dict.new result (meant.columns_of_file bytes.now (entries_seen dict.old kinds.now)) }
+    ensures answer { ReadAnswers dict.old dict.new result
+        (meant.columns_of_file bytes.now (entries_seen dict.old kinds.now)) }
 {
     if MOST_BYTES < bytes.len() {
         return Err(CsvFault::TooLarge);

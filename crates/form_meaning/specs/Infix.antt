@@ -1,23 +1,23 @@
 -- Operators on scalars and tables.
 use Rattle.std.specs.Prelude.{ℕ, pos, Bool, true, false, ◌&&◌, List, [], ◌∷◌, map, length, replicate, is_some, Option, Some, None, Result, Ok, Err, if◌then◌else◌}
-use Rattle.std.specs.List.{list_all}
+use Rattle.std.specs.List.{list_all, list_any}
 use Rattle.std.specs.Ordering.{is_lt}
 use Rattle.std.specs.Cmp.Lexicographic.{slice_cmp}
 use Rattle.cell_core.specs.declared.cell.Kind.{Kind}
-use Rattle.cell_core.specs.declared.cell.Kind.TheVariants.{Boolean}
+use Rattle.cell_core.specs.declared.cell.Kind.TheVariants.{Int64, Boolean}
 use Rattle.cell_core.specs.declared.grid.Shape.{Shape}
 use Rattle.cell_core.specs.declared.grid.Shape.TheVariants.{Series, Frame}
 use Rattle.meaning.specs.Cell.{CellValue, int_cell, na_cell, LabelValue, label_cmp}
 use Rattle.meaning.specs.Column.{ColumnValue, taken}
 use Rattle.meaning.specs.Operator.{operator_kind, binary_column, scalar_column, invert_column}
 use Rattle.meaning.specs.Symbol.{Binary, sub, eq, ne, lt, le, gt, ge}
-use Rattle.meaning.specs.Fault.{FaultValue, wrong_kind, bad_value, levels, not_aligned, limit, not_built, then_value}
+use Rattle.meaning.specs.Fault.{FaultValue, wrong_kind, bad_value, levels, not_aligned, limit, then_value}
 use Rattle.align_meaning.specs.Faults.{met_rows}
 use Rattle.align_meaning.specs.Joins.{Lists, outer}
-use Rattle.table_meaning.specs.Table.{ColumnOf, Table, column_at}
+use Rattle.table_meaning.specs.Table.{ColumnOf, TableOf, Table, column_at}
 use Rattle.table_meaning.specs.Value.{Entry, cell, table}
 use Rattle.form_meaning.specs.Binding.{same_label}
-use Rattle.form_meaning.specs.Finish.{within_limits, same_heading, value_of_column, made_column, try_all, with_columns}
+use Rattle.form_meaning.specs.Finish.{within_limits, limited_table, same_heading, first_repeated, unless_repeated, same_kind, value_of_column, column_of_value, made_column, try_all, with_columns, column_labels}
 
 -- lists of equal labels
 abbrev pub same_tuple : List LabelValue → List LabelValue → Bool
@@ -169,23 +169,100 @@ first_heading (h ∷ hs) = h
 abbrev pub series_infix : Binary → Table → Table → Result Entry FaultValue
 series_infix op a b = rows_infix op a b record a { headings = common_name (first_heading a.headings) (first_heading b.headings) ∷ [] }
 
--- two frames whose columns have equal labels; the rest isn't built yet
+-- the label of a column that a tuple is
+abbrev pub tuple_heading : {L : Type 0} → List L → Option L
+tuple_heading [] = None
+tuple_heading (l ∷ ls) = Some l
+
+-- the column at a place of a side; where the side has none, one of missing cells, of the kind that stands opposite
+abbrev pub column_or_missing : {C : Type 0} → C → ℕ → List (ColumnOf C) → List (ColumnOf C) → Option ℕ → Option ℕ → ColumnOf C
+column_or_missing na count own other (Some place) opposite = column_at own place
+column_or_missing na count own other None (Some place) = record { kind = (column_at other place).kind; cells = replicate count na }
+column_or_missing na count own other None None = record { kind = Int64; cells = replicate count na }
+
+-- the columns at these places of a side, and at those of the other
+abbrev pub columns_or_missing : {C : Type 0} → C → ℕ → List (ColumnOf C) → List (ColumnOf C) → List (Option ℕ) → List (Option ℕ) → List (ColumnOf C)
+columns_or_missing na count own other (place ∷ places) (opposite ∷ opposites) = column_or_missing na count own other place opposite ∷ columns_or_missing na count own other places opposites
+columns_or_missing na count own other places opposites = []
+
+-- a frame under joined labels of columns, which it has at these places, and the other side at those
+abbrev pub on_columns : Table → Table → List (List LabelValue) → List (Option ℕ) → List (Option ℕ) → Table
+on_columns own other keys places opposites =
+    record own { headings = map tuple_heading keys; columns = columns_or_missing na_cell (length own.labels) own.columns other.columns places opposites }
+
+-- two frames whose columns meet in order, under the name of the columns that both have
+abbrev pub common_infix : Binary → Table → Table → Result Entry FaultValue
+common_infix op a b = rows_infix op a b record a { columns_name = common_name a.columns_name b.columns_name }
+
+-- frames under joined labels of columns, which aren't compared
+abbrev pub unequal_columns : Binary → Table → Table → Result Entry FaultValue
+unequal_columns op a b =
+    on_levels (list_all (meets op) (beside a.columns b.columns)) (same_count a.level_names b.level_names)
+    (if compares op then Err (bad_value not_aligned) else common_infix op a b)
+
+abbrev pub wide_infix : Binary → Table → Table → Joined → Result Entry FaultValue
+wide_infix op a b columns = unequal_columns op (on_columns a b columns.keys columns.left columns.right) (on_columns b a columns.keys columns.right columns.left)
+
+-- two frames by the labels of columns that either has
+abbrev pub joined_frames : Binary → Table → Table → Result Entry FaultValue
+joined_frames op a b = then_value (joined_rows (column_labels a) (column_labels b)) (wide_infix op a b)
+
+-- Two frames. Columns meet in order where the labels of both are equal, and else by the labels that either has.
 abbrev pub frame_infix : Binary → Table → Table → Result Entry FaultValue
-frame_infix op a b =
-    if same_headings a.headings b.headings
-    then rows_infix op a b record a { columns_name = common_name a.columns_name b.columns_name }
-    else Err not_built
+frame_infix op a b = if same_headings a.headings b.headings then common_infix op a b else joined_frames op a b
 
 -- a frame's columns with a Series' cells, which lie across them
 abbrev pub across_series : Bool → Table → Table → List Meeting
 across_series left f s = turned left (across (length f.labels) (column_at s.columns 0).kind f.columns (column_at s.columns 0).cells)
 
--- a frame with a Series whose labels are the labels of its columns: each row meets the Series
+-- the operator takes columns of this one's kind on both sides
+abbrev pub takes_twice : {C : Type 0} → Binary → ColumnOf C → Bool
+takes_twice op c = is_some (operator_kind op c.kind c.kind)
+
+-- a Series without a row has no cell to be taken
+abbrev pub takes_rows : {K C : Type 0} → Binary → List K → ColumnOf C → Bool
+takes_rows op [] c = true
+takes_rows op (label ∷ labels) c = takes_twice op c
+
+abbrev pub takes_each : {L C : Type 0} → Binary → TableOf L C → TableOf L C → Bool
+takes_each op f s = list_all (takes_twice op) f.columns && takes_rows op s.labels (column_at s.columns 0)
+
+-- each column under a label that the Series has is of the Series' kind, since no operator takes two
+abbrev pub labels_fit : {K C : Type 0} → (K → K → Bool) → Kind → List K → List K → List (ColumnOf C) → Bool
+labels_fit same kind labels (key ∷ keys) (c ∷ cs) = (if list_any (same key) labels then same_kind c.kind kind else true) && labels_fit same kind labels keys cs
+labels_fit same kind labels keys cs = true
+
+-- a Series in each row of a frame, as a frame whose columns it labels
+abbrev pub spread_series : Table → Table → Table
+spread_series f s =
+    record f {
+      headings = map tuple_heading s.labels;
+      columns = map (λ c. column_of_value (spread (column_at s.columns 0).kind (length f.labels) c)) (column_at s.columns 0).cells;
+    }
+
+-- such a frame, unless a label stands twice or it is beyond the limits
+abbrev pub spread_frame : Table → Table → Result Table FaultValue
+spread_frame f s = unless_repeated (first_repeated (spread_series f s).headings) (limited_table (spread_series f s))
+
+abbrev pub joined_turned : Binary → Bool → Table → Table → Result Entry FaultValue
+joined_turned op false f g = joined_frames op f g
+joined_turned op true f g = joined_frames op g f
+
+-- A frame with a Series of other labels than its columns: each row meets the Series by the labels of columns that either has. Kinds are tested first:
+-- each column's and the Series', and where a column and a label meet. They aren't compared, and no label of the Series stands twice.
+abbrev pub across_unequal : Binary → Bool → Table → Table → Result Entry FaultValue
+across_unequal op left f s =
+    on_levels (takes_each op f s) (has_one s.level_names)
+    (if labels_fit same_tuple (column_at s.columns 0).kind s.labels (column_labels f) f.columns
+    then (if compares op then Err (bad_value not_aligned) else then_value (spread_frame f s) (joined_turned op left f))
+    else Err wrong_kind)
+
+-- A frame with a Series. Each row meets the Series: in order where its labels are those of the columns, and else by its labels.
 abbrev pub across_infix : Binary → Bool → Table → Table → Result Entry FaultValue
 across_infix op left f s =
     if are_headings s.labels f.headings
     then on_levels (list_all (meets op) (across_series left f s)) (has_one s.level_names) (infix_table op f (across_series left f s))
-    else Err not_built
+    else across_unequal op left f s
 
 abbrev pub table_infix : Binary → Shape → Shape → Table → Table → Result Entry FaultValue
 table_infix op Series Series a b = series_infix op a b

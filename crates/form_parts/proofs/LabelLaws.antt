@@ -19,6 +19,8 @@ use Rattle.table_meaning.specs.Settled.{IsSettled}
 use Rattle.table_meaning.specs.Table.{heading_value}
 use Rattle.form_meaning.specs.Binding.{same_label}
 use Rattle.frame_store.proofs.Settling.{cell_given}
+use Rattle.label_align.proofs.SameLaws.{value_same, is_equal}
+pub use Rattle.label_align.proofs.SameLaws.{label_one}
 
 abbrev text_in : LabelValue → Text
 text_in (text t) = t
@@ -35,60 +37,8 @@ label_given texts (label.Int z) settled = tt
 label_given texts (label.Bool b) settled = tt
 label_given texts (label.Text id) settled = cell_given texts (cell.Text id) (λ more. ap (λ l. text_cell (text_in l)) (settled more))
 
-bool_same : (a b : Bool) → bool_cmp a b ≡ Equal → a ≡ b
-bool_same true true e = refl
-bool_same false false e = refl
-bool_same true false e = cc
-bool_same false true e = cc
-
--- labels that compare as equal are the same
-value_same : (a b : LabelValue) → label_cmp a b ≡ Equal → a ≡ b
-value_same (truth a) (truth b) e = ap (λ x. truth x) (bool_same a b e)
-value_same (int a) (int b) e = ap (λ x. int x) (int_cmp-IsAntisymmetric a b e)
-value_same (text a) (text b) e = ap (λ x. text x) (slice_cmp-IsAntisymmetric nat_cmp-IsAntisymmetric a b e)
-value_same na na e = refl
-value_same (truth a) (int b) e = cc
-value_same (truth a) (text b) e = cc
-value_same (truth a) na e = cc
-value_same (int a) (truth b) e = cc
-value_same (int a) (text b) e = cc
-value_same (int a) na e = cc
-value_same (text a) (truth b) e = cc
-value_same (text a) (int b) e = cc
-value_same (text a) na e = cc
-value_same na (truth b) e = cc
-value_same na (int b) e = cc
-value_same na (text b) e = cc
-
-is_equal : (o : Ordering) → is_eq o ≡ true → o ≡ Equal
-is_equal Equal e = refl
-is_equal Less e = cc
-is_equal Greater e = cc
-
 pub value_decides : (a b : LabelValue) → Decides (same_label a b) (a ≡ b)
 value_decides a b = (λ e. value_same a b (is_equal (label_cmp a b) e), λ e. ap (λ x. is_eq (label_cmp a x)) (sym e) ∙ ap is_eq (tied_itself label_total a))
-
-id_same : (x y : TextId) → x.0 ≡ y.0 → x ≡ y
-id_same x y e = λ i. record { 0 = e i }
-
--- labels of one text have one number
-pub label_one : (texts : List Text) (a b : Label) → AreDistinct texts → IsGivenLabel texts a → IsGivenLabel texts b → label_datum texts a ≡ label_datum texts b → a ≡ b
-label_one texts (label.Bool a) (label.Bool b) distinct f g e = cc
-label_one texts (label.Int a) (label.Int b) distinct f g e = cc
-label_one texts (label.Text a) (label.Text b) distinct f g e = ap (λ x. label.Text x) (id_same a b (distinct a.0 b.0 f g (ap text_in e)))
-label_one texts label.Na label.Na distinct f g e = refl
-label_one texts (label.Bool a) (label.Int b) distinct f g e = cc
-label_one texts (label.Bool a) (label.Text b) distinct f g e = cc
-label_one texts (label.Bool a) label.Na distinct f g e = cc
-label_one texts (label.Int a) (label.Bool b) distinct f g e = cc
-label_one texts (label.Int a) (label.Text b) distinct f g e = cc
-label_one texts (label.Int a) label.Na distinct f g e = cc
-label_one texts (label.Text a) (label.Bool b) distinct f g e = cc
-label_one texts (label.Text a) (label.Int b) distinct f g e = cc
-label_one texts (label.Text a) label.Na distinct f g e = cc
-label_one texts label.Na (label.Bool b) distinct f g e = cc
-label_one texts label.Na (label.Int b) distinct f g e = cc
-label_one texts label.Na (label.Text b) distinct f g e = cc
 
 -- a test by numbers is the test by texts
 pub same_by_number : (texts : List Text) (a b : Label) (r : Bool) → AreDistinct texts → IsSettled label_datum texts a → IsSettled label_datum texts b → Decides r (a ≡ b)

@@ -2,3 +2,4 @@ pub mod LabelLaws
 pub mod ObjectMade
 pub mod TableMade
 pub mod RowLaws
+pub mod GapLaws

@@ -4,7 +4,7 @@ use Rattle.std.specs.Bool.{Decides}
 use Rattle.std.proofs.lemmas.Bool.Decides.{same_from_decides, Decides-and, Decides-like}
 use Rattle.std.proofs.lemmas.List.Elements.{All-nil, All-cons, All-head, All-tail}
 use Rattle.cell_core.specs.declared.cell.Label.{Label}
-use Rattle.cell_core.specs.Texts.{AreDistinct}
+use Rattle.cell_core.specs.Texts.{AreDistinct, IsGivenLabel}
 use Rattle.cell_core.specs.Values.{LabelValue, label_datum}
 use Rattle.meaning.specs.Text.{Text}
 use Rattle.table_meaning.specs.Settled.{IsSettled}
@@ -13,6 +13,7 @@ use Rattle.form_meaning.specs.Binding.{same_label}
 use Rattle.form_meaning.specs.Infix.{same_tuple, same_tuples}
 use Rattle.frame_store.specs.Shown.{labels_value}
 use Rattle.row_keys.specs.Keys.{same_tuple as same_numbers}
+use Rattle.label_align.specs.Runs.{AreGivenTuples}
 use Rattle.label_align.proofs.SameLaws.{tuple_decides as numbers_decide}
 use Rattle.form_parts.proofs.LabelLaws.{label_given, label_one, value_decides}
 
@@ -75,6 +76,15 @@ tuple_by_number texts a b distinct f g =
       λ e. (tuple_decides (tuple_value texts a) (tuple_value texts b)).1 (ap (tuple_value texts) e),
     ) in
     same_from_decides (same_tuple (tuple_value texts a) (tuple_value texts b)) (same_numbers a b) there (numbers_decide a b)
+
+-- the labels of tuples that further texts leave as they are were given
+tuple_given : (texts : List Text) (t : List Label) → IsSettled tuple_value texts t → All (IsGivenLabel texts) t
+tuple_given texts [] settled = All-nil (IsGivenLabel texts)
+tuple_given texts (l ∷ ls) settled = All-cons (IsGivenLabel texts) l ls (label_given texts l (label_settled texts l ls settled)) (tuple_given texts ls (rest_settled texts l ls settled))
+
+pub tuples_given : (texts : List Text) (ts : List (List Label)) → IsSettled labels_value texts ts → AreGivenTuples texts ts
+tuples_given texts [] settled = All-nil (λ t. All (IsGivenLabel texts) t)
+tuples_given texts (t ∷ ts) settled = All-cons (λ t. All (IsGivenLabel texts) t) t ts (tuple_given texts t (tuple_settled texts t ts settled)) (tuples_given texts ts (rows_settled texts t ts settled))
 
 -- each tuple of rows whose texts were given
 pub tuples_settled : (texts : List Text) (ts : List (List Label)) → IsSettled labels_value texts ts → All (IsSettled tuple_value texts) ts

@@ -28,7 +28,9 @@ fn push_all_headings<G: Grid>(
     text: &mut String,
     source: &Source<'_, G>,
 ) -> Result<(), NoMemory>
-    ensures { OnOk result (out.new ≡ out.old ++ join_by (λ column. shown_name (heading_at source.now column)) (codes ", ") (places (length source.now.columns))) }
+    ensures { OnOk result (out.new
+        ≡ out.old ++ join_by (λ column. shown_name (heading_at source.now column)) (codes ", ")
+        (places (length source.now.columns))) }
 {
     for column in 0..source.columns() {
         push_gap(out, ", ", column)?;
@@ -43,7 +45,9 @@ fn push_all_labels<G: Grid>(
     text: &mut String,
     source: &Source<'_, G>,
 ) -> Result<(), NoMemory>
-    ensures { OnOk result (out.new ≡ out.old ++ join_by (whole_label source.now) (codes ", ") (places (length source.now.labels))) }
+    ensures { OnOk result (out.new
+        ≡ out.old ++ join_by (whole_label source.now) (codes ", ")
+        (places (length source.now.labels))) }
 {
     for row in 0..source.rows() {
         push_gap(out, ", ", row)?;
@@ -78,7 +82,9 @@ fn push_each_level<G: Grid>(
     row: usize,
 ) -> Result<(), NoMemory>
     requires { row < length source.now.labels }
-    ensures { OnOk result (out.new ≡ out.old ++ join_by (λ level. shown_label (label_at source.now row level)) (codes ", ") (places (length source.now.level_names))) }
+    ensures { OnOk result (out.new
+        ≡ out.old ++ join_by (λ level. shown_label (label_at source.now row level)) (codes ", ")
+        (places (length source.now.level_names))) }
 {
     for level in 0..source.levels() {
         push_gap(out, ", ", level)?;

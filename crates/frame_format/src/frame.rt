@@ -92,7 +92,8 @@ fn widths_of_columns<G: Grid>(
     text: &mut String,
     source: &Source<'_, G>,
 ) -> Result<Vec<usize>, NoMemory>
-    ensures { IfOk result (λ widths. widths.items ≡ map (titled_width source.now) (places (length source.now.columns))) }
+    ensures { IfOk result (λ widths. widths.items
+        ≡ map (titled_width source.now) (places (length source.now.columns))) }
 {
     let mut widths = Vec::new(alloc);
     for column in 0..source.columns() {
@@ -142,7 +143,9 @@ fn push_headings<G: Grid>(
     widths: &[usize],
 ) -> Result<(), NoMemory>
     requires { length widths.now ≡ length source.now.columns }
-    ensures { OnOk result (out.new ≡ out.old ++ set_columns (length source.now.columns) (slice_index widths.now) (λ column. shown_name (heading_at source.now column))) }
+    ensures { OnOk result (out.new
+        ≡ out.old ++ set_columns (length source.now.columns) (slice_index widths.now)
+        (λ column. shown_name (heading_at source.now column))) }
 {
     for column in 0..widths.len() {
         source.show_heading(text, column)?;
@@ -184,7 +187,9 @@ fn push_names_line<G: Grid>(
 }
 
 fn push_blanks(out: &mut Words, widths: &[usize]) -> Result<(), NoMemory>
-    ensures { OnOk result (out.new ≡ out.old ++ set_columns (length widths.now) (slice_index widths.now) (λ column. codes "")) }
+    ensures { OnOk result (out.new
+        ≡ out.old ++ set_columns (length widths.now) (slice_index widths.now)
+        (λ column. codes "")) }
 {
     for column in 0..widths.len() {
         push_spaces(out, 2)?;
@@ -200,7 +205,9 @@ fn push_frame_lines<G: Grid>(
     layout: &FrameLayout,
 ) -> Result<(), NoMemory>
     requires { IsFrameLayout source.now layout.now }
-    ensures { OnOk result (out.new ≡ out.old ++ flat_map (λ row. codes "\n" ++ frame_line source.now row) (places (length source.now.labels))) }
+    ensures { OnOk result (out.new
+        ≡ out.old ++ flat_map (λ row. codes "\n" ++ frame_line source.now row)
+        (places (length source.now.labels))) }
 {
     for row in 0..source.rows() {
         out.push_str("\n")?;
@@ -234,7 +241,9 @@ fn push_cells<G: Grid>(
 ) -> Result<(), NoMemory>
     requires columns { length widths.now ≡ length source.now.columns }
     requires row { row < length source.now.labels }
-    ensures { OnOk result (out.new ≡ out.old ++ set_columns (length source.now.columns) (slice_index widths.now) (λ column. shown_cell (cell_at source.now row column))) }
+    ensures { OnOk result (out.new
+        ≡ out.old ++ set_columns (length source.now.columns) (slice_index widths.now)
+        (λ column. shown_cell (cell_at source.now row column))) }
 {
     for column in 0..widths.len() {
         source.show_cell(text, row, column)?;

@@ -65,7 +65,8 @@ pub(crate) fn widths_of_levels<G: Grid>(
     text: &mut String,
     source: &Source<'_, G>,
 ) -> Result<Vec<usize>, NoMemory>
-    ensures { IfOk result (λ widths. widths.items ≡ map (level_width source.now) (places (length source.now.level_names))) }
+    ensures { IfOk result (λ widths. widths.items
+        ≡ map (level_width source.now) (places (length source.now.level_names))) }
 {
     let mut widths = Vec::new(alloc);
     for level in 0..source.levels() {
@@ -95,7 +96,9 @@ pub(crate) fn push_names<G: Grid>(
     widths: &[usize],
 ) -> Result<(), NoMemory>
     requires { length widths.now ≡ length source.now.level_names }
-    ensures { OnOk result (out.new ≡ out.old ++ side_by_side gap.now (length source.now.level_names) (slice_index widths.now) (level_title source.now)) }
+    ensures { OnOk result (out.new
+        ≡ out.old ++ side_by_side gap.now (length source.now.level_names) (slice_index widths.now)
+        (level_title source.now)) }
 {
     for level in 0..widths.len() {
         push_gap(out, gap, level)?;
@@ -116,7 +119,9 @@ pub(crate) fn push_labels<G: Grid>(
 ) -> Result<(), NoMemory>
     requires levels { length widths.now ≡ length source.now.level_names }
     requires row { row < length source.now.labels }
-    ensures { OnOk result (out.new ≡ out.old ++ side_by_side gap.now (length source.now.level_names) (slice_index widths.now) (level_text source.now row)) }
+    ensures { OnOk result (out.new
+        ≡ out.old ++ side_by_side gap.now (length source.now.level_names) (slice_index widths.now)
+        (level_text source.now row)) }
 {
     let mut repeated = true;
     for level in 0..widths.len() {

@@ -44,7 +44,8 @@ pub fn csv_text<G: Grid>(
 // records of a table have one length.
 fn write_record(writer: &mut Writer<Vec<u8>>, record: &ByteRecord) -> Result<(), NoMemory>
     requires { IsFilled record.now }
-    ensures { OnOk result ((bytes : List ℕ) → HasWritten writer.old bytes → HasWritten writer.new (bytes ++ record_text (fields_of record.now))) }
+    ensures { OnOk result ((bytes : List ℕ) → HasWritten writer.old bytes →
+        HasWritten writer.new (bytes ++ record_text (fields_of record.now))) }
 {
     let Ok(()) = writer.write_byte_record(record) else {
         return Err(NoMemory);
@@ -88,7 +89,8 @@ fn put_index_names<G: Grid>(
     index: bool,
 ) -> Result<(), NoMemory>
     requires { IsFilled record.old }
-    ensures fields { OnOk result (fields_of record.new ≡ fields_of record.old ++ (if index then map name_field source.now.level_names else [])) }
+    ensures fields { OnOk result (fields_of record.new
+        ≡ fields_of record.old ++ (if index then map name_field source.now.level_names else [])) }
     ensures filled { OnOk result (IsFilled record.new) }
 {
     if !index {
@@ -103,7 +105,8 @@ fn put_level_names<G: Grid>(
     source: &Source<'_, G>,
 ) -> Result<(), NoMemory>
     requires { IsFilled record.old }
-    ensures fields { OnOk result (fields_of record.new ≡ fields_of record.old ++ map name_field source.now.level_names) }
+    ensures fields { OnOk result (fields_of record.new
+        ≡ fields_of record.old ++ map name_field source.now.level_names) }
     ensures filled { OnOk result (IsFilled record.new) }
 {
     for level in 0..source.levels() {
@@ -119,7 +122,8 @@ fn put_headings<G: Grid>(
     source: &Source<'_, G>,
 ) -> Result<(), NoMemory>
     requires { IsFilled record.old }
-    ensures fields { OnOk result (fields_of record.new ≡ fields_of record.old ++ map heading_field source.now.headings) }
+    ensures fields { OnOk result (fields_of record.new
+        ≡ fields_of record.old ++ map heading_field source.now.headings) }
     ensures filled { OnOk result (IsFilled record.new) }
 {
     for column in 0..source.columns() {
@@ -138,7 +142,8 @@ fn fill_row<G: Grid>(
     row: usize,
 ) -> Result<(), NoMemory>
     requires { row < length source.now.labels }
-    ensures fields { OnOk result (fields_of record.new ≡ row_fields index (row_of na_cell source.now row)) }
+    ensures fields { OnOk result (fields_of record.new
+        ≡ row_fields index (row_of na_cell source.now row)) }
     ensures filled { OnOk result (IsFilled record.new) }
 {
     record.clear();
@@ -155,7 +160,9 @@ fn put_index_labels<G: Grid>(
 ) -> Result<(), NoMemory>
     requires row { row < length source.now.labels }
     requires filled { IsFilled record.old }
-    ensures fields { OnOk result (fields_of record.new ≡ fields_of record.old ++ (if index then map label_field (row_of na_cell source.now row).labels else [])) }
+    ensures fields { OnOk result (fields_of record.new
+        ≡ fields_of record.old
+        ++ (if index then map label_field (row_of na_cell source.now row).labels else [])) }
     ensures filled { OnOk result (IsFilled record.new) }
 {
     if !index {
@@ -172,7 +179,8 @@ fn put_labels<G: Grid>(
 ) -> Result<(), NoMemory>
     requires row { row < length source.now.labels }
     requires filled { IsFilled record.old }
-    ensures fields { OnOk result (fields_of record.new ≡ fields_of record.old ++ map label_field (row_of na_cell source.now row).labels) }
+    ensures fields { OnOk result (fields_of record.new
+        ≡ fields_of record.old ++ map label_field (row_of na_cell source.now row).labels) }
     ensures filled { OnOk result (IsFilled record.new) }
 {
     for level in 0..source.levels() {
@@ -190,7 +198,8 @@ fn put_cells<G: Grid>(
 ) -> Result<(), NoMemory>
     requires row { row < length source.now.labels }
     requires filled { IsFilled record.old }
-    ensures fields { OnOk result (fields_of record.new ≡ fields_of record.old ++ map cell_field (row_of na_cell source.now row).cells) }
+    ensures fields { OnOk result (fields_of record.new
+        ≡ fields_of record.old ++ map cell_field (row_of na_cell source.now row).cells) }
     ensures filled { OnOk result (IsFilled record.new) }
 {
     for column in 0..source.columns() {

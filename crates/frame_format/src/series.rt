@@ -54,7 +54,8 @@ fn widths_beside_values<G: Grid>(
     text: &mut String,
     source: &Source<'_, G>,
 ) -> Result<Vec<usize>, NoMemory>
-    ensures { IfOk result (λ widths. widths.items ≡ map (series_width source.now) (places (length source.now.level_names))) }
+    ensures { IfOk result (λ widths. widths.items
+        ≡ map (series_width source.now) (places (length source.now.level_names))) }
 {
     if source.levels() == 1 {
         let mut widths = Vec::new(alloc);
@@ -118,7 +119,9 @@ fn push_series_lines<G: Grid>(
 ) -> Result<(), NoMemory>
     requires column { length source.now.columns ≡ 1 }
     requires layout { IsSeriesLayout source.now layout.now }
-    ensures { OnOk result (out.new ≡ out.old ++ flat_map (λ row. series_line source.now row ++ codes "\n") (places (length source.now.labels))) }
+    ensures { OnOk result (out.new
+        ≡ out.old ++ flat_map (λ row. series_line source.now row ++ codes "\n")
+        (places (length source.now.labels))) }
 {
     for row in 0..source.rows() {
         push_series_line(out, text, source, layout, row)?;

@@ -50,7 +50,8 @@ impl<'a, G: Grid> Source<'a, G> {
 
     pub(crate) fn levels(&self) -> usize
         ensures count { result ≡ length self.now.level_names }
-        ensures tuples { (row : ℕ) → row < length self.now.labels → length (slice_index_or self.now.labels row []) ≡ length self.now.level_names }
+        ensures tuples { (row : ℕ) → row < length self.now.labels →
+            length (slice_index_or self.now.labels row []) ≡ length self.now.level_names }
     {
         self.grid.levels()
     }

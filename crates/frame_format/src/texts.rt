@@ -162,7 +162,8 @@ fn put_escaped(text: &mut String, piece: &str) -> Result<(), NoMemory>
 }
 
 fn put_character(text: &mut String, character: char) -> Result<(), NoMemory>
-    ensures { OnOk result (string_bytes text.new ≡ string_bytes text.old ++ shown_text (encode_utf8 character)) }
+    ensures { OnOk result (string_bytes text.new
+        ≡ string_bytes text.old ++ shown_text (encode_utf8 character)) }
 {
     match character {
         '\t' => text.push_str("\\t")?,

@@ -1,10 +1,11 @@
 -- Columns as the labels of the rows.
-use Rattle.std.proofs.Common.{◌≡◌, ◌∙◌, refl, ap, sym, subst, arith, ℕ, zero, suc, ◌+◌, ◌<◌, ◌≤◌, Bool, true, false, ◌&&◌, List, [], ◌∷◌, ◌++◌, map, length, get_or, slice_index_or, All, Option, Some, None, Result, Ok, Err, if◌then◌else◌}
+use Rattle.std.proofs.Common.{◌≡◌, ◌∙◌, refl, ap, sym, subst, arith, ℕ, zero, suc, ◌+◌, ◌<◌, ◌≤◌, Bool, true, false, ◌&&◌, List, [], ◌∷◌, ◌++◌, map, length, take, get_or, slice_index_or, All, Option, Some, None, Result, Ok, Err, if◌then◌else◌}
 use Rattle.std.specs.Prelude.{nat_le, filter, slice_get, IsSome}
 use Rattle.std.specs.List.{range_with_len}
 use Rattle.std.proofs.Math.ListN.{get_or-map}
 use Rattle.std.proofs.lemmas.Bool.Decides.{nat_tests}
-use Rattle.std.proofs.lemmas.List.{length-map, map-append}
+use Rattle.std.proofs.lemmas.List.{length-map, map-append, take_more}
+use Rattle.std.proofs.lemmas.Option.{get_or_from_slice_get}
 use Rattle.std.proofs.lemmas.List.FromFn.{length-range_with_len}
 use Rattle.std.proofs.lemmas.List.Elements.{All-cons, All-nil}
 use Rattle.cell_core.specs.Texts.{AreDistinct}
@@ -18,7 +19,7 @@ use Rattle.meaning.specs.Fault.{FaultValue, limit, then_value}
 use Rattle.meaning.specs.FaultOf.{fault_of}
 use Rattle.meaning.specs.Operator.{cell_label}
 use Rattle.meaning.specs.Text.{Text}
-use Rattle.multi_index.specs.Axes.{AxisValue, HaveLevels}
+use Rattle.multi_index.specs.Axes.{AxisValue, HaveLevels, single_tuples}
 use Rattle.table_meaning.specs.Settled.{IsSettled}
 use Rattle.table_meaning.specs.Table.{ColumnOf, NumberedTable, Table, column_at, no_column, table_value, heading_value, tuple_value, column_value}
 use Rattle.table_meaning.specs.Valid.{IsWhole}
@@ -38,7 +39,7 @@ use Rattle.selections.specs.Headings.{NamesRepeated, repeated_heading}
 use Rattle.selections.specs.Selected.{heading_of, headings_at}
 use Rattle.selections.proofs.AnswerLaws.{column_seen}
 use Rattle.selections.proofs.HeadingLaws.{repeated_seen, different}
-use Rattle.selections.proofs.PickedLaws.{one_more_place}
+use Rattle.selections.proofs.PickedLaws.{one_more_place, list_is}
 use Rattle.selections.proofs.PlaceLaws.{heading_seen, heading_settled}
 use Rattle.selections.proofs.RefusalLaws.{repeated_settled}
 use Rattle.signatures.proofs.ToldLaws.{some_same}
@@ -100,6 +101,39 @@ rows_alike t places rows tuples is = subst (HaveLevels (length places)) (sym is)
     go : (rows : List ℕ) → HaveLevels (length places) (map (row_labels t places) rows)
     go [] = All-nil (λ (tuple : List Label). length tuple ≡ length places)
     go (r ∷ rs) = All-cons (λ (tuple : List Label). length tuple ≡ length places) (row_labels t places r) (map (row_labels t places) rs) (one r) (go rs)
+
+-- one label more
+pub one_more_label : (cells : List Cell) (row : ℕ) (c : Cell) (l : Label) (before after : List Label) → row < length cells → slice_get cells row ≡ Some c → l ≡ label_of c → before ≡ map label_of (take row cells) → after ≡ before ++ l ∷ [] → after ≡ map label_of (take (row + 1) cells)
+one_more_label cells row c l before after lt at is was pushed =
+    let here : l ≡ label_of (slice_index_or cells row cell.Na) = is ∙ ap label_of (sym (get_or_from_slice_get cells row c cell.Na at)) in
+    pushed ∙ (λ j. was j ++ here j ∷ []) ∙ sym (ap (map label_of) (take_more cells row cell.Na lt) ∙ map-append label_of (take row cells) (slice_index_or cells row cell.Na ∷ []))
+
+pub place_inside : (places : List ℕ) (place n : ℕ) → slice_get places 0 ≡ Some place → All (λ p. p < n) places → place < n
+place_inside [] place n at all = absurd (let e : None ≡ Some place = at in (cc))
+place_inside (p ∷ ps) place n at all = let e : p ≡ place = cc in subst (λ (m : ℕ). m < n) e (all 0 0 (omega arith))
+
+-- the labels of one column as tuples
+only_place : (places : List ℕ) (place : ℕ) → length places ≡ 1 → slice_get places 0 ≡ Some place → places ≡ place ∷ []
+only_place [] place one at = absurd (omega (arith, one))
+only_place (p ∷ []) place one at = let e : p ≡ place = cc in ap (λ (m : ℕ). m ∷ []) e
+only_place (p ∷ q ∷ ps) place one at = absurd (omega (arith, one))
+
+abbrev as_tuple : Cell → List Label
+as_tuple c = label_of c ∷ []
+
+single_cells : (cells : List Cell) → single_tuples (map label_of cells) ≡ map as_tuple cells
+single_cells [] = refl
+single_cells (c ∷ cs) = ap (λ l. as_tuple c ∷ l) (single_cells cs)
+
+pub single_column : (t : NumberedTable) (places : List ℕ) (place : ℕ) (cells : List Cell) → length places ≡ 1 → slice_get places 0 ≡ Some place → cells ≡ (column_at t.columns place).cells → length cells ≡ length t.labels
+    → single_tuples (map label_of cells) ≡ map (row_labels t places) (range_with_len 0 (length t.labels))
+single_column t places place cells one at is many =
+    let f : ℕ → List Label = row_labels t (place ∷ []) in
+    let here : (k : ℕ) → as_tuple (slice_index_or cells k cell.Na) ≡ f k = λ k. ap (λ (cs : List Cell). as_tuple (slice_index_or cs k cell.Na)) is in
+    single_cells cells
+    ∙ sym (list_is f (map as_tuple cells) 0 (as_tuple cell.Na) (λ k lt. (let e : 0 + k ≡ k = omega arith in ap f e) ∙ sym (here k) ∙ sym (get_or-map as_tuple cells k cell.Na)))
+    ∙ ap (λ (n : ℕ). map f (range_with_len 0 n)) (length-map cells as_tuple ∙ many)
+    ∙ ap (λ (ps : List ℕ). map (row_labels t ps) (range_with_len 0 (length t.labels))) (sym (only_place places place one at))
 
 -- the axis of the columns
 abbrev pub index_axis : NumberedTable → List ℕ → AxisValue

@@ -14,8 +14,13 @@ pub mod CsvLaws
 pub mod RowLaws
 pub mod DuplicateLaws
 pub mod SortLaws
-pub mod RankLaws
 pub mod NamedLaws
 pub mod UnderLaws
 pub mod LevelNameLaws
 pub mod IndexingLaws
+pub mod LevelColumnLaws
+pub mod ResetLaws
+pub mod ResetTableLaws
+pub mod LevelMoveLaws
+pub mod ReindexLaws
+pub mod SectionLaws

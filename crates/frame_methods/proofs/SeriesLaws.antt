@@ -30,14 +30,14 @@ pub tuples_alike : (hs : List (Option Label)) → HaveLevels 1 (map column_tuple
 tuples_alike hs = All-map (λ (tuple : List Label). length tuple ≡ 1) column_tuple hs (λ k d lt. single (slice_index_or hs k d))
 
 -- the label of a column as a tuple, with texts
-abbrev label_tuple : Option LabelValue → List LabelValue
+abbrev pub label_tuple : Option LabelValue → List LabelValue
 label_tuple h = unwrap_or h (int (pos 0)) ∷ []
 
 tuple_seen : (texts : List Text) (h : Option Label) → label_tuple (heading_value texts h) ≡ tuple_value texts (column_tuple h)
 tuple_seen texts None = refl
 tuple_seen texts (Some l) = refl
 
-tuples_seen : (texts : List Text) (hs : List (Option Label)) → map label_tuple (headings_value texts hs) ≡ labels_value texts (map column_tuple hs)
+pub tuples_seen : (texts : List Text) (hs : List (Option Label)) → map label_tuple (headings_value texts hs) ≡ labels_value texts (map column_tuple hs)
 tuples_seen texts [] = refl
 tuples_seen texts (h ∷ hs) = λ j. tuple_seen texts h j ∷ tuples_seen texts hs j
 

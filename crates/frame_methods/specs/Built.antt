@@ -10,6 +10,8 @@ use Rattle.frame_methods.specs.declared.built.RowMethod.{RowMethod}
 use Rattle.frame_methods.specs.declared.built.RowMethod.TheVariants as rows
 use Rattle.frame_methods.specs.declared.built.LevelMethod.{LevelMethod}
 use Rattle.frame_methods.specs.declared.built.LevelMethod.TheVariants as levels
+use Rattle.frame_methods.specs.declared.built.LabelMethod.{LabelMethod}
+use Rattle.frame_methods.specs.declared.built.LabelMethod.TheVariants as labels
 use Rattle.frame_methods.specs.declared.built.Built.{Built}
 use Rattle.frame_methods.specs.declared.built.Built.TheVariants as built
 
@@ -35,6 +37,14 @@ row_method rows.SortIndex = method.SortIndex
 abbrev pub level_method : LevelMethod → Method
 level_method levels.RenameAxis = method.RenameAxis
 level_method levels.SetIndex = method.SetIndex
+level_method levels.ResetIndex = method.ResetIndex
+level_method levels.Droplevel = method.Droplevel
+level_method levels.Swaplevel = method.Swaplevel
+
+abbrev pub label_method : LabelMethod → Method
+label_method labels.ReindexSeries = method.ReindexSeries
+label_method labels.ReindexFrame = method.ReindexFrame
+label_method labels.Xs = method.Xs
 
 abbrev pub method_of : Built → Method
 method_of built.Copy = method.Copy
@@ -50,6 +60,7 @@ method_of built.Head = method.Head
 method_of built.Tail = method.Tail
 method_of (built.Rows m) = row_method m
 method_of (built.Levels m) = level_method m
+method_of (built.Labels m) = label_method m
 method_of built.RenameSeries = method.RenameSeries
 method_of built.RenameFrame = method.RenameFrame
 method_of built.ToFrame = method.ToFrame

@@ -10,6 +10,9 @@ pub mod Faults
 pub mod Listed
 pub mod Renames
 pub mod Sorts
-pub mod Ranks
 pub mod Rows
 pub mod Named
+pub mod Reindexed
+pub mod Section
+pub mod LevelColumns
+pub mod Resets

@@ -1,4 +1,4 @@
-// Other names of the levels.
+// Other names of the levels, and other labels of the rows.
 ghost use Rattle.std.specs.Prelude.{◌≡◌, ◌++◌, List, map, slice_get, OnOk, IfOk};
 ghost use Rattle.meaning.specs.Text.{Text as OneText};
 ghost use Rattle.meaning.specs.Operator.{cell_label};
@@ -6,6 +6,7 @@ ghost use Rattle.table_meaning.specs.Settled.{IsSettled};
 ghost use Rattle.table_meaning.specs.Table.{table_value};
 ghost use Rattle.table_meaning.specs.Valid.{IsWhole};
 ghost use Rattle.form_meaning.specs.Binding.{HasNoText};
+ghost use Rattle.form_meaning.specs.Finish.{limited};
 ghost use Rattle.method_meaning.specs.Levels as meant;
 ghost use Rattle.frame_store.specs.Objects.{Tables};
 ghost use Rattle.frame_store.specs.Shown.{headings_value, Makes};
@@ -17,6 +18,7 @@ use crate::under::{named_axis, table_under_axis};
 use cell_core::{Code, Grid, Label, NoMemory, Reason};
 use form_parts::{label_of, name_of, within_limits};
 use frame_store::{Item, ObjRef, OpFault, Table};
+use multi_index::Axis;
 use signatures::Bound;
 use std::alloc::Global;
 
@@ -67,5 +69,18 @@ pub(crate) fn rename_axis(
         return Err(OpFault::Refused(Code::Limit));
     }
     let axis = named_axis(on.axis().copy(alloc)?, names);
+    Ok(table_under_axis(alloc, on, axis)?)
+}
+
+// The table with the labels 0, 1 and so on in place of its own.
+pub(crate) fn renumber(alloc: Global, on: &ObjRef<'_>) -> Result<Table, OpFault>
+    requires { IsWhole on.now }
+    ensures { (texts : List OneText) → IsSettled table_value texts on.now
+        → Makes texts result (limited (meant.renumbered (table_value texts on.now))) }
+{
+    if !within_limits(on.rows(), on.columns()) {
+        return Err(OpFault::Refused(Code::Limit));
+    }
+    let axis = Axis::range(alloc, on.rows())?;
     Ok(table_under_axis(alloc, on, axis)?)
 }

@@ -45,8 +45,22 @@ pub(crate) enum RowMethod {
 pub(crate) enum LevelMethod {
     // Other names of the levels.
     RenameAxis,
-    // Columns as levels.
+    // Columns as levels, and levels as columns.
     SetIndex,
+    ResetIndex,
+    // Without a level, or with two exchanged.
+    Droplevel,
+    Swaplevel,
+}
+
+// A method that makes a table of the rows, or of the columns, that labels name.
+#[derive(Clone, Copy)]
+pub(crate) enum LabelMethod {
+    // The rows, or the columns, of a list of labels.
+    ReindexSeries,
+    ReindexFrame,
+    // The rows with a label on one level.
+    Xs,
 }
 
 // What a method that is built makes.
@@ -64,6 +78,8 @@ pub(crate) enum Built {
     Rows(RowMethod),
     // The rows under other labels.
     Levels(LevelMethod),
+    // The rows or the columns of labels.
+    Labels(LabelMethod),
     // The same rows under other headings: a name, labels, or those of a frame.
     RenameSeries,
     RenameFrame,
@@ -109,7 +125,13 @@ impl Built {
             Method::RenameFrame => Some(Built::RenameFrame),
             Method::RenameAxis => Some(Built::Levels(LevelMethod::RenameAxis)),
             Method::SetIndex => Some(Built::Levels(LevelMethod::SetIndex)),
+            Method::ResetIndex => Some(Built::Levels(LevelMethod::ResetIndex)),
             Method::DropColumns => Some(Built::DropColumns),
+            Method::Droplevel => Some(Built::Levels(LevelMethod::Droplevel)),
+            Method::Swaplevel => Some(Built::Levels(LevelMethod::Swaplevel)),
+            Method::ReindexSeries => Some(Built::Labels(LabelMethod::ReindexSeries)),
+            Method::ReindexFrame => Some(Built::Labels(LabelMethod::ReindexFrame)),
+            Method::Xs => Some(Built::Labels(LabelMethod::Xs)),
             Method::ToFrame => Some(Built::ToFrame),
             Method::ToCsv => Some(Built::ToCsv),
             _ => None,

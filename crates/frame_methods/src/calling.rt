@@ -13,23 +13,27 @@ ghost use Rattle.frame_store.specs.Arguments.{entry_of, object_value, shape_at, 
 ghost use Rattle.frame_store.specs.Objects.{tables, table_at};
 ghost use Rattle.frame_store.specs.Shown.{Makes};
 ghost use Rattle.frame_store.specs.World.{world, entry_in, arguments_in, IsSettledWorld, AreKnownArguments, Forms};
-ghost use Rattle.frame_methods.specs.Built.{method_of, column_method, row_method, level_method};
+ghost use Rattle.frame_methods.specs.Built.{method_of, column_method, row_method, level_method, label_method};
 ghost use Rattle.frame_methods.specs.Calls.{chain_of, answer_in, IsCall};
 ghost use Rattle.frame_methods.specs.Made.{made_value};
 ghost use Rattle.frame_methods.specs.Faults.{IsChained};
 
-use crate::axis_names::{level_names, rename_axis};
+use crate::axis_names::{level_names, rename_axis, renumber};
 use crate::binding::{BoundCall, bound_call, exists, no_attribute};
-use crate::built::{Built, ColumnMethod, LevelMethod, RowMethod};
+use crate::built::{Built, ColumnMethod, LabelMethod, LevelMethod, RowMethod};
 use crate::column_ops::{Cast, Cumulated, Filled, Marked, Shifted};
 use crate::columns::ColumnOp;
+use crate::cross_section::xs;
 use crate::csv::to_csv;
 use crate::duplicates::duplicated;
 use crate::indexing::set_index;
+use crate::levels::{drop_level, swap_levels};
 use crate::listed::{Listed, listed_cells};
 use crate::made::Made;
 use crate::named_columns::{drop_columns, named_places, subset_places};
+use crate::reindexing::reindex;
 use crate::renaming::{rename_frame, rename_series, to_frame};
+use crate::resetting::reset_levels;
 use crate::rows::{dropna, head, tail};
 use crate::sorts::{sort_index, sort_values};
 use crate::summaries::summarize;
@@ -170,20 +174,22 @@ fn rows_made(
 }
 
 // The table that a method makes of the levels of the rows.
+#[tactic(auto, using(frame_store::proofs::Settling::longer_self))]
 fn levels_made(
     alloc: Global,
     store: &Store,
-    dict: &TextDict,
+    dict: &mut TextDict,
     method: LevelMethod,
     bound: &Bound<'_>,
     on: ObjId,
 ) -> Result<Table, OpFault>
     requires live { IsSome (tables store.now on.0) }
-    requires settled { IsSettledWorld (world store.now dict.now) }
-    requires call { IsCall (world store.now dict.now) (level_method method) bound.now
+    requires settled { IsSettledWorld (world store.now dict.old) }
+    requires call { IsCall (world store.now dict.old) (level_method method) bound.now
         (shape_at (tables store.now) on) }
-    ensures { Makes dict.now result (answer_in (world store.now dict.now)
-        (level_method method) bound.now (object_value (tables store.now) dict.now on)) }
+    ensures longer { IsLonger dict.old dict.new }
+    ensures answer { Makes dict.new result (answer_in (world store.now dict.old)
+        (level_method method) bound.now (object_value (tables store.now) dict.old on)) }
 {
     let source = store.read(on);
     match method {
@@ -194,6 +200,51 @@ fn levels_made(
         LevelMethod::SetIndex => {
             let places = named_places(alloc, store, dict, bound, on)?;
             set_index(alloc, dict, &source, &places)
+        }
+        LevelMethod::ResetIndex => {
+            if bound.truth(0) {
+                renumber(alloc, &source)
+            } else {
+                reset_levels(alloc, dict, &source)
+            }
+        }
+        LevelMethod::Droplevel => drop_level(alloc, dict, &source, bound.scalar_or_none(0)),
+        LevelMethod::Swaplevel => {
+            let first = bound.scalar_or_none(0);
+            swap_levels(alloc, dict, &source, first, bound.scalar_or_none(1))
+        }
+    }
+}
+
+// The table that a method makes of the rows, or of the columns, that labels name.
+fn labels_made(
+    alloc: Global,
+    store: &Store,
+    dict: &TextDict,
+    method: LabelMethod,
+    bound: &Bound<'_>,
+    on: ObjId,
+) -> Result<Table, OpFault>
+    requires live { IsSome (tables store.now on.0) }
+    requires settled { IsSettledWorld (world store.now dict.now) }
+    requires call { IsCall (world store.now dict.now) (label_method method) bound.now
+        (shape_at (tables store.now) on) }
+    ensures { Makes dict.now result (answer_in (world store.now dict.now) (label_method method)
+        bound.now (object_value (tables store.now) dict.now on)) }
+{
+    match method {
+        LabelMethod::ReindexSeries => {
+            reindex(alloc, store, dict, bound.list_or_none(0), None, on)
+        }
+        LabelMethod::ReindexFrame => {
+            let rows = bound.list_or_none(0);
+            let columns = bound.list_or_none(1);
+            reindex(alloc, store, dict, rows, columns, on)
+        }
+        LabelMethod::Xs => {
+            let key = bound.scalar(0);
+            let level = bound.scalar_or_none(1);
+            xs(alloc, dict, &store.read(on), key, level)
         }
     }
 }
@@ -230,6 +281,10 @@ fn answer(
         }
         Built::Levels(method) => {
             let table = levels_made(alloc, store, dict, method, bound, on);
+            placed(store, dict, table)
+        }
+        Built::Labels(method) => {
+            let table = labels_made(alloc, store, dict, method, bound, on);
             placed(store, dict, table)
         }
         Built::RenameSeries => {

@@ -5,7 +5,8 @@ ghost use Rattle.cell_core.specs.declared.grid.Shape.TheVariants.{Frame};
 ghost use Rattle.table_meaning.specs.Table.{table_value};
 ghost use Rattle.table_meaning.specs.Valid.{IsWhole};
 ghost use Rattle.method_meaning.specs.Levels as meant;
-ghost use Rattle.multi_index.specs.Axes.{HaveLevels};
+ghost use Rattle.multi_index.specs.Axes.{HaveLevels, nameless_axis};
+ghost use Rattle.form_parts.specs.Labels.{label_of};
 ghost use Rattle.frame_store.specs.Parts.{AreColumnsOf};
 ghost use Rattle.frame_store.specs.Shown.{Makes};
 ghost use Rattle.frame_store.specs.World.{IsKnownTable};
@@ -15,6 +16,7 @@ ghost use Rattle.frame_methods.specs.Levels.{row_labels};
 use crate::named_columns::places_besides;
 use crate::under::{copied_columns, named_axis};
 use cell_core::{Code, Grid, Label, NoMemory, Places, Shape, TextDict, Tuple, Tuples};
+use column_core::ColRef;
 use form_parts::{label_of, within_limits};
 use frame_store::{ObjRef, OpFault, Table};
 use multi_index::Axis;
@@ -52,6 +54,39 @@ fn row_tuples(alloc: Global, on: &ObjRef<'_>, places: &Places) -> Result<Tuples,
     Ok(tuples)
 }
 
+// The cells of a column as labels.
+fn cell_labels(alloc: Global, column: &ColRef<'_>) -> Result<Vec<Label>, NoMemory>
+    ensures { IfOk result (λ labels. labels.items ≡ map label_of column.now.cells) }
+{
+    let mut labels = Vec::with_capacity(alloc, column.len())?;
+    for row in 0..column.len() {
+        labels.push(label_of(column.cell(row)))?;
+    }
+    Ok(labels)
+}
+
+// The axis of the cells in these columns, without names. Of one column no tuple is made.
+fn cells_axis(
+    alloc: Global,
+    dict: &TextDict,
+    on: &ObjRef<'_>,
+    places: &Places,
+) -> Result<Axis, NoMemory>
+    requires places { AreColumnsOf on.now places.now }
+    requires some { 1 ≤ length places.now }
+    requires few { length places.now ≤ 4 }
+    ensures { IfOk result (λ axis. axis ≡ nameless_axis
+        (map (row_labels on.now places.now) (range_with_len 0 (length on.now.labels)))
+        (length places.now)) }
+{
+    if places.len() == 1 {
+        let labels = cell_labels(alloc, &on.column(*places.at(0)))?;
+        return Ok(Axis::from_labels(alloc, labels));
+    }
+    let tuples = row_tuples(alloc, on, places)?;
+    Axis::from_tuples(alloc, dict, &tuples, places.len())
+}
+
 // The axis of the cells in these columns, whose levels have the names of the columns.
 fn column_axis(
     alloc: Global,
@@ -68,8 +103,7 @@ fn column_axis(
       names = headings_at on.now places.now;
     }) }
 {
-    let tuples = row_tuples(alloc, on, places)?;
-    let axis = Axis::from_tuples(alloc, dict, &tuples, places.len())?;
+    let axis = cells_axis(alloc, dict, on, places)?;
     let names = headings_at(alloc, on, places)?;
     Ok(named_axis(axis, names.as_slice()))
 }

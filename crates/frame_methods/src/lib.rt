@@ -9,11 +9,11 @@
 //! A method that makes new cells makes them column by column (`columns`), each by an operation of its
 //! own (`column_ops`); one that gives an object's rows again under other headings does so by
 //! `Store::derive`; one that makes one cell of a column does so by a reduction (`summaries`). Rows are
-//! picked (`rows`), told apart (`duplicates`) or put in order by their keys (`sorts`, `sort_keys`, `sort_ranks`) as
+//! picked (`rows`), told apart (`duplicates`) or put in order by their keys (`sorts`, `sort_keys`) as
 //! numbers, of which one table is made; the columns that an argument names are found in
-//! `named_columns`. Levels get names (`axis_names`) or are made of columns (`indexing`); `under` makes
-//! the table under another axis. The text of a whole table, which `to_csv` answers, is made by `frame_format`
-//! (`csv`).
+//! `named_columns`. Levels get names (`axis_names`) or are made of columns (`indexing`), go or change places
+//! (`levels`), and become columns again (`level_columns`, `resetting`); `under` makes the table under another axis. The
+//! text of a whole table, which `to_csv` answers, is made by `frame_format` (`csv`).
 //!
 //! ```text
 //! let mut args = NamedList::new(alloc);
@@ -30,18 +30,22 @@ mod built;
 mod calling;
 mod column_ops;
 mod columns;
+mod cross_section;
 mod csv;
 mod duplicates;
 mod indexing;
+mod level_columns;
+mod levels;
 mod listed;
 mod made;
 mod named_columns;
+mod reindexing;
 mod relabelling;
 mod renaming;
+mod resetting;
 mod rows;
 mod series;
 mod sort_keys;
-mod sort_ranks;
 mod sorts;
 mod summaries;
 mod tables;

@@ -1,13 +1,16 @@
 // What rows are sorted by.
 ghost use Rattle.std.specs.Prelude.{◌≡◌, ◌<◌, length, map, IfOk};
+ghost use Rattle.std.specs.List.{range_with_len};
+ghost use Rattle.sorting.specs.Sorting.{in_order};
 ghost use Rattle.frame_store.specs.Parts.{AreColumnsOf};
 ghost use Rattle.frame_methods.specs.Sorts as sorts;
 
-use cell_core::{Label, NoMemory, Places};
+use cell_core::{Label, NoMemory, Places, TextDict};
 use column_core::ColRef;
 use form_parts::label_of;
 use frame_store::ObjRef;
 use multi_index::Axis;
+use sorting::{LabelKeys, rows_by_labels};
 use std::alloc::Global;
 
 // The keys of rows, one after the other: their cells in columns, or their labels.
@@ -40,27 +43,39 @@ fn label_key(axis: &Axis, row: usize, level: usize) -> Label
     }
 }
 
-impl SortKeys<'_> {
-    // How many keys a row has.
-    pub(crate) fn count(&self) -> usize
-        ensures { result ≡ sorts.count_of self.now }
-    {
+impl LabelKeys for SortKeys<'_> {
+    ghost keys = { sorts.count_of };
+
+    ghost label_at = { sorts.label_at };
+
+    fn count(&self) -> usize {
         match self {
             SortKeys::Cells(columns) => columns.len(),
             SortKeys::Labels(axis) => axis.levels(),
         }
     }
 
-    // A key of a row, and NA behind the last row.
-    pub(crate) fn at(&self, row: usize, k: usize) -> Label
-        requires { k < sorts.count_of self.now }
-        ensures { result ≡ sorts.label_at self.now row k }
-    {
+    fn at(&self, row: usize, key: usize) -> Label {
         match self {
-            SortKeys::Cells(columns) => cell_key(&columns[k], row),
-            SortKeys::Labels(axis) => label_key(axis, row, k),
+            SortKeys::Cells(columns) => cell_key(&columns[key], row),
+            SortKeys::Labels(axis) => label_key(axis, row, key),
         }
     }
+}
+
+// So many rows in the order of their keys. Rows that tie stay as they stood.
+pub(crate) fn rows_by_keys(
+    alloc: Global,
+    dict: &TextDict,
+    keys: &SortKeys<'_>,
+    ascending: bool,
+    rows: usize,
+) -> Result<Places, NoMemory>
+    requires { sorts.AreSettledKeys dict.now keys.now rows }
+    ensures { let before = sorts.stands_before ascending (sorts.keys_of dict.now keys.now) in
+        IfOk result (λ made. made ≡ in_order before (range_with_len 0 rows)) }
+{
+    rows_by_labels(alloc, dict, keys, ascending, rows)
 }
 
 // The columns at these places.

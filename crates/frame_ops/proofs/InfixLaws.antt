@@ -9,7 +9,7 @@ use Rattle.cell_core.specs.declared.cell.Label.{Label}
 use Rattle.cell_core.specs.declared.grid.Shape.TheVariants.{Series}
 use Rattle.meaning.specs.Text.{Text}
 use Rattle.meaning.specs.Cell.{LabelValue, datum, AreGiven}
-use Rattle.meaning.specs.Fault.{FaultValue, wrong_kind, bad_value, levels, not_aligned, not_built, then_value}
+use Rattle.meaning.specs.Fault.{FaultValue, wrong_kind, bad_value, levels, not_aligned, then_value}
 use Rattle.meaning.specs.Symbol.{Binary}
 use Rattle.table_meaning.specs.Table.{NumberedTable, Table, table_value, heading_value, tuple_value, column_at, column_value, no_column}
 use Rattle.table_meaning.specs.Settled.{IsSettled}
@@ -20,7 +20,7 @@ use Rattle.frame_store.proofs.Settling.{columns_given, columns_part, headings_pa
 use Rattle.table_meaning.specs.Value as value
 use Rattle.table_meaning.specs.Value.{Entry}
 use Rattle.form_meaning.specs.Finish.{with_columns, same_heading}
-use Rattle.form_meaning.specs.Infix.{meets, infix_table, on_levels, same_tuple, same_tuples, same_headings, are_headings, common_name, first_heading, beside, across, across_series, turned, has_one, same_count, compares, joined_rows, joined_infix, unequal_infix, scalar_infix, rows_infix, frame_infix, across_infix}
+use Rattle.form_meaning.specs.Infix.{meets, infix_table, on_levels, same_tuple, same_tuples, same_headings, are_headings, common_name, first_heading, beside, across, across_series, turned, has_one, same_count, compares, joined_rows, joined_infix, unequal_infix, scalar_infix, rows_infix, common_infix, unequal_columns, joined_frames, frame_infix, across_unequal, across_infix}
 use Rattle.frame_store.specs.declared.fault.OpFault.{OpFault}
 use Rattle.frame_store.specs.Shown.{headings_value, labels_value, columns_value, Makes}
 use Rattle.frame_ops.specs.declared.naming.Naming.TheVariants.{Kept, Name, ColumnsName}
@@ -116,19 +116,41 @@ pub frame_named : (texts : List Text) (a b : NumberedTable) (x y name : Option L
 frame_named texts a b x y name is is' named =
     ap (λ h. record (table_value texts a) { columns_name = h }) (named ∙ (λ i. common_name (heading_value texts (is i)) (heading_value texts (is' i))))
 
-pub frame_is_meant : (op : Binary) (texts : List Text) (a b : NumberedTable) → same_headings (headings_value texts a.headings) (headings_value texts b.headings) ≡ true
-    → rows_infix op (table_value texts a) (table_value texts b) (record (table_value texts a) { columns_name = common_name (heading_value texts a.columns_name) (heading_value texts b.columns_name) })
-    ≡ frame_infix op (table_value texts a) (table_value texts b)
-frame_is_meant op texts a b same =
-    let v : Table = table_value texts a in
-    let w : Table = table_value texts b in
-    sym (ap (λ (r : Bool). if r then rows_infix op v w (record v { columns_name = common_name v.columns_name w.columns_name }) else Err not_built) same)
+module _ (op : Binary) (texts : List Text) (a b : NumberedTable) where
+  abbrev f : Table
+  f = table_value texts a
 
-pub frame_refused : (op : Binary) (texts : List Text) (a b : NumberedTable) → same_headings (headings_value texts a.headings) (headings_value texts b.headings) ≡ false → frame_infix op (table_value texts a) (table_value texts b) ≡ Err not_built
-frame_refused op texts a b same =
-    let v : Table = table_value texts a in
-    let w : Table = table_value texts b in
-    ap (λ (r : Bool). if r then rows_infix op v w (record v { columns_name = common_name v.columns_name w.columns_name }) else Err not_built) same
+  abbrev g : Table
+  g = table_value texts b
+
+  pub frame_is_meant : same_headings f.headings g.headings ≡ true → common_infix op f g ≡ frame_infix op f g
+  frame_is_meant same = sym (ap (λ (r : Bool). if r then common_infix op f g else joined_frames op f g) same)
+
+  pub frame_is_wide : same_headings f.headings g.headings ≡ false → joined_frames op f g ≡ frame_infix op f g
+  frame_is_wide same = sym (ap (λ (r : Bool). if r then common_infix op f g else joined_frames op f g) same)
+
+  -- frames under joined labels of columns, by the tests
+  module _ (columns : length b.columns ≡ length a.columns) where
+    under_tests : (k l : Bool) → list_all (kinds_meet op) (pairs_from (Beside b) 0 a.columns) ≡ k → nat_eq (length a.level_names) (length b.level_names) ≡ l
+        → unequal_columns op f g ≡ on_levels k l (if compares op then Err (bad_value not_aligned) else common_infix op f g)
+    under_tests k l kinds counted =
+        (λ i. on_levels (list_all (meets op) (sym (beside_meetings texts b a.columns columns) i)) (sym (levels_same (heading_value texts) (heading_value texts) a.level_names b.level_names) i) (if compares op then Err (bad_value not_aligned) else common_infix op f g))
+        ∙ (λ i. on_levels ((kinds_seen op texts (pairs_from (Beside b) 0 a.columns) ∙ kinds) i) (counted i) (if compares op then Err (bad_value not_aligned) else common_infix op f g))
+
+    pub under_kinds : list_all (kinds_meet op) (pairs_from (Beside b) 0 a.columns) ≡ false → unequal_columns op f g ≡ Err wrong_kind
+    under_kinds kinds = under_tests false (nat_eq (length a.level_names) (length b.level_names)) kinds refl
+
+    module _ (kinds : list_all (kinds_meet op) (pairs_from (Beside b) 0 a.columns) ≡ true) where
+      pub under_levels : length a.level_names ≢ length b.level_names → unequal_columns op f g ≡ Err (bad_value levels)
+      under_levels apart = under_tests true false kinds (not_equal (length a.level_names) (length b.level_names) apart)
+
+      pub under_compared : length a.level_names ≡ length b.level_names → compares op ≡ true → unequal_columns op f g ≡ Err (bad_value not_aligned)
+      under_compared counted compared =
+          under_tests true true kinds (equal (length a.level_names) (length b.level_names) counted) ∙ ap (λ (r : Bool). if r then Err (bad_value not_aligned) else common_infix op f g) compared
+
+      pub under_common : length a.level_names ≡ length b.level_names → compares op ≡ false → common_infix op f g ≡ unequal_columns op f g
+      under_common counted compared =
+          sym (under_tests true true kinds (equal (length a.level_names) (length b.level_names) counted) ∙ ap (λ (r : Bool). if r then Err (bad_value not_aligned) else common_infix op f g) compared)
 
 -- a frame and a Series across
 pub across_is_meant : (op : Binary) (texts : List Text) (f s : NumberedTable) (left : Bool) → IsWhole f → are_headings (labels_value texts s.labels) (headings_value texts f.headings) ≡ true → length (column_at s.columns 0).cells ≡ length f.columns
@@ -143,14 +165,14 @@ across_is_meant op texts f s left whole same cells =
     ∙ (λ i. turned left (across (rows i) (sym first i).kind (columns_value texts f.columns) (sym first i).cells)) in
     met_on_levels op texts f (Across s left) v (sym rows)
     ∙ (λ i. on_levels (list_all (meets op) (met i)) (levels_one (heading_value texts) s.level_names i) (infix_table op v (met i)))
-    ∙ sym (ap (λ (r : Bool). if r then on_levels (list_all (meets op) (across_series left v w)) (has_one w.level_names) (infix_table op v (across_series left v w)) else Err not_built) same)
+    ∙ sym (ap (λ (r : Bool). if r then on_levels (list_all (meets op) (across_series left v w)) (has_one w.level_names) (infix_table op v (across_series left v w)) else across_unequal op left v w) same)
 
-pub across_refused : (op : Binary) (texts : List Text) (f s : NumberedTable) (left : Bool) → are_headings (labels_value texts s.labels) (headings_value texts f.headings) ≡ false
-    → across_infix op left (table_value texts f) (table_value texts s) ≡ Err not_built
-across_refused op texts f s left same =
+pub across_is_unequal : (op : Binary) (texts : List Text) (f s : NumberedTable) (left : Bool) → are_headings (labels_value texts s.labels) (headings_value texts f.headings) ≡ false
+    → across_unequal op left (table_value texts f) (table_value texts s) ≡ across_infix op left (table_value texts f) (table_value texts s)
+across_is_unequal op texts f s left same =
     let v : Table = table_value texts f in
     let w : Table = table_value texts s in
-    ap (λ (r : Bool). if r then on_levels (list_all (meets op) (across_series left v w)) (has_one w.level_names) (infix_table op v (across_series left v w)) else Err not_built) same
+    sym (ap (λ (r : Bool). if r then on_levels (list_all (meets op) (across_series left v w)) (has_one w.level_names) (infix_table op v (across_series left v w)) else across_unequal op left v w) same)
 
 -- equal lists have one length
 both_true : (a b : Bool) → (a && b) ≡ true → b ≡ true

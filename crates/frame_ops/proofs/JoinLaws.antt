@@ -150,27 +150,6 @@ length-beside [] bs same = refl
 length-beside (a ∷ as') [] same = absurd (omega (arith, same))
 length-beside (a ∷ as') (b ∷ bs) same = ap suc (length-beside as' bs (omega (arith, same)))
 
-pub block_on : (block : CellBlock) (made a : CellColumn) (at : ColumnOf Cell) (rows : List (Option ℕ)) → block ≡ record { kind = made.kind; rows = length made.cells; columns = made.cells ∷ [] } → made.kind ≡ a.kind → made.cells ≡ taken Na a.cells rows → at ≡ table_column a
-    → block_column block ≡ record { kind = at.kind; cells = taken Na at.cells rows }
-block_on block made a at rows is kind cells here =
-    let kinds : made.kind ≡ at.kind = kind ∙ sym (ap (λ (c : ColumnOf Cell). c.kind) here) in
-    let same : made.cells ≡ taken Na at.cells rows = cells ∙ sym (ap (λ (c : ColumnOf Cell). taken Na c.cells rows) here) in
-    ap block_column is ∙ (λ i. record { kind = kinds i; cells = same i })
-
-pub single_on : (blocks blocks' : List CellBlock) (block : CellBlock) (made : CellColumn) → All IsSingle blocks → block ≡ record { kind = made.kind; rows = length made.cells; columns = made.cells ∷ [] } → blocks' ≡ blocks ++ block ∷ [] → All IsSingle blocks'
-single_on blocks blocks' block made all is pushed = subst (All IsSingle) (sym pushed) (All-push IsSingle blocks block all (subst IsSingle (sym is) refl))
-
--- one more column on other rows
-pub one_more_on : (columns : List (ColumnOf Cell)) (rows : List (Option ℕ)) (place : ℕ) (made made' : List CellBlock) (block : CellBlock) → place < length columns
-    → map block_column made ≡ on_rows Na rows (take place columns) → made' ≡ made ++ block ∷ [] → block_column block ≡ record { kind = (slice_index_or columns place no_column).kind; cells = taken Na (slice_index_or columns place no_column).cells rows }
-    → map block_column made' ≡ on_rows Na rows (take (place + 1) columns)
-one_more_on columns rows place made made' block lt before pushed here =
-    let on : ColumnOf Cell → ColumnOf Cell = λ c. record { kind = c.kind; cells = taken Na c.cells rows } in
-    ap (map block_column) pushed ∙ map-append block_column made (block ∷ [])
-    ∙ (λ i. before i ++ here i ∷ [])
-    ∙ sym (map-append on (take place columns) (slice_index_or columns place no_column ∷ []))
-    ∙ ap (map on) (sym (take_more columns place no_column lt))
-
 pub rows_numbered : (count : ℕ) → length (range_axis count).tuples ≡ count
 rows_numbered count = length-map (range_labels count) (λ label. label ∷ []) ∙ length-range_labels count
 

@@ -8,4 +8,7 @@ pub mod MeetingLaws
 pub mod InfixLaws
 pub mod JoinLaws
 pub mod JoinedTable
+pub mod WideLaws
+pub mod SpreadLaws
+pub mod AcrossLaws
 pub mod SignLaws

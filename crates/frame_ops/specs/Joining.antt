@@ -1,6 +1,7 @@
 -- Rows that are joined by their labels, with texts by number.
-use Rattle.std.specs.Prelude.{◌≡◌, ◌≤◌, ◌^◌, ℕ, List, length, Option, All}
+use Rattle.std.specs.Prelude.{◌≡◌, ◌≢◌, ◌≤◌, ◌^◌, ℕ, List, length, Option, All, AllPairs}
 use Rattle.cell_core.specs.declared.cell.Cell.TheVariants.{Na}
+use Rattle.cell_core.specs.declared.cell.Label.{Label}
 use Rattle.meaning.specs.Text.{Text}
 use Rattle.column_core.specs.Moves.{IsPlaceOf}
 use Rattle.multi_index.specs.Axes.{AxisValue, HaveLevels, range_axis}
@@ -26,6 +27,10 @@ pub record IsJoined (a b : AxisValue) (rows : Joined) : Type 0 where
   pub levels : HaveLevels (length a.names) rows.tuples
   pub left : AreSideRows (length rows.tuples) a rows.left
   pub right : AreSideRows (length rows.tuples) b rows.right
+
+-- tuples of which none stands twice
+abbrev pub AreApart : List (List Label) → Type 0
+AreApart tuples = AllPairs (λ a b. a ≢ b) tuples
 
 -- a side on joined rows, which are numbered
 abbrev pub side_on : NumberedTable → List (Option ℕ) → NumberedTable

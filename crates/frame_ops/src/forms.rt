@@ -99,13 +99,14 @@ fn sign_made(
 /// `a + b`, and the other operators.
 ///
 /// A new object with what the operator makes of each two cells that meet. A scalar stands in each
-/// row of each column. Two Series meet row by row, and so do two frames whose columns have equal
-/// labels. Rows meet by position where the labels of both sides are equal, and else each row meets
-/// each row of its label, or NA where the other side has none: the new table then has the labels of
-/// both sides in order. A frame meets a Series whose labels are those of its columns in each of its
-/// rows. Otherwise the labels of the left side stay, or of the frame, with the names of their levels.
-/// Of two Series the name stays where both have it, of two frames that of the columns, and of levels
-/// that are joined each level's; a frame beside a Series keeps its own, as does a table beside a scalar.
+/// row of each column. Two Series meet row by row, and two frames column by column and row by row.
+/// Rows meet by position where the labels of both sides are equal, and else each row meets each row
+/// of its label, or NA where the other side has none: the new table then has the labels of both sides
+/// in order. So do columns, where one that a side lacks meets NA of its own kind. A Series stands in
+/// each row of a frame, with its labels as those of columns. Otherwise the labels of the left
+/// side stay, or of the frame, with the names of their levels. Of two Series the name stays where both
+/// have it, of two frames that of the columns, and of levels that are joined each level's; a frame
+/// beside a Series keeps its own, as does a table beside a scalar.
 ///
 /// NA on either side gives NA, but for `&` and `|`: `False & NA` is False and `True | NA` is True
 /// (Kleene's logic). An NA alone has the kind of the other side. Whole numbers wrap at 64 bits.
@@ -114,12 +115,13 @@ fn sign_made(
 ///
 /// # Errors
 ///
-/// In this order: `WrongKind` of two scalars; `NotBuilt` of two frames, or a frame and a Series, whose
-/// columns have other labels; `WrongKind` where the operator doesn't take the kinds of some columns that
-/// meet; `BadValue(Levels)` where the rows of two Series or two frames have levels of different numbers,
-/// or the Series beside a frame has several; `BadValue(NotAligned)` of a comparison where the labels of
-/// the rows differ; `Limit`; `ZeroDivide` by a divisor of 0 with a present dividend. `NoMemory` may come
-/// in place of any answer. After a refusal all objects are as they were.
+/// In this order: `WrongKind` of two scalars, and where the operator doesn't take the kinds of some
+/// columns that meet, or twice the kind of one that a side lacks; `BadValue(Levels)` where the rows of
+/// two Series or two frames have levels of different numbers, or the Series beside a frame has several;
+/// `BadValue(NotAligned)` of a comparison where the labels of rows or columns differ;
+/// `BadValue(Repeated)` of a Series that has a label twice, beside a frame whose columns have others;
+/// `Limit`; `ZeroDivide` by a divisor of 0 with a present dividend. `NoMemory` may come in place of any answer.
+/// After a refusal all objects are as they were.
 pub fn infix(
     alloc: Global,
     store: &mut Store,

@@ -1,7 +1,6 @@
 // Tables whose rows are joined by their labels.
 ghost use Rattle.std.specs.Prelude.{◌≡◌, ◌≤◌, ◌^◌, length, true, All, IfOk};
 ghost use Rattle.std.specs.List.{list_all};
-ghost use Rattle.cell_core.specs.declared.cell.Cell.TheVariants.{Na};
 ghost use Rattle.meaning.specs.Cell.{IsLonger};
 ghost use Rattle.meaning.specs.Fault.{then_value};
 ghost use Rattle.column_core.specs.Moves.{IsPlaceOf};
@@ -11,13 +10,13 @@ ghost use Rattle.table_meaning.specs.Settled.{IsSettled};
 ghost use Rattle.table_meaning.specs.Table.{table_value};
 ghost use Rattle.table_meaning.specs.Valid.{IsWhole};
 ghost use Rattle.form_meaning.specs.Infix as meant;
-ghost use Rattle.form_meaning.specs.Infix.{on_rows, common_names};
-ghost use Rattle.frame_store.specs.Parts.{axis_of, columns_of, IsSingle};
+ghost use Rattle.form_meaning.specs.Infix.{common_names};
+ghost use Rattle.frame_store.specs.Parts.{axis_of};
 ghost use Rattle.frame_store.specs.Shown.{Makes, labels_value, headings_value};
 ghost use Rattle.frame_store.specs.World.{IsKnownTable};
 ghost use Rattle.form_parts.specs.Makes.{MakesBy, AreColumns, blocks_value};
 ghost use Rattle.frame_ops.specs.declared.other.Other.TheVariants.{Beside};
-ghost use Rattle.frame_ops.specs.Joining.{joined_value, side_on, IsJoined};
+ghost use Rattle.frame_ops.specs.Joining.{joined_value, side_on, IsJoined, AreApart};
 ghost use Rattle.frame_ops.specs.Namings.{named_by, IsNaming, IsSettledNaming};
 ghost use Rattle.frame_ops.specs.Pairs.{all_met, kinds_meet, columns_meant};
 
@@ -25,16 +24,20 @@ use crate::columns::infix_columns;
 use crate::naming::{Naming, headings_by};
 use crate::other::Other;
 use cell_core::{Code, Gaps, Grid, NoMemory, TextDict, Tuples};
-use column_core::take;
-use form_parts::{align_refusal, common_name, headings_of, within_limits};
+use form_parts::{align_refusal, columns_on, common_name, headings_of, within_limits};
 use frame_store::{Blocks, ObjRef, OpFault, Table};
 use label_align::{Joined, outer};
 use multi_index::Axis;
 use nullable_array::Binary;
 use std::alloc::Global;
 
-// The rows of two axes by the labels that either has. `Limit` where they are too many.
-fn joined_rows(alloc: Global, dict: &TextDict, a: &Axis, b: &Axis) -> Result<Joined, OpFault>
+/// The rows of two axes by the labels that either has. `Limit` where they are too many.
+pub(crate) fn joined_rows(
+    alloc: Global,
+    dict: &TextDict,
+    a: &Axis,
+    b: &Axis,
+) -> Result<Joined, OpFault>
     requires levels { length a.now.names ≡ length b.now.names }
     requires given_a { IsSettled labels_value dict.now a.now.tuples }
     requires given_b { IsSettled labels_value dict.now b.now.tuples }
@@ -42,6 +45,8 @@ fn joined_rows(alloc: Global, dict: &TextDict, a: &Axis, b: &Axis) -> Result<Joi
         (labels_value dict.now a.now.tuples) (labels_value dict.now b.now.tuples)) }
     ensures given { IfOk result (λ rows. IsSettled labels_value dict.now rows.tuples) }
     ensures inside { IfOk result (IsJoined a.now b.now) }
+    ensures apart { IfOk result (λ rows. AreApart a.now.tuples → AreApart b.now.tuples
+        → AreApart rows.tuples) }
 {
     // Equal texts have equal numbers: `TextDict::len` says so. Each row has a label for each level: `Axis::levels` does.
     let _ = (dict.len(), a.levels(), b.levels());
@@ -73,21 +78,6 @@ fn joined_axis(
         axis.set_name(level, common_name(dict, a.name(level), b.name(level)));
     }
     Ok(axis)
-}
-
-// The columns on other rows, each of which is one of theirs or missing.
-fn columns_on(alloc: Global, on: &ObjRef<'_>, rows: &Gaps) -> Result<Blocks, NoMemory>
-    requires { All (IsPlaceOf (length on.now.labels)) rows.now }
-    ensures single { IfOk result (All IsSingle) }
-    ensures columns { IfOk result (λ made. columns_of made
-        ≡ on_rows Na rows.now on.now.columns) }
-{
-    let mut made = Blocks::new(alloc);
-    for place in 0..on.columns() {
-        let column = take(alloc, on.column(place), rows)?;
-        made.push(column.into_block())?;
-    }
-    Ok(made)
 }
 
 // A side on joined rows, which are numbered.

@@ -1,9 +1,13 @@
 // Whether an operator takes the kinds of its operands.
-ghost use Rattle.std.specs.Prelude.{◌≡◌, ◌<◌, length, is_some};
+ghost use Rattle.std.specs.Prelude.{◌≡◌, ◌<◌, ◌≤◌, length, is_some, true, if◌then◌else◌};
 ghost use Rattle.std.specs.List.{list_all};
 ghost use Rattle.meaning.specs.Text.{Text};
 ghost use Rattle.meaning.specs.Operator.{operator_kind};
 ghost use Rattle.nullable_array.specs.Tasks.{operator_of};
+ghost use Rattle.pick_meaning.specs.Rows.{are_some};
+ghost use Rattle.table_meaning.specs.Table.{column_at};
+ghost use Rattle.form_meaning.specs.Finish as finish;
+ghost use Rattle.form_meaning.specs.Infix as meant;
 ghost use Rattle.form_meaning.specs.Infix.{compares};
 ghost use Rattle.frame_ops.specs.declared.other.Other.TheVariants.{Beside};
 ghost use Rattle.frame_ops.specs.Pairs.{kind_beside, met_at, all_met, kinds_meet, levels_fit, IsOpposite};
@@ -83,6 +87,59 @@ pub(crate) fn columns_fit(op: Binary, a: &ObjRef<'_>, b: &ObjRef<'_>) -> bool
         }
     }
     true
+}
+
+// Whether the operator takes columns of each column's kind on both sides.
+fn columns_taken(op: Binary, frame: &ObjRef<'_>) -> bool
+    ensures { result ≡ list_all (meant.takes_twice (operator_of op)) frame.now.columns }
+{
+    for place in 0..frame.columns() {
+        if !takes_kind(op, frame.kind(place)) {
+            return false;
+        }
+    }
+    true
+}
+
+// Whether it takes columns of a Series' kind on both sides, or the Series has no row.
+fn rows_taken(op: Binary, series: &ObjRef<'_>) -> bool
+    requires { 1 ≤ length series.now.columns }
+    ensures { result ≡ meant.takes_rows (operator_of op)
+        series.now.labels (column_at series.now.columns 0) }
+{
+    if series.rows() == 0 {
+        return true;
+    }
+    takes_kind(op, series.kind(0))
+}
+
+/// Whether the operator takes columns of each kind of a frame, and of a Series that has a row, on both sides.
+pub(crate) fn takes_each(op: Binary, frame: &ObjRef<'_>, series: &ObjRef<'_>) -> bool
+    requires { 1 ≤ length series.now.columns }
+    ensures { result ≡ meant.takes_each (operator_of op) frame.now series.now }
+{
+    columns_taken(op, frame) && rows_taken(op, series)
+}
+
+// Whether two kinds are one.
+fn same_kind(a: Kind, b: Kind) -> bool
+    ensures { result ≡ finish.same_kind a b }
+{
+    match a {
+        Kind::Int64 => matches!(b, Kind::Int64),
+        Kind::Boolean => matches!(b, Kind::Boolean),
+        Kind::Text => matches!(b, Kind::Text),
+    }
+}
+
+/// Whether a column of a kind may meet these rows of a Series of another: there are none, or the kinds are one.
+pub(crate) fn fits_rows(own: Kind, kind: Kind, rows: &[usize]) -> bool
+    ensures { result ≡ (if are_some rows.now then finish.same_kind own kind else true) }
+{
+    if rows.is_empty() {
+        return true;
+    }
+    same_kind(own, kind)
 }
 
 /// Whether the operator compares.

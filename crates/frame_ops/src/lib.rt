@@ -1,9 +1,9 @@
 //! Operators on scalars, Series and frames.
 //!
 //! [`infix`] is `a + b` and the other operators on two operands, [`invert_or_negate`] is `-a` and `~a`.
-//! Two Series, or two frames with the same columns, meet row by row: by position where their labels are
-//! equal, and else by their labels; a frame meets a Series whose labels are those of its columns in each
-//! row; a scalar stands in each row of each column.
+//! Two Series meet row by row, and two frames column by column and row by row: by position where their
+//! labels are equal, and else by their labels; a Series stands in each row of a frame, its labels as
+//! those of columns; a scalar stands in each row of each column.
 //! NA on a side gives NA, but for `&` and `|`, which follow Kleene's logic.
 //!
 //! ```text
@@ -20,6 +20,8 @@ mod joining;
 mod kinds;
 mod naming;
 mod other;
+mod spreading;
 mod tables;
+mod widening;
 
 pub use forms::{infix, invert_or_negate};

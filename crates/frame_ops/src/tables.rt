@@ -3,6 +3,7 @@ ghost use Rattle.std.specs.Prelude.{◌≡◌, Ok, false, length};
 ghost use Rattle.cell_core.specs.declared.grid.Shape.TheVariants.{Series as one_column, Frame as columns};
 ghost use Rattle.meaning.specs.Cell.{IsGiven, IsLonger, datum};
 ghost use Rattle.meaning.specs.Fault.{then_value};
+ghost use Rattle.multi_index.specs.Axes.{HaveLevels};
 ghost use Rattle.nullable_array.specs.Tasks.{operator_of};
 ghost use Rattle.table_meaning.specs.Table.{table_value};
 ghost use Rattle.table_meaning.specs.Value as value;
@@ -17,9 +18,11 @@ ghost use Rattle.frame_ops.specs.Namings.{named_by, IsNaming, IsSettledNaming};
 use crate::columns::infix_columns;
 use crate::headings::{are_headings, same_headings};
 use crate::joining::joined_infix;
-use crate::kinds::{columns_fit, compares};
+use crate::kinds::{columns_fit, compares, takes_each};
 use crate::naming::{Naming, headings_by};
 use crate::other::Other;
+use crate::spreading::{labels_fit, spread_frame};
+use crate::widening::{joined_labels, widened};
 use cell_core::{Cell, Code, Grid, Reason, Shape, TextDict};
 use form_parts::{common_name, same_rows, table_under};
 use frame_store::{ObjRef, OpFault, Table};
@@ -154,8 +157,8 @@ fn series_infix(
     rows_infix(alloc, dict, op, a, b, Naming::Name(name))
 }
 
-// Two frames whose columns have equal labels.
-fn frame_infix(
+// Two frames whose columns meet in order. The name of the columns of both stays.
+fn common_infix(
     alloc: Global,
     dict: &mut TextDict,
     op: Binary,
@@ -165,18 +168,151 @@ fn frame_infix(
     requires known_a { IsKnownTable dict.old a.now }
     requires known_b { IsKnownTable dict.old b }
     requires frame { a.now.shape ≡ columns }
+    requires columns { length b.columns ≡ length a.now.columns }
+    ensures longer { IsLonger dict.old dict.new }
+    ensures makes { Makes dict.new result (meant.common_infix (operator_of op)
+        (table_value dict.old a.now) (table_value dict.old b.entry)) }
+{
+    let name = common_name(dict, a.columns_name(), b.columns_name());
+    rows_infix(alloc, dict, op, a, b, Naming::ColumnsName(name))
+}
+
+// Two frames under joined labels of columns.
+fn unequal_columns(
+    alloc: Global,
+    dict: &mut TextDict,
+    op: Binary,
+    a: &ObjRef<'_>,
+    b: ObjRef<'_>,
+) -> Result<Table, OpFault>
+    requires known_a { IsKnownTable dict.old a.now }
+    requires known_b { IsKnownTable dict.old b }
+    requires frame { a.now.shape ≡ columns }
+    requires columns { length b.columns ≡ length a.now.columns }
+    ensures longer { IsLonger dict.old dict.new }
+    ensures makes { Makes dict.new result (meant.unequal_columns (operator_of op)
+        (table_value dict.old a.now) (table_value dict.old b.entry)) }
+{
+    if !columns_fit(op, a, &b) {
+        return Err(OpFault::Refused(Code::WrongKind));
+    }
+    if a.levels() != b.levels() {
+        return Err(OpFault::Refused(Code::BadValue(Reason::Levels)));
+    }
+    if compares(op) {
+        return Err(OpFault::Refused(Code::BadValue(Reason::NotAligned)));
+    }
+    common_infix(alloc, dict, op, a, b)
+}
+
+// Two frames by the labels of columns that either has.
+fn wide_infix(
+    alloc: Global,
+    dict: &mut TextDict,
+    op: Binary,
+    a: &ObjRef<'_>,
+    b: &ObjRef<'_>,
+) -> Result<Table, OpFault>
+    requires known_a { IsKnownTable dict.old a.now }
+    requires known_b { IsKnownTable dict.old b.now }
+    requires frame_a { a.now.shape ≡ columns }
+    requires frame_b { b.now.shape ≡ columns }
+    ensures longer { IsLonger dict.old dict.new }
+    ensures makes { Makes dict.new result (meant.joined_frames (operator_of op)
+        (table_value dict.old a.now) (table_value dict.old b.now)) }
+{
+    let joined = joined_labels(alloc, dict, a, b)?;
+    let left = widened(alloc, a, b, &joined.tuples, &joined.left, &joined.right)?;
+    let right = widened(alloc, b, a, &joined.tuples, &joined.right, &joined.left)?;
+    let on = left.read();
+    unequal_columns(alloc, dict, op, &on, right.read())
+}
+
+// Two frames.
+fn frame_infix(
+    alloc: Global,
+    dict: &mut TextDict,
+    op: Binary,
+    a: &ObjRef<'_>,
+    b: ObjRef<'_>,
+) -> Result<Table, OpFault>
+    requires known_a { IsKnownTable dict.old a.now }
+    requires known_b { IsKnownTable dict.old b }
+    requires frame_a { a.now.shape ≡ columns }
+    requires frame_b { b.shape ≡ columns }
     ensures longer { IsLonger dict.old dict.new }
     ensures makes { Makes dict.new result (meant.frame_infix (operator_of op)
         (table_value dict.old a.now) (table_value dict.old b.entry)) }
 {
     if !same_headings(dict, a, &b) {
-        return Err(OpFault::Refused(Code::NotBuilt));
+        return wide_infix(alloc, dict, op, a, &b);
     }
-    let name = common_name(dict, a.columns_name(), b.columns_name());
-    rows_infix(alloc, dict, op, a, b, Naming::ColumnsName(name))
+    common_infix(alloc, dict, op, a, b)
 }
 
-// A frame and a Series whose labels are those of the frame's columns.
+// A frame and a Series, by the labels of columns that either has.
+fn joined_across(
+    alloc: Global,
+    dict: &mut TextDict,
+    op: Binary,
+    left: bool,
+    frame: &ObjRef<'_>,
+    series: &ObjRef<'_>,
+) -> Result<Table, OpFault>
+    requires known_frame { IsKnownTable dict.old frame.now }
+    requires known_series { IsKnownTable dict.old series.now }
+    requires frame { frame.now.shape ≡ columns }
+    requires series { series.now.shape ≡ one_column }
+    requires level { HaveLevels 1 series.now.labels }
+    requires one { length series.now.level_names ≡ 1 }
+    ensures longer { IsLonger dict.old dict.new }
+    ensures makes { Makes dict.new result (then_value (meant.spread_frame
+        (table_value dict.old frame.now) (table_value dict.old series.now))
+        (meant.joined_turned (operator_of op) left (table_value dict.old frame.now))) }
+{
+    let spread = spread_frame(alloc, dict, frame, series)?;
+    let other = spread.read();
+    if left {
+        return wide_infix(alloc, dict, op, &other, frame);
+    }
+    wide_infix(alloc, dict, op, frame, &other)
+}
+
+// A frame and a Series whose labels aren't those of the frame's columns.
+fn across_unequal(
+    alloc: Global,
+    dict: &mut TextDict,
+    op: Binary,
+    left: bool,
+    frame: &ObjRef<'_>,
+    series: &ObjRef<'_>,
+) -> Result<Table, OpFault>
+    requires known_frame { IsKnownTable dict.old frame.now }
+    requires known_series { IsKnownTable dict.old series.now }
+    requires frame { frame.now.shape ≡ columns }
+    requires series { series.now.shape ≡ one_column }
+    ensures longer { IsLonger dict.old dict.new }
+    ensures makes { Makes dict.new result (meant.across_unequal (operator_of op) left
+        (table_value dict.old frame.now) (table_value dict.old series.now)) }
+{
+    // Equal texts have equal numbers: `TextDict::len` says so.
+    let _ = dict.len();
+    if !takes_each(op, frame, series) {
+        return Err(OpFault::Refused(Code::WrongKind));
+    }
+    if series.axis().levels() != 1 {
+        return Err(OpFault::Refused(Code::BadValue(Reason::Levels)));
+    }
+    if !labels_fit(alloc, frame, series)? {
+        return Err(OpFault::Refused(Code::WrongKind));
+    }
+    if compares(op) {
+        return Err(OpFault::Refused(Code::BadValue(Reason::NotAligned)));
+    }
+    joined_across(alloc, dict, op, left, frame, series)
+}
+
+// A frame and a Series, which stands on the left where this is so.
 fn across_infix(
     alloc: Global,
     dict: &mut TextDict,
@@ -187,13 +323,14 @@ fn across_infix(
 ) -> Result<Table, OpFault>
     requires known_frame { IsKnownTable dict.old frame.now }
     requires known_series { IsKnownTable dict.old series }
+    requires frame { frame.now.shape ≡ columns }
     requires series { series.shape ≡ one_column }
     ensures longer { IsLonger dict.old dict.new }
     ensures makes { Makes dict.new result (meant.across_infix (operator_of op) left
         (table_value dict.old frame.now) (table_value dict.old series.entry)) }
 {
     if !are_headings(dict, &series, frame) {
-        return Err(OpFault::Refused(Code::NotBuilt));
+        return across_unequal(alloc, dict, op, left, frame, &series);
     }
     table_met(
         alloc,

@@ -59,6 +59,14 @@ table_changed slots on old new change live at is = λ j id. same id j
         get-set slots None (Some new) on id (some_within slots on live)
         ∙ ap (λ t. if nat_eq on id then Some t else slice_index_or slots id None) (is ∙ ap change (sym (ap table_or at)))
 
+-- an object ends
+pub table_ended : (old mid : List (Option NumberedTable)) (on : ℕ) → IsSome (slice_index_or old on None) → mid ≡ slice_set old on None
+    → (λ id. slice_index_or mid id None) ≡ with_object (λ id. slice_index_or old id None) on None
+table_ended old mid on live removed = λ j id. same id j
+  where
+    same : (id : ℕ) → slice_index_or mid id None ≡ (if nat_eq on id then None else slice_index_or old id None)
+    same id = ap (λ (l : List (Option NumberedTable)). slice_index_or l id None) removed ∙ get-set old None None on id (some_within old on live)
+
 -- an object gets the table of another one, which ended
 pub table_moved : (old mid : List (Option NumberedTable)) (on by : ℕ) (table : NumberedTable)
     → IsSome (slice_index_or old on None) → IsSome (slice_index_or old by None) → on ≢ by → slice_index_or old by None ≡ Some table → mid ≡ slice_set old by None

@@ -31,11 +31,12 @@ PicksBy view (Err (fault.NoMaskLabel key)) meant = meant ≡ Err (no_mask_label 
 PicksBy view (Err fault.StepZero) meant = meant ≡ Err step_zero
 PicksBy view (Err fault.NoMemory) meant = Unit {0}
 
--- the fault of an axis as the fault of a key
-abbrev pub key_fault : AxisFault → KeyFault
-key_fault (axis.NotThere key) = fault.NotThere key
-key_fault (axis.BoundNotUnique key) = fault.BoundNotUnique key
-key_fault axis.NoMemory = fault.NoMemory
+-- the fault of an axis that picks no rows, as the fault of a key
+abbrev pub IsSameFault : AxisFault → KeyFault → Type 0
+IsSameFault (axis.NotThere key) made = made ≡ fault.NotThere key
+IsSameFault (axis.BoundNotUnique key) made = made ≡ fault.BoundNotUnique key
+IsSameFault axis.TooManyLevels made = ⊥
+IsSameFault axis.NoMemory made = made ≡ fault.NoMemory
 
 -- what is picked, as it is meant
 abbrev pub pick_of : Picked → Pick

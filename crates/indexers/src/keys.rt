@@ -3,7 +3,6 @@ ghost use Rattle.std.specs.Prelude.{◌≡◌};
 ghost use Rattle.indexers.specs.declared.keys.KeyFault.TheVariants as fault;
 
 use cell_core::{ListOf, NoMemory, Places, Rows, Tuple, Tuples};
-use multi_index::AxisFault;
 
 /// Positions, counted from the end where they are negative.
 pub type Positions = ListOf<i64>;
@@ -48,7 +47,7 @@ pub struct Picked {
 /// Why a key picks no rows.
 #[derive(Drop)]
 pub enum KeyFault {
-    /// No row has the label.
+    /// No row has the labels, or they bound a slice on several levels that aren't in order.
     NotThere(Tuple),
     /// The bound of a slice stands more than once, and the rows aren't in order.
     BoundNotUnique(Tuple),
@@ -67,19 +66,5 @@ impl From<NoMemory> for KeyFault {
 
     fn from(_: NoMemory) -> KeyFault {
         KeyFault::NoMemory
-    }
-}
-
-impl From<AxisFault> for KeyFault {
-    ghost use Rattle.indexers.specs.Picks.{key_fault};
-
-    ghost from_gives = { λ given made. made ≡ key_fault given };
-
-    fn from(fault: AxisFault) -> KeyFault {
-        match fault {
-            AxisFault::NotThere(key) => KeyFault::NotThere(key),
-            AxisFault::BoundNotUnique(key) => KeyFault::BoundNotUnique(key),
-            AxisFault::NoMemory => KeyFault::NoMemory,
-        }
     }
 }

@@ -7,6 +7,7 @@ ghost use Rattle.multi_index.specs.Axes.{AreLeading, HaveLevels};
 ghost use Rattle.indexers.specs.Keys.{label_key, FitsLevels};
 ghost use Rattle.indexers.specs.Picks.{PicksBy, pick_of, loc_pick, IsSpanned};
 
+use crate::faults::{leading_places, leading_span};
 use crate::keys::{KeyFault, LocKey, Picked};
 use crate::spans::spanned;
 use cell_core::{NoMemory, Places, Rows, TextDict, Tuple, Tuples};
@@ -41,7 +42,7 @@ pub fn loc_places(
         LocKey::One(labels) => rows_of_key(alloc, axis, labels),
         LocKey::Many(tuples) => rows_of_keys(alloc, axis, tuples),
         LocKey::Span(from, to) => {
-            let rows = axis.slice_places(dict, from.as_ref(), to.as_ref())?;
+            let rows = leading_span(dict, axis, from.as_ref(), to.as_ref())?;
             Ok(spanned(alloc, rows, axis.len())?)
         }
     }
@@ -66,7 +67,7 @@ fn rows_of_key(alloc: Global, axis: &Axis, labels: &Tuple) -> Result<Picked, Key
     ensures picked { PicksBy pick_of result (loc_pick [] axis.now (key.one_key labels.now)) }
     ensures span { IfOk result (IsSpanned (length axis.now.tuples)) }
 {
-    let places = axis.places(alloc, labels)?;
+    let places = leading_places(alloc, axis, labels)?;
     let named = labels.len();
     let levels = axis.levels();
     let single = is_single(named, levels, &places);

@@ -12,6 +12,7 @@
 //! ```
 #![tactic(auto)]
 
+mod faults;
 mod keys;
 mod labels;
 mod masks;

@@ -6,12 +6,10 @@ use Rattle.std.proofs.lemmas.Bool.{false≢true}
 use Rattle.std.proofs.lemmas.List.{length-map, append-nil, take_more}
 use Rattle.std.proofs.lemmas.List.Sums.{sum_by-cons, sum_by-le-sum_by}
 use Rattle.std.proofs.lemmas.List.Concat.{length-flat_map, flat_map-append}
-use Rattle.cell_core.specs.declared.cell.Label.{Label}
 use Rattle.align_meaning.specs.Faults.{too_large}
 use Rattle.align_meaning.specs.Joins.{Entry, or_gap, entry, entries_with, entries_of, most_rows, lists_of, within_limit}
-use Rattle.label_align.specs.Joined.{entries_at, coded_entries, count_at, counted}
 
-map-map : {A B C : Type 0} (f : B → C) (g : A → B) (xs : List A) → map f (map g xs) ≡ map (λ x. f (g x)) xs
+pub map-map : {A B C : Type 0} (f : B → C) (g : A → B) (xs : List A) → map f (map g xs) ≡ map (λ x. f (g x)) xs
 map-map f g [] = refl
 map-map f g (x ∷ xs) = ap (λ l. f (g x) ∷ l) (map-map f g xs)
 
@@ -20,9 +18,9 @@ flat_map-map f g [] = refl
 flat_map-map f g (x ∷ xs) = ap (λ l. f (g x) ++ l) (flat_map-map f g xs)
 
 module _ {K : Type 0} (key : K) where
-  pub entries_with_some : (left : Option ℕ) (rs : List ℕ) → 0 < length rs → map (λ r. entry key left (Some r)) rs ≡ entries_with key rs left
-  entries_with_some left [] h = absurd (omega (arith, h))
-  entries_with_some left (r ∷ rs) h = ap (λ l. entry key left (Some r) ∷ l) (sym (map-map (entry key left) Some rs))
+  pub entries_with_some : (f : ℕ → ℕ) (left : Option ℕ) (rs : List ℕ) → 0 < length rs → map (λ r. entry key left (Some (f r))) rs ≡ entries_with key (map f rs) left
+  entries_with_some f left [] h = absurd (omega (arith, h))
+  entries_with_some f left (r ∷ rs) h = ap (λ l. entry key left (Some (f r)) ∷ l) (sym (map-map (entry key left) Some (map f rs) ∙ map-map (λ r. entry key left (Some r)) f rs))
 
   pub entries_of_some : (ls rs : List ℕ) → 0 < length ls → flat_map (λ l. entries_with key rs (Some l)) ls ≡ entries_of key ls rs
   entries_of_some [] rs h = absurd (omega (arith, h))
@@ -47,25 +45,17 @@ length-entries_of key ls rs =
     ∙ sum_by_alike (max (length rs) 1) (or_gap ls)
     ∙ ap (λ n. n * max (length rs) 1) (length-or_gap ls)
 
-length-coded : (keys : List (List Label)) (lefts rights : List (List ℕ)) (codes : List ℕ) → length (coded_entries keys lefts rights codes) ≡ counted lefts rights codes
-length-coded keys lefts rights codes =
-    length-flat_map (entries_at keys lefts rights) codes
-    ∙ sum_by_same (λ c. length (entries_at keys lefts rights c)) (count_at lefts rights) codes (λ c. length-entries_of (slice_index_or keys c []) (slice_index_or lefts c []) (slice_index_or rights c []))
-
 pub flat_map_more : {X C : Type 0} (f : X → List C) (xs : List X) (i : ℕ) (d : X) → i < length xs → flat_map f (take (i + 1) xs) ≡ flat_map f (take i xs) ++ f (slice_index_or xs i d)
 flat_map_more f xs i d lt =
     ap (flat_map f) (take_more xs i d lt) ∙ flat_map-append f (take i xs) (slice_index_or xs i d ∷ []) ∙ ap (λ z. flat_map f (take i xs) ++ z) (append-nil (f (slice_index_or xs i d)))
 
 -- too many entries, and few enough
-module _ (keys : List (List Label)) (lefts rights : List (List ℕ)) (codes : List ℕ) (few : Bool) (told : Decides few (counted lefts rights codes ≤ most_rows)) where
-  abbrev entries : List (Entry (List Label))
-  entries = coded_entries keys lefts rights codes
-
+module _ {K : Type 0} (entries : List (Entry K)) (counted : ℕ) (few : Bool) (told : Decides few (counted ≤ most_rows)) (size : counted ≡ length entries) where
   pub too_many : few ≡ false → within_limit entries ≡ Err too_large
   too_many fails =
-      let many : counted lefts rights codes ≤ most_rows → ⊥ = λ le. false≢true (sym fails ∙ told.1 le) in
-      ap (λ b. cond b (Err too_large) (Ok (lists_of entries))) (lt-ltb most_rows (length entries) (omega (arith, many, length-coded keys lefts rights codes)))
+      let many : counted ≤ most_rows → ⊥ = λ le. false≢true (sym fails ∙ told.1 le) in
+      ap (λ b. cond b (Err too_large) (Ok (lists_of entries))) (lt-ltb most_rows (length entries) (omega (arith, many, size)))
 
   pub few_enough : few ≡ true → within_limit entries ≡ Ok (lists_of entries)
   few_enough holds =
-      ap (λ b. cond b (Err too_large) (Ok (lists_of entries))) (le-ltb most_rows (length entries) (omega (arith, told.0 holds, length-coded keys lefts rights codes)))
+      ap (λ b. cond b (Err too_large) (Ok (lists_of entries))) (le-ltb most_rows (length entries) (omega (arith, told.0 holds, size)))

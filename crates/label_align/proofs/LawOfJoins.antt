@@ -19,7 +19,7 @@ use Rattle.label_align.specs.Answers.{AlignsBy}
 use Rattle.label_align.proofs.SameLaws.{tuple_decides}
 use Rattle.label_align.proofs.OuterJoinLaws.{outer_join}
 
-tuple_weak : (texts : List Text) → IsStrictWeakOrder (tuple_less texts)
+pub tuple_weak : (texts : List Text) → IsStrictWeakOrder (tuple_less texts)
 tuple_weak texts = ranks_by (lists_total label_total) (tuple_seen texts)
 
 module _ (texts : List Text) (a b : List (List Label)) where

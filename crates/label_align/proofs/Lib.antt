@@ -6,5 +6,6 @@ pub mod OrderLaws
 pub mod OuterLaws
 pub mod OuterJoinLaws
 pub mod LawOfJoins
-pub mod MatchedLaws
+pub mod RunLaws
+pub mod SideLaws
 pub mod TargetLaws

@@ -3,7 +3,7 @@ use Rattle.std.proofs.Common.{◌≡◌, ◌∙◌, ◌<◌, ◌||◌, ◌++◌,
 use Rattle.std.specs.Bool.{Decides}
 use Rattle.std.specs.Cmp.{IsStrictWeakOrder}
 use Rattle.std.specs.List.{flat_map, list_any}
-use Rattle.std.proofs.lemmas.Bool.{false≢true}
+use Rattle.std.proofs.lemmas.Bool.{false≢true, true≢false}
 use Rattle.std.proofs.lemmas.List.{append-nil}
 use Rattle.std.proofs.lemmas.List.Elements.{All-nil, All-cons, All-head, All-tail, All-map, filter-append}
 use Rattle.meaning.specs.Reduce.{distinct}
@@ -23,14 +23,14 @@ filter_none p [] all = refl
 filter_none p (x ∷ xs) all = ap (λ b. cond b (x ∷ filter p xs) (filter p xs)) (All-head (λ x. p x ≡ false) x xs all) ∙ filter_none p xs (All-tail (λ x. p x ≡ false) x xs all)
 
 -- each entry of a key has the key
-keyed : {K : Type 0} (key : K) (lefts rights : List ℕ) → All (λ e. e.key ≡ key) (entries_of key lefts rights)
+pub keyed : {K : Type 0} (key : K) (lefts rights : List ℕ) → All (λ e. e.key ≡ key) (entries_of key lefts rights)
 keyed key lefts rights =
     all_flat (λ e. e.key ≡ key) (λ l. Unit {0}) (entries_with key rights)
     (λ l h. All-map (λ e. e.key ≡ key) (entry key l) (or_gap rights) (λ k d lt. refl)) (or_gap lefts) (λ k d lt. tt)
 
 module _ {X : Type 0} (less : X → X → Bool) where
   -- none stands before a lesser one
-  abbrev Rises : List X → Type 0
+  abbrev pub Rises : List X → Type 0
   Rises [] = Unit {0}
   Rises (x ∷ xs) = All (λ y. less y x ≡ false) xs × Rises xs
 
@@ -50,51 +50,51 @@ module _ {X : Type 0} (less : X → X → Bool) where
           | false ↦ λ h. (All-cons (λ w. less w x ≡ false) y ys h (λ k d lt. weak.chain _ y x (up.0 k d lt) h), up)
         ] refl
 
-    in_order_rises : (xs : List X) → Rises (in_order less xs)
+    pub in_order_rises : (xs : List X) → Rises (in_order less xs)
     in_order_rises [] = tt
     in_order_rises (x ∷ xs) = put_in_rises x (in_order less xs) (in_order_rises xs)
 
-module _ {K : Type 0} (same less : K → K → Bool) (decides : (a b : K) → Decides (same a b) (a ≡ b)) (weak : IsStrictWeakOrder less) (left right : List K) where
-  abbrev of_key : K → List (Entry K)
-  of_key key = entries_of key (rows_of_key same left key) (rows_of_key same right key)
+module _ {K : Type 0} (same less : K → K → Bool) (decides : (a b : K) → Decides (same a b) (a ≡ b)) (weak : IsStrictWeakOrder less) where
+  -- what belongs to keys, key by key
+  module _ {E : Type 0} (key_of : E → K) (part : K → List E) (carry : (key : K) → All (λ e. key_of e ≡ key) (part key)) where
+    abbrev less_key : E → E → Bool
+    less_key e f = less (key_of e) (key_of f)
 
-  abbrev less_key : Entry K → Entry K → Bool
-  less_key e f = less e.key f.key
+    -- the parts of keys that rise
+    block_rises : (key : K) (es rest : List E) → All (λ e. key_of e ≡ key) es → All (λ e. less (key_of e) key ≡ false) rest → Rises less_key rest → Rises less_key (es ++ rest)
+    block_rises key [] rest are above up = up
+    block_rises key (e ∷ es) rest are above up =
+        let here : key_of e ≡ key = All-head (λ e. key_of e ≡ key) e es are in
+        let later = All-tail (λ e. key_of e ≡ key) e es are in (
+          all_append (λ f. less (key_of f) (key_of e) ≡ false) es rest
+              (λ k d lt. (λ i. less (later k d lt i) (here i)) ∙ irreflexive less weak key)
+              (λ k d lt. ap (less (key_of (slice_index_or rest k d))) here ∙ above k d lt),
+          block_rises key es rest later above up,
+        )
 
-  -- the entries of keys that rise
-  block_rises : (key : K) (es rest : List (Entry K)) → All (λ e. e.key ≡ key) es → All (λ e. less e.key key ≡ false) rest → Rises less_key rest → Rises less_key (es ++ rest)
-  block_rises key [] rest are above up = up
-  block_rises key (e ∷ es) rest are above up =
-      let here : e.key ≡ key = All-head (λ e. e.key ≡ key) e es are in
-      let later = All-tail (λ e. e.key ≡ key) e es are in (
-        all_append (λ f. less f.key e.key ≡ false) es rest
-            (λ k d lt. (λ i. less (later k d lt i) (here i)) ∙ irreflexive less weak key)
-            (λ k d lt. ap (less (slice_index_or rest k d).key) here ∙ above k d lt),
-        block_rises key es rest later above up,
-      )
+    pub parts_rise : (keys : List K) → Rises less keys → Rises less_key (flat_map part keys)
+    parts_rise [] up = tt
+    parts_rise (key ∷ keys) up =
+        block_rises key (part key) (flat_map part keys) (carry key)
+        (all_flat (λ e. less (key_of e) key ≡ false) (λ k. less k key ≡ false) part (λ k h. λ n d lt. ap (λ x. less x key) (carry k n d lt) ∙ h) keys up.0)
+        (parts_rise keys up.1)
 
-  entries_rise : (keys : List K) → Rises less keys → Rises less_key (flat_map of_key keys)
-  entries_rise [] up = tt
-  entries_rise (key ∷ keys) up =
-      block_rises key (of_key key) (flat_map of_key keys) (keyed key (rows_of_key same left key) (rows_of_key same right key))
-      (all_flat (λ e. less e.key key ≡ false) (λ k. less k key ≡ false) of_key (λ k h. λ n d lt. ap (λ x. less x key) (keyed k (rows_of_key same left k) (rows_of_key same right k) n d lt) ∙ h) keys up.0)
-      (entries_rise keys up.1)
+    -- what belongs to one key among what belongs to keys
+    module _ (key : K) where
+      abbrev has_key : E → Bool
+      has_key e = same key (key_of e)
+
+      pub parts_apart : (keys : List K) → filter has_key (flat_map part keys) ≡ flat_map part (filter (same key) keys)
+      parts_apart [] = refl
+      parts_apart (k ∷ keys) =
+          let are = carry k in
+          filter-append has_key (part k) (flat_map part keys)
+          ∙ (elim (same key k) as (λ b. same key k ≡ b → filter has_key (part k) ++ filter has_key (flat_map part keys) ≡ flat_map part (cond b (k ∷ filter (same key) keys) (filter (same key) keys))) [
+            | true ↦ λ h. (λ i. filter_all has_key (part k) (λ n d lt. ap (same key) (are n d lt) ∙ h) i ++ parts_apart keys i)
+            | false ↦ λ h. ap (λ l. l ++ filter has_key (flat_map part keys)) (filter_none has_key (part k) (λ n d lt. ap (same key) (are n d lt) ∙ h)) ∙ parts_apart keys
+          ] refl)
 
   module _ (key : K) where
-    abbrev has_key : Entry K → Bool
-    has_key e = same key e.key
-
-    -- the entries of one key among those of keys
-    entries_apart : (keys : List K) → filter has_key (flat_map of_key keys) ≡ flat_map of_key (filter (same key) keys)
-    entries_apart [] = refl
-    entries_apart (k ∷ keys) =
-        let are = keyed k (rows_of_key same left k) (rows_of_key same right k) in
-        filter-append has_key (of_key k) (flat_map of_key keys)
-        ∙ (elim (same key k) as (λ b. same key k ≡ b → filter has_key (of_key k) ++ filter has_key (flat_map of_key keys) ≡ flat_map of_key (cond b (k ∷ filter (same key) keys) (filter (same key) keys))) [
-          | true ↦ λ h. (λ i. filter_all has_key (of_key k) (λ n d lt. ap (same key) (are n d lt) ∙ h) i ++ entries_apart keys i)
-          | false ↦ λ h. ap (λ l. l ++ filter has_key (flat_map of_key keys)) (filter_none has_key (of_key k) (λ n d lt. ap (same key) (are n d lt) ∙ h)) ∙ entries_apart keys
-        ] refl)
-
     swap : (x y : K) (zs : List K) → cond (same key y) (y ∷ cond (same key x) (x ∷ zs) zs) (cond (same key x) (x ∷ zs) zs) ≡ cond (same key x) (x ∷ cond (same key y) (y ∷ zs) zs) (cond (same key y) (y ∷ zs) zs)
     swap x y zs =
         elim (same key x) as (λ b. same key x ≡ b → cond (same key y) (y ∷ cond b (x ∷ zs) zs) (cond b (x ∷ zs) zs) ≡ cond b (x ∷ cond (same key y) (y ∷ zs) zs) (cond (same key y) (y ∷ zs) zs)) [
@@ -113,7 +113,7 @@ module _ {K : Type 0} (same less : K → K → Bool) (decides : (a b : K) → De
           | false ↦ refl
         ]
 
-    in_order_keeps : (xs : List K) → filter (same key) (in_order less xs) ≡ filter (same key) xs
+    pub in_order_keeps : (xs : List K) → filter (same key) (in_order less xs) ≡ filter (same key) xs
     in_order_keeps [] = refl
     in_order_keeps (x ∷ xs) = put_in_keeps x (in_order less xs) ∙ ap (λ l. cond (same key x) (x ∷ l) l) (in_order_keeps xs)
 
@@ -140,7 +140,7 @@ module _ {K : Type 0} (same less : K → K → Bool) (decides : (a b : K) → De
           | false ↦ λ e. ap (λ l. cond (same key k) (k ∷ l) l) (others_stay x ks h)
         ] refl
 
-    once : (xs : List K) → list_any (same key) xs ≡ true → filter (same key) (distinct same xs) ≡ key ∷ []
+    pub once : (xs : List K) → list_any (same key) xs ≡ true → filter (same key) (distinct same xs) ≡ key ∷ []
     once [] h = absurd (false≢true h)
     once (x ∷ xs) h =
         elim (same key x) as (λ b. same key x ≡ b → (b || list_any (same key) xs) ≡ true → cond b (x ∷ filter (same key) (filter (λ q. not (same q x)) (distinct same xs))) (filter (same key) (filter (λ q. not (same q x)) (distinct same xs))) ≡ key ∷ []) [
@@ -148,17 +148,35 @@ module _ {K : Type 0} (same less : K → K → Bool) (decides : (a b : K) → De
           | false ↦ λ e t. others_stay x (distinct same xs) e ∙ once xs t
         ] refl h
 
-    entries_of_key : list_any (same key) (left ++ right) ≡ true → filter has_key (outer_entries same less left right) ≡ of_key key
-    entries_of_key stands =
-        entries_apart (in_order less (distinct same (left ++ right)))
-        ∙ ap (flat_map of_key) (in_order_keeps (distinct same (left ++ right)) ∙ once (left ++ right) stands)
+    -- and one that doesn't stand is not
+    pub gone : (xs : List K) → list_any (same key) xs ≡ false → filter (same key) (distinct same xs) ≡ []
+    gone [] h = refl
+    gone (x ∷ xs) h =
+        elim (same key x) as (λ b. same key x ≡ b → (b || list_any (same key) xs) ≡ false → cond b (x ∷ filter (same key) (filter (λ q. not (same q x)) (distinct same xs))) (filter (same key) (filter (λ q. not (same q x)) (distinct same xs))) ≡ []) [
+          | true ↦ λ e t. absurd (true≢false t)
+          | false ↦ λ e t. others_stay x (distinct same xs) e ∙ gone xs t
+        ] refl h
+
+  -- the entries of both sides' keys
+  module _ (left right : List K) where
+    abbrev of_key : K → List (Entry K)
+    of_key key = entries_of key (rows_of_key same left key) (rows_of_key same right key)
+
+    entry_keys : (key : K) → All (λ e. e.key ≡ key) (of_key key)
+    entry_keys key = keyed key (rows_of_key same left key) (rows_of_key same right key)
+
+    entries_of_key : (key : K) → list_any (same key) (left ++ right) ≡ true → filter (λ e. same key e.key) (outer_entries same less left right) ≡ of_key key
+    entries_of_key key stands =
+        parts_apart (λ e. e.key) of_key entry_keys key (in_order less (distinct same (left ++ right)))
+        ∙ ap (flat_map of_key) (in_order_keeps key (distinct same (left ++ right)) ∙ once key (left ++ right) stands)
         ∙ append-nil (of_key key)
 
-  pub outer_join : IsOuterJoin same less left right (lists_of (outer_entries same less left right))
-  outer_join = record {
-    entries = outer_entries same less left right;
-    lists = refl;
-    in_order = rises_at less_key (outer_entries same less left right) (entries_rise (in_order less (distinct same (left ++ right))) (in_order_rises less weak (distinct same (left ++ right))));
-    as_often = λ key stands. ap length (entries_of_key key stands) ∙ length-entries_of key (rows_of_key same left key) (rows_of_key same right key);
-    rows_in_order = entries_of_key;
-  }
+    pub outer_join : IsOuterJoin same less left right (lists_of (outer_entries same less left right))
+    outer_join = record {
+      entries = outer_entries same less left right;
+      lists = refl;
+      in_order = rises_at (λ e f. less e.key f.key) (outer_entries same less left right)
+          (parts_rise (λ e. e.key) of_key entry_keys (in_order less (distinct same (left ++ right))) (in_order_rises less weak (distinct same (left ++ right))));
+      as_often = λ key stands. ap length (entries_of_key key stands) ∙ length-entries_of key (rows_of_key same left key) (rows_of_key same right key);
+      rows_in_order = entries_of_key;
+    }

@@ -1,69 +1,96 @@
--- The entries by code, in the order of the keys, are those by key.
-use Rattle.std.proofs.Common.{◌≡◌, ◌∙◌, ◌<◌, ◌+◌, ◌++◌, ℕ, suc, List, [], ◌∷◌, map, length, refl, ap, sym, subst, slice_index_or, arith, All}
+-- The rows of both sides in order, their runs and the entries of these are the outer join.
+use Rattle.std.proofs.Common.{◌≡◌, ◌∙◌, ◌<◌, ◌≤◌, ◌++◌, ℕ, zero, suc, List, [], ◌∷◌, map, length, refl, ap, sym, subst, slice_index_or, arith, All, Option}
 use Rattle.std.specs.List.{flat_map, range_with_len}
-use Rattle.std.proofs.lemmas.List.Elements.{All-head, All-tail}
+use Rattle.std.specs.List.Sorted.{ties}
+use Rattle.std.proofs.lemmas.List.Elements.{All-head, All-tail, All-map}
 use Rattle.cell_core.specs.declared.cell.Label.{Label}
+use Rattle.cell_core.specs.Texts.{AreDistinct, IsGivenLabel}
 use Rattle.meaning.specs.Text.{Text}
-use Rattle.multi_index.specs.Axes.{HaveLevels}
+use Rattle.multi_index.specs.Axes.{HaveLevels, tuples_at}
 use Rattle.pick_meaning.specs.Rows.{rows_where}
 use Rattle.sorting.specs.Sorting.{in_order}
-use Rattle.align_meaning.specs.Joins.{Entry, entries_of, outer_entries}
+use Rattle.sorting.proofs.OrderLaws.{in_order_same}
+use Rattle.align_meaning.specs.Joins.{Entry, Lists, keys_in_order, outer_entries, lists_of}
+use Rattle.align_meaning.proofs.OrderLaws.{all_append, all_in_order}
 use Rattle.row_keys.specs.Keys.{same_tuple}
-use Rattle.row_keys.proofs.RecodeLaws.{All-distinct}
+use Rattle.label_align.specs.declared.runs.Run.{Run}
+use Rattle.label_align.specs.declared.joined.Entries.{Entries}
 use Rattle.label_align.specs.Tuples.{tuple_less, row_less}
-use Rattle.label_align.specs.Joined.{entries_at, coded_entries}
-use Rattle.label_align.specs.Matched.{AreMatched}
-use Rattle.align_meaning.proofs.OrderLaws.{all_in_order, in_order_map}
+use Rattle.label_align.specs.Joined.{entries_seen}
+use Rattle.label_align.specs.Runs.{AreGivenTuples, tuple_of_row, same_row, no_run, runs_from, run_entries, total, counted}
+use Rattle.label_align.proofs.EntryLaws.{map-map}
+use Rattle.label_align.proofs.LawOfJoins.{tuple_weak}
 use Rattle.label_align.proofs.OrderLaws.{row_agrees, below_range}
+use Rattle.label_align.proofs.RunLaws.{rows_are, runs_are, have_rows}
+use Rattle.label_align.proofs.SameLaws.{tuple_decides, tuple_tied}
+use Rattle.label_align.proofs.SideLaws.{rekeyed, run_at, entries_are, counted_is, total_is, entries_inside}
 
--- parts that are alike at each element
-flat_map_on : {X Y C : Type 0} (P : X → Type 0) (f : X → List C) (g : Y → List C) (h : X → Y) → ((x : X) → P x → f x ≡ g (h x)) → (xs : List X) → All P xs → flat_map f xs ≡ flat_map g (map h xs)
-flat_map_on P f g h same [] all = refl
-flat_map_on P f g h same (x ∷ xs) all = λ i. same x (All-head P x xs all) i ++ flat_map_on P f g h same xs (All-tail P x xs all) i
+given_row : (texts : List Text) (tuples : List (List Label)) (row : ℕ) → AreGivenTuples texts tuples → All (IsGivenLabel texts) (tuple_of_row tuples row)
+given_row texts [] row given = λ k d lt. absurd (omega (arith, lt))
+given_row texts (t ∷ ts) zero given = All-head (λ tuple. All (IsGivenLabel texts) tuple) t ts given
+given_row texts (t ∷ ts) (suc row) given = given_row texts ts row (All-tail (λ tuple. All (IsGivenLabel texts) tuple) t ts given)
 
--- a list, element by element
-elements : {X : Type 0} (xs : List X) (d : X) (at : ℕ) (f : ℕ → X) → ((k : ℕ) → k < length xs → f (at + k) ≡ slice_index_or xs k d) → map f (range_with_len at (length xs)) ≡ xs
-elements [] d at f same = refl
-elements (x ∷ xs) d at f same =
-    let first : f at ≡ x = ap f (omega arith) ∙ same 0 (omega arith) in
-    let rest : map f (range_with_len (at + 1) (length xs)) ≡ xs = elements xs d (at + 1) f (λ k lt. ap f (omega arith) ∙ same (suc k) (omega (arith, lt))) in
-    λ i. first i ∷ rest i
+pub both_given : (texts : List Text) (a b : List (List Label)) → AreGivenTuples texts a → AreGivenTuples texts b → AreGivenTuples texts (a ++ b)
+both_given texts a b = all_append (λ tuple. All (IsGivenLabel texts) tuple) a b
 
-module _ (texts : List Text) (a b keys : List (List Label)) (lefts rights : List (List ℕ)) (codes : List ℕ) (levels : ℕ) (both : HaveLevels levels (a ++ b)) (are : AreMatched a b keys lefts rights) (sorted : codes ≡ in_order (row_less texts keys levels) (range_with_len 0 (length keys))) where
-  alike : HaveLevels levels keys
-  alike = subst (HaveLevels levels) (sym are.keys_are) (All-distinct (λ t. length t ≡ levels) same_tuple (a ++ b) both)
+module _ (texts : List Text) (a b : List (List Label)) (levels : ℕ) (distinct : AreDistinct texts) (alike : HaveLevels levels (a ++ b)) (given : AreGivenTuples texts (a ++ b)) (rows : List ℕ) (sorted : rows ≡ in_order (row_less texts (a ++ b) levels) (range_with_len 0 (length (a ++ b)))) where
+  abbrev IsRow : ℕ → Type 0
+  IsRow row = row < length (a ++ b)
 
-  abbrev IsPlace : ℕ → Type 0
-  IsPlace c = c < length keys
+  pub rows_inside : All IsRow rows
+  rows_inside = subst (All IsRow) (sym sorted) (all_in_order IsRow (row_less texts (a ++ b) levels) (range_with_len 0 (length (a ++ b))) (below_range (length (a ++ b))))
 
-  abbrev key_at : ℕ → List Label
-  key_at c = slice_index_or keys c []
+  abbrev keys : List (List Label)
+  keys = keys_in_order same_tuple (tuple_less texts) (a ++ b)
 
-  agree : (i j : ℕ) → IsPlace i → IsPlace j → tuple_less texts (key_at i) (key_at j) ≡ row_less texts keys levels i j
-  agree i j hi hj = sym (row_agrees texts keys levels i j alike hi hj)
+  abbrev part : List Label → List ℕ
+  part key = rows_where (same_tuple key) 0 (a ++ b)
 
-  places : All IsPlace (range_with_len 0 (length keys))
-  places = below_range (length keys)
+  tied : (i j : ℕ) → ties (tuple_less texts) (tuple_of_row (a ++ b) i) (tuple_of_row (a ++ b) j) ≡ same_row (a ++ b) i j
+  tied i j = tuple_tied texts distinct (tuple_of_row (a ++ b) i) (tuple_of_row (a ++ b) j) (given_row texts (a ++ b) i given) (given_row texts (a ++ b) j given)
 
-  pub codes_inside : All IsPlace codes
-  codes_inside = subst (All IsPlace) (sym sorted) (all_in_order IsPlace (row_less texts keys levels) (range_with_len 0 (length keys)) places)
+  rows_by_key : rows ≡ flat_map part keys
+  rows_by_key =
+      sorted
+      ∙ in_order_same IsRow (row_less texts (a ++ b) levels) (λ i j. tuple_less texts (tuple_of_row (a ++ b) i) (tuple_of_row (a ++ b) j)) (λ i j hi hj. row_agrees texts (a ++ b) levels i j alike hi hj)
+      (range_with_len 0 (length (a ++ b))) (below_range (length (a ++ b)))
+      ∙ rows_are same_tuple (tuple_less texts) tuple_decides (tuple_weak texts) (a ++ b) [] tied
 
-  pub lefts_inside : All (λ c. c < length lefts) codes
-  lefts_inside = subst (λ n. All (λ c. c < n) codes) (sym are.lefts_are.count) codes_inside
+  module _ (runs : List Run) (made : runs ≡ runs_from (same_row (a ++ b)) (length a) no_run rows) where
+    abbrev run_of_key : List Label → Run
+    run_of_key = run_at same_tuple (tuple_less texts) tuple_decides (tuple_weak texts) a b []
 
-  pub rights_inside : All (λ c. c < length rights) codes
-  rights_inside = subst (λ n. All (λ c. c < n) codes) (sym are.rights_are.count) codes_inside
+    runs_by_key : runs ≡ map run_of_key keys
+    runs_by_key = made ∙ ap (runs_from (same_row (a ++ b)) (length a) no_run) rows_by_key ∙ runs_are same_tuple (tuple_less texts) tuple_decides (tuple_weak texts) (a ++ b) [] (length a)
 
-  keys_in_order : map key_at codes ≡ in_order (tuple_less texts) keys
-  keys_in_order =
-      ap (map key_at) sorted
-      ∙ sym (in_order_map IsPlace key_at (row_less texts keys levels) (tuple_less texts) agree (range_with_len 0 (length keys)) places)
-      ∙ ap (in_order (tuple_less texts)) (elements keys [] 0 key_at (λ k lt. let e : 0 + k ≡ k = omega arith in ap key_at e))
+    pub counted_outer : counted runs ≡ length (outer_entries same_tuple (tuple_less texts) a b)
+    counted_outer = ap counted runs_by_key ∙ counted_is same_tuple (tuple_less texts) tuple_decides (tuple_weak texts) a b [] keys
 
-  abbrev of_key : List Label → List (Entry (List Label))
-  of_key key = entries_of key (rows_where (same_tuple key) 0 a) (rows_where (same_tuple key) 0 b)
+    pub total_outer : total runs ≤ length rows
+    total_outer =
+        let size : total runs ≡ length rows = ap total runs_by_key ∙ total_is same_tuple (tuple_less texts) tuple_decides (tuple_weak texts) a b [] keys ∙ ap (λ (l : List ℕ). length l) (sym rows_by_key) in
+        omega (arith, size)
 
-  pub outer_is : coded_entries keys lefts rights codes ≡ outer_entries same_tuple (tuple_less texts) a b
-  outer_is =
-      flat_map_on IsPlace (entries_at keys lefts rights) of_key key_at (λ c lt. λ i. entries_of (key_at c) (are.lefts_are.each c lt i) (are.rights_are.each c lt i)) codes codes_inside
-      ∙ ap (flat_map of_key) (keys_in_order ∙ ap (in_order (tuple_less texts)) are.keys_are)
+    abbrev entries : List (Entry ℕ)
+    entries = run_entries (length a) runs rows
+
+    entries_outer : map (rekeyed (tuple_of_row (a ++ b))) entries ≡ outer_entries same_tuple (tuple_less texts) a b
+    entries_outer =
+        (λ i. map (rekeyed (tuple_of_row (a ++ b))) (run_entries (length a) (runs_by_key i) (rows_by_key i)))
+        ∙ entries_are same_tuple (tuple_less texts) tuple_decides (tuple_weak texts) a b [] keys (have_rows same_tuple (tuple_less texts) tuple_decides (tuple_weak texts) (a ++ b) [])
+
+    module _ (out : Entries) (seen : entries_seen out ≡ lists_of entries) where
+      pub keys_inside : All IsRow out.rows.items
+      keys_inside =
+          subst (All IsRow) (sym (ap (λ (l : Lists ℕ). l.keys) seen))
+          (All-map IsRow (λ (e : Entry ℕ). e.key) entries
+          (subst (λ rs. All (λ e. e.key < length (a ++ b)) (run_entries (length a) rs rows)) (sym runs_by_key)
+          (entries_inside same_tuple (tuple_less texts) tuple_decides (tuple_weak texts) a b [] keys rows (have_rows same_tuple (tuple_less texts) tuple_decides (tuple_weak texts) (a ++ b) []))))
+
+      pub lists_outer : (tuples : List (List Label)) → tuples ≡ tuples_at (a ++ b) out.rows.items → record { keys = tuples; left = out.left; right = out.right } ≡ lists_of (outer_entries same_tuple (tuple_less texts) a b)
+      lists_outer tuples is =
+          let f = rekeyed (tuple_of_row (a ++ b)) in
+          let keyed : tuples ≡ map (λ e. e.key) (map f entries) = is ∙ ap (map (tuple_of_row (a ++ b))) (ap (λ (l : Lists ℕ). l.keys) seen) ∙ map-map (tuple_of_row (a ++ b)) (λ (e : Entry ℕ). e.key) entries ∙ sym (map-map (λ (e : Entry (List Label)). e.key) f entries) in
+          let left : out.left ≡ map (λ e. e.left) (map f entries) = ap (λ (l : Lists ℕ). l.left) seen ∙ sym (map-map (λ (e : Entry (List Label)). e.left) f entries) in
+          let right : out.right ≡ map (λ e. e.right) (map f entries) = ap (λ (l : Lists ℕ). l.right) seen ∙ sym (map-map (λ (e : Entry (List Label)). e.right) f entries) in
+          (λ i. record { keys = keyed i; left = left i; right = right i }) ∙ ap lists_of entries_outer

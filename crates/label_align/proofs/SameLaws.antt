@@ -1,8 +1,22 @@
 -- Tuples are equal by `==` exactly where they are the same.
-use Rattle.std.proofs.Common.{◌≡◌, List, rules}
+use Rattle.std.proofs.Common.{◌≡◌, ◌∙◌, ◌&&◌, ℕ, Bool, true, false, not, List, [], ◌∷◌, refl, ap, sym, rules, All}
 use Rattle.std.specs.Bool.{Decides}
-use Rattle.std.specs.Cmp.Lexicographic.{pointwise, pointwise_decides}
+use Rattle.std.specs.Cmp.Lexicographic.{pointwise, pointwise_decides, slice_cmp, lists_total}
+use Rattle.std.specs.FinMap.{int_cmp-IsAntisymmetric, nat_cmp-IsAntisymmetric, slice_cmp-IsAntisymmetric}
+use Rattle.std.specs.List.Sorted.{ties}
+use Rattle.std.specs.Ordering.{is_eq, is_lt, bool_cmp, ordering_reverse}
+use Rattle.std.specs.declared.cmp.Ordering.{Ordering}
+use Rattle.std.specs.declared.cmp.Ordering.TheVariants.{Less, Equal, Greater}
+use Rattle.std.proofs.lemmas.Bool.Decides.{same_from_decides}
+use Rattle.std.proofs.lemmas.Cmp.{tied_itself}
+use Rattle.std.proofs.lemmas.List.Elements.{All-head, All-tail}
 use Rattle.cell_core.specs.declared.cell.Label.{Label}
+use Rattle.cell_core.specs.declared.cell.Label.TheVariants as label
+use Rattle.cell_core.specs.declared.cell.TextId.{TextId}
+use Rattle.cell_core.specs.Texts.{AreDistinct, IsGivenLabel}
+use Rattle.cell_core.specs.Values.{LabelValue, truth, int, text, na, label_cmp, label_datum}
+use Rattle.cell_core.proofs.LabelLaws.{label_total}
+use Rattle.label_align.specs.Tuples.{tuple_seen, tuple_less}
 use Rattle.index_core.specs.Labels.{same_number}
 use Rattle.row_keys.specs.Keys.{same_tuple}
 pub use Rattle.row_keys.proofs.PartnerLaws.{tuple_laws}
@@ -15,3 +29,97 @@ tuple_decides = pointwise_decides label_decides
 
 pub tuples_decide : (a b : List (List Label)) → Decides (pointwise same_tuple a b) (a ≡ b)
 tuples_decide = pointwise_decides tuple_decides
+
+bool_same : (a b : Bool) → bool_cmp a b ≡ Equal → a ≡ b
+bool_same true true e = refl
+bool_same false false e = refl
+bool_same true false e = cc
+bool_same false true e = cc
+
+-- labels that compare as equal are the same
+pub value_same : (a b : LabelValue) → label_cmp a b ≡ Equal → a ≡ b
+value_same (truth a) (truth b) e = ap (λ x. truth x) (bool_same a b e)
+value_same (int a) (int b) e = ap (λ x. int x) (int_cmp-IsAntisymmetric a b e)
+value_same (text a) (text b) e = ap (λ x. text x) (slice_cmp-IsAntisymmetric nat_cmp-IsAntisymmetric a b e)
+value_same na na e = refl
+value_same (truth a) (int b) e = cc
+value_same (truth a) (text b) e = cc
+value_same (truth a) na e = cc
+value_same (int a) (truth b) e = cc
+value_same (int a) (text b) e = cc
+value_same (int a) na e = cc
+value_same (text a) (truth b) e = cc
+value_same (text a) (int b) e = cc
+value_same (text a) na e = cc
+value_same na (truth b) e = cc
+value_same na (int b) e = cc
+value_same na (text b) e = cc
+
+pub is_equal : (o : Ordering) → is_eq o ≡ true → o ≡ Equal
+is_equal Equal e = refl
+is_equal Less e = cc
+is_equal Greater e = cc
+
+abbrev text_in : LabelValue → List ℕ
+text_in (text t) = t
+text_in l = []
+
+id_same : (x y : TextId) → x.0 ≡ y.0 → x ≡ y
+id_same x y e = λ i. record { 0 = e i }
+
+-- labels of one text have one number
+pub label_one : (texts : List (List ℕ)) (a b : Label) → AreDistinct texts → IsGivenLabel texts a → IsGivenLabel texts b → label_datum texts a ≡ label_datum texts b → a ≡ b
+label_one texts (label.Bool a) (label.Bool b) distinct f g e = cc
+label_one texts (label.Int a) (label.Int b) distinct f g e = cc
+label_one texts (label.Text a) (label.Text b) distinct f g e = ap (λ x. label.Text x) (id_same a b (distinct a.0 b.0 f g (ap text_in e)))
+label_one texts label.Na label.Na distinct f g e = refl
+label_one texts (label.Bool a) (label.Int b) distinct f g e = cc
+label_one texts (label.Bool a) (label.Text b) distinct f g e = cc
+label_one texts (label.Bool a) label.Na distinct f g e = cc
+label_one texts (label.Int a) (label.Bool b) distinct f g e = cc
+label_one texts (label.Int a) (label.Text b) distinct f g e = cc
+label_one texts (label.Int a) label.Na distinct f g e = cc
+label_one texts (label.Text a) (label.Bool b) distinct f g e = cc
+label_one texts (label.Text a) (label.Int b) distinct f g e = cc
+label_one texts (label.Text a) label.Na distinct f g e = cc
+label_one texts label.Na (label.Bool b) distinct f g e = cc
+label_one texts label.Na (label.Int b) distinct f g e = cc
+label_one texts label.Na (label.Text b) distinct f g e = cc
+
+-- tuples of given labels tie in their order exactly where they are the same
+module _ (texts : List (List ℕ)) (distinct : AreDistinct texts) where
+  abbrev Given : List Label → Type 0
+  Given tuple = All (IsGivenLabel texts) tuple
+
+  abbrev head_in : List LabelValue → LabelValue
+  head_in [] = na
+  head_in (x ∷ xs) = x
+
+  abbrev tail_in : List LabelValue → List LabelValue
+  tail_in [] = []
+  tail_in (x ∷ xs) = xs
+
+  tuple_one : (x y : List Label) → Given x → Given y → tuple_seen texts x ≡ tuple_seen texts y → x ≡ y
+  tuple_one [] [] g h e = refl
+  tuple_one [] (y ∷ ys) g h e = cc
+  tuple_one (x ∷ xs) [] g h e = cc
+  tuple_one (x ∷ xs) (y ∷ ys) g h e =
+      let first : x ≡ y = label_one texts x y distinct (All-head (IsGivenLabel texts) x xs g) (All-head (IsGivenLabel texts) y ys h) (ap head_in e) in
+      let rest : xs ≡ ys = tuple_one xs ys (All-tail (IsGivenLabel texts) x xs g) (All-tail (IsGivenLabel texts) y ys h) (ap tail_in e) in
+      λ i. first i ∷ rest i
+
+  tie_of : (o : Ordering) → (not (is_lt o) && not (is_lt (ordering_reverse o))) ≡ is_eq o
+  tie_of Less = refl
+  tie_of Equal = refl
+  tie_of Greater = refl
+
+  pub tuple_tied : (x y : List Label) → Given x → Given y → ties (tuple_less texts) x y ≡ same_tuple x y
+  tuple_tied x y g h =
+      let o : Ordering = slice_cmp label_cmp (tuple_seen texts x) (tuple_seen texts y) in
+      let told : Decides (is_eq o) (x ≡ y) = (
+        λ e. tuple_one x y g h (slice_cmp-IsAntisymmetric value_same (tuple_seen texts x) (tuple_seen texts y) (is_equal o e)),
+        λ e. ap (λ z. is_eq (slice_cmp label_cmp (tuple_seen texts x) (tuple_seen texts z))) (sym e) ∙ ap is_eq (tied_itself (lists_total label_total) (tuple_seen texts x)),
+      ) in
+      ap (λ r. not (is_lt o) && not (is_lt r)) ((lists_total label_total).antisymm (tuple_seen texts y) (tuple_seen texts x))
+      ∙ tie_of o
+      ∙ same_from_decides (is_eq o) (same_tuple x y) told (tuple_decides x y)

@@ -1,9 +1,10 @@
 -- The row of each target, by codes.
-use Rattle.std.proofs.Common.{◌≡◌, ◌∙◌, ◌<◌, ◌≤◌, ◌++◌, ℕ, zero, suc, Bool, true, false, cond, List, [], ◌∷◌, map, length, refl, ap, sym, slice_index, slice_index_or, arith, All, Option, Some, None, Ok, Err, nat_lt, lt-ltb, le-ltb}
+use Rattle.std.proofs.Common.{◌≡◌, ◌∙◌, ◌<◌, ◌≤◌, ◌==◌, ◌+◌, ◌++◌, ℕ, zero, suc, Bool, true, false, cond, List, [], ◌∷◌, map, length, refl, ap, sym, slice_index, slice_index_or, arith, All, Option, Some, None, Ok, Err, nat_lt, lt-ltb, le-ltb}
 use Rattle.std.specs.Bool.{Decides}
 use Rattle.std.specs.Cmp.Lexicographic.{pointwise}
 use Rattle.std.specs.List.{range_with_len}
-use Rattle.std.proofs.lemmas.Bool.{false≢true}
+use Rattle.std.proofs.lemmas.Bool.{false≢true, eq-eqb, eqb-true}
+use Rattle.std.proofs.lemmas.List.FromFn.{get_or-map-range_with_len}
 use Rattle.std.proofs.lemmas.List.{get_or-map, length-map}
 use Rattle.std.proofs.lemmas.List.Elements.{All-head, All-tail}
 use Rattle.cell_core.specs.declared.cell.Label.{Label}
@@ -12,10 +13,10 @@ use Rattle.pick_meaning.specs.Rows.{rows_where, only_row}
 use Rattle.align_meaning.specs.Faults.{duplicate_labels}
 use Rattle.align_meaning.specs.Targets.{first_where, first_repeated, unless_repeated, rows_of_targets, reindexed}
 use Rattle.row_keys.specs.Keys.{same_tuple}
-use Rattle.row_keys.specs.Buckets.{buckets_of}
+use Rattle.row_keys.specs.Buckets.{buckets_of, rows_of_code}
 use Rattle.row_keys.proofs.KeyLaws.{position_in}
 use Rattle.row_keys.proofs.JoinLaws.{rank, count, left_known, right_known, bucket_of_key}
-use Rattle.label_align.specs.Targets.{repeats_at, IsFirstRepeat, NoneBefore, NoneRepeats}
+use Rattle.label_align.specs.Targets.{repeats_at, IsFirstRepeat, NoneBefore, NoneRepeats, row_below}
 use Rattle.label_align.proofs.SameLaws.{tuples_decide, tuple_laws}
 
 -- the first that passes, by its place
@@ -33,6 +34,34 @@ module _ {X : Type 0} (p : X → Bool) where
 map_all : {A B C : Type 0} (P : A → Type 0) (f : A → B) (g : B → C) (h : A → C) → ((x : A) → P x → g (f x) ≡ h x) → (xs : List A) → All P xs → map g (map f xs) ≡ map h xs
 map_all P f g h same [] all = refl
 map_all P f g h same (x ∷ xs) all = λ i. same x (All-head P x xs all) i ∷ map_all P f g h same xs (All-tail P x xs all) i
+
+-- the places of a number among the numbers from one on
+apart_numbers : (c at : ℕ) → (c ≡ at → ⊥) → (c == at) ≡ false
+apart_numbers c at other = elim (c == at) as (λ b. (c == at) ≡ b → b ≡ false) [
+  | true ↦ λ e. absurd (other (eqb-true c at e))
+  | false ↦ λ e. refl
+] refl
+
+not_behind : (c at m : ℕ) → c < at → rows_where (λ d. c == d) at (range_with_len at m) ≡ []
+not_behind c at zero lt = refl
+not_behind c at (suc m) lt =
+    ap (λ b. cond b (at ∷ rows_where (λ d. c == d) (at + 1) (range_with_len (at + 1) m)) (rows_where (λ d. c == d) (at + 1) (range_with_len (at + 1) m))) (apart_numbers c at (λ e. omega (arith, e, lt)))
+    ∙ not_behind c (at + 1) m (omega (arith, lt))
+
+found_at : (c at m : ℕ) → at ≤ c → rows_where (λ d. c == d) at (range_with_len at m) ≡ cond (nat_lt c (at + m)) (c ∷ []) []
+found_at c at zero le = sym (ap (λ b. cond b (c ∷ []) []) (le-ltb c (at + 0) (omega (arith, le))))
+found_at c at (suc m) le =
+    elim (c == at) as (λ b. (c == at) ≡ b → cond b (at ∷ rows_where (λ d. c == d) (at + 1) (range_with_len (at + 1) m)) (rows_where (λ d. c == d) (at + 1) (range_with_len (at + 1) m)) ≡ cond (nat_lt c (at + suc m)) (c ∷ []) []) [
+      | true ↦ λ e.
+          let same : c ≡ at = eqb-true c at e in
+          (λ q. sym same q ∷ not_behind c (at + 1) m (omega (arith, same)) q) ∙ sym (ap (λ b. cond b (c ∷ []) []) (lt-ltb c (at + suc m) (omega (arith, same))))
+      | false ↦ λ e.
+          let later : at + 1 ≤ c = omega (arith, le, differ c at e) in
+          found_at c (at + 1) m later ∙ ap (λ n. cond (nat_lt c n) (c ∷ []) []) (let f : at + 1 + m ≡ at + suc m = omega arith in f)
+    ] refl
+  where
+    differ : (c at : ℕ) → (c == at) ≡ false → c ≡ at → ⊥
+    differ c at h e = false≢true (sym h ∙ eq-eqb c at e)
 
 module _ (keys targets : List (List Label)) where
   -- where the targets are the keys
@@ -101,3 +130,40 @@ module _ (keys targets : List (List Label)) where
         ∙ (λ i. map (λ code. only_row (slice_index_or (made i) code [])) (of_targets i))
         ∙ map_all (λ x. of_key x < how_many) of_key (λ code. only_row (slice_index_or (buckets_of how_many (map of_key keys)) code [])) (λ target. only_row (rows_where (same_tuple target) 0 keys)) (λ x lt. ap only_row (bucket x lt)) targets target_below
         ))
+
+  -- where the codes of the keys are the numbers from 0 on, none repeats, and each is its row
+  module _ (codes : List ℕ) (coded : codes ≡ map of_key keys) (in_sequence : codes ≡ range_with_len 0 (length codes)) where
+    abbrev rows : List (List ℕ)
+    rows = buckets_of how_many (map of_key keys)
+
+    one_row : (code : ℕ) → code < how_many → slice_index_or rows code [] ≡ cond (nat_lt code (length keys)) (code ∷ []) []
+    one_row code lt =
+        get_or-map-range_with_len (λ c. rows_of_code c (map of_key keys)) 0 how_many code code [] lt (omega arith)
+        ∙ ap (rows_of_code code) (sym coded ∙ in_sequence)
+        ∙ found_at code 0 (length codes) (omega arith)
+        ∙ ap (λ n. cond (nat_lt code n) (code ∷ []) []) (let e : 0 + length codes ≡ length keys = omega (arith, size rows codes refl coded) in e)
+
+    few : (b : Bool) (code : ℕ) → length (cond b (code ∷ []) []) ≤ 1
+    few true code = omega arith
+    few false code = omega arith
+
+    none_repeats : NoneRepeats rows codes
+    none_repeats place lt =
+        let inside : place < length keys = omega (arith, lt, size rows codes refl coded) in
+        let code : ℕ = slice_index codes place in
+        let here : code ≡ of_key (slice_index_or keys place []) = ap (λ (l : List ℕ). slice_index l place) coded ∙ get_or-map of_key keys place [] 0 inside in
+        let below : code < how_many = omega (arith, here, key_below place [] inside) in
+        omega (arith, few (nat_lt code (length keys)) code, ap (λ (l : List ℕ). length l) (one_row code below))
+
+    row_of : (b : Bool) (code : ℕ) → only_row (cond b (code ∷ []) []) ≡ cond b (Some code) None
+    row_of true code = refl
+    row_of false code = refl
+
+    pub found_in_sequence : (told : Bool) (asked : List ℕ) (gaps : List (Option ℕ)) → Decides told (keys ≡ targets) → told ≡ false → asked ≡ map of_key targets → gaps ≡ map (row_below (length keys)) asked → reindexed same_tuple keys targets ≡ Ok gaps
+    found_in_sequence told asked gaps is unlike of_targets looked =
+        found rows codes refl coded told asked gaps is unlike none_repeats of_targets
+        (looked
+        ∙ ap (map (row_below (length keys))) of_targets
+        ∙ map_all (λ x. of_key x < how_many) of_key (row_below (length keys)) (λ x. only_row (slice_index_or rows (of_key x) [])) (λ x lt. sym (row_of (nat_lt (of_key x) (length keys)) (of_key x)) ∙ ap only_row (sym (one_row (of_key x) lt))) targets target_below
+        ∙ sym (map_all (λ x. of_key x < how_many) of_key (λ code. only_row (slice_index_or rows code [])) (λ x. only_row (slice_index_or rows (of_key x) [])) (λ x lt. refl) targets target_below)
+        ∙ ap (map (λ code. only_row (slice_index_or rows code []))) (sym of_targets))

@@ -1,5 +1,6 @@
 pub mod Tuples
-pub mod Matched
+pub mod Runs
+pub mod Both
 pub mod Joined
 pub mod Answers
 pub mod Targets

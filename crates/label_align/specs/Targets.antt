@@ -1,5 +1,5 @@
 -- Codes whose rows are more than one.
-use Rattle.std.specs.Prelude.{◌<◌, ◌≤◌, ℕ, List, [], length, slice_index, slice_index_or}
+use Rattle.std.specs.Prelude.{◌<◌, ◌≤◌, ℕ, nat_lt, if◌then◌else◌, List, [], length, slice_index, slice_index_or, Option, Some, None}
 
 -- how many rows the code at a place has
 abbrev pub repeats_at : List (List ℕ) → List ℕ → ℕ → ℕ
@@ -18,3 +18,7 @@ pub record IsFirstRepeat (rows : List (List ℕ)) (codes : List ℕ) (place : �
   pub inside : place < length codes
   pub repeats : 1 < repeats_at rows codes place
   pub before : NoneBefore rows codes place
+
+-- a code below a count as a row
+abbrev pub row_below : ℕ → ℕ → Option ℕ
+row_below count code = if nat_lt code count then Some code else None

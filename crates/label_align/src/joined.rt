@@ -1,13 +1,11 @@
 // Entries of the outer join, kept as three lists.
-ghost use Rattle.std.specs.Prelude.{◌≡◌, ◌∷◌, ◌<◌, ◌≤◌, [], length, OnOk, All};
-ghost use Rattle.std.specs.Bool.{Decides};
-ghost use Rattle.align_meaning.specs.Joins.{entry, entries_with, entries_of, most_rows, within_limit};
-ghost use Rattle.label_align.specs.Joined.{HasMore, lists_seen, coded_entries, counted};
-ghost use Rattle.label_align.specs.Answers.{AlignsBy};
+ghost use Rattle.std.specs.Prelude.{◌≡◌, ◌∷◌, ◌-◌, ◌≤◌, [], length, map, IfOk, OnOk};
+ghost use Rattle.align_meaning.specs.Joins.{entry, entries_with, entries_of, lists_of};
+ghost use Rattle.label_align.specs.Joined.{HasMore, entries_seen};
+ghost use Rattle.label_align.specs.Runs.{run_entries, total};
 
-use crate::fault::AlignFault;
-use cell_core::{Gaps, NoMemory, Places, Tuple, Tuples};
-use row_keys::Buckets;
+use crate::runs::Run;
+use cell_core::{Gaps, NoMemory, Tuples};
 use std::alloc::Global;
 
 /// The rows of an outer join: for each its tuple, and the row of either side that it comes from, if there is one.
@@ -21,105 +19,91 @@ pub struct Joined {
     pub right: Gaps,
 }
 
-// As many rows as a table may have.
-const MOST_ROWS: usize = 67108864;
+/// The same with a row that carries the tuple, of both sides together, in place of the tuple.
+#[derive(Drop)]
+pub(crate) struct Entries {
+    pub rows: Vec<usize>,
+    pub left: Gaps,
+    pub right: Gaps,
+}
 
 // Adds an entry.
 fn push_entry(
-    out: &mut Joined,
-    key: &Tuple,
+    out: &mut Entries,
+    key: usize,
     left: Option<usize>,
     right: Option<usize>,
 ) -> Result<(), NoMemory>
-    ensures { OnOk result (HasMore out.old out.new (entry key.now left right ∷ [])) }
+    ensures { OnOk result (HasMore out.old out.new (entry key left right ∷ [])) }
 {
-    out.tuples.push(key.copy())?;
+    out.rows.push(key)?;
     out.left.push(left)?;
     out.right.push(right)?;
     Ok(())
 }
 
-// Adds a left row, or a gap, with each right row.
+// Adds a left row, or a gap, with each right row; those of the right are counted from `first` on.
 fn push_left(
-    out: &mut Joined,
-    key: &Tuple,
+    out: &mut Entries,
+    key: usize,
     left: Option<usize>,
     rights: &[usize],
+    first: usize,
 ) -> Result<(), NoMemory>
-    ensures { OnOk result (HasMore out.old out.new (entries_with key.now rights.now left)) }
+    ensures { OnOk result (HasMore out.old out.new
+        (entries_with key (map (λ row. row - first) rights.now) left)) }
 {
     if rights.is_empty() {
         return push_entry(out, key, left, None);
     }
     for right in rights {
-        push_entry(out, key, left, Some(*right))?;
+        push_entry(out, key, left, Some(right.saturating_sub(first)))?;
     }
     Ok(())
 }
 
 // Adds each left row of a key with each right row of it.
 fn push_key(
-    out: &mut Joined,
-    key: &Tuple,
+    out: &mut Entries,
+    key: usize,
     lefts: &[usize],
     rights: &[usize],
+    first: usize,
 ) -> Result<(), NoMemory>
-    ensures { OnOk result (HasMore out.old out.new (entries_of key.now lefts.now rights.now)) }
+    ensures { OnOk result (HasMore out.old out.new
+        (entries_of key lefts.now (map (λ row. row - first) rights.now))) }
 {
     if lefts.is_empty() {
-        return push_left(out, key, None, rights);
+        return push_left(out, key, None, rights, first);
     }
     for left in lefts {
-        push_left(out, key, Some(*left), rights)?;
+        push_left(out, key, Some(*left), rights, first)?;
     }
     Ok(())
 }
 
-// Whether the entries of these codes are at most as many as a table may have rows.
-fn are_few(codes: &Places, lefts: &Buckets, rights: &Buckets) -> bool
-    requires lefts { All (λ code. code < length lefts.now) codes.now }
-    requires rights { All (λ code. code < length rights.now) codes.now }
-    ensures { Decides result (counted lefts.now rights.now codes.now ≤ most_rows) }
-{
-    let mut total = 0usize;
-    for k in 0..codes.len() {
-        let code = *codes.at(k);
-        let left = lefts.rows(code).len().max(1);
-        let right = rights.rows(code).len().max(1);
-        match left.checked_mul(right) {
-            Some(size) if size <= MOST_ROWS - total => total += size,
-            _ => return false,
-        }
-    }
-    true
-}
-
-// The entries of these codes, whose keys and rows on each side are given. They are counted before one is
-// made.
-pub(crate) fn joined_rows(
+// The entries of runs that stand one behind the other in rows, where the rows of the right side are numbered from a count on.
+pub(crate) fn entries_of_runs(
     alloc: Global,
-    codes: &Places,
-    keys: &Tuples,
-    lefts: &Buckets,
-    rights: &Buckets,
-) -> Result<Joined, AlignFault>
-    requires keys { All (λ code. code < length keys.now) codes.now }
-    requires lefts { All (λ code. code < length lefts.now) codes.now }
-    requires rights { All (λ code. code < length rights.now) codes.now }
-    ensures { AlignsBy lists_seen result
-        (within_limit (coded_entries keys.now lefts.now rights.now codes.now)) }
+    count: usize,
+    runs: &[Run],
+    rows: &[usize],
+) -> Result<Entries, NoMemory>
+    requires { total runs.now ≤ length rows.now }
+    ensures { IfOk result (λ made. entries_seen made
+        ≡ lists_of (run_entries count runs.now rows.now)) }
 {
-    if !are_few(codes, lefts, rights) {
-        return Err(AlignFault::TooLarge);
-    }
-    let mut out = Joined {
-        tuples: Tuples::new(alloc),
+    let mut out = Entries {
+        rows: Vec::new(alloc),
         left: Gaps::new(alloc),
         right: Gaps::new(alloc),
     };
-    for k in 0..codes.len() {
-        let code = *codes.at(k);
-        push_key(&mut out, keys.at(code), lefts.rows(code), rights.rows(code))?;
+    let mut from = 0usize;
+    for run in runs {
+        let mid = from + run.lefts;
+        let end = mid + run.rights;
+        push_key(&mut out, run.row, &rows[from..mid], &rows[mid..end], count)?;
+        from = end;
     }
     Ok(out)
 }

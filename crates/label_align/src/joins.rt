@@ -7,13 +7,15 @@ ghost use Rattle.row_keys.specs.Keys.{same_tuple};
 ghost use Rattle.label_align.specs.Tuples.{tuple_less};
 ghost use Rattle.label_align.specs.Joined.{lists_seen};
 ghost use Rattle.label_align.specs.Answers.{AlignsBy};
+ghost use Rattle.label_align.specs.Runs.{AreGivenTuples};
 
+use crate::both::{BothSides, rows_in_order};
 use crate::fault::AlignFault;
-use crate::joined::{Joined, joined_rows};
-use crate::matching::{Matched, matched_rows};
-use crate::order::places_in_order;
+use crate::joined::{Entries, Joined, entries_of_runs};
+use crate::runs::{are_few, runs_of};
 use cell_core::TextDict;
 use multi_index::Axis;
+use row_keys::tuples_at;
 use std::alloc::Global;
 
 // How many levels both axes have.
@@ -28,25 +30,39 @@ fn levels_of_both(a: &Axis, b: &Axis) -> usize
 /// The rows of two axes joined by their tuples: all tuples of both in order. One that stands p times on the
 /// left and q times on the right has p times q rows, by left, then right row; one of a single side has its rows
 /// there, with gaps on the other ("Merge, join, concatenate and compare" in the pandas user guide). The rows are
-/// counted before one is made. Texts are told apart by their numbers and ordered by what they say.
+/// counted before one is made. Texts are told apart by their numbers and ordered by what they say. The rows of both
+/// sides are put in order by ranks, and those that carry one tuple then stand side by side.
 ///
 /// # Errors
 ///
 /// `TooLarge` exactly where there are more than 2^26 rows. `NoMemory` may come in place of any answer, and
 /// `DuplicateLabels` never comes.
 pub fn outer(alloc: Global, dict: &TextDict, a: &Axis, b: &Axis) -> Result<Joined, AlignFault>
-    requires { length a.now.names ≡ length b.now.names }
+    requires levels { length a.now.names ≡ length b.now.names }
+    requires given_a { AreGivenTuples dict.now a.now.tuples }
+    requires given_b { AreGivenTuples dict.now b.now.tuples }
     ensures rows { AlignsBy lists_seen result
         (meant.outer same_tuple (tuple_less dict.now) a.now.tuples b.now.tuples) }
     ensures law { IfOk result (λ joined.
         IsOuterJoin same_tuple (tuple_less dict.now) a.now.tuples b.now.tuples (lists_seen joined)) }
 {
-    let levels = levels_of_both(a, b);
-    let Matched {
-        keys,
-        lefts,
-        rights,
-    } = matched_rows(alloc, a, b, levels)?;
-    let codes = places_in_order(alloc, dict, &keys, levels)?;
-    joined_rows(alloc, &codes, &keys, &lefts, &rights)
+    // Equal texts have equal numbers: `TextDict::len` says so.
+    let _ = dict.len();
+    let both = BothSides {
+        left: a,
+        right: b,
+        levels: levels_of_both(a, b),
+    };
+    let rows = rows_in_order(alloc, dict, &both)?;
+    let runs = runs_of(alloc, &both, &rows)?;
+    if !are_few(&runs) {
+        return Err(AlignFault::TooLarge);
+    }
+    let Entries { rows, left, right } = entries_of_runs(alloc, a.len(), &runs, &rows)?;
+    let tuples = tuples_at(alloc, a, b, &rows)?;
+    Ok(Joined {
+        tuples,
+        left,
+        right,
+    })
 }

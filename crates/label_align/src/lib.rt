@@ -11,11 +11,11 @@
 //! ```
 #![tactic(auto)]
 
+mod both;
 mod fault;
 mod joined;
 mod joins;
-mod matching;
-mod order;
+mod runs;
 mod targets;
 
 pub use fault::AlignFault;

@@ -7,7 +7,7 @@ ghost use Rattle.pick_meaning.specs.Rows.{only_row};
 ghost use Rattle.align_meaning.specs.Targets.{reindexed};
 ghost use Rattle.row_keys.specs.Keys.{same_tuple};
 ghost use Rattle.label_align.specs.Answers.{AlignsBy, as_it_is};
-ghost use Rattle.label_align.specs.Targets.{IsFirstRepeat, NoneRepeats};
+ghost use Rattle.label_align.specs.Targets.{IsFirstRepeat, NoneRepeats, row_below};
 
 use crate::fault::AlignFault;
 use cell_core::{Gaps, NoMemory, Tuple};
@@ -83,6 +83,29 @@ fn rows_of_codes(alloc: Global, rows: &Buckets, codes: &[usize]) -> Result<Gaps,
     Ok(gaps)
 }
 
+// Whether these are the numbers from 0 on, as codes by first sight are where no key stands twice.
+fn are_in_sequence(codes: &[usize]) -> bool
+    ensures { Decides result (codes.now ≡ range_with_len 0 (length codes.now)) }
+{
+    for place in 0..codes.len() {
+        if codes[place] != place {
+            return false;
+        }
+    }
+    true
+}
+
+// Each code below the count as a row, and a gap for the others.
+fn rows_below(alloc: Global, count: usize, codes: &[usize]) -> Result<Gaps, NoMemory>
+    ensures { IfOk result (λ gaps. gaps ≡ map (row_below count) codes.now) }
+{
+    let mut gaps = Gaps::new(alloc);
+    for code in codes {
+        gaps.push(if *code < count { Some(*code) } else { None })?;
+    }
+    Ok(gaps)
+}
+
 // The row of a list that has just one.
 fn row_if_one(rows: &[usize]) -> Option<usize>
     ensures { result ≡ only_row rows.now }
@@ -111,6 +134,10 @@ pub fn reindex<R: LevelRows>(alloc: Global, a: &Axis, target: &R) -> Result<Gaps
     let codes: &[usize] = &numbers.codes;
     let firsts: &[usize] = &numbers.firsts;
     let (of_axis, of_target) = codes.split_at(a.len());
+    if are_in_sequence(of_axis) {
+        let gaps = rows_below(alloc, a.len(), of_target)?;
+        return Ok(gaps);
+    }
     let rows = rows_by_code(alloc, firsts.len(), of_axis)?;
     if let Some(row) = first_repeat(&rows, of_axis) {
         return Err(AlignFault::DuplicateLabels(a.tuple(alloc, row)));

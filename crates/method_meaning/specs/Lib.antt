@@ -1,5 +1,7 @@
 pub mod Rows
 pub mod Levels
+pub mod Reindex
+pub mod Section
 pub mod Methods
 pub mod Calls
 pub mod Readers

@@ -3,7 +3,7 @@ use Rattle.std.specs.Prelude.{ℤ, pos, nat_lt, Bool, true, false, not, ◌||◌
 use Rattle.std.specs.Int.{int_wrap, w64}
 use Rattle.std.specs.List.{list_any, list_all}
 use Rattle.cell_core.specs.declared.cell.Kind.{Kind}
-use Rattle.cell_core.specs.declared.cell.Kind.TheVariants.{Int64, Boolean}
+use Rattle.cell_core.specs.declared.cell.Kind.TheVariants.{Int64, Boolean, Text as string}
 use Rattle.cell_core.specs.declared.grid.Shape.{Shape}
 use Rattle.cell_core.specs.declared.grid.Shape.TheVariants.{Series, Frame}
 use Rattle.meaning.specs.Cell.{CellValue, na_cell, int_cell, truth_cell, text_cell, LabelValue, int, holds}
@@ -24,7 +24,9 @@ use Rattle.form_meaning.specs.Finish.{limited, finished, value_of_column, fault_
 use Rattle.form_meaning.specs.Select.{cells_of}
 use Rattle.form_meaning.specs.Make.{on, kind_given, pairs_in}
 use Rattle.format_meaning.specs.CsvWrite.{csv_text_of}
-use Rattle.method_meaning.specs.Levels.{rename_axis_result, set_index_result}
+use Rattle.method_meaning.specs.Levels.{rename_axis_result, set_index_result, renumbered, levels_reset, droplevel_result, swaplevel_result}
+use Rattle.method_meaning.specs.Reindex.{reindex_result}
+use Rattle.method_meaning.specs.Section.{xs_result}
 use Rattle.method_meaning.specs.Rows.{all_places, head_result, tail_result, dropna_result, duplicated_result, sort_values_result, sort_by_result, sorted_result, drop_result}
 
 -- each column by itself, or the first fault
@@ -127,6 +129,11 @@ renamed_frame t pairs = if list_all is_scalar_pair pairs then finished (record t
 abbrev pub as_frame : Table → Table
 as_frame t = record t { shape = Frame; headings = map (λ h. Some (unwrap_or h (int (pos 0)))) t.headings }
 
+-- the levels become columns of a frame, or go, so that the table stays what it is
+abbrev pub reset_index_result : Table → Bool → Result Entry FaultValue
+reset_index_result t true = limited (renumbered t)
+reset_index_result t false = levels_reset (as_frame t)
+
 -- the table as CSV text; without the labels of the rows there must be a column
 abbrev pub csv_answer : Bool → Table → Result Entry FaultValue
 csv_answer index t = if index || nat_lt 0 (length t.columns) then Ok (cell (text_cell (csv_text_of index t))) else Err (bad_value no_columns)
@@ -161,7 +168,13 @@ answer_for method.RenameSeries (name ∷ []) t = limited (renamed_series t (opti
 answer_for method.RenameFrame (columns ∷ []) t = on (dict_in columns) (λ pairs. renamed_frame t (pairs_in pairs))
 answer_for method.RenameAxis (names ∷ []) t = rename_axis_result t names
 answer_for method.SetIndex (keys ∷ []) t = set_index_result t keys
+answer_for method.ResetIndex (drop ∷ []) t = on (truth_in drop) (reset_index_result t)
 answer_for method.DropColumns (columns ∷ []) t = drop_result t columns
+answer_for method.Droplevel (level ∷ []) t = droplevel_result t (scalar_in level)
+answer_for method.Swaplevel (i ∷ j ∷ []) t = swaplevel_result t (scalar_in i) (scalar_in j)
+answer_for method.ReindexSeries (index ∷ []) t = reindex_result t (list_in index) None
+answer_for method.ReindexFrame (index ∷ columns ∷ []) t = reindex_result t (list_in index) (list_in columns)
+answer_for method.Xs (key ∷ level ∷ []) t = on (scalar_in key) (λ c. xs_result t c (scalar_in level))
 answer_for method.ToFrame gs t = limited (as_frame t)
 answer_for method.ToCsv (index ∷ []) t = on (truth_in index) (λ b. csv_answer b t)
 -- no other number of arguments is bound, and no other method is built
@@ -198,7 +211,13 @@ is_built method.RenameSeries = true
 is_built method.RenameFrame = true
 is_built method.RenameAxis = true
 is_built method.SetIndex = true
+is_built method.ResetIndex = true
 is_built method.DropColumns = true
+is_built method.Droplevel = true
+is_built method.Swaplevel = true
+is_built method.ReindexSeries = true
+is_built method.ReindexFrame = true
+is_built method.Xs = true
 is_built method.ToFrame = true
 is_built method.ToCsv = true
 is_built m = false

@@ -1,7 +1,7 @@
 -- Methods that answer some rows of a table, or all of them in another order, and `drop`, which answers some columns.
 use Rattle.std.specs.Prelude.{ℕ, ℤ, pos, neg_ℤ, Bool, true, false, not, List, [], ◌∷◌, map, length, filter, slice_index_or, nat_eq, Some, None, Result, Ok, if◌then◌else◌}
 use Rattle.std.specs.List.{list_any, list_all, range_with_len}
-use Rattle.std.specs.Ordering.{is_lt, int_eq, bool_cmp, then_cmp, flip_args, on}
+use Rattle.std.specs.Ordering.{is_lt, int_eq}
 use Rattle.std.specs.Cmp.Lexicographic.{pointwise, slice_cmp}
 use Rattle.std.specs.declared.cmp.Ordering.{Ordering}
 use Rattle.cell_core.specs.declared.cell.Kind.TheVariants.{Boolean}
@@ -19,6 +19,7 @@ use Rattle.pick_meaning.specs.Keys.{PlaceKey, place_slice, picked_by_place}
 use Rattle.select_meaning.specs.Keys.{found_pick}
 use Rattle.select_meaning.specs.Select.{rows_taken}
 use Rattle.sorting.specs.Sorting.{in_order}
+pub use Rattle.sorting.specs.Labels.{is_na, directed}
 
 -- the rows that a key of `iloc` picks
 abbrev pub placed_rows : Table → PlaceKey → Result Entry FaultValue
@@ -65,15 +66,6 @@ subset_places t g = column_places t (labels_in g)
 -- whether an earlier row has the same cells
 abbrev pub duplicated_result : Table → Given → Result Entry FaultValue
 duplicated_result t subset = then_value (subset_places t subset) (λ places. limited (marks_series t (repeats (pointwise same_cell) [] (cells_by_row t places))))
-
-abbrev pub is_na : LabelValue → Bool
-is_na na = true
-is_na l = false
-
--- labels in their order, or turned; a missing one is last in both directions
-abbrev pub directed : Bool → LabelValue → LabelValue → Ordering
-directed true a b = label_cmp a b
-directed false a b = then_cmp (on is_na bool_cmp) (flip_args label_cmp) a b
 
 -- whether a row stands before another by their keys, one after the other
 abbrev pub row_less : Bool → List (List LabelValue) → ℕ → ℕ → Bool

@@ -5,3 +5,4 @@ pub mod PickLaws
 pub mod SideLaws
 pub mod LevelLaws
 pub mod ListedLaws
+pub mod AddedLaws

@@ -1,5 +1,6 @@
 -- The axis of a table: a tuple of labels for each row, and the names of the levels.
-use Rattle.std.specs.Prelude.{◌≡◌, ℕ, ◌≤◌, List, [], ◌∷◌, length, map, drop, remove, swap, replicate, slice_get, slice_set, slice_index_or, Option, None, option_and_then, All}
+use Rattle.std.specs.Prelude.{◌≡◌, ℕ, ◌≤◌, Bool, true, false, List, [], ◌∷◌, ◌++◌, length, map, drop, remove, swap, replicate, slice_get, slice_set, slice_index_or, Option, None, option_and_then, All}
+use Rattle.std.specs.List.{zip}
 use Rattle.cell_core.specs.declared.cell.Label.{Label}
 use Rattle.index_core.specs.Labels.{labels_at}
 use Rattle.index_core.specs.Ranges.{range_labels}
@@ -60,3 +61,21 @@ with_swapped axis i j = record { tuples = map (λ tuple. swap tuple i j) axis.tu
 -- the axis of these of its levels, in their order
 abbrev pub at_levels : AxisValue → List ℕ → AxisValue
 at_levels axis order = record { tuples = map (λ tuple. labels_at tuple order) axis.tuples; names = map (λ level. slice_index_or axis.names level None) order }
+
+-- one more label or name, first or last
+abbrev pub with_one : {X : Type 0} → Bool → X → List X → List X
+with_one true x xs = x ∷ xs
+with_one false x xs = xs ++ x ∷ []
+
+-- the place at which the old ones begin then
+abbrev pub first_of : Bool → ℕ
+first_of true = 1
+first_of false = 0
+
+-- the tuples with one more label each
+abbrev pub tuples_with : Bool → List Label → List (List Label) → List (List Label)
+tuples_with outer labels tuples = map (λ row. with_one outer row.0 row.1) (zip labels tuples)
+
+-- the axis with one more level of these labels, first or last, without a name
+abbrev pub with_level : AxisValue → List Label → Bool → AxisValue
+with_level axis labels outer = record { tuples = tuples_with outer labels axis.tuples; names = with_one outer None axis.names }

@@ -1,5 +1,5 @@
 -- What an axis answers for leading labels or a slice.
-use Rattle.std.specs.Prelude.{◌≡◌, ℕ, List, [], ◌∷◌, length, Option, Result, Ok, Err}
+use Rattle.std.specs.Prelude.{◌≡◌, ℕ, ◌<◌, List, [], ◌∷◌, length, Option, Result, Ok, Err}
 use Rattle.cell_core.specs.declared.cell.Label.{Label}
 use Rattle.meaning.specs.Text.{Text}
 use Rattle.pick_meaning.specs.Faults.{PickFault, not_there, bound_not_unique}
@@ -11,7 +11,7 @@ use Rattle.index_core.specs.declared.fault.IndexFault.{IndexFault}
 use Rattle.index_core.specs.declared.fault.IndexFault.TheVariants as index
 use Rattle.multi_index.specs.Axes.{AxisValue}
 use Rattle.multi_index.specs.declared.fault.AxisFault.{AxisFault}
-use Rattle.multi_index.specs.declared.fault.AxisFault.TheVariants.{NotThere, BoundNotUnique, NoMemory}
+use Rattle.multi_index.specs.declared.fault.AxisFault.TheVariants.{NotThere, BoundNotUnique, TooManyLevels, NoMemory}
 pub use Rattle.index_core.specs.Picks.{as_it_is}
 
 -- what is answered is what is meant, as it is seen, or the fault is; of want of memory the last word tells
@@ -19,6 +19,7 @@ abbrev pub PicksOr : {A B : Type 0} → Type 0 → (A → B) → Result A AxisFa
 PicksOr want view (Ok made) meant = meant ≡ Ok (view made)
 PicksOr want view (Err (NotThere key)) meant = meant ≡ Err (not_there key)
 PicksOr want view (Err (BoundNotUnique key)) meant = meant ≡ Err (bound_not_unique key)
+PicksOr want view (Err TooManyLevels) meant = ⊥
 PicksOr want view (Err NoMemory) meant = want
 
 -- want of memory may come in place of any answer
@@ -42,3 +43,11 @@ leading_rows axis key = rows_of_key (leads same_number) axis.tuples key
 -- the rows of a slice between two keys, in the order of the texts
 abbrev pub leading_slice : List Text → AxisValue → Option (List Label) → Option (List Label) → Result (List ℕ) (PickFault (List Label))
 leading_slice texts axis lower upper = slice_on (length axis.names) (leading_cmp (order_in texts)) lower upper axis.tuples
+
+-- one more level is answered where there are fewer than four, and refused where there are four
+abbrev pub AddsLevel : ℕ → AxisValue → Result AxisValue AxisFault → Type 0
+AddsLevel levels meant (Ok axis) = (levels < 4) × (axis ≡ meant)
+AddsLevel levels meant (Err (NotThere key)) = ⊥
+AddsLevel levels meant (Err (BoundNotUnique key)) = ⊥
+AddsLevel levels meant (Err TooManyLevels) = levels ≡ 4
+AddsLevel levels meant (Err NoMemory) = Unit {0}

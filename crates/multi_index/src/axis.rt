@@ -8,11 +8,11 @@ ghost use Rattle.pick_meaning.specs.Leading.{leads, leading_cmp};
 ghost use Rattle.pick_meaning.specs.Rows.{rows_of};
 ghost use Rattle.pick_meaning.specs.Slices.{label_slice};
 ghost use Rattle.index_core.specs.Labels.{same_number, order_in};
-ghost use Rattle.multi_index.specs.Axes.{HaveLevels, AreLeading, nameless_axis, range_axis, single_tuples, tuples_at, label_at, with_name, taken_axis, at_levels, without_level, without_leading, with_swapped};
-ghost use Rattle.multi_index.specs.Picks.{PicksBy, TellsBy, as_it_is, axis_fault, leading_rows, leading_slice};
+ghost use Rattle.multi_index.specs.Axes.{HaveLevels, AreLeading, nameless_axis, range_axis, single_tuples, tuples_at, label_at, with_name, taken_axis, at_levels, without_level, without_leading, with_swapped, with_level};
+ghost use Rattle.multi_index.specs.Picks.{AddsLevel, PicksBy, TellsBy, as_it_is, axis_fault, leading_rows, leading_slice};
 
 use crate::fault::AxisFault;
-use crate::levels::{all_levels, labels_of, names_of, tuples_of};
+use crate::levels::{all_levels, labels_of, names_of, names_with, tuples_of, tuples_with};
 use crate::listed;
 use cell_core::{Label, NoMemory, Places, Rows, TextDict, Tuple, Tuples};
 use index_core::{Index, IndexFault};
@@ -85,6 +85,18 @@ impl Axis {
             names: [None; 4],
             levels,
         })
+    }
+
+    /// One level of these labels in order, without a name. Takes no memory.
+    pub fn from_labels(alloc: Global, labels: Vec<Label>) -> Axis
+        ensures { result ≡ nameless_axis (single_tuples labels.items) 1 }
+    {
+        Axis {
+            alloc,
+            rows: Kept::Single(Index::from_vec(labels)),
+            names: [None; 4],
+            levels: 1,
+        }
     }
 
     /// An axis of its own with the same tuples and names. `NoMemory` is the only refusal.
@@ -281,6 +293,34 @@ impl Axis {
         let mut order = all_levels(alloc, self.levels())?;
         order.swap(i, j);
         self.of_levels(alloc, &order)
+    }
+
+    /// The same rows with one more level, which has these labels and no name: first where `outer` is true, else last.
+    ///
+    /// # Errors
+    ///
+    /// `TooManyLevels` exactly where there are four levels. `NoMemory` may come in place of any answer.
+    pub fn add_level(
+        &self,
+        alloc: Global,
+        dict: &TextDict,
+        labels: &[Label],
+        outer: bool,
+    ) -> Result<Axis, AxisFault>
+        requires { length labels.now ≡ length self.now.tuples }
+        ensures { AddsLevel (length self.now.names) (with_level self.now labels.now outer) result }
+    {
+        let levels = self.levels();
+        if levels == 4 {
+            return Err(AxisFault::TooManyLevels);
+        }
+        let tuples = tuples_with(alloc, self, labels, outer)?;
+        Ok(Axis {
+            alloc,
+            rows: Kept::Listed(tuples),
+            names: names_with(self, outer),
+            levels: levels + 1,
+        })
     }
 
     /// The rows whose leading labels are these, in order ("Selection by label" in the pandas user guide): one label

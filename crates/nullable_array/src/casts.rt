@@ -208,7 +208,9 @@ fn convert<X, U: Plain, O: RowOp<X, (), U>, A: Source<X>>(
     requires { (k : ℕ) → k < A.count_of a.now → O.takes op.now (A.row_of a.now k) None }
     ensures given { IfOk result (λ c. (texts : List (List ℕ)) → AreGiven texts c.cells) }
     ensures answer { (texts : List (List ℕ)) → Answers texts result
-        (column_of U.kind not_cast (map_rows (λ z. datum texts (U.cell z)) (try_rows (A.count_of a.now) (λ k. O.row_of op.now (A.row_of a.now k) None)))) }
+        (column_of U.kind not_cast
+        (map_rows (λ z. datum texts (U.cell z))
+        (try_rows (A.count_of a.now) (λ k. O.row_of op.now (A.row_of a.now k) None)))) }
 {
     match by_rows(alloc, op, U::blank(), a, &Nothing { count: a.count() }) {
         Ok(rows) => Ok(U::column(rows)),
@@ -248,7 +250,8 @@ fn cast_numbers(
 ) -> Result<Column, ArrayFault>
     ensures keeps { IsLonger dict.old dict.new }
     ensures given { IfOk result (λ c. AreGiven dict.new c.cells) }
-    ensures answer { Answers dict.new result (cast_column kind (column_value dict.old (borrowed_column (Borrowed.Ints a.now)))) }
+    ensures answer { Answers dict.new result
+        (cast_column kind (column_value dict.old (borrowed_column (Borrowed.Ints a.now)))) }
 {
     match kind {
         Kind::Int64 => Ok(copied_lane(alloc, a)?),
@@ -260,7 +263,9 @@ fn cast_numbers(
 // 1 for each True, 0 for each False.
 fn numbers_of_truths(alloc: Global, a: &Lane<'_, bool>) -> Result<Column, ArrayFault>
     ensures given { IfOk result (λ c. (texts : List (List ℕ)) → AreGiven texts c.cells) }
-    ensures answer { (texts : List (List ℕ)) → Answers texts result (cast_column Int64 (column_value texts (borrowed_column (Borrowed.Truths a.now)))) }
+    ensures answer { (texts : List (List ℕ)) →
+        Answers texts result
+        (cast_column Int64 (column_value texts (borrowed_column (Borrowed.Truths a.now)))) }
 {
     match a.dense() {
         Some(side) => numbers_of_side(alloc, side),
@@ -286,7 +291,8 @@ fn cast_truths(
 ) -> Result<Column, ArrayFault>
     ensures keeps { IsLonger dict.old dict.new }
     ensures given { IfOk result (λ c. AreGiven dict.new c.cells) }
-    ensures answer { Answers dict.new result (cast_column kind (column_value dict.old (borrowed_column (Borrowed.Truths a.now)))) }
+    ensures answer { Answers dict.new result
+        (cast_column kind (column_value dict.old (borrowed_column (Borrowed.Truths a.now)))) }
 {
     match kind {
         Kind::Int64 => numbers_of_truths(alloc, a),
@@ -303,7 +309,8 @@ fn cast_texts(
 ) -> Result<Column, ArrayFault>
     requires { AreGiven dict.now (borrowed_column (Borrowed.Texts a.now)).cells }
     ensures given { IfOk result (λ c. AreGiven dict.now c.cells) }
-    ensures answer { Answers dict.now result (cast_column kind (column_value dict.now (borrowed_column (Borrowed.Texts a.now)))) }
+    ensures answer { Answers dict.now result
+        (cast_column kind (column_value dict.now (borrowed_column (Borrowed.Texts a.now)))) }
 {
     match kind {
         Kind::Int64 => convert(alloc, &NumberOfText { dict }, a),

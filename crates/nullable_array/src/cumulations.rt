@@ -23,7 +23,8 @@ use std::alloc::Global;
 /// any answer.
 pub fn cumulate(alloc: Global, op: Cumulation, a: ColRef<'_>) -> Result<Column, ArrayFault>
     ensures given { IfOk result (λ c. (texts : List (List ℕ)) → AreGiven texts c.cells) }
-    ensures answer { (texts : List (List ℕ)) → Answers texts result (cumulate_column (cumulation_of op) (column_value texts a.entry)) }
+    ensures answer { (texts : List (List ℕ)) →
+        Answers texts result (cumulate_column (cumulation_of op) (column_value texts a.entry)) }
 {
     match &a.lanes {
         Borrowed::Ints(lane) => cumulate_numbers(alloc, op, lane),
@@ -34,7 +35,10 @@ pub fn cumulate(alloc: Global, op: Cumulation, a: ColRef<'_>) -> Result<Column, 
 
 fn cumulate_numbers(alloc: Global, op: Cumulation, a: &Lane<'_, i64>) -> Result<Column, ArrayFault>
     ensures given { IfOk result (λ c. (texts : List (List ℕ)) → AreGiven texts c.cells) }
-    ensures answer { (texts : List (List ℕ)) → Answers texts result (cumulate_column (cumulation_of op) (column_value texts (borrowed_column (Borrowed.Ints a.now)))) }
+    ensures answer { (texts : List (List ℕ)) →
+        Answers texts result
+        (cumulate_column (cumulation_of op)
+        (column_value texts (borrowed_column (Borrowed.Ints a.now)))) }
 {
     match a.dense() {
         Some(side) => running_numbers(alloc, op, &side),
@@ -60,7 +64,10 @@ fn running_numbers<A: Source<i64>>(
 
 fn cumulate_truths(alloc: Global, op: Cumulation, a: &Lane<'_, bool>) -> Result<Column, ArrayFault>
     ensures given { IfOk result (λ c. (texts : List (List ℕ)) → AreGiven texts c.cells) }
-    ensures answer { (texts : List (List ℕ)) → Answers texts result (cumulate_column (cumulation_of op) (column_value texts (borrowed_column (Borrowed.Truths a.now)))) }
+    ensures answer { (texts : List (List ℕ)) →
+        Answers texts result
+        (cumulate_column (cumulation_of op)
+        (column_value texts (borrowed_column (Borrowed.Truths a.now)))) }
 {
     match op {
         Cumulation::Sum => Ok(run(alloc, &RunningTotal, a)?),
@@ -102,7 +109,9 @@ fn running_rows<T, U: Copy + Drop, F: Fold<T, Option<U>>, A: Source<T>>(
     a: &A,
 ) -> Result<Owned<U>, NoMemory>
     ensures count { IfOk result (λ made. length made.values.items ≡ A.count_of a.now) }
-    ensures rows { IfOk result (λ made. AreWritten (λ k. Some (running_row (F.step_of fold.now) (A.row_of a.now) k)) (A.count_of a.now) made.values.items made.present.items) }
+    ensures rows { IfOk result (λ made. AreWritten
+        (λ k. Some (running_row (F.step_of fold.now) (A.row_of a.now) k))
+        (A.count_of a.now) made.values.items made.present.items) }
 {
     let mut values = Vec::with_capacity(alloc, a.count())?;
     let mut present = Vec::with_capacity(alloc, a.count())?;
@@ -131,7 +140,9 @@ fn run<T, U: Value, F: Fold<T, Option<U>>, A: Source<T>>(
     fold: &F,
     a: &A,
 ) -> Result<Column, NoMemory>
-    ensures { IfOk result (λ c. c ≡ column_with U.kind U.cell (A.count_of a.now) (running_row (F.step_of fold.now) (A.row_of a.now))) }
+    ensures { IfOk result (λ c. c
+        ≡ column_with U.kind U.cell (A.count_of a.now)
+        (running_row (F.step_of fold.now) (A.row_of a.now))) }
 {
     let rows = running_rows(alloc, fold, U::blank(), a)?;
     Ok(U::column(rows))

@@ -21,7 +21,8 @@ use std::hash::Hash;
 ///
 /// `NoMemory` may come in place of the answer. (pandas user guide, "Essential basic functionality", on `nunique`.)
 pub fn distinct(alloc: Global, a: ColRef<'_>) -> Result<u64, NoMemory>
-    ensures { (texts : List (List ℕ)) → AreDistinct texts → AreGiven texts a.entry.cells → IfOk result (λ n. n ≡ distinct_count (column_value texts a.entry).cells) }
+    ensures { (texts : List (List ℕ)) → AreDistinct texts → AreGiven texts a.entry.cells →
+        IfOk result (λ n. n ≡ distinct_count (column_value texts a.entry).cells) }
 {
     match &a.lanes {
         Borrowed::Ints(lane) => distinct_numbers(alloc, lane),
@@ -34,7 +35,9 @@ pub fn distinct(alloc: Global, a: ColRef<'_>) -> Result<u64, NoMemory>
 const MOST_PLACES: u64 = 8;
 
 fn distinct_numbers<A: Source<i64>>(alloc: Global, a: &A) -> Result<u64, NoMemory>
-    ensures { IfOk result (λ n. n ≡ length (each_once int_eq (present_values (tabulate (A.count_of a.now) (A.row_of a.now))))) }
+    ensures { IfOk result (λ n. n
+        ≡ length (each_once int_eq
+        (present_values (tabulate (A.count_of a.now) (A.row_of a.now))))) }
 {
     let least = fold_rows(&Least { order: ByNumber }, None, a).unwrap_or(0);
     let greatest = fold_rows(&Greatest { order: ByNumber }, None, a).unwrap_or(0);
@@ -51,7 +54,9 @@ fn distinct_numbers<A: Source<i64>>(alloc: Global, a: &A) -> Result<u64, NoMemor
 // How many different numbers there are, where each has a place among the marks.
 fn count_marked<A: Source<i64>>(a: &A, least: i64, marks: &mut [bool]) -> Option<u64>
     requires { AreMarked least marks.old [] }
-    ensures { IfSome result (λ n. n ≡ length (each_once int_eq (present_values (tabulate (A.count_of a.now) (A.row_of a.now))))) }
+    ensures { IfSome result
+        (λ n. n ≡ length
+        (each_once int_eq (present_values (tabulate (A.count_of a.now) (A.row_of a.now))))) }
 {
     let mut count = 0;
     for row in 0..a.count() {
@@ -63,7 +68,9 @@ fn count_marked<A: Source<i64>>(a: &A, least: i64, marks: &mut [bool]) -> Option
 
 // Marks the place of a value that is present, and says whether it had no mark. `None` where there is no such place.
 fn mark(marks: &mut [bool], least: i64, value: Option<i64>) -> Option<bool>
-    ensures { IfSome result (λ added. (seen : List ℤ) → AreMarked least marks.old seen → IsMarkedMore least marks.new seen (step_row (insert_key int_eq) seen value) added) }
+    ensures { IfSome result
+        (λ added. (seen : List ℤ) → AreMarked least marks.old seen →
+        IsMarkedMore least marks.new seen (step_row (insert_key int_eq) seen value) added) }
 {
     match value {
         Some(number) => {
@@ -93,7 +100,8 @@ fn distinct_values<T: Eq + Hash + Copy + Drop, A: Source<T>>(
     alloc: Global,
     a: &A,
 ) -> Result<u64, NoMemory>
-    ensures { IfOk result (λ n. n ≡ length (each_once T.eq (present_values (tabulate (A.count_of a.now) (A.row_of a.now))))) }
+    ensures { IfOk result (λ n. n
+        ≡ length (each_once T.eq (present_values (tabulate (A.count_of a.now) (A.row_of a.now))))) }
 {
     // Room for a value in each row, so that no value is moved.
     let mut seen = IndexSet::with_capacity(alloc, a.count())?;

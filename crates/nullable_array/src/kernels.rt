@@ -43,7 +43,9 @@ pub fn binary(
     requires b { AreGiven dict.old b.cells }
     ensures keeps { IsLonger dict.old dict.new }
     ensures given { IfOk result (λ c. AreGiven dict.new c.cells) }
-    ensures answer { Answers dict.new result (binary_column (operator_of op) (column_value dict.old a.entry) (column_value dict.old b.entry)) }
+    ensures answer { Answers dict.new result
+        (binary_column (operator_of op) (column_value dict.old a.entry)
+        (column_value dict.old b.entry)) }
 {
     let task = task_of(op);
     match (&a.lanes, &b.lanes) {
@@ -120,7 +122,9 @@ pub fn with_scalar(
     requires scalar { IsGiven dict.old scalar }
     ensures keeps { IsLonger dict.old dict.new }
     ensures given { IfOk result (λ c. AreGiven dict.new c.cells) }
-    ensures answer { Answers dict.new result (scalar_binary (operator_of op) (column_value dict.old a.entry) (datum dict.old scalar) scalar_left) }
+    ensures answer { Answers dict.new result
+        (scalar_binary (operator_of op) (column_value dict.old a.entry)
+        (datum dict.old scalar) scalar_left) }
 {
     let task = task_of(op);
     match (&a.lanes, scalar) {
@@ -149,7 +153,10 @@ fn numbers_beside(
     left: bool,
 ) -> Result<Column, ArrayFault>
     ensures given { IfOk result (λ c. (texts : List (List ℕ)) → AreGiven texts c.cells) }
-    ensures answer { (texts : List (List ℕ)) → Answers texts result (scalar_task task (column_value texts (borrowed_column (Borrowed.Ints a.now))) (datum texts (number_cell scalar)) left) }
+    ensures answer { (texts : List (List ℕ)) →
+        Answers texts result
+        (scalar_task task (column_value texts (borrowed_column (Borrowed.Ints a.now)))
+        (datum texts (number_cell scalar)) left) }
 {
     match a.dense() {
         Some(side) => beside_number_side(alloc, task, side, scalar, left),
@@ -206,7 +213,8 @@ fn quotients_by<A: Side<i64>>(alloc: Global, a: A, divisor: u64) -> Result<Colum
     ensures given { IfOk result (λ c. (texts : List (List ℕ)) → AreGiven texts c.cells) }
     ensures answer { (texts : List (List ℕ)) → Answers texts result (task_column Task.Quotient
         (column_value texts (column_with Int64 number_cell (A.count_of a) (A.row_of a)))
-        (column_value texts (column_with Int64 number_cell (A.count_of a) (λ _. Some (pos divisor))))) }
+        (column_value texts
+        (column_with Int64 number_cell (A.count_of a) (λ _. Some (pos divisor))))) }
 {
     let by = QuotientBy {
         divisor: Divisor::new(divisor),
@@ -245,7 +253,10 @@ fn truths_beside(
     left: bool,
 ) -> Result<Column, ArrayFault>
     ensures given { IfOk result (λ c. (texts : List (List ℕ)) → AreGiven texts c.cells) }
-    ensures answer { (texts : List (List ℕ)) → Answers texts result (scalar_task task (column_value texts (borrowed_column (Borrowed.Truths a.now))) (datum texts (truth_cell scalar)) left) }
+    ensures answer { (texts : List (List ℕ)) →
+        Answers texts result
+        (scalar_task task (column_value texts (borrowed_column (Borrowed.Truths a.now)))
+        (datum texts (truth_cell scalar)) left) }
 {
     match a.dense() {
         Some(side) => beside_truth_side(alloc, task, side, scalar, left),
@@ -310,7 +321,9 @@ fn texts_beside(
     requires scalar { IsGiven dict.old (text_cell scalar) }
     ensures keeps { IsLonger dict.old dict.new }
     ensures given { IfOk result (λ c. AreGiven dict.new c.cells) }
-    ensures answer { Answers dict.new result (scalar_task task (column_value dict.old (borrowed_column (Borrowed.Texts a.now))) (datum dict.old (text_cell scalar)) left) }
+    ensures answer { Answers dict.new result
+        (scalar_task task (column_value dict.old (borrowed_column (Borrowed.Texts a.now)))
+        (datum dict.old (text_cell scalar)) left) }
 {
     let same = Same {
         value: scalar,
@@ -331,10 +344,14 @@ fn operate<X, Y, U: Plain, O: RowOp<X, Y, U>, A: Source<X>, B: Source<Y>>(
     b: &B,
 ) -> Result<Column, ArrayFault>
     requires same { A.count_of a.now ≡ B.count_of b.now }
-    requires takes { (k : ℕ) → k < A.count_of a.now → O.takes op.now (A.row_of a.now k) (B.row_of b.now k) }
+    requires takes { (k : ℕ) → k < A.count_of a.now →
+        O.takes op.now (A.row_of a.now k) (B.row_of b.now k) }
     ensures given { IfOk result (λ c. (texts : List (List ℕ)) → AreGiven texts c.cells) }
     ensures answer { (texts : List (List ℕ)) → Answers texts result
-        (column_of U.kind zero_division (map_rows (λ z. datum texts (U.cell z)) (try_rows (A.count_of a.now) (λ k. O.row_of op.now (A.row_of a.now k) (B.row_of b.now k))))) }
+        (column_of U.kind zero_division
+        (map_rows (λ z. datum texts (U.cell z))
+        (try_rows (A.count_of a.now)
+        (λ k. O.row_of op.now (A.row_of a.now k) (B.row_of b.now k))))) }
 {
     match by_rows(alloc, op, U::blank(), a, b) {
         Ok(rows) => Ok(U::column(rows)),
@@ -354,7 +371,9 @@ fn operate_sides<X: Copy, Y: Copy, U: Plain, O: PairOp<X, Y, U>, A: Side<X>, B: 
     requires { A.count_of a ≡ B.count_of b }
     ensures given { IfOk result (λ c. (texts : List (List ℕ)) → AreGiven texts c.cells) }
     ensures answer { (texts : List (List ℕ)) → Answers texts result
-        (column_of U.kind zero_division (map_rows (λ z. datum texts (U.cell z)) (try_rows (A.count_of a) (λ k. O.row_of op.now (A.row_of a k) (B.row_of b k))))) }
+        (column_of U.kind zero_division
+        (map_rows (λ z. datum texts (U.cell z))
+        (try_rows (A.count_of a) (λ k. O.row_of op.now (A.row_of a k) (B.row_of b k))))) }
 {
     let rows = by_sides(alloc, op, a, b)?;
     Ok(U::column(rows))
@@ -370,7 +389,9 @@ fn compare_sides<T: Copy + Drop, K: Order<T> + Drop, A: Side<T>, B: Side<T>>(
 ) -> Result<Column, ArrayFault>
     requires { A.count_of a ≡ B.count_of b }
     ensures given { IfOk result (λ c. (texts : List (List ℕ)) → AreGiven texts c.cells) }
-    ensures answer { (texts : List (List ℕ)) → Answers texts result (compared texts relation (K.cmp order) (A.count_of a) (A.row_of a) (B.row_of b)) }
+    ensures answer { (texts : List (List ℕ)) →
+        Answers texts result
+        (compared texts relation (K.cmp order) (A.count_of a) (A.row_of a) (B.row_of b)) }
 {
     match (relation.less, relation.equal, relation.greater) {
         (true, false, false) => compare_by(alloc, order, relation_of(true, false, false), a, b),
@@ -393,7 +414,9 @@ fn compare_by<T: Copy + Drop, K: Order<T> + Drop, A: Side<T>, B: Side<T>>(
 ) -> Result<Column, ArrayFault>
     requires { A.count_of a ≡ B.count_of b }
     ensures given { IfOk result (λ c. (texts : List (List ℕ)) → AreGiven texts c.cells) }
-    ensures answer { (texts : List (List ℕ)) → Answers texts result (compared texts relation (K.cmp order) (A.count_of a) (A.row_of a) (B.row_of b)) }
+    ensures answer { (texts : List (List ℕ)) →
+        Answers texts result
+        (compared texts relation (K.cmp order) (A.count_of a) (A.row_of a) (B.row_of b)) }
 {
     operate_sides(alloc, &Compare { order, relation }, a, b)
 }
@@ -503,7 +526,8 @@ fn on_truths<A: Source<bool>, B: Source<bool>>(
 /// The opposite of each truth value; NA stays. `KindMismatch` exactly where the kind isn't boolean;
 /// `NoMemory` may come in place of any answer.
 pub fn invert(alloc: Global, a: ColRef<'_>) -> Result<Column, ArrayFault>
-    ensures { (texts : List (List ℕ)) → Answers texts result (invert_column (column_value texts a.entry)) }
+    ensures { (texts : List (List ℕ)) →
+        Answers texts result (invert_column (column_value texts a.entry)) }
 {
     match &a.lanes {
         Borrowed::Truths(lane) => match lane.dense() {
@@ -515,7 +539,10 @@ pub fn invert(alloc: Global, a: ColRef<'_>) -> Result<Column, ArrayFault>
 }
 
 fn inverted<A: Source<bool>>(alloc: Global, a: &A) -> Result<Column, ArrayFault>
-    ensures { (texts : List (List ℕ)) → Answers texts result (invert_column (column_value texts (column_with Boolean truth_cell (A.count_of a.now) (A.row_of a.now)))) }
+    ensures { (texts : List (List ℕ)) →
+        Answers texts result
+        (invert_column
+        (column_value texts (column_with Boolean truth_cell (A.count_of a.now) (A.row_of a.now)))) }
 {
     operate(alloc, &Not, a, &Nothing { count: a.count() })
 }

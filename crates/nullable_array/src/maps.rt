@@ -23,7 +23,8 @@ pub(crate) fn map_lane<X: Copy, U: Value, O: TotalOp<X, U>>(
 ) -> Result<Column, NoMemory>
     requires { (x : Option X) → O.takes op.now x None }
     ensures { IfOk result (λ c. c ≡ column_with U.kind U.cell a.now.count
-        (λ k. O.made op.now (lane_row a.now.values.now a.now.present.now a.now.start a.now.stride a.now.back k))) }
+        (λ k. O.made op.now
+        (lane_row a.now.values.now a.now.present.now a.now.start a.now.stride a.now.back k))) }
 {
     match a.dense() {
         Some(side) => map_rows(alloc, op, &side),
@@ -38,7 +39,8 @@ fn map_rows<X, U: Value, O: TotalOp<X, U>, A: Source<X>>(
     a: &A,
 ) -> Result<Column, NoMemory>
     requires { (x : Option X) → O.takes op.now x None }
-    ensures { IfOk result (λ c. c ≡ column_with U.kind U.cell (A.count_of a.now) (λ k. O.made op.now (A.row_of a.now k))) }
+    ensures { IfOk result (λ c. c
+        ≡ column_with U.kind U.cell (A.count_of a.now) (λ k. O.made op.now (A.row_of a.now k))) }
 {
     match by_rows(alloc, op, U::blank(), a, &Nothing { count: a.count() }) {
         Ok(rows) => Ok(U::column(rows)),

@@ -55,7 +55,8 @@ impl RowOp<bool, (), bool> for AmongTruths {
 
     #[inline(always)]
     fn row(&self, x: Option<bool>, _: Option<()>) -> Option<Option<bool>>
-        ensures { result ≡ Some (Some (listed_truth self.now.missing self.now.with_false self.now.with_true x)) }
+        ensures { result ≡ Some
+            (Some (listed_truth self.now.missing self.now.with_false self.now.with_true x)) }
     {
         match x {
             Some(true) => Some(Some(self.with_true)),
@@ -82,7 +83,8 @@ impl RowOp<i64, (), bool> for AmongCells<'_> {
 
     #[inline(always)]
     fn row(&self, x: Option<i64>, _: Option<()>) -> Option<Option<bool>>
-        ensures { result ≡ Some (Some (list_any (same_number (number_cell x)) self.now.values.now.keys)) }
+        ensures { result ≡ Some
+            (Some (list_any (same_number (number_cell x)) self.now.values.now.keys)) }
     {
         Some(Some(self.values.contains(&cell_of_number(x))))
     }
@@ -99,7 +101,8 @@ impl RowOp<TextId, (), bool> for AmongCells<'_> {
 
     #[inline(always)]
     fn row(&self, x: Option<TextId>, _: Option<()>) -> Option<Option<bool>>
-        ensures { result ≡ Some (Some (list_any (same_number (text_cell x)) self.now.values.now.keys)) }
+        ensures { result ≡ Some
+            (Some (list_any (same_number (text_cell x)) self.now.values.now.keys)) }
     {
         Some(Some(self.values.contains(&cell_of_text(x))))
     }
@@ -113,7 +116,8 @@ impl TotalOp<TextId, bool> for AmongCells<'_> {
 
 /// Whether each cell is among these; NA is where they have NA. Texts are told apart by their numbers.
 pub fn isin(alloc: Global, a: ColRef<'_>, values: &IndexSet<Cell>) -> Result<Column, NoMemory>
-    ensures { IfOk result (λ c. c ≡ record { kind = Boolean; cells = map (listed_mark values.now.keys) a.entry.cells }) }
+    ensures { IfOk result (λ c. c
+        ≡ record { kind = Boolean; cells = map (listed_mark values.now.keys) a.entry.cells }) }
 {
     match &a.lanes {
         Borrowed::Ints(lane) => listed_numbers(alloc, lane, values),
@@ -127,7 +131,9 @@ fn listed_numbers(
     a: &Lane<'_, i64>,
     values: &IndexSet<Cell>,
 ) -> Result<Column, NoMemory>
-    ensures { IfOk result (λ c. c ≡ listed_rows values.now.keys number_cell a.now.count (lane_row a.now.values.now a.now.present.now a.now.start a.now.stride a.now.back)) }
+    ensures { IfOk result (λ c. c
+        ≡ listed_rows values.now.keys number_cell a.now.count
+        (lane_row a.now.values.now a.now.present.now a.now.start a.now.stride a.now.back)) }
 {
     if FEW_VALUES < values.len() {
         return map_lane(alloc, &AmongCells { values }, a);
@@ -145,7 +151,9 @@ fn listed_truths(
     a: &Lane<'_, bool>,
     values: &IndexSet<Cell>,
 ) -> Result<Column, NoMemory>
-    ensures { IfOk result (λ c. c ≡ listed_rows values.now.keys truth_cell a.now.count (lane_row a.now.values.now a.now.present.now a.now.start a.now.stride a.now.back)) }
+    ensures { IfOk result (λ c. c
+        ≡ listed_rows values.now.keys truth_cell a.now.count
+        (lane_row a.now.values.now a.now.present.now a.now.start a.now.stride a.now.back)) }
 {
     let among = AmongTruths {
         missing: values.contains(&Cell::Na),
@@ -160,7 +168,9 @@ fn listed_texts(
     a: &Lane<'_, TextId>,
     values: &IndexSet<Cell>,
 ) -> Result<Column, NoMemory>
-    ensures { IfOk result (λ c. c ≡ listed_rows values.now.keys text_cell a.now.count (lane_row a.now.values.now a.now.present.now a.now.start a.now.stride a.now.back)) }
+    ensures { IfOk result (λ c. c
+        ≡ listed_rows values.now.keys text_cell a.now.count
+        (lane_row a.now.values.now a.now.present.now a.now.start a.now.stride a.now.back)) }
 {
     if FEW_VALUES < values.len() {
         return map_lane(alloc, &AmongCells { values }, a);

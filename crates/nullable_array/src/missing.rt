@@ -110,20 +110,23 @@ impl<T: Copy + Drop> PairOp<T, (), T> for Fill<T> {
 
 /// Whether each cell is missing.
 pub fn isna(alloc: Global, a: ColRef<'_>) -> Result<Column, NoMemory>
-    ensures { IfOk result (λ c. c ≡ record { kind = Boolean; cells = map (missing_mark true) a.entry.cells }) }
+    ensures { IfOk result (λ c. c
+        ≡ record { kind = Boolean; cells = map (missing_mark true) a.entry.cells }) }
 {
     marked(alloc, &a, true)
 }
 
 /// Whether each cell is there.
 pub fn notna(alloc: Global, a: ColRef<'_>) -> Result<Column, NoMemory>
-    ensures { IfOk result (λ c. c ≡ record { kind = Boolean; cells = map (missing_mark false) a.entry.cells }) }
+    ensures { IfOk result (λ c. c
+        ≡ record { kind = Boolean; cells = map (missing_mark false) a.entry.cells }) }
 {
     marked(alloc, &a, false)
 }
 
 fn marked(alloc: Global, a: &ColRef<'_>, missing: bool) -> Result<Column, NoMemory>
-    ensures { IfOk result (λ c. c ≡ record { kind = Boolean; cells = map (missing_mark missing) a.now.cells }) }
+    ensures { IfOk result (λ c. c
+        ≡ record { kind = Boolean; cells = map (missing_mark missing) a.now.cells }) }
 {
     let mark = Mark { missing };
     match &a.lanes {
@@ -139,7 +142,8 @@ fn mark_lane<T: Copy + Drop>(
     a: &Lane<'_, T>,
 ) -> Result<Column, NoMemory>
     ensures { IfOk result (λ c. c ≡ column_with Boolean truth_cell a.now.count
-        (λ k. Some (mark_of mark.now.missing (lane_row a.now.values.now a.now.present.now a.now.start a.now.stride a.now.back k)))) }
+        (λ k. Some (mark_of mark.now.missing
+        (lane_row a.now.values.now a.now.present.now a.now.start a.now.stride a.now.back k)))) }
 {
     match a.dense() {
         Some(side) => mark_side(alloc, mark, side),
@@ -153,7 +157,9 @@ fn mark_side<T: Copy + Drop, A: Side<T>>(
     mark: &Mark,
     a: A,
 ) -> Result<Column, NoMemory>
-    ensures { IfOk result (λ c. c ≡ column_with Boolean truth_cell (A.count_of a) (λ k. Some (mark_of mark.now.missing (A.row_of a k)))) }
+    ensures { IfOk result (λ c. c
+        ≡ column_with Boolean truth_cell (A.count_of a)
+        (λ k. Some (mark_of mark.now.missing (A.row_of a k)))) }
 {
     let nothing = Nothing { count: a.count() };
     let rows = by_sides(alloc, mark, a, nothing)?;
@@ -163,7 +169,8 @@ fn mark_side<T: Copy + Drop, A: Side<T>>(
 /// The cells, with this one, which the column's kind holds, in place of each that is missing.
 pub fn fillna(alloc: Global, a: ColRef<'_>, value: Cell) -> Result<Column, NoMemory>
     requires { (texts : List (List ℕ)) → holds a.kind (datum texts value) ≡ true }
-    ensures { IfOk result (λ c. c ≡ record { kind = a.entry.kind; cells = map (filled_cell value) a.entry.cells }) }
+    ensures { IfOk result (λ c. c
+        ≡ record { kind = a.entry.kind; cells = map (filled_cell value) a.entry.cells }) }
 {
     match &a.lanes {
         Borrowed::Ints(lane) => fill_lane(alloc, lane, number_in(value)),
@@ -174,7 +181,8 @@ pub fn fillna(alloc: Global, a: ColRef<'_>, value: Cell) -> Result<Column, NoMem
 
 fn fill_lane<T: Value>(alloc: Global, a: &Lane<'_, T>, value: Option<T>) -> Result<Column, NoMemory>
     ensures { IfOk result (λ c. c ≡ column_with T.kind T.cell a.now.count
-        (λ k. filled_value value (lane_row a.now.values.now a.now.present.now a.now.start a.now.stride a.now.back k))) }
+        (λ k. filled_value value
+        (lane_row a.now.values.now a.now.present.now a.now.start a.now.stride a.now.back k))) }
 {
     let fill = Fill { value };
     match a.dense() {
@@ -185,7 +193,9 @@ fn fill_lane<T: Value>(alloc: Global, a: &Lane<'_, T>, value: Option<T>) -> Resu
 
 // The same of values that lie side by side.
 fn fill_side<T: Value, A: Side<T>>(alloc: Global, fill: &Fill<T>, a: A) -> Result<Column, NoMemory>
-    ensures { IfOk result (λ c. c ≡ column_with T.kind T.cell (A.count_of a) (λ k. filled_value fill.now.value (A.row_of a k))) }
+    ensures { IfOk result (λ c. c
+        ≡ column_with T.kind T.cell (A.count_of a)
+        (λ k. filled_value fill.now.value (A.row_of a k))) }
 {
     let nothing = Nothing { count: a.count() };
     let rows = by_sides(alloc, fill, a, nothing)?;

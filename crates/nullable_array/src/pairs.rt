@@ -286,7 +286,8 @@ fn row_flags<X: Copy, Y: Copy, U: Copy, O: PairOp<X, Y, U>, A: Side<X>, B: Side<
 ) -> Result<Vec<bool>, NoMemory>
     requires { A.count_of a.now ≡ B.count_of b.now }
     ensures count { IfOk result (λ flags. length flags.items ≡ A.count_of a.now) }
-    ensures flags { IfOk result (λ flags. AreFlagged (O.flag_of op.now) (A.value_at a.now) (A.flag_at a.now) (B.value_at b.now) (B.flag_at b.now) (A.count_of a.now) flags.items) }
+    ensures flags { IfOk result (λ flags. AreFlagged (O.flag_of op.now) (A.value_at a.now)
+        (A.flag_at a.now) (B.value_at b.now) (B.flag_at b.now) (A.count_of a.now) flags.items) }
 {
     let mut flags = Vec::with_capacity(alloc, a.count())?;
     for row in 0..a.count() {
@@ -308,7 +309,8 @@ fn row_values<X: Copy, Y: Copy, U: Copy + Drop, O: PairOp<X, Y, U>, A: Side<X>, 
 ) -> Result<Vec<U>, NoMemory>
     requires { A.count_of a.now ≡ B.count_of b.now }
     ensures count { IfOk result (λ values. length values.items ≡ A.count_of a.now) }
-    ensures values { IfOk result (λ values. AreValued (O.value_of op.now) (A.value_at a.now) (A.flag_at a.now) (B.value_at b.now) (B.flag_at b.now) (A.count_of a.now) values.items) }
+    ensures values { IfOk result (λ values. AreValued (O.value_of op.now) (A.value_at a.now)
+        (A.flag_at a.now) (B.value_at b.now) (B.flag_at b.now) (A.count_of a.now) values.items) }
 {
     let mut values = Vec::with_capacity(alloc, a.count())?;
     for row in 0..a.count() {
@@ -332,7 +334,9 @@ pub(crate) fn by_sides<
 >(alloc: Global, op: &O, a: A, b: B) -> Result<Owned<U>, NoMemory>
     requires { A.count_of a ≡ B.count_of b }
     ensures count { IfOk result (λ made. length made.values.items ≡ A.count_of a) }
-    ensures rows { IfOk result (λ made. AreWritten (λ k. O.row_of op.now (A.row_of a k) (B.row_of b k)) (A.count_of a) made.values.items made.present.items) }
+    ensures rows { IfOk result (λ made. AreWritten
+        (λ k. O.row_of op.now (A.row_of a k) (B.row_of b k))
+        (A.count_of a) made.values.items made.present.items) }
 {
     let present = row_flags(alloc, op, &a, &b)?;
     let values = row_values(alloc, op, &a, &b)?;

@@ -22,8 +22,10 @@ use column_core::{Borrowed, ColRef, Lane, Source, cell_of_number, cell_of_text, 
 pub fn reduce(dict: &TextDict, op: Reduction, a: ColRef<'_>) -> Result<Cell, ArrayFault>
     requires { AreGiven dict.now a.cells }
     ensures given { IfOk result (IsGiven dict.now) }
-    ensures held { IfOk result (λ c. (texts : List (List ℕ)) → holds (reduced_kind op a.entry.kind) (datum texts c) ≡ true) }
-    ensures answer { AnswersCell dict.now result (reduce_column (reduction_of op) (column_value dict.now a.entry)) }
+    ensures held { IfOk result (λ c. (texts : List (List ℕ)) →
+        holds (reduced_kind op a.entry.kind) (datum texts c) ≡ true) }
+    ensures answer { AnswersCell dict.now result
+        (reduce_column (reduction_of op) (column_value dict.now a.entry)) }
 {
     match &a.lanes {
         Borrowed::Ints(lane) => Ok(reduce_numbers(op, lane)),
@@ -34,8 +36,12 @@ pub fn reduce(dict: &TextDict, op: Reduction, a: ColRef<'_>) -> Result<Cell, Arr
 
 fn reduce_numbers(op: Reduction, a: &Lane<'_, i64>) -> Cell
     ensures given { (texts : List (List ℕ)) → IsGiven texts result }
-    ensures held { (texts : List (List ℕ)) → holds (reduced_kind op Int64) (datum texts result) ≡ true }
-    ensures value { (texts : List (List ℕ)) → datum texts result ≡ reduction_cell (reduction_of op) (column_value texts (borrowed_column (Borrowed.Ints a.now))).cells }
+    ensures held { (texts : List (List ℕ)) →
+        holds (reduced_kind op Int64) (datum texts result) ≡ true }
+    ensures value { (texts : List (List ℕ)) →
+        datum texts result
+        ≡ reduction_cell (reduction_of op)
+        (column_value texts (borrowed_column (Borrowed.Ints a.now))).cells }
 {
     match a.dense() {
         Some(side) => reduced_numbers(op, &side),
@@ -45,8 +51,12 @@ fn reduce_numbers(op: Reduction, a: &Lane<'_, i64>) -> Cell
 
 fn reduce_truths(op: Reduction, a: &Lane<'_, bool>) -> Cell
     ensures given { (texts : List (List ℕ)) → IsGiven texts result }
-    ensures held { (texts : List (List ℕ)) → holds (reduced_kind op Boolean) (datum texts result) ≡ true }
-    ensures value { (texts : List (List ℕ)) → datum texts result ≡ reduction_cell (reduction_of op) (column_value texts (borrowed_column (Borrowed.Truths a.now))).cells }
+    ensures held { (texts : List (List ℕ)) →
+        holds (reduced_kind op Boolean) (datum texts result) ≡ true }
+    ensures value { (texts : List (List ℕ)) →
+        datum texts result
+        ≡ reduction_cell (reduction_of op)
+        (column_value texts (borrowed_column (Borrowed.Truths a.now))).cells }
 {
     match a.dense() {
         Some(side) => reduced_truths(op, &side),
@@ -56,8 +66,13 @@ fn reduce_truths(op: Reduction, a: &Lane<'_, bool>) -> Cell
 
 fn reduced_numbers<A: Source<i64>>(op: Reduction, a: &A) -> Cell
     ensures given { (texts : List (List ℕ)) → IsGiven texts result }
-    ensures held { (texts : List (List ℕ)) → holds (reduced_kind op Int64) (datum texts result) ≡ true }
-    ensures value { (texts : List (List ℕ)) → datum texts result ≡ reduction_cell (reduction_of op) (column_value texts (column_with Int64 number_cell (A.count_of a.now) (A.row_of a.now))).cells }
+    ensures held { (texts : List (List ℕ)) →
+        holds (reduced_kind op Int64) (datum texts result) ≡ true }
+    ensures value { (texts : List (List ℕ)) →
+        datum texts result
+        ≡ reduction_cell (reduction_of op)
+        (column_value texts
+        (column_with Int64 number_cell (A.count_of a.now) (A.row_of a.now))).cells }
 {
     match op {
         Reduction::Sum => cell_of_number(Some(fold_rows(&Total, 0, a))),
@@ -71,8 +86,13 @@ fn reduced_numbers<A: Source<i64>>(op: Reduction, a: &A) -> Cell
 
 fn reduced_truths<A: Source<bool>>(op: Reduction, a: &A) -> Cell
     ensures given { (texts : List (List ℕ)) → IsGiven texts result }
-    ensures held { (texts : List (List ℕ)) → holds (reduced_kind op Boolean) (datum texts result) ≡ true }
-    ensures value { (texts : List (List ℕ)) → datum texts result ≡ reduction_cell (reduction_of op) (column_value texts (column_with Boolean truth_cell (A.count_of a.now) (A.row_of a.now))).cells }
+    ensures held { (texts : List (List ℕ)) →
+        holds (reduced_kind op Boolean) (datum texts result) ≡ true }
+    ensures value { (texts : List (List ℕ)) →
+        datum texts result
+        ≡ reduction_cell (reduction_of op)
+        (column_value texts
+        (column_with Boolean truth_cell (A.count_of a.now) (A.row_of a.now))).cells }
 {
     match op {
         Reduction::Sum => cell_of_number(Some(fold_rows(&Total, 0, a))),
@@ -87,8 +107,11 @@ fn reduced_truths<A: Source<bool>>(op: Reduction, a: &A) -> Cell
 fn reduce_texts(dict: &TextDict, op: Reduction, a: &Lane<'_, TextId>) -> Result<Cell, ArrayFault>
     requires { AreGiven dict.now (borrowed_column (Borrowed.Texts a.now)).cells }
     ensures given { IfOk result (IsGiven dict.now) }
-    ensures held { IfOk result (λ c. (texts : List (List ℕ)) → holds (reduced_kind op string) (datum texts c) ≡ true) }
-    ensures answer { AnswersCell dict.now result (reduce_column (reduction_of op) (column_value dict.now (borrowed_column (Borrowed.Texts a.now)))) }
+    ensures held { IfOk result (λ c. (texts : List (List ℕ)) →
+        holds (reduced_kind op string) (datum texts c) ≡ true) }
+    ensures answer { AnswersCell dict.now result
+        (reduce_column (reduction_of op)
+        (column_value dict.now (borrowed_column (Borrowed.Texts a.now)))) }
 {
     match op {
         Reduction::Min => Ok(cell_of_text(fold_rows(

@@ -53,7 +53,8 @@ impl TextOp<TextId, TextId> for Join {
         text: &mut String,
     ) -> Result<bool, AllocError>
         requires { string_bytes text.old ≡ [] }
-        ensures { IfOk result (λ some. text_if some (string_bytes text.new) ≡ both (λ a b. text_of dict.now a ++ text_of dict.now b) x y) }
+        ensures { IfOk result (λ some. text_if some (string_bytes text.new)
+            ≡ both (λ a b. text_of dict.now a ++ text_of dict.now b) x y) }
     {
         match (x, y) {
             (Some(x), Some(y)) => {
@@ -85,7 +86,8 @@ impl TextOp<i64, ()> for Decimal {
         text: &mut String,
     ) -> Result<bool, AllocError>
         requires { string_bytes text.old ≡ [] }
-        ensures { IfOk result (λ some. text_if some (string_bytes text.new) ≡ option_map signed_decimal x) }
+        ensures { IfOk result (λ some. text_if some (string_bytes text.new)
+            ≡ option_map signed_decimal x) }
     {
         match x {
             Some(x) => {
@@ -117,7 +119,8 @@ impl TextOp<bool, ()> for TruthWord {
         text: &mut String,
     ) -> Result<bool, AllocError>
         requires { string_bytes text.old ≡ [] }
-        ensures { IfOk result (λ some. text_if some (string_bytes text.new) ≡ option_map truth_text x) }
+        ensures { IfOk result (λ some. text_if some (string_bytes text.new)
+            ≡ option_map truth_text x) }
     {
         match x {
             Some(true) => {
@@ -167,8 +170,11 @@ fn fill_texts<X, Y, O: TextOp<X, Y>, A: Source<X>, B: Source<Y>>(
     requires values { length values.old ≡ A.count_of a.now }
     requires present { length present.old ≡ A.count_of a.now }
     requires same { A.count_of a.now ≡ B.count_of b.now }
-    requires given { (k : ℕ) → k < A.count_of a.now → O.given op.now dict.old (A.row_of a.now k) (B.row_of b.now k) }
-    ensures written { IfOk result (λ _. AreTexts dict.new (λ k. O.written op.now dict.old (A.row_of a.now k) (B.row_of b.now k)) (A.count_of a.now) values.new present.new) }
+    requires given { (k : ℕ) → k < A.count_of a.now →
+        O.given op.now dict.old (A.row_of a.now k) (B.row_of b.now k) }
+    ensures written { IfOk result (λ _. AreTexts dict.new
+        (λ k. O.written op.now dict.old (A.row_of a.now k) (B.row_of b.now k))
+        (A.count_of a.now) values.new present.new) }
     ensures keeps { IsLonger dict.old dict.new }
 {
     for row in 0..present.len() {
@@ -188,9 +194,14 @@ pub(crate) fn text_column<X, Y, O: TextOp<X, Y>, A: Source<X>, B: Source<Y>>(
     b: &B,
 ) -> Result<Column, NoMemory>
     requires same { A.count_of a.now ≡ B.count_of b.now }
-    requires given { (k : ℕ) → k < A.count_of a.now → O.given op.now dict.old (A.row_of a.now k) (B.row_of b.now k) }
+    requires given { (k : ℕ) → k < A.count_of a.now →
+        O.given op.now dict.old (A.row_of a.now k) (B.row_of b.now k) }
     ensures cells { IfOk result (λ c. column_value dict.new c
-        ≡ record { kind = string; cells = tabulate (A.count_of a.now) (λ k. text_value (O.written op.now dict.old (A.row_of a.now k) (B.row_of b.now k))) }) }
+        ≡ record {
+          kind = string;
+          cells = tabulate (A.count_of a.now)
+              (λ k. text_value (O.written op.now dict.old (A.row_of a.now k) (B.row_of b.now k)));
+        }) }
     ensures given { IfOk result (λ c. AreGiven dict.new c.cells) }
     ensures keeps { IsLonger dict.old dict.new }
 {

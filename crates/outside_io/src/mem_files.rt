@@ -70,7 +70,8 @@ impl MemFiles {
     /// Holds these bytes under the path, in place of what it held. A file that was fetched before is
     /// read on as it was. `NoMemory` leaves all as it was.
     pub fn hold(&mut self, path: &str, bytes: &[u8]) -> Result<(), NoMemory>
-        ensures ok { OnOk result (self.new ≡ record self.old { contents = insert self.old.contents path.now bytes.now }) }
+        ensures ok { OnOk result (self.new
+            ≡ record self.old { contents = insert self.old.contents path.now bytes.now }) }
         ensures err { OnErr result (self.new ≡ self.old) }
     {
         self.shelf.hold(self.alloc, path, bytes)
@@ -79,7 +80,8 @@ impl MemFiles {
     /// Names a call that is to fail, by its number, counted from 0 over `fetch` and `read`.
     /// `NoMemory` leaves all as it was.
     pub fn fail_at(&mut self, call: u64) -> Result<(), NoMemory>
-        ensures ok { OnOk result (self.new ≡ record self.old { failing = self.old.failing ++ call ∷ [] }) }
+        ensures ok { OnOk result (self.new
+            ≡ record self.old { failing = self.old.failing ++ call ∷ [] }) }
         ensures err { OnErr result (self.new ≡ self.old) }
     {
         self.calls.fail_at(call)

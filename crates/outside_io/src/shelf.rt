@@ -71,7 +71,8 @@ impl Shelf {
     pub(crate) fn fetch(&mut self, path: &str) -> bool
         ensures contents { self.new.contents ≡ self.old.contents }
         ensures held { IsTrue result → get self.old.contents path.now ≡ Some self.new.rest }
-        ensures absent { IsFalse result → (get self.old.contents path.now ≡ None) × (self.new.rest ≡ []) }
+        ensures absent { IsFalse result →
+            (get self.old.contents path.now ≡ None) × (self.new.rest ≡ []) }
     {
         self.at = 0;
         match locate(&self.files, path) {
@@ -103,7 +104,8 @@ impl Shelf {
 
     /// Holds these bytes under the path. The file that is read stays as it is.
     pub(crate) fn hold(&mut self, alloc: Global, path: &str, bytes: &[u8]) -> Result<(), NoMemory>
-        ensures ok { OnOk result (self.new ≡ record self.old { contents = insert self.old.contents path.now bytes.now }) }
+        ensures ok { OnOk result (self.new
+            ≡ record self.old { contents = insert self.old.contents path.now bytes.now }) }
         ensures err { OnErr result (self.new ≡ self.old) }
     {
         let bytes = bytes.to_vec(alloc)?;
@@ -167,7 +169,8 @@ fn push_file(
     path: &str,
     bytes: Vec<u8>,
 ) -> Result<(), NoMemory>
-    ensures ok { OnOk result (files.new.items ≡ files.old.items ++ record { path = path.now; bytes = bytes } ∷ []) }
+    ensures ok { OnOk result (files.new.items
+        ≡ files.old.items ++ record { path = path.now; bytes = bytes } ∷ []) }
     ensures err { OnErr result (files.new.items ≡ files.old.items) }
 {
     let path = Words::from_text(alloc, path)?;

@@ -7,7 +7,7 @@ ghost use Rattle.meaning.specs.FaultOf.{fault_of};
 ghost use Rattle.meaning.specs.FaultText.{fault_text};
 ghost use Rattle.script_meaning.specs.Run.{line_about, warning_line};
 ghost use Rattle.script_meaning.specs.Statement.{statement_result};
-ghost use Rattle.script_syntax.specs.View.{form_of};
+ghost use Rattle.script_tree.specs.View.{form_of};
 ghost use Rattle.script_session.specs.Reads.{files_in, paths_of};
 ghost use Rattle.script_session.specs.Session.{state_of};
 ghost use Rattle.script_run.specs.Errors.{StatementsLeave, Warns};

@@ -5,7 +5,7 @@ ghost use Rattle.outside_io.specs.Files.{Serves};
 ghost use Rattle.outside_io.specs.Sink.{appended};
 ghost use Rattle.script_meaning.specs.State.{no_names};
 ghost use Rattle.script_meaning.specs.Run.{not_found_line, run_in, statements_result, syntax_line, too_large_line, usage, usage_line, with_line, IsRunResult, IsScriptResult, IsWordsResult};
-ghost use Rattle.script_syntax.specs.ScriptView.{statements_of};
+ghost use Rattle.script_tree.specs.ScriptView.{statements_of};
 ghost use Rattle.script_session.specs.Reads.{files_in, paths_of};
 ghost use Rattle.script_run.specs.Errors.{RunLeaves, StatementsLeave};
 ghost use Rattle.script_run.specs.Ends.{outside, Ends, EndsByMeaning, EndsWithLine, Is};

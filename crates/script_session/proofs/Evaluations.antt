@@ -10,8 +10,8 @@ use Rattle.frame_store.specs.declared.fault.OpFault.{OpFault}
 use Rattle.script_meaning.specs.Reading.{Files, Reads, at_once, gives, then_read}
 use Rattle.script_meaning.specs.State.{State}
 use Rattle.script_meaning.specs.Expression.{named_by, value_of, value_of_name, where_named}
-use Rattle.script_syntax.specs.declared.tree.Expr.{Expr}
-use Rattle.script_syntax.specs.View.{expr_of}
+use Rattle.script_tree.specs.declared.tree.Expr.{Expr}
+use Rattle.script_tree.specs.View.{expr_of}
 use Rattle.script_session.specs.Bindings.{value_at, IsOf}
 use Rattle.script_session.specs.Evaluates.{Moment, IsValue, Evaluates}
 use Rattle.script_session.specs.Faults.{IsNoAttribute, IsNoName, evaluated}

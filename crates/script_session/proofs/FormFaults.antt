@@ -1,6 +1,7 @@
 -- No form on values has the fault that a file isn't there.
 use Rattle.std.proofs.Common.{ap}
 use Rattle.std.specs.Prelude.{◌≡◌, ℕ, pos, Bool, true, false, List, [], ◌∷◌, Option, Some, None, Result, Ok, Err, if◌then◌else◌}
+use Rattle.std.specs.List.{list_all}
 use Rattle.cell_core.specs.declared.cell.Kind.{Kind}
 use Rattle.cell_core.specs.declared.grid.Shape.{Shape}
 use Rattle.cell_core.specs.declared.grid.Shape.TheVariants.{Series, Frame}
@@ -8,17 +9,17 @@ use Rattle.meaning.specs.Text.{Text}
 use Rattle.meaning.specs.Cell.{CellValue, int_cell, LabelValue}
 use Rattle.meaning.specs.Column.{ColumnValue, ColumnFault, kind_mismatch, zero_division, not_cast}
 use Rattle.language_meaning.specs.Tree.{Binary, sub}
-use Rattle.meaning.specs.Fault.{FaultValue, then_value}
+use Rattle.meaning.specs.Fault.{FaultValue, wrong_kind, bad_value, not_aligned, then_value}
 use Rattle.align_meaning.specs.Faults.{AlignRefusal, duplicate_labels, too_large, met_rows}
 use Rattle.align_meaning.specs.Joins.{outer}
-use Rattle.table_meaning.specs.Table.{ColumnOf, Table}
+use Rattle.table_meaning.specs.Table.{ColumnOf, Table, column_at}
 use Rattle.table_meaning.specs.Value.{Entry, cell, table, Given, GivenList, NamedGiven}
 use Rattle.form_meaning.specs.declared.Function.{Function}
 use Rattle.form_meaning.specs.declared.Function.TheVariants as function
 use Rattle.form_meaning.specs.Binding.{Bound, not_taken, not_listed, bound, on_bound}
-use Rattle.form_meaning.specs.Finish.{limited_table, limited, unless_repeated, finished, fault_of_column, made_column, try_all}
+use Rattle.form_meaning.specs.Finish.{first_repeated, column_labels, limited_table, limited, unless_repeated, finished, fault_of_column, made_column, try_all}
 use Rattle.form_meaning.specs.Select.{found, column_place, column_places, length_result}
-use Rattle.form_meaning.specs.Infix.{Meeting, same_tuple, same_tuples, tuple_before, beside, compares, joined_rows, joined_columns, with_joined, joined_infix, unequal_infix, infix_table, scalar_infix, on_levels, rows_infix, series_infix, frame_infix, across_infix, table_infix, infix_result, negated, inverted, sign_result}
+use Rattle.form_meaning.specs.Infix.{Meeting, meets, has_one, same_tuple, same_tuples, tuple_before, beside, compares, joined_rows, joined_columns, with_joined, joined_infix, unequal_infix, infix_table, scalar_infix, on_levels, same_headings, are_headings, rows_infix, series_infix, on_columns, common_infix, unequal_columns, wide_infix, joined_frames, frame_infix, takes_each, labels_fit, spread_series, spread_frame, joined_turned, across_series, across_unequal, across_infix, table_infix, infix_result, negated, inverted, sign_result}
 use Rattle.form_meaning.specs.Set.{list_column, of_length}
 use Rattle.form_meaning.specs.Make.{cast_to, few_levels, with_index, on, series_of, series_result, all_of_length, frame_with, frame_of, frame_result}
 use Rattle.form_meaning.specs.Functions.{constructed, made_by, made_named, make_result}
@@ -68,7 +69,7 @@ try_all_fault f [] each = tt
 try_all_fault f (x ∷ xs) each = then_value_fault _ _ (each x) (λ y. then_value_fault _ _ (try_all_fault f xs each) (λ ys. tt))
 
 -- columns by their labels, and the number of rows
-found_fault : (l : LabelValue) (place : Option ℕ) → HasFormFault (found l place)
+pub found_fault : (l : LabelValue) (place : Option ℕ) → HasFormFault (found l place)
 found_fault l None = tt
 found_fault l (Some place) = tt
 
@@ -109,11 +110,45 @@ rows_infix_fault op a b t = on_levels_fault _ _ _ (if_fault (same_tuples a.label
 series_infix_fault : (op : Binary) (a b : Table) → HasFormFault (series_infix op a b)
 series_infix_fault op a b = search (rows_infix_fault)
 
+common_infix_fault : (op : Binary) (a b : Table) → HasFormFault (common_infix op a b)
+common_infix_fault op a b = search (rows_infix_fault)
+
+unequal_columns_fault : (op : Binary) (a b : Table) → HasFormFault (unequal_columns op a b)
+unequal_columns_fault op a b = on_levels_fault _ _ _ (if_fault (compares op) _ _ tt (common_infix_fault op a b))
+
+joined_frames_fault : (op : Binary) (a b : Table) → HasFormFault (joined_frames op a b)
+joined_frames_fault op a b =
+    then_value_fault (joined_rows (column_labels a) (column_labels b)) (wide_infix op a b) (met_rows_fault (outer same_tuple tuple_before (column_labels a) (column_labels b)))
+    (λ j. unequal_columns_fault op (on_columns a b j.keys j.left j.right) (on_columns b a j.keys j.right j.left))
+
 frame_infix_fault : (op : Binary) (a b : Table) → HasFormFault (frame_infix op a b)
-frame_infix_fault op a b = search (if_fault, rows_infix_fault)
+frame_infix_fault op a b = if_fault (same_headings a.headings b.headings) _ _ (common_infix_fault op a b) (joined_frames_fault op a b)
+
+joined_turned_fault : (op : Binary) (left : Bool) (f g : Table) → HasFormFault (joined_turned op left f g)
+joined_turned_fault op false f g = joined_frames_fault op f g
+joined_turned_fault op true f g = joined_frames_fault op g f
+
+spread_met_fault : (op : Binary) (left : Bool) (f s : Table) → HasFormFault (then_value (spread_frame f s) (joined_turned op left f))
+spread_met_fault op left f s =
+    then_value_fault (spread_frame f s) (joined_turned op left f) (unless_repeated_fault (first_repeated (spread_series f s).headings) (limited_table (spread_series f s)) (limited_table_fault (spread_series f s)))
+    (λ g. joined_turned_fault op left f g)
+
+across_unequal_fault : (op : Binary) (left : Bool) (f s : Table) → HasFormFault (across_unequal op left f s)
+across_unequal_fault op left f s = by (takes_each op f s) (has_one s.level_names) (labels_fit same_tuple (column_at s.columns 0).kind s.labels (column_labels f) f.columns) (compares op)
+  where
+    by : (t l fit c : Bool) → HasFormFault (on_levels t l (if fit then (if c then Err (bad_value not_aligned) else then_value (spread_frame f s) (joined_turned op left f)) else Err wrong_kind))
+    by false l fit c = tt
+    by true false fit c = tt
+    by true true false c = tt
+    by true true true true = tt
+    by true true true false = spread_met_fault op left f s
 
 across_infix_fault : (op : Binary) (left : Bool) (f s : Table) → HasFormFault (across_infix op left f s)
-across_infix_fault op left f s = search (if_fault, on_levels_fault, infix_table_fault)
+across_infix_fault op left f s = by (are_headings s.labels f.headings)
+  where
+    by : (b : Bool) → HasFormFault (if b then on_levels (list_all (meets op) (across_series left f s)) (has_one s.level_names) (infix_table op f (across_series left f s)) else across_unequal op left f s)
+    by true = on_levels_fault _ _ _ (infix_table_fault op f (across_series left f s))
+    by false = across_unequal_fault op left f s
 
 table_infix_fault : (op : Binary) (s s' : Shape) (a b : Table) → HasFormFault (table_infix op s s' a b)
 table_infix_fault op Series Series a b = series_infix_fault op a b

@@ -4,20 +4,23 @@ use Rattle.cell_core.specs.declared.cell.Kind.{Kind}
 use Rattle.cell_core.specs.declared.grid.Shape.{Shape}
 use Rattle.cell_core.specs.declared.grid.Shape.TheVariants.{Series, Frame}
 use Rattle.meaning.specs.Text.{Text}
-use Rattle.meaning.specs.Cell.{CellValue, LabelValue}
+use Rattle.meaning.specs.Cell.{CellValue, int_cell, text_cell, LabelValue}
 use Rattle.meaning.specs.Column.{ColumnFault}
 use Rattle.meaning.specs.Fault.{FaultValue}
 use Rattle.table_meaning.specs.Table.{ColumnOf, Table}
-use Rattle.table_meaning.specs.Value.{Entry, cell, table, Given, NamedGiven, nothing}
+use Rattle.table_meaning.specs.Value.{Entry, cell, table, Given, GivenList, NamedGiven, nothing, scalar_in, list_in}
 use Rattle.form_meaning.specs.declared.Method.{Method}
 use Rattle.form_meaning.specs.declared.Method.TheVariants as method
 use Rattle.method_meaning.specs.Rows.{head_result, tail_result, labels_in, subset_places, duplicated_result, sort_by_result, drop_result}
-use Rattle.method_meaning.specs.Methods.{each_column, filled_column, Summary, reduced, distinct, made_cell, summary_cell, summary_as, summary_of, renamed_frame, csv_answer, answer_for}
-use Rattle.method_meaning.specs.Levels.{rename_axis_result, index_set, set_index_result}
+use Rattle.method_meaning.specs.Methods.{each_column, filled_column, Summary, reduced, distinct, made_cell, summary_cell, summary_as, summary_of, renamed_frame, as_frame, reset_index_result, csv_answer, answer_for}
+use Rattle.method_meaning.specs.Levels.{rename_axis_result, index_set, set_index_result, renumbered, levels_reset, level_of, level_gone, droplevel_result, swaplevel_result}
+use Rattle.method_meaning.specs.Reindex.{reindex_rows, reindex_columns, reindex_result}
+use Rattle.method_meaning.specs.Section.{xs_result}
 use Rattle.method_meaning.specs.Calls as call
 use Rattle.method_meaning.specs.Calls.{ChainValue, called, method_result, not_built_if, chain_result}
 use Rattle.script_session.specs.FormFault.{HasFormFault}
-use Rattle.script_session.proofs.FormFaults.{if_fault, then_value_fault, of_length_fault, unless_repeated_fault, on_bound_fault, limited_fault, finished_fault, column_fault, made_column_fault, try_all_fault, column_places_fault, on_fault}
+use Rattle.script_session.proofs.FormFaults.{if_fault, then_value_fault, of_length_fault, unless_repeated_fault, met_rows_fault, list_column_fault, on_bound_fault, limited_fault, finished_fault, column_fault, made_column_fault, try_all_fault, found_fault, column_places_fault, on_fault}
+use Rattle.script_session.proofs.SelectFaults.{found_pick_fault, whole_items_fault}
 
 -- cells, column by column
 each_column_fault : (f : ColumnOf CellValue → Result (ColumnOf CellValue) FaultValue) (t : Table) → ((c : ColumnOf CellValue) → HasFormFault (f c)) → HasFormFault (each_column f t)
@@ -77,6 +80,40 @@ index_set_fault t places = search (unless_repeated_fault, if_fault, limited_faul
 set_index_fault : (t : Table) (keys : Given) → HasFormFault (set_index_result t keys)
 set_index_fault t keys = search (then_value_fault, column_places_fault, index_set_fault)
 
+levels_reset_fault : (t : Table) → HasFormFault (levels_reset t)
+levels_reset_fault t = search (then_value_fault, try_all_fault, list_column_fault, finished_fault)
+
+reset_index_fault : (t : Table) (drop : Bool) → HasFormFault (reset_index_result t drop)
+reset_index_fault t true = limited_fault (renumbered t)
+reset_index_fault t false = levels_reset_fault (as_frame t)
+
+level_of_fault : (t : Table) (level : Option CellValue) → HasFormFault (level_of t level)
+level_of_fault t (Some (int_cell z)) = found_pick_fault _
+level_of_fault t (Some (text_cell name)) = found_fault _ _
+level_of_fault t level = tt
+
+droplevel_fault : (t : Table) (level : Option CellValue) → HasFormFault (droplevel_result t level)
+droplevel_fault t level = then_value_fault (level_of t level) (level_gone t) (level_of_fault t level) (λ k. search (if_fault, limited_fault))
+
+swaplevel_fault : (t : Table) (i j : Option CellValue) → HasFormFault (swaplevel_result t i j)
+swaplevel_fault t i j = search (then_value_fault, level_of_fault, limited_fault)
+
+-- rows or columns by labels
+reindex_rows_fault : (t : Table) (items : GivenList) → HasFormFault (reindex_rows t items)
+reindex_rows_fault t items = search (then_value_fault, whole_items_fault, met_rows_fault, limited_fault)
+
+reindex_columns_fault : (t : Table) (items : GivenList) → HasFormFault (reindex_columns t items)
+reindex_columns_fault t items = search (then_value_fault, whole_items_fault, met_rows_fault, finished_fault)
+
+reindex_fault : (t : Table) (rows columns : Option GivenList) → HasFormFault (reindex_result t rows columns)
+reindex_fault t (Some items) None = reindex_rows_fault t items
+reindex_fault t None (Some items) = reindex_columns_fault t items
+reindex_fault t None None = tt
+reindex_fault t (Some items) (Some others) = tt
+
+xs_fault : (t : Table) (key : CellValue) (level : Option CellValue) → HasFormFault (xs_result t key level)
+xs_fault t key level = search (if_fault, then_value_fault, level_of_fault, found_pick_fault, limited_fault)
+
 ruleset methods = (on_fault, limited_fault, each_column_fault, filled_column_fault, made_column_fault, summary_of_fault, renamed_frame_fault, csv_answer_fault)
 
 ruleset picking = (on_fault, head_fault, tail_fault, duplicated_fault, limited_fault, sort_by_fault, drop_fault)
@@ -111,7 +148,13 @@ answer_for_fault method.RenameSeries (name ∷ []) t = search methods
 answer_for_fault method.RenameFrame (columns ∷ []) t = search methods
 answer_for_fault method.RenameAxis (names ∷ []) t = rename_axis_fault t names
 answer_for_fault method.SetIndex (keys ∷ []) t = set_index_fault t keys
+answer_for_fault method.ResetIndex (drop ∷ []) t = search (on_fault, reset_index_fault)
 answer_for_fault method.DropColumns (columns ∷ []) t = drop_fault t columns
+answer_for_fault method.Droplevel (level ∷ []) t = droplevel_fault t (scalar_in level)
+answer_for_fault method.Swaplevel (i ∷ j ∷ []) t = swaplevel_fault t (scalar_in i) (scalar_in j)
+answer_for_fault method.ReindexSeries (index ∷ []) t = reindex_fault t (list_in index) None
+answer_for_fault method.ReindexFrame (index ∷ columns ∷ []) t = reindex_fault t (list_in index) (list_in columns)
+answer_for_fault method.Xs (key ∷ level ∷ []) t = search (on_fault, xs_fault)
 answer_for_fault method.ToFrame gs t = search methods
 answer_for_fault method.ToCsv (index ∷ []) t = search methods
 answer_for_fault m gs t = tt

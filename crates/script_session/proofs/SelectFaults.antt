@@ -11,13 +11,10 @@ use Rattle.table_meaning.specs.Value.{Entry, cell, table, Given, GivenList, Give
 use Rattle.form_meaning.specs.Finish.{column_labels}
 use Rattle.pick_meaning.specs.Faults.{PickFault, not_there, bound_not_unique, out_of_range, no_mask_label, step_zero}
 use Rattle.pick_meaning.specs.Keys.{Pick}
-use Rattle.select_meaning.specs.Keys.{on_one_level, tuple_label, label_bound, whole_item, whole_items, label_span, label_key, place_bound, whole_cell, positions_in, place_key, fault_of_pick, found_pick, label_pick, place_pick, mask_pick, loc_rows, loc_columns, whole_key, once, at_rows, iat_pick, rows_by, columns_by, pair_key, joined_key, rows_by_two, Reach, reach_of, reach_by}
+use Rattle.select_meaning.specs.Keys.{tuple_label, label_bound, whole_item, whole_items, label_span, label_key, place_bound, whole_cell, positions_in, place_key, fault_of_pick, found_pick, label_pick, place_pick, mask_pick, loc_rows, loc_columns, whole_key, once, at_rows, iat_pick, rows_by, columns_by, pair_key, joined_key, rows_by_two, Reach, reach_of, reach_by}
 use Rattle.select_meaning.specs.Select.{Way, plain, through, cut, as_series, one_kind, row_result, shown_as, picked_result, without_leading, column_reach, columns_reach, list_reach, mask_reach, frame_reach, item_reach, way_reach, select_result}
 use Rattle.script_session.specs.FormFault.{IsOfForm, HasFormFault}
 use Rattle.script_session.proofs.FormFaults.{if_fault, then_value_fault, limited_fault, finished_fault, try_all_fault, column_place_fault, column_places_fault}
-
-pub on_one_level_fault : {A : Type 0} (t : Table) (rest : Result A FaultValue) → HasFormFault rest → HasFormFault (on_one_level t rest)
-on_one_level_fault t rest next = search (if_fault, next)
 
 -- keys by label
 tuple_label_fault : (levels : ℕ) (parts : GivenList) → HasFormFault (tuple_label levels parts)
@@ -33,7 +30,7 @@ whole_item_fault levels (one (cell c)) = search (if_fault)
 whole_item_fault levels (row parts) = search (if_fault)
 whole_item_fault levels g = tt
 
-whole_items_fault : (levels : ℕ) (parts : GivenList) → HasFormFault (whole_items levels parts)
+pub whole_items_fault : (levels : ℕ) (parts : GivenList) → HasFormFault (whole_items levels parts)
 whole_items_fault levels no_given = tt
 whole_items_fault levels (more_given g rest) = then_value_fault _ _ (whole_item_fault levels g) (λ key. then_value_fault _ _ (whole_items_fault levels rest) (λ keys. tt))
 
@@ -75,7 +72,7 @@ pick_fault (out_of_range z count) = tt
 pick_fault (no_mask_label key) = tt
 pick_fault step_zero = tt
 
-found_pick_fault : {A : Type 0} (r : Result A (PickFault (List LabelValue))) → HasFormFault (found_pick r)
+pub found_pick_fault : {A : Type 0} (r : Result A (PickFault (List LabelValue))) → HasFormFault (found_pick r)
 found_pick_fault (Ok a) = tt
 found_pick_fault (Err why) = pick_fault why
 
@@ -127,7 +124,7 @@ pair_key_fault : (a b : Option CellValue) → HasFormFault (pair_key a b)
 pair_key_fault (Some a) (Some b) = tt
 pair_key_fault a b = tt
 
-joined_key_fault : (by : Accessor) (levels : ℕ) (first second : GivenSub) → HasFormFault (joined_key by levels first second)
+pub joined_key_fault : (by : Accessor) (levels : ℕ) (first second : GivenSub) → HasFormFault (joined_key by levels first second)
 joined_key_fault by levels first second = search (if_fault, pair_key_fault)
 
 rows_by_two_fault : (by : Accessor) (t : Table) (first second : GivenSub) → HasFormFault (rows_by_two by t first second)

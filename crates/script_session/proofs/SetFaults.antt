@@ -12,10 +12,10 @@ use Rattle.form_meaning.specs.Finish.{column_labels}
 use Rattle.pick_meaning.specs.Keys.{Pick}
 use Rattle.select_meaning.specs.Keys.{rows_by, columns_by}
 use Rattle.select_meaning.specs.Select.{Way, plain, through}
-use Rattle.select_meaning.specs.Set.{SetValue, same, listed, aligned, set_value, list_set, aligned_rows, aligned_column, series_set, column_set, frame_set, Reached, added_label, or_added, rows_set, columns_set, Target, target_of, target_by, listed_values, reached_labels, placed_values, aligned_values, series_values, values_for, kind_of_value, with_new_column, filled_table, target_set, access_set, item_set, assign_result, removal_result}
+use Rattle.select_meaning.specs.Set.{SetValue, same, listed, aligned, set_value, list_set, aligned_rows, aligned_column, series_set, column_set, frame_set, Reached, added_label, or_added, row_to_add, rows_set, columns_set, Target, target_of, target_by, listed_values, reached_labels, placed_values, aligned_values, series_values, values_for, kind_of_value, with_new_column, filled_table, target_set, access_set, item_set, assign_result, removal_result}
 use Rattle.script_session.specs.FormFault.{HasFormFault}
 use Rattle.script_session.proofs.FormFaults.{if_fault, then_value_fault, met_rows_fault, limited_table_fault, list_column_fault, of_length_fault, column_place_fault}
-use Rattle.script_session.proofs.SelectFaults.{on_one_level_fault, rows_by_fault, columns_by_fault}
+use Rattle.script_session.proofs.SelectFaults.{joined_key_fault, rows_by_fault, columns_by_fault}
 
 -- values
 object_value_fault : (s : Table) → HasFormFault (set_value (one (table s)))
@@ -55,7 +55,7 @@ or_added_fault None tuples pick next = then_value_fault pick _ next (λ p. tt)
 or_added_fault (Some l) tuples pick next = search (if_fault, then_value_fault, next)
 
 rows_set_fault : (by : Accessor) (t : Table) (k : GivenSub) → HasFormFault (rows_set by t k)
-rows_set_fault by t k = or_added_fault (added_label by k) t.labels (rows_by by t k) (rows_by_fault by t k)
+rows_set_fault by t k = or_added_fault (row_to_add by t k) t.labels (rows_by by t k) (rows_by_fault by t k)
 
 columns_set_fault : (by : Accessor) (t : Table) (k : GivenSub) → HasFormFault (columns_set by t k)
 columns_set_fault by t k = or_added_fault (added_label by k) (column_labels t) (columns_by by t k) (columns_by_fault by t k)
@@ -65,7 +65,7 @@ target_of_fault rows columns first second = then_value_fault rows _ first (λ r.
 
 target_by_fault : (s : Shape) (by : Accessor) (t : Table) (first : GivenSub) (second : Option GivenSub) → HasFormFault (target_by s by t first second)
 target_by_fault Series by t first None = search (target_of_fault, rows_set_fault)
-target_by_fault Series by t first (Some other) = tt
+target_by_fault Series by t first (Some other) = search (target_of_fault, then_value_fault, joined_key_fault, rows_set_fault)
 target_by_fault Frame by t first None = search (if_fault, target_of_fault, rows_set_fault)
 target_by_fault Frame by t first (Some other) = search (target_of_fault, rows_set_fault, columns_set_fault)
 
@@ -106,7 +106,7 @@ target_set_fault by t value target = search (if_fault, then_value_fault, values_
 
 -- settings
 access_set_fault : (by : Accessor) (t : Table) (first : GivenSub) (second : Option GivenSub) (g : Given) → HasFormFault (access_set by t first second g)
-access_set_fault by t first second g = search (on_one_level_fault, then_value_fault, set_value_fault, target_by_fault, target_set_fault)
+access_set_fault by t first second g = search (then_value_fault, set_value_fault, target_by_fault, target_set_fault)
 
 item_set_fault : (s : Shape) (t : Table) (first : GivenSub) (second : Option GivenSub) (g : Given) → HasFormFault (item_set s t first second g)
 item_set_fault Series t first second g = access_set_fault loc t first second g

@@ -7,7 +7,7 @@ use Rattle.method_meaning.specs.Calls.{has_method, chain_result, through}
 use Rattle.script_meaning.specs.Reading.{Files, Reads, at_once, then_read}
 use Rattle.script_meaning.specs.State.{State}
 use Rattle.script_meaning.specs.Expression.{where_named, named_of, bound_of}
-use Rattle.script_syntax.specs.View.{named_parts_of, optional_arg}
+use Rattle.script_tree.specs.View.{named_parts_of, optional_arg}
 use Rattle.cell_core.specs.declared.words.Words.{Words}
 use Rattle.frame_store.specs.declared.arguments.Argument.{Argument}
 use Rattle.frame_store.specs.declared.arguments.Chain.{Chain}

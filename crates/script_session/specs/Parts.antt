@@ -2,9 +2,9 @@
 use Rattle.std.specs.Prelude.{Option, Some, None, option_map}
 use Rattle.language_meaning.specs.Tree as tree
 use Rattle.script_meaning.specs.Reading.{Reads, gives, then_read}
-use Rattle.script_syntax.specs.declared.tree.Sub.{Sub}
-use Rattle.script_syntax.specs.declared.tree.Expr.{Expr}
-use Rattle.script_syntax.specs.View.{sub_of, expr_of}
+use Rattle.script_tree.specs.declared.tree.Sub.{Sub}
+use Rattle.script_tree.specs.declared.tree.Expr.{Expr}
+use Rattle.script_tree.specs.View.{sub_of, expr_of}
 use Rattle.frame_store.specs.Arguments.{subscript_of}
 use Rattle.frame_store.specs.declared.arguments.Selector.{Selector}
 use Rattle.frame_store.specs.declared.arguments.Subscript.{Subscript}

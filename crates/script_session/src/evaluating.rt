@@ -2,7 +2,7 @@
 ghost use Rattle.std.specs.Prelude.{None};
 ghost use Rattle.language_meaning.specs.Tree.{arg_list, named_args, arg_pairs};
 ghost use Rattle.script_meaning.specs.Expression.{named_by, value_of, stepped, given_of, part_of, parts_of as parts_given, pairs_of, named_of, sub_of, second_of, bound_of};
-ghost use Rattle.script_syntax.specs.View.{expr_of, step_of, sub_of as view_sub, arg_of, optional_arg, parts_of, named_parts_of, pair_parts_of};
+ghost use Rattle.script_tree.specs.View.{expr_of, step_of, sub_of as view_sub, arg_of, optional_arg, parts_of, named_parts_of, pair_parts_of};
 ghost use Rattle.frame_store.specs.World.{IsKnownValue, IsKnownItem, AreKnownItems, IsKnownArgument, AreKnownPairs, AreKnownArguments, IsKnownSubscript, entry_in};
 ghost use Rattle.script_session.specs.Evaluates.{moment, IsValue, Evaluates, AreSubscripts, item_in, items_in, argument_in, pairs_in, arguments_in, subscript_in, subscripts_in};
 ghost use Rattle.script_session.specs.Parts.{optional_sub, both_of};
@@ -19,7 +19,7 @@ use frame_store::{
     Argument, Chain, Entries, Item, Items, Named, NamedList, Selector, Subscript, Value,
 };
 use outside_io::Files;
-use script_syntax::{Arg, ArgList, ArgPairs, Args, Expr, Step, Sub};
+use script_tree::{Arg, ArgList, ArgPairs, Args, Expr, Step, Sub};
 
 impl Work {
     ghost use Rattle.script_session.specs.Work.{world_of};

@@ -20,7 +20,7 @@ ghost use Rattle.selections.specs.Selected.{way_of};
 ghost use Rattle.settings.specs.Assigned.{new_value, moved_object, IsLiveNew, IsOther};
 ghost use Rattle.nullable_array.specs.Tasks.{operator_of};
 ghost use Rattle.script_tokens.specs.View.{binary_of};
-ghost use Rattle.script_syntax.specs.View.{literal_of, unary_of};
+ghost use Rattle.script_tree.specs.View.{literal_of, unary_of};
 ghost use Rattle.script_meaning.specs.Expression.{cell_of, is_minus};
 ghost use Rattle.frame_store.specs.World.{entry_in, argument_in, arguments_in, subscript_in, Keeps, IsKnownValue, IsKnownArgument, AreKnownArguments, IsKnownSubscript, Forms, Sets};
 ghost use Rattle.script_session.specs.Bindings.{value_at, noted, is_spare, IsOf};
@@ -36,7 +36,8 @@ use form_parts::label_of;
 use frame_methods::exists;
 use frame_store::{Argument, Chain, NamedList, ObjId, OpFault, Selector, Store, Subscript, Value};
 use nullable_array::Binary as Operator;
-use script_syntax::{Binary, Literal, Unary};
+use script_tokens::Binary;
+use script_tree::{Literal, Unary};
 use settings::NewValue;
 use std::alloc::Global;
 

@@ -4,7 +4,7 @@ ghost use Rattle.script_session.specs.Links.{link_name, chain_behind};
 
 use cell_core::Words;
 use frame_store::{Argument, Chain, NamedList};
-use script_syntax::{Arg, Args};
+use script_tree::{Arg, Args};
 
 // The link of a chained call.
 #[derive(Clone, Copy)]

@@ -2,10 +2,10 @@
 ghost use Rattle.std.specs.Prelude.{◌≡◌, IfOk};
 ghost use Rattle.meaning.specs.Cell.{datum, IsGiven, IsLonger};
 ghost use Rattle.script_meaning.specs.Expression.{cell_of};
-ghost use Rattle.script_syntax.specs.View.{literal_of};
+ghost use Rattle.script_tree.specs.View.{literal_of};
 
 use cell_core::{Cell, NoMemory, TextDict};
-use script_syntax::Literal;
+use script_tree::Literal;
 
 // The cell of a literal.
 pub(crate) fn cell_of(dict: &mut TextDict, literal: &Literal) -> Result<Cell, NoMemory>

@@ -4,7 +4,7 @@ ghost use Rattle.meaning.specs.Cell.{IsLonger};
 ghost use Rattle.meaning.specs.Text.{Contents};
 ghost use Rattle.script_meaning.specs.State.{no_names, without_name};
 ghost use Rattle.script_meaning.specs.Statement.{statement_result};
-ghost use Rattle.script_syntax.specs.View.{form_of};
+ghost use Rattle.script_tree.specs.View.{form_of};
 ghost use Rattle.table_laws.specs.Validity.{AreValid};
 ghost use Rattle.frame_store.specs.Objects.{tables};
 ghost use Rattle.script_session.specs.Bindings.{bindings_of, AreNamed};
@@ -17,7 +17,7 @@ use crate::work::Work;
 use cell_core::TextDict;
 use frame_store::Store;
 use outside_io::Files;
-use script_syntax::{Form, Statement};
+use script_tree::{Form, Statement};
 use std::alloc::Global;
 
 /// Names, each with the scalar, the Series or the frame that it stands for.

@@ -8,7 +8,7 @@ ghost use Rattle.selections.specs.Selected.{way_of};
 ghost use Rattle.script_meaning.specs.State.{without_name};
 ghost use Rattle.script_meaning.specs.Expression.{named_by, target_of};
 ghost use Rattle.script_meaning.specs.Statement.{is_chained, statement_result};
-ghost use Rattle.script_syntax.specs.View.{expr_of, step_of, arg_of, form_of};
+ghost use Rattle.script_tree.specs.View.{expr_of, step_of, arg_of, form_of};
 ghost use Rattle.frame_store.specs.World.{Keeps, IsKnownValue};
 ghost use Rattle.script_session.specs.Bindings.{bound, unbound, value_at, noted_old, AreNamed, KeepNamed};
 ghost use Rattle.script_meaning.specs.Reading.{Files as SomeFiles};
@@ -28,7 +28,7 @@ use crate::work::Work;
 use cell_core::{Code, NoMemory, Words};
 use frame_store::{ObjId, OpFault, Selector, Subscript, Value};
 use outside_io::Files;
-use script_syntax::{Arg, Expr, Form, Step};
+use script_tree::{Arg, Expr, Form, Step};
 use std::alloc::Global;
 
 impl Work {

@@ -2,11 +2,11 @@
 ghost use Rattle.std.specs.Prelude.{◌≡◌, IfOk};
 ghost use Rattle.select_meaning.specs.Select.{through};
 ghost use Rattle.selections.specs.Selected.{way_of};
-ghost use Rattle.script_syntax.specs.View.{accessor_of};
+ghost use Rattle.script_tree.specs.View.{accessor_of};
 
 use cell_core::{NoMemory, Words};
 use frame_store::Selector;
-use script_syntax::Accessor;
+use script_tree::Accessor;
 use std::alloc::Global;
 
 // The name of an argument, if it has one.

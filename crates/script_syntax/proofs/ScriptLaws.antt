@@ -6,7 +6,7 @@ use Rattle.std.specs.Str.{IsUtf8}
 use Rattle.language_meaning.specs.Tree as tree
 use Rattle.language_meaning.specs.Pieces.{pieces, cut}
 use Rattle.language_meaning.specs.Script.{IsBlank, IsStatement, IsRight, ArePieces, IsFirstWrong, most_bytes, most_statements, line_ends}
-use Rattle.script_syntax.specs.View.{form_of}
+use Rattle.script_tree.specs.View.{form_of}
 use Rattle.script_syntax.specs.PieceRead.{Reads, IsOneStatement, IsPieceRead, IsSettled}
 use Rattle.script_syntax.specs.declared.pieces.PieceRead.{PieceRead}
 use Rattle.script_syntax.specs.declared.pieces.PieceRead.TheVariants.{Blank, Statement, Wrong}

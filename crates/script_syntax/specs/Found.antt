@@ -5,20 +5,20 @@ use Rattle.meaning.specs.Text.{Text}
 use Rattle.language_meaning.specs.Tree as tree
 use Rattle.language_meaning.specs.Token as spec
 use Rattle.language_meaning.specs.Depth.{depth, arg_depth, args_depth}
-use Rattle.script_syntax.specs.declared.literal.Unary.{Unary}
-use Rattle.script_syntax.specs.declared.literal.Literal.{Literal}
+use Rattle.script_tree.specs.declared.literal.Unary.{Unary}
+use Rattle.script_tree.specs.declared.literal.Literal.{Literal}
 use Rattle.script_syntax.specs.declared.front.Call.{Call}
 use Rattle.script_syntax.specs.declared.front.Call.TheVariants as call
 use Rattle.script_tokens.specs.declared.token.Binary.{Binary}
 use Rattle.script_tokens.specs.declared.token.Token.{Token}
 use Rattle.script_syntax.specs.declared.refusal.Refusal.{Refusal}
 use Rattle.script_syntax.specs.declared.refusal.Refusal.TheVariants as refusal
-use Rattle.script_syntax.specs.View.{unary_of, literal_of, expr_of, sub_of, parts_of, named_parts_of, pair_parts_of}
-use Rattle.script_syntax.specs.declared.tree.Expr.{Expr}
-use Rattle.script_syntax.specs.declared.tree.Sub.{Sub}
-use Rattle.script_syntax.specs.declared.parts.ArgList.{ArgList}
-use Rattle.script_syntax.specs.declared.parts.Args.{Args}
-use Rattle.script_syntax.specs.declared.parts.ArgPairs.{ArgPairs}
+use Rattle.script_tree.specs.View.{unary_of, literal_of, expr_of, sub_of, parts_of, named_parts_of, pair_parts_of}
+use Rattle.script_tree.specs.declared.tree.Expr.{Expr}
+use Rattle.script_tree.specs.declared.tree.Sub.{Sub}
+use Rattle.script_tree.specs.declared.parts.ArgList.{ArgList}
+use Rattle.script_tree.specs.declared.parts.Args.{Args}
+use Rattle.script_tree.specs.declared.parts.ArgPairs.{ArgPairs}
 use Rattle.script_syntax.specs.Reading as reading
 use Rattle.script_tokens.specs.View.{binary_of, tokens_of}
 
@@ -49,14 +49,6 @@ call_of call.Method = reading.plain
 call_of call.Group = reading.grouped
 call_of call.Rolling = reading.rolled
 call_of call.Expanding = reading.expanded
-
-abbrev pub optional_sub : Option Sub → tree.OptionalSub
-optional_sub None = tree.no_sub
-optional_sub (Some s) = tree.some_sub (sub_of s)
-
-abbrev pub optional_expr : Option Expr → tree.OptionalExpr
-optional_expr None = tree.no_expr
-optional_expr (Some x) = tree.some_expr (expr_of x)
 
 abbrev pub items_of : ArgList → tree.ArgList
 items_of l = tree.arg_list (parts_of l)

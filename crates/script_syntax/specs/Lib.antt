@@ -1,6 +1,4 @@
-pub mod View
 pub mod Cut
-pub mod ScriptView
 pub mod Reading
 pub mod At
 pub mod Found

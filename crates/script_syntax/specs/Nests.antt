@@ -6,10 +6,10 @@ use Rattle.std.specs.declared.alloc.Global.{Global}
 use Rattle.language_meaning.specs.Depth.{depth, arg_depth}
 use Rattle.script_tokens.specs.declared.token.Token.{Token}
 use Rattle.script_tokens.specs.View.{tokens_of}
-use Rattle.script_syntax.specs.declared.tree.Expr.{Expr}
-use Rattle.script_syntax.specs.declared.tree.Arg.{Arg}
+use Rattle.script_tree.specs.declared.tree.Expr.{Expr}
+use Rattle.script_tree.specs.declared.tree.Arg.{Arg}
 use Rattle.script_syntax.specs.declared.refusal.Refusal.{Refusal}
-use Rattle.script_syntax.specs.View.{expr_of, arg_of}
+use Rattle.script_tree.specs.View.{expr_of, arg_of}
 use Rattle.script_syntax.specs.Found.{Finds}
 use Rattle.script_syntax.specs.Reading.{expr_at, argument_at}
 

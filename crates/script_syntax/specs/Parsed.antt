@@ -2,8 +2,8 @@
 use Rattle.std.specs.Prelude.{◌≡◌, ◌<◌, ◌≤◌, ℕ, List, length, Result, Ok, Err}
 use Rattle.language_meaning.specs.Tree.{Statement}
 use Rattle.language_meaning.specs.Script.{IsScript, IsSyntaxLine, most_bytes}
-use Rattle.script_syntax.specs.ScriptView.{statements_of}
-use Rattle.script_syntax.specs.declared.script.Script.{Script}
+use Rattle.script_tree.specs.ScriptView.{statements_of}
+use Rattle.script_tree.specs.declared.script.Script.{Script}
 use Rattle.script_syntax.specs.declared.pieces.ParseFault.{ParseFault}
 use Rattle.script_syntax.specs.declared.pieces.ParseFault.TheVariants.{SyntaxAt, TooLarge, NoMemory}
 

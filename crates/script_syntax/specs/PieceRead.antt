@@ -3,7 +3,7 @@ use Rattle.std.specs.Prelude.{◌≡◌, ℕ, ◌-◌, ◌<◌, List, [], ◌∷
 use Rattle.std.specs.Str.{IsUtf8}
 use Rattle.language_meaning.specs.Tree as tree
 use Rattle.language_meaning.specs.Script.{IsBlank, IsStatement, ArePieces, IsFirstWrong, most_statements}
-use Rattle.script_syntax.specs.View.{form_of}
+use Rattle.script_tree.specs.View.{form_of}
 use Rattle.script_syntax.specs.declared.pieces.PieceRead.{PieceRead}
 use Rattle.script_syntax.specs.declared.pieces.PieceRead.TheVariants.{Blank, Statement, Wrong}
 use Rattle.script_syntax.specs.declared.pieces.ParseFault.{ParseFault}

@@ -1,22 +1,20 @@
 // Arguments: tuples, lists, dictionaries, and the arguments of calls.
 ghost use Rattle.std.specs.Prelude.{◌≡◌, ◌≤◌, ◌+◌, length};
 ghost use Rattle.language_meaning.specs.Depth.{arg_depth, list_depth, args_depth, pairs_depth};
-ghost use Rattle.script_syntax.specs.View.{arg_of, parts_of, named_of};
+ghost use Rattle.script_tree.specs.View.{arg_of, parts_of, named_of};
 ghost use Rattle.script_tokens.specs.View.{mark_of, tokens_of};
 ghost use Rattle.script_syntax.specs.Found.{Finds, items_of, args_of, entries_of, named_depth, after_items};
 ghost use Rattle.script_syntax.specs.Nests.{Nests};
 ghost use Rattle.script_syntax.specs.At as at;
 
-use crate::build::{list_of, table_of, tuple_of};
 use crate::front::{after_mark, after_word, expect, keyword, onwards, past_comma};
 use crate::grammar::Grammar;
 use crate::node::{Found, as_item, or_drop};
-use crate::parts::{ArgList, ArgPairs, Args};
 use crate::refusal::Refusal;
-use crate::tree::{Arg, Expr};
 use crate::value::key_at;
 use cell_core::Words;
 use script_tokens::{Mark, Token};
+use script_tree::{Arg, ArgList, ArgPairs, Args, Expr, list_of, table_of, tuple_of};
 use std::alloc::Global;
 
 impl<
@@ -27,7 +25,8 @@ impl<
     #[tactic(auto, unfolding(crate::specs::Reading::argument_with, crate::specs::Reading::and_then, crate::specs::Reading::or_else))]
     pub(crate) fn argument_with<'t, 'a>(&self, tokens: &'t [Token<'a>]) -> Found<'t, 'a, Arg>
         requires { Nests E.Fn A.Fn self.now.expr self.now.argument self.now.room }
-        ensures { Finds arg_of arg_depth (self.now.room + 1) result (at.argument_with self.now.room (tokens_of tokens.now)) }
+        ensures { Finds arg_of arg_depth (self.now.room + 1) result
+            (at.argument_with self.now.room (tokens_of tokens.now)) }
     {
         if let Some(rest) = after_mark(tokens, Mark::OpenParen) {
             let (arg, depth, rest) = self.argument(rest)?;
@@ -55,7 +54,8 @@ impl<
         requires nests { Nests E.Fn A.Fn self.now.expr self.now.argument self.now.room }
         requires deep { arg.1 ≡ arg_depth (arg_of arg.0) }
         requires fits { arg.1 ≤ self.now.room }
-        ensures { Finds arg_of arg_depth (self.now.room + 1) result (at.opened self.now.room (arg_of arg.0) (tokens_of tokens.now)) }
+        ensures { Finds arg_of arg_depth (self.now.room + 1) result
+            (at.opened self.now.room (arg_of arg.0) (tokens_of tokens.now)) }
     {
         let (arg, depth) = arg;
         let Some(rest) = after_mark(tokens, Mark::Comma) else {
@@ -74,7 +74,8 @@ impl<
         requires nests { Nests E.Fn A.Fn self.now.expr self.now.argument self.now.room }
         requires deep { arg.1 ≡ arg_depth (arg_of arg.0) }
         requires fits { arg.1 ≤ self.now.room }
-        ensures { Finds arg_of arg_depth (self.now.room + 1) result (at.unparted self.now.room (arg_of arg.0) (tokens_of tokens.now)) }
+        ensures { Finds arg_of arg_depth (self.now.room + 1) result
+            (at.unparted self.now.room (arg_of arg.0) (tokens_of tokens.now)) }
     {
         let (arg, depth) = arg;
         let Arg::Expr(x) = arg else {
@@ -97,7 +98,10 @@ impl<
         requires nests { Nests E.Fn A.Fn self.now.expr self.now.argument self.now.room }
         requires deep { begun.1 ≡ list_depth (items_of begun.0) }
         requires fits { begun.1 ≤ self.now.room }
-        ensures { Finds items_of list_depth self.now.room result (after_items (parts_of begun.0) (at.items self.now.room (mark_of close) (length (tokens_of tokens.now)) (tokens_of tokens.now))) }
+        ensures { Finds items_of list_depth self.now.room result
+            (after_items (parts_of begun.0)
+            (at.items self.now.room (mark_of close) (length (tokens_of tokens.now))
+            (tokens_of tokens.now))) }
     {
         let (mut list, mut deepest) = begun;
         let mut rest = tokens;
@@ -118,7 +122,8 @@ impl<
     // Arguments, and the parenthesis that closes them.
     pub(crate) fn arguments<'t, 'a>(&self, tokens: &'t [Token<'a>]) -> Found<'t, 'a, Args>
         requires { Nests E.Fn A.Fn self.now.expr self.now.argument self.now.room }
-        ensures { Finds args_of args_depth self.now.room result (at.all_arguments self.now.room (tokens_of tokens.now)) }
+        ensures { Finds args_of args_depth self.now.room result
+            (at.all_arguments self.now.room (tokens_of tokens.now)) }
     {
         let mut args = Args::new(self.alloc);
         let mut deepest = 0;
@@ -146,7 +151,8 @@ impl<
         after_name: bool,
     ) -> Found<'t, 'a, (Option<Words>, Arg)>
         requires { Nests E.Fn A.Fn self.now.expr self.now.argument self.now.room }
-        ensures { Finds named_of named_depth self.now.room result (at.named_at self.now.room after_name (tokens_of tokens.now)) }
+        ensures { Finds named_of named_depth self.now.room result
+            (at.named_at self.now.room after_name (tokens_of tokens.now)) }
     {
         let (name, rest) = keyword(self.alloc, tokens, after_name)?;
         let (arg, depth, rest) = self.argument(rest)?;
@@ -156,7 +162,8 @@ impl<
     // The entries of a dictionary, and the brace that closes them.
     fn pairs<'t, 'a>(&self, tokens: &'t [Token<'a>]) -> Found<'t, 'a, ArgPairs>
         requires { Nests E.Fn A.Fn self.now.expr self.now.argument self.now.room }
-        ensures { Finds entries_of pairs_depth self.now.room result (at.pairs self.now.room (length (tokens_of tokens.now)) (tokens_of tokens.now)) }
+        ensures { Finds entries_of pairs_depth self.now.room result
+            (at.pairs self.now.room (length (tokens_of tokens.now)) (tokens_of tokens.now)) }
     {
         let mut entries = ArgPairs::new(self.alloc);
         let mut deepest = 0;

@@ -1,23 +1,22 @@
 // Expressions: signs, atoms, steps after them, and operators between them.
 ghost use Rattle.std.specs.Prelude.{◌≡◌, ◌≤◌, ◌+◌, length};
 ghost use Rattle.language_meaning.specs.Depth.{depth};
-ghost use Rattle.script_syntax.specs.View.{expr_of};
+ghost use Rattle.script_tree.specs.View.{expr_of};
 ghost use Rattle.script_tokens.specs.View.{tokens_of};
 ghost use Rattle.script_syntax.specs.Found.{Finds};
 ghost use Rattle.script_syntax.specs.Nests.{Nests};
 ghost use Rattle.script_syntax.specs.At as at;
 
-use crate::build::make_of;
 use crate::front::{
     after_mark, begins_step, expect, len_at, level, maker_at, name_at, onwards, operator_at,
     sign_at,
 };
 use crate::grammar::Grammar;
 use crate::node::{Found, after, infix, or_drop};
-use crate::tree::{Arg, Expr};
 use crate::value::literal_at;
 use cell_core::Words;
 use script_tokens::{Mark, Token};
+use script_tree::{Arg, Expr, make_of};
 use std::alloc::Global;
 
 impl<
@@ -32,7 +31,8 @@ impl<
         least: usize,
     ) -> Found<'t, 'a, Expr>
         requires { Nests E.Fn A.Fn self.now.expr self.now.argument self.now.room }
-        ensures { Finds expr_of depth (self.now.room + 1) result (at.expr_with self.now.room least (tokens_of tokens.now)) }
+        ensures { Finds expr_of depth (self.now.room + 1) result
+            (at.expr_with self.now.room least (tokens_of tokens.now)) }
     {
         let (x, depth, rest) = self.signed(tokens)?;
         self.operators((x, depth), rest, least)
@@ -42,7 +42,8 @@ impl<
     #[tactic(auto, unfolding(crate::specs::Reading::signed, crate::specs::Reading::postfix, crate::specs::Reading::and_then, crate::specs::Reading::or_else))]
     fn signed<'t, 'a>(&self, tokens: &'t [Token<'a>]) -> Found<'t, 'a, Expr>
         requires { Nests E.Fn A.Fn self.now.expr self.now.argument self.now.room }
-        ensures { Finds expr_of depth (self.now.room + 1) result (at.signed self.now.room (tokens_of tokens.now)) }
+        ensures { Finds expr_of depth (self.now.room + 1) result
+            (at.signed self.now.room (tokens_of tokens.now)) }
     {
         if let Some((sign, rest)) = sign_at(tokens) {
             let (x, depth, rest) = self.expr(rest, 6)?;
@@ -56,7 +57,8 @@ impl<
     #[tactic(auto, unfolding(crate::specs::Reading::atom, crate::specs::Reading::and_then, crate::specs::Reading::or_else))]
     fn atom<'t, 'a>(&self, tokens: &'t [Token<'a>]) -> Found<'t, 'a, Expr>
         requires { Nests E.Fn A.Fn self.now.expr self.now.argument self.now.room }
-        ensures { Finds expr_of depth (self.now.room + 1) result (at.atom self.now.room (tokens_of tokens.now)) }
+        ensures { Finds expr_of depth (self.now.room + 1) result
+            (at.atom self.now.room (tokens_of tokens.now)) }
     {
         if let Some((name, rest)) = name_at(tokens) {
             let name = Words::from_text(self.alloc, name)?;
@@ -83,7 +85,8 @@ impl<
     #[tactic(auto, unfolding(crate::specs::Reading::enclosed, crate::specs::Reading::and_then))]
     fn enclosed<'t, 'a>(&self, tokens: &'t [Token<'a>]) -> Found<'t, 'a, Expr>
         requires { Nests E.Fn A.Fn self.now.expr self.now.argument self.now.room }
-        ensures { Finds expr_of depth self.now.room result (at.enclosed self.now.room (tokens_of tokens.now)) }
+        ensures { Finds expr_of depth self.now.room result
+            (at.enclosed self.now.room (tokens_of tokens.now)) }
     {
         let (x, depth, rest) = self.expr(tokens, 0)?;
         let rest = or_drop!(expect(rest, Mark::CloseParen), x);
@@ -99,7 +102,9 @@ impl<
         requires nests { Nests E.Fn A.Fn self.now.expr self.now.argument self.now.room }
         requires deep { begun.1 ≡ depth (expr_of begun.0) }
         requires fits { begun.1 ≤ self.now.room + 1 }
-        ensures { Finds expr_of depth (self.now.room + 1) result (at.steps self.now.room (length (tokens_of tokens.now)) (expr_of begun.0) (tokens_of tokens.now)) }
+        ensures { Finds expr_of depth (self.now.room + 1) result
+            (at.steps self.now.room (length (tokens_of tokens.now)) (expr_of begun.0)
+            (tokens_of tokens.now)) }
     {
         let (mut x, mut depth) = begun;
         let mut rest = tokens;
@@ -124,7 +129,9 @@ impl<
         requires nests { Nests E.Fn A.Fn self.now.expr self.now.argument self.now.room }
         requires deep { begun.1 ≡ depth (expr_of begun.0) }
         requires fits { begun.1 ≤ self.now.room + 1 }
-        ensures { Finds expr_of depth (self.now.room + 1) result (at.operators self.now.room (length (tokens_of tokens.now)) least (expr_of begun.0) (tokens_of tokens.now)) }
+        ensures { Finds expr_of depth (self.now.room + 1) result
+            (at.operators self.now.room (length (tokens_of tokens.now)) least (expr_of begun.0)
+            (tokens_of tokens.now)) }
     {
         let (mut x, mut depth) = begun;
         let mut rest = tokens;

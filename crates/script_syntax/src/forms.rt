@@ -1,7 +1,7 @@
 // Statements.
 ghost use Rattle.std.specs.Prelude.{◌≡◌};
 ghost use Rattle.language_meaning.specs.Tree as tree;
-ghost use Rattle.script_syntax.specs.View.{form_of, expr_of, step_of};
+ghost use Rattle.script_tree.specs.View.{form_of, expr_of, step_of};
 ghost use Rattle.script_tokens.specs.View.{tokens_of};
 ghost use Rattle.script_syntax.specs.Found.{Gives};
 ghost use Rattle.script_syntax.specs.Reading as spec;
@@ -10,9 +10,9 @@ use crate::front::{after_mark, after_word, begins_minus, expect, name_at, target
 use crate::grammar::{argument_at, expr_at};
 use crate::node::{is_target, or_drop};
 use crate::refusal::Refusal;
-use crate::tree::{Expr, Form, Step};
 use cell_core::Words;
 use script_tokens::{Mark, Token};
+use script_tree::{Expr, Form, Step};
 use std::alloc::Global;
 
 const MOST_DEPTH: usize = 32;
@@ -156,7 +156,8 @@ fn split(target: Expr) -> Result<(Expr, Step), Refusal>
 
 // What must follow this word.
 fn expect_word<'t, 'a>(tokens: &'t [Token<'a>], word: &str) -> Result<&'t [Token<'a>], Refusal>
-    ensures { Gives (λ r. tokens_of r.now) result (spec.after_word word.now (tokens_of tokens.now)) }
+    ensures { Gives (λ r. tokens_of r.now) result
+        (spec.after_word word.now (tokens_of tokens.now)) }
 {
     match after_word(tokens, word) {
         Some(rest) => Ok(rest),
@@ -167,7 +168,8 @@ fn expect_word<'t, 'a>(tokens: &'t [Token<'a>], word: &str) -> Result<&'t [Token
 // A text, and what follows it.
 #[tactic(auto, unfolding(crate::specs::Reading::text_at))]
 fn text_at<'t, 'a>(tokens: &'t [Token<'a>]) -> Result<(&'t str, &'t [Token<'a>]), Refusal>
-    ensures { Gives (λ t. ((t.0).now, tokens_of (t.1).now)) result (spec.text_at (tokens_of tokens.now)) }
+    ensures { Gives (λ t. ((t.0).now, tokens_of (t.1).now)) result
+        (spec.text_at (tokens_of tokens.now)) }
 {
     let [token, rest @ ..] = tokens else {
         return Err(Refusal::Syntax);

@@ -3,15 +3,15 @@ ghost use Rattle.std.specs.Prelude.{◌≡◌, ◌≤◌, suc, option_map};
 ghost use Rattle.std.specs.List.{list_any};
 ghost use Rattle.meaning.specs.Text.{same_text};
 ghost use Rattle.language_meaning.specs.Grammar as grammar;
-ghost use Rattle.script_syntax.specs.View.{accessor_of};
+ghost use Rattle.script_tree.specs.View.{accessor_of};
 ghost use Rattle.script_tokens.specs.View.{binary_of, mark_of, tokens_of};
 ghost use Rattle.script_syntax.specs.Found.{rest_of, word_of, operator_of, sign_of, call_of, Gives};
 ghost use Rattle.script_syntax.specs.Reading as spec;
 
-use crate::literal::{Accessor, Unary};
 use crate::refusal::Refusal;
 use cell_core::Words;
 use script_tokens::{Binary, Mark, Token};
+use script_tree::{Accessor, Unary};
 use std::alloc::Global;
 
 // What a word stands for between a dot and a parenthesis.
@@ -263,7 +263,8 @@ pub(crate) fn expect<'t, 'a>(
     tokens: &'t [Token<'a>],
     mark: Mark,
 ) -> Result<&'t [Token<'a>], Refusal>
-    ensures { Gives (λ r. tokens_of r.now) result (spec.after_mark (mark_of mark) (tokens_of tokens.now)) }
+    ensures { Gives (λ r. tokens_of r.now) result
+        (spec.after_mark (mark_of mark) (tokens_of tokens.now)) }
 {
     match after_mark(tokens, mark) {
         Some(rest) => Ok(rest),
@@ -284,7 +285,8 @@ pub(crate) fn past_comma<'t, 'a>(
     tokens: &'t [Token<'a>],
     close: Mark,
 ) -> Result<&'t [Token<'a>], Refusal>
-    ensures { Gives (λ r. tokens_of r.now) result (spec.past_comma (mark_of close) (tokens_of tokens.now)) }
+    ensures { Gives (λ r. tokens_of r.now) result
+        (spec.past_comma (mark_of close) (tokens_of tokens.now)) }
 {
     if let Some(rest) = after_mark(tokens, Mark::Comma) {
         return Ok(rest);
@@ -331,7 +333,8 @@ pub(crate) fn keyword<'t, 'a>(
     tokens: &'t [Token<'a>],
     after_name: bool,
 ) -> Result<(Option<Words>, &'t [Token<'a>]), Refusal>
-    ensures { Gives (λ k. (k.0, tokens_of (k.1).now)) result (spec.keyword_for after_name (tokens_of tokens.now)) }
+    ensures { Gives (λ k. (k.0, tokens_of (k.1).now)) result
+        (spec.keyword_for after_name (tokens_of tokens.now)) }
 {
     match target_at(tokens) {
         Some((name, rest)) => Ok((Some(Words::from_text(alloc, name)?), rest)),

@@ -1,7 +1,7 @@
 //! The rules take the readers of expressions and arguments of less depth as parameters, so that each is proved by itself.
 ghost use Rattle.std.specs.Prelude.{◌≡◌, ◌≤◌, ◌<◌};
 ghost use Rattle.language_meaning.specs.Depth.{depth, arg_depth};
-ghost use Rattle.script_syntax.specs.View.{expr_of, arg_of};
+ghost use Rattle.script_tree.specs.View.{expr_of, arg_of};
 ghost use Rattle.script_tokens.specs.View.{tokens_of};
 ghost use Rattle.script_syntax.specs.Found.{Finds};
 ghost use Rattle.script_syntax.specs.Nests.{Nests};
@@ -9,8 +9,8 @@ ghost use Rattle.script_syntax.specs.Reading as spec;
 
 use crate::node::Found;
 use crate::refusal::Refusal;
-use crate::tree::{Arg, Expr};
 use script_tokens::Token;
+use script_tree::{Arg, Expr};
 use std::alloc::Global;
 
 // What reads forms that hold forms of at most the depth `room`.
@@ -29,14 +29,16 @@ impl<
 > Grammar<E, A> {
     pub(crate) fn expr<'t, 'a>(&self, tokens: &'t [Token<'a>], least: usize) -> Found<'t, 'a, Expr>
         requires { Nests E.Fn A.Fn self.now.expr self.now.argument self.now.room }
-        ensures { Finds expr_of depth self.now.room result (spec.expr_at self.now.room least (tokens_of tokens.now)) }
+        ensures { Finds expr_of depth self.now.room result
+            (spec.expr_at self.now.room least (tokens_of tokens.now)) }
     {
         (self.expr)(self.alloc, tokens, self.room, least)
     }
 
     pub(crate) fn argument<'t, 'a>(&self, tokens: &'t [Token<'a>]) -> Found<'t, 'a, Arg>
         requires { Nests E.Fn A.Fn self.now.expr self.now.argument self.now.room }
-        ensures { Finds arg_of arg_depth self.now.room result (spec.argument_at self.now.room (tokens_of tokens.now)) }
+        ensures { Finds arg_of arg_depth self.now.room result
+            (spec.argument_at self.now.room (tokens_of tokens.now)) }
     {
         (self.argument)(self.alloc, tokens, self.room)
     }

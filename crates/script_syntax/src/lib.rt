@@ -1,4 +1,4 @@
-//! The script language: the trees of its statements, and their parser.
+//! The script language: its parser. The trees of statements are in the crate `script_tree`.
 //!
 //! [`parse`] cuts a text into pieces, reads each that isn't blank as tokens (the crate `script_tokens`)
 //! and these as one statement. A statement is a tree: a [`Form`] over expressions ([`Expr`]) with their
@@ -15,31 +15,23 @@
 #![tactic(auto)]
 
 mod arguments;
-mod build;
 mod expressions;
 mod forms;
 mod front;
 mod grammar;
 mod laws;
-mod literal;
 mod node;
-mod parts;
 mod pieces;
 mod refusal;
-mod script;
 mod steps;
-mod tree;
 mod value;
 
-pub use build::{
-    access_of, expanding_of, group_of, list_of, make_of, method_of, rolling_of, span_of, table_of,
-    tuple_of,
-};
 pub use laws::{cut_law, one_reading};
-pub use literal::{Accessor, Literal, Unary};
-pub use parts::{ArgList, ArgPairs, Args};
 pub use pieces::{ParseFault, parse};
 pub use refusal::Refusal;
-pub use script::Script;
 pub use script_tokens::Binary;
-pub use tree::{Arg, Expr, Form, Statement, Step, Sub};
+pub use script_tree::{
+    Accessor, Arg, ArgList, ArgPairs, Args, Expr, Form, Literal, Script, Statement, Step, Sub,
+    Unary, access_of, expanding_of, group_of, list_of, make_of, method_of, rolling_of, span_of,
+    table_of, tuple_of,
+};

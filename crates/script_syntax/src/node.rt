@@ -2,14 +2,14 @@
 ghost use Rattle.std.specs.Prelude.{◌≡◌, ◌≤◌};
 ghost use Rattle.language_meaning.specs.Tree as tree;
 ghost use Rattle.language_meaning.specs.Depth.{depth, step_depth, arg_depth};
-ghost use Rattle.script_syntax.specs.View.{expr_of, step_of, arg_of};
+ghost use Rattle.script_tree.specs.View.{expr_of, step_of, arg_of};
 ghost use Rattle.script_tokens.specs.View.{binary_of, tokens_of};
 ghost use Rattle.script_syntax.specs.Found.{Finds, IsBuilt};
 ghost use Rattle.script_syntax.specs.Reading as spec;
 
 use crate::refusal::Refusal;
-use crate::tree::{Arg, Expr, Step};
 use script_tokens::{Binary, Token};
+use script_tree::{Arg, Expr, Step};
 use std::alloc::Global;
 
 // A value, its depth, and what follows it.

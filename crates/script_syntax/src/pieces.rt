@@ -1,16 +1,15 @@
 // Bytes to scripts.
 ghost use Rattle.std.specs.Prelude.{◌≡◌, ◌<◌, ◌≤◌, ◌^◌, ◌+◌, [], ◌∷◌, ◌++◌, length, Result, IfOk, IfErr};
 ghost use Rattle.language_meaning.specs.Script.{most_bytes};
-ghost use Rattle.script_syntax.specs.ScriptView.{statements_of};
+ghost use Rattle.script_tree.specs.ScriptView.{statements_of};
 ghost use Rattle.script_syntax.specs.Parsed.{IsParsed};
 ghost use Rattle.script_syntax.specs.PieceRead.{IsPieceRead, IsSettled};
 
 use crate::forms::statement;
 use crate::refusal::Refusal;
-use crate::script::Script;
-use crate::tree::{Form, Statement};
 use cell_core::NoMemory;
 use script_tokens::{is_blank, line_ends, piece_len, tokens};
+use script_tree::{Form, Script, Statement};
 use std::alloc::Global;
 
 const MOST_BYTES: usize = 1 << 20;
@@ -81,7 +80,8 @@ fn parse_pieces(alloc: Global, bytes: &[u8]) -> Result<Script, ParseFault>
 
 // Adds the statement of a piece, where so many may still come, and says how many may come after it.
 fn settle(script: &mut Script, left: usize, line: u64, read: PieceRead) -> Result<usize, ParseFault>
-    ensures { IsSettled left line read (statements_of script.old) (statements_of script.new) result }
+    ensures { IsSettled left line read (statements_of script.old)
+        (statements_of script.new) result }
 {
     match read {
         PieceRead::Blank => Ok(left),

@@ -1,24 +1,24 @@
 // Steps: items in brackets, subscripts of accessors, and methods.
 ghost use Rattle.std.specs.Prelude.{◌≡◌, ◌≤◌};
 ghost use Rattle.language_meaning.specs.Depth.{step_depth, sub_depth, optional_sub_depth, optional_arg_depth, optional_expr_depth};
-ghost use Rattle.script_syntax.specs.View.{step_of, sub_of, accessor_of, optional_arg};
+ghost use Rattle.script_tree.specs.View.{step_of, sub_of, accessor_of, optional_arg, optional_sub, optional_expr};
 ghost use Rattle.script_tokens.specs.View.{tokens_of};
-ghost use Rattle.script_syntax.specs.Found.{Finds, optional_sub, optional_expr, named_call_of, named_call_depth};
+ghost use Rattle.script_syntax.specs.Found.{Finds, named_call_of, named_call_depth};
 ghost use Rattle.script_syntax.specs.Nests.{Nests};
 ghost use Rattle.script_syntax.specs.At as at;
 
-use crate::build::{access_of, expanding_of, group_of, method_of, rolling_of, span_of};
 use crate::front::{
     Call, accessor_at, after_mark, call_at, call_of, dotted_at, ends_bound, expect,
 };
 use crate::grammar::Grammar;
-use crate::literal::Accessor;
 use crate::node::{Found, as_item, or_drop};
-use crate::parts::Args;
 use crate::refusal::Refusal;
-use crate::tree::{Arg, Expr, Step, Sub};
 use cell_core::Words;
 use script_tokens::{Mark, Token};
+use script_tree::{
+    Accessor, Arg, Args, Expr, Step, Sub, access_of, expanding_of, group_of, method_of, rolling_of,
+    span_of,
+};
 use std::alloc::Global;
 
 impl<
@@ -29,7 +29,8 @@ impl<
     #[tactic(auto, unfolding(crate::specs::Reading::step, crate::specs::Reading::step_from, crate::specs::Reading::dotted, crate::specs::Reading::and_then, crate::specs::Reading::or_else))]
     pub(crate) fn step<'t, 'a>(&self, tokens: &'t [Token<'a>]) -> Found<'t, 'a, Step>
         requires { Nests E.Fn A.Fn self.now.expr self.now.argument self.now.room }
-        ensures { Finds step_of step_depth self.now.room result (at.step self.now.room (tokens_of tokens.now)) }
+        ensures { Finds step_of step_depth self.now.room result
+            (at.step self.now.room (tokens_of tokens.now)) }
     {
         let (selection, depth, rest) = self.brackets(tokens)?;
         if let Some(arg) = selection {
@@ -52,7 +53,8 @@ impl<
     #[tactic(auto, unfolding(crate::specs::Reading::call, crate::specs::Reading::called, crate::specs::Reading::and_then))]
     fn call<'t, 'a>(&self, word: &str, tokens: &'t [Token<'a>]) -> Found<'t, 'a, Step>
         requires { Nests E.Fn A.Fn self.now.expr self.now.argument self.now.room }
-        ensures { Finds step_of step_depth self.now.room result (at.call self.now.room word.now (tokens_of tokens.now)) }
+        ensures { Finds step_of step_depth self.now.room result
+            (at.call self.now.room word.now (tokens_of tokens.now)) }
     {
         let Some(kind) = call_of(word) else {
             return Err(Refusal::Syntax);
@@ -91,7 +93,8 @@ impl<
     #[tactic(auto, unfolding(crate::specs::Reading::named_call, crate::specs::Reading::and_then))]
     fn named_call<'t, 'a>(&self, tokens: &'t [Token<'a>]) -> Found<'t, 'a, (Words, Args)>
         requires { Nests E.Fn A.Fn self.now.expr self.now.argument self.now.room }
-        ensures { Finds named_call_of named_call_depth self.now.room result (at.named_call self.now.room (tokens_of tokens.now)) }
+        ensures { Finds named_call_of named_call_depth self.now.room result
+            (at.named_call self.now.room (tokens_of tokens.now)) }
     {
         let Some((name, rest)) = call_at(tokens) else {
             return Err(Refusal::Syntax);
@@ -105,7 +108,8 @@ impl<
     #[tactic(auto, unfolding(crate::specs::Reading::brackets, crate::specs::Reading::bracketed, crate::specs::Reading::and_then, crate::specs::Reading::or_else))]
     fn brackets<'t, 'a>(&self, tokens: &'t [Token<'a>]) -> Found<'t, 'a, Option<Arg>>
         requires { Nests E.Fn A.Fn self.now.expr self.now.argument self.now.room }
-        ensures { Finds optional_arg optional_arg_depth self.now.room result (at.brackets self.now.room (tokens_of tokens.now)) }
+        ensures { Finds optional_arg optional_arg_depth self.now.room result
+            (at.brackets self.now.room (tokens_of tokens.now)) }
     {
         let Some(rest) = after_mark(tokens, Mark::OpenBracket) else {
             return Ok((None, 0, tokens));
@@ -119,7 +123,8 @@ impl<
     #[tactic(auto, unfolding(crate::specs::Reading::subscripts, crate::specs::Reading::and_then))]
     fn subscripts<'t, 'a>(&self, accessor: Accessor, tokens: &'t [Token<'a>]) -> Found<'t, 'a, Step>
         requires { Nests E.Fn A.Fn self.now.expr self.now.argument self.now.room }
-        ensures { Finds step_of step_depth self.now.room result (at.subscripts self.now.room (accessor_of accessor) (tokens_of tokens.now)) }
+        ensures { Finds step_of step_depth self.now.room result
+            (at.subscripts self.now.room (accessor_of accessor) (tokens_of tokens.now)) }
     {
         let (sub, depth, rest) = self.sub_at(tokens)?;
         let (second, second_depth, rest) = or_drop!(self.second(rest), sub);
@@ -131,7 +136,8 @@ impl<
     #[tactic(auto, unfolding(crate::specs::Reading::second, crate::specs::Reading::and_then, crate::specs::Reading::or_else))]
     fn second<'t, 'a>(&self, tokens: &'t [Token<'a>]) -> Found<'t, 'a, Option<Sub>>
         requires { Nests E.Fn A.Fn self.now.expr self.now.argument self.now.room }
-        ensures { Finds optional_sub optional_sub_depth self.now.room result (at.second self.now.room (tokens_of tokens.now)) }
+        ensures { Finds optional_sub optional_sub_depth self.now.room result
+            (at.second self.now.room (tokens_of tokens.now)) }
     {
         let Some(rest) = after_mark(tokens, Mark::Comma) else {
             let rest = expect(tokens, Mark::CloseBracket)?;
@@ -146,7 +152,8 @@ impl<
     #[tactic(auto, unfolding(crate::specs::Reading::sub_at, crate::specs::Reading::sub_from, crate::specs::Reading::and_then, crate::specs::Reading::or_else, crate::specs::Reading::pick, crate::specs::Reading::as_item))]
     fn sub_at<'t, 'a>(&self, tokens: &'t [Token<'a>]) -> Found<'t, 'a, Sub>
         requires { Nests E.Fn A.Fn self.now.expr self.now.argument self.now.room }
-        ensures { Finds sub_of sub_depth self.now.room result (at.sub_at self.now.room (tokens_of tokens.now)) }
+        ensures { Finds sub_of sub_depth self.now.room result
+            (at.sub_at self.now.room (tokens_of tokens.now)) }
     {
         if let Some(rest) = after_mark(tokens, Mark::Colon) {
             return self.span_after((None, 0), rest);
@@ -169,7 +176,8 @@ impl<
         requires nests { Nests E.Fn A.Fn self.now.expr self.now.argument self.now.room }
         requires deep { start.1 ≡ optional_arg_depth (optional_arg start.0) }
         requires fits { start.1 ≤ self.now.room }
-        ensures { Finds sub_of sub_depth self.now.room result (at.span_after self.now.room (optional_arg start.0) (tokens_of tokens.now)) }
+        ensures { Finds sub_of sub_depth self.now.room result
+            (at.span_after self.now.room (optional_arg start.0) (tokens_of tokens.now)) }
     {
         let (start, start_depth) = start;
         let (end, end_depth, rest) = or_drop!(self.bound(tokens), start);
@@ -182,7 +190,8 @@ impl<
     #[tactic(auto, unfolding(crate::specs::Reading::bound, crate::specs::Reading::item_at, crate::specs::Reading::and_then, crate::specs::Reading::pick))]
     fn bound<'t, 'a>(&self, tokens: &'t [Token<'a>]) -> Found<'t, 'a, Option<Arg>>
         requires { Nests E.Fn A.Fn self.now.expr self.now.argument self.now.room }
-        ensures { Finds optional_arg optional_arg_depth self.now.room result (at.bound self.now.room (tokens_of tokens.now)) }
+        ensures { Finds optional_arg optional_arg_depth self.now.room result
+            (at.bound self.now.room (tokens_of tokens.now)) }
     {
         if ends_bound(tokens) {
             return Ok((None, 0, tokens));
@@ -196,7 +205,8 @@ impl<
     #[tactic(auto, unfolding(crate::specs::Reading::stride, crate::specs::Reading::and_then, crate::specs::Reading::or_else, crate::specs::Reading::pick))]
     fn stride<'t, 'a>(&self, tokens: &'t [Token<'a>]) -> Found<'t, 'a, Option<Expr>>
         requires { Nests E.Fn A.Fn self.now.expr self.now.argument self.now.room }
-        ensures { Finds optional_expr optional_expr_depth self.now.room result (at.stride self.now.room (tokens_of tokens.now)) }
+        ensures { Finds optional_expr optional_expr_depth self.now.room result
+            (at.stride self.now.room (tokens_of tokens.now)) }
     {
         let Some(rest) = after_mark(tokens, Mark::Colon) else {
             return Ok((None, 0, tokens));

@@ -1,15 +1,15 @@
 // Values that are written out.
 ghost use Rattle.std.specs.Prelude.{◌≡◌, ◌≤◌};
-ghost use Rattle.script_syntax.specs.View.{literal_of};
+ghost use Rattle.script_tree.specs.View.{literal_of};
 ghost use Rattle.script_tokens.specs.View.{tokens_of};
 ghost use Rattle.script_syntax.specs.Found.{rest_of, literal_found, Gives};
 ghost use Rattle.script_syntax.specs.Reading as spec;
 
 use crate::front::{after_mark, after_word, begins_paren, expect};
-use crate::literal::Literal;
 use crate::refusal::Refusal;
 use cell_core::Words;
 use script_tokens::{Binary, Mark, Token};
+use script_tree::Literal;
 use std::alloc::Global;
 
 // A whole number without a sign.
@@ -87,7 +87,8 @@ pub(crate) fn literal_at<'t, 'a>(
     alloc: Global,
     tokens: &'t [Token<'a>],
 ) -> Result<(Literal, &'t [Token<'a>]), Refusal>
-    ensures { Gives (λ v. (literal_of v.0, tokens_of (v.1).now)) result (spec.literal_at (tokens_of tokens.now)) }
+    ensures { Gives (λ v. (literal_of v.0, tokens_of (v.1).now)) result
+        (spec.literal_at (tokens_of tokens.now)) }
 {
     let [token, rest @ ..] = tokens else {
         return Err(Refusal::Syntax);
@@ -110,7 +111,8 @@ pub(crate) fn key_at<'t, 'a>(
     alloc: Global,
     tokens: &'t [Token<'a>],
 ) -> Result<(Literal, &'t [Token<'a>]), Refusal>
-    ensures { Gives (λ k. (literal_of k.0, tokens_of (k.1).now)) result (spec.key_at (tokens_of tokens.now)) }
+    ensures { Gives (λ k. (literal_of k.0, tokens_of (k.1).now)) result
+        (spec.key_at (tokens_of tokens.now)) }
 {
     let (key, rest) = literal_at(alloc, tokens)?;
     let rest = expect(rest, Mark::Colon)?;

@@ -16,7 +16,8 @@ use std::alloc::Global;
 // The token that bytes begin with, and what follows it.
 fn token_at(alloc: Global, bytes: &[u8]) -> Result<Option<(Token<'_>, &[u8])>, NoMemory>
     requires { IsUtf8 bytes.now }
-    ensures { IfOk result (λ found. MatchOption found (BeginsNoToken bytes.now) (λ found. spec.IsToken (token_of found.0) bytes.now found.1.now)) }
+    ensures { IfOk result (λ found. MatchOption found (BeginsNoToken bytes.now)
+        (λ found. spec.IsToken (token_of found.0) bytes.now found.1.now)) }
 {
     let [first, after @ ..] = bytes else {
         return Ok(None)
@@ -40,8 +41,10 @@ fn token_at(alloc: Global, bytes: &[u8]) -> Result<Option<(Token<'_>, &[u8])>, N
 /// with blanks, line ends and comments after each. So it is `None` where a blank comes first.
 /// `NoMemory` where memory was refused.
 pub fn tokens<'a>(alloc: Global, piece: &'a str) -> Result<Option<Vec<Token<'a>>>, NoMemory>
-    ensures found { IfOk result (λ found. MatchOption found (HasNoTokens piece.now) (λ tokens. spec.Lexes (tokens_of tokens.items) piece.now)) }
-    ensures only { IfOk result (λ found. (ts : List spec.Token) → spec.Lexes ts piece.now → IfSome found (λ tokens. tokens_of tokens.items ≡ ts)) }
+    ensures found { IfOk result (λ found. MatchOption found (HasNoTokens piece.now)
+        (λ tokens. spec.Lexes (tokens_of tokens.items) piece.now)) }
+    ensures only { IfOk result (λ found. (ts : List spec.Token) → spec.Lexes ts piece.now →
+        IfSome found (λ tokens. tokens_of tokens.items ≡ ts)) }
 {
     let mut tokens = Vec::new(alloc);
     let mut rest = piece.as_bytes();

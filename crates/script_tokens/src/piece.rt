@@ -52,7 +52,8 @@ fn closes(mode: Mode, byte: u8) -> usize
 /// How many bytes the first piece has: 0 only where there are no bytes.
 #[tactic(auto, using(crate::proofs::FirstPiece::pieces_first), unfolding(crate::proofs::FirstPiece::rest_len, language_meaning::specs::Pieces::choose))]
 pub fn piece_len(bytes: &[u8]) -> usize
-    ensures first { 0 < length bytes.now → spec.pieces bytes.now ≡ take result bytes.now ∷ spec.pieces (drop result bytes.now) }
+    ensures first { 0 < length bytes.now →
+        spec.pieces bytes.now ≡ take result bytes.now ∷ spec.pieces (drop result bytes.now) }
     ensures some { 0 < length bytes.now → 0 < result }
     ensures within { result ≤ length bytes.now }
 {

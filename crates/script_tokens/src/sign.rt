@@ -9,7 +9,8 @@ use crate::token::{Binary, Mark, Token};
 
 // The operator that two bytes spell.
 fn long_operator(first: u8, second: u8) -> Option<Binary>
-    ensures { MatchOption result ((o : tree.Binary) → spec.spelling_of o ≡ first ∷ second ∷ [] → ⊥) (λ op. spec.spelling_of (binary_of op) ≡ first ∷ second ∷ []) }
+    ensures { MatchOption result ((o : tree.Binary) → spec.spelling_of o ≡ first ∷ second ∷ [] → ⊥)
+        (λ op. spec.spelling_of (binary_of op) ≡ first ∷ second ∷ []) }
 {
     match (first, second) {
         (b'/', b'/') => Some(Binary::FloorDiv),
@@ -23,7 +24,8 @@ fn long_operator(first: u8, second: u8) -> Option<Binary>
 
 // The operator of two bytes that bytes begin with, and what follows it.
 fn long_operator_at(bytes: &[u8]) -> Option<(Binary, &[u8])>
-    ensures { MatchOption result (BeginsNoLongOperator bytes.now) (λ found. spec.IsToken (spec.op (binary_of found.0)) bytes.now found.1.now) }
+    ensures { MatchOption result (BeginsNoLongOperator bytes.now)
+        (λ found. spec.IsToken (spec.op (binary_of found.0)) bytes.now found.1.now) }
 {
     let [first, second, rest @ ..] = bytes else {
         return None
@@ -34,7 +36,8 @@ fn long_operator_at(bytes: &[u8]) -> Option<(Binary, &[u8])>
 
 // The operator that one byte spells.
 fn short_operator(byte: u8) -> Option<Binary>
-    ensures { MatchOption result ((o : tree.Binary) → spec.spelling_of o ≡ byte ∷ [] → ⊥) (λ op. spec.spelling_of (binary_of op) ≡ byte ∷ []) }
+    ensures { MatchOption result ((o : tree.Binary) → spec.spelling_of o ≡ byte ∷ [] → ⊥)
+        (λ op. spec.spelling_of (binary_of op) ≡ byte ∷ []) }
 {
     match byte {
         b'+' => Some(Binary::Add),
@@ -52,7 +55,8 @@ fn short_operator(byte: u8) -> Option<Binary>
 
 // The mark that a byte is.
 fn mark_at(byte: u8) -> Option<Mark>
-    ensures { MatchOption result ((m : spec.Mark) → spec.byte_of m ≡ byte → ⊥) (λ mark. spec.byte_of (mark_of mark) ≡ byte) }
+    ensures { MatchOption result ((m : spec.Mark) → spec.byte_of m ≡ byte → ⊥)
+        (λ mark. spec.byte_of (mark_of mark) ≡ byte) }
 {
     match byte {
         b'=' => Some(Mark::Equals),
@@ -72,7 +76,8 @@ fn mark_at(byte: u8) -> Option<Mark>
 
 // The operator or mark that bytes begin with, and what follows it.
 pub(crate) fn sign_at(bytes: &[u8]) -> Option<(Token<'_>, &[u8])>
-    ensures { MatchOption result (BeginsNoSign bytes.now) (λ found. spec.IsToken (token_of found.0) bytes.now found.1.now) }
+    ensures { MatchOption result (BeginsNoSign bytes.now)
+        (λ found. spec.IsToken (token_of found.0) bytes.now found.1.now) }
 {
     if let Some((op, rest)) = long_operator_at(bytes) {
         return Some((Token::Op(op), rest));

@@ -29,7 +29,8 @@ pub(crate) fn is_quote(byte: u8) -> bool
 
 // What a backslash before this byte makes of it.
 fn unescaped(byte: u8) -> Option<&'static str>
-    ensures { MatchOption result (spec.escaped byte ≡ None) (λ text. (c : ℕ) × (spec.escaped byte ≡ Some c) × (text.now ≡ c ∷ [])) }
+    ensures { MatchOption result (spec.escaped byte ≡ None)
+        (λ text. (c : ℕ) × (spec.escaped byte ≡ Some c) × (text.now ≡ c ∷ [])) }
 {
     match byte {
         b'\\' => Some("\\"),
@@ -65,7 +66,8 @@ fn split_plain(quote: u8, bytes: &[u8]) -> (&[u8], &[u8])
 }
 
 fn after_quote(quote: u8, bytes: &[u8]) -> Option<&[u8]>
-    ensures { MatchOption result ((rest : List ℕ) → bytes.now ≡ quote ∷ rest → ⊥) (λ rest. bytes.now ≡ quote ∷ rest.now) }
+    ensures { MatchOption result ((rest : List ℕ) → bytes.now ≡ quote ∷ rest → ⊥)
+        (λ rest. bytes.now ≡ quote ∷ rest.now) }
 {
     match bytes {
         [byte, rest @ ..] if *byte == quote => Some(rest),
@@ -75,7 +77,8 @@ fn after_quote(quote: u8, bytes: &[u8]) -> Option<&[u8]>
 
 // What the escape that stands first stands for, and what follows it.
 fn after_escape(bytes: &[u8]) -> Option<(&'static str, &[u8])>
-    ensures { MatchOption result (BeginsNoEscape bytes.now) (λ found. (c : ℕ) × IsEscape c bytes.now found.1.now × (found.0.now ≡ c ∷ [])) }
+    ensures { MatchOption result (BeginsNoEscape bytes.now)
+        (λ found. (c : ℕ) × IsEscape c bytes.now found.1.now × (found.0.now ≡ c ∷ [])) }
 {
     let [backslash, byte, rest @ ..] = bytes else {
         return None
@@ -96,7 +99,8 @@ pub(crate) fn text_before(
 ) -> Result<Option<(Words, &[u8])>, NoMemory>
     requires quote { spec.IsQuote quote }
     requires utf8 { IsUtf8 bytes.now }
-    ensures { IfOk result (λ found. MatchOption found (EndsNoText quote bytes.now) (λ text. spec.IsQuoted quote text.0 bytes.now text.1.now)) }
+    ensures { IfOk result (λ found. MatchOption found (EndsNoText quote bytes.now)
+        (λ text. spec.IsQuoted quote text.0 bytes.now text.1.now)) }
 {
     let mut words = Words::new(alloc);
     let mut rest = bytes;

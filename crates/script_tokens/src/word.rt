@@ -62,7 +62,8 @@ fn split_digits(bytes: &[u8]) -> (&[u8], &[u8])
 fn value_of(digits: &[u8]) -> Option<u64>
     requires digits { list_all spec.is_digit digits.now ≡ true }
     requires some { 0 < length digits.now }
-    ensures { MatchOption result ((n : ℕ) → n ≤ 2 ^ 63 → digits.now ≡ decimal n → ⊥) (λ n. (digits.now ≡ decimal n) × (n ≤ 2 ^ 63)) }
+    ensures { MatchOption result ((n : ℕ) → n ≤ 2 ^ 63 → digits.now ≡ decimal n → ⊥)
+        (λ n. (digits.now ≡ decimal n) × (n ≤ 2 ^ 63)) }
 {
     if digits.len() > 1 && digits[0] == b'0' {
         return None;
@@ -85,7 +86,8 @@ pub(crate) fn word_at(bytes: &[u8]) -> (Token<'_>, &[u8])
 // The whole number that bytes begin with, and what follows it.
 pub(crate) fn int_at(bytes: &[u8]) -> Option<(Token<'_>, &[u8])>
     requires { spec.begins_with spec.is_digit bytes.now ≡ true }
-    ensures { MatchOption result (BeginsNoToken bytes.now) (λ found. spec.IsToken (token_of found.0) bytes.now found.1.now) }
+    ensures { MatchOption result (BeginsNoToken bytes.now)
+        (λ found. spec.IsToken (token_of found.0) bytes.now found.1.now) }
 {
     let (digits, rest) = split_digits(bytes);
     let value = value_of(digits)?;

@@ -8,7 +8,7 @@ use Rattle.meaning.specs.Cell.{CellValue, na_cell, int_cell, LabelValue, label_c
 use Rattle.meaning.specs.Operator.{cell_label}
 use Rattle.meaning.specs.Symbol.{Accessor, loc, iloc, at, iat}
 use Rattle.meaning.specs.Fault as fault
-use Rattle.meaning.specs.Fault.{FaultValue, wrong_kind, no_key, bad_value, repeated, argument, not_built, then_value}
+use Rattle.meaning.specs.Fault.{FaultValue, wrong_kind, no_key, bad_value, repeated, argument, then_value}
 use Rattle.table_meaning.specs.Table.{Table, column_at, rows_of}
 use Rattle.table_meaning.specs.Value.{Entry, cell, table, Given, GivenList, GivenSub, no_given, more_given, nothing, one, row, many, entries, key_given, span_given, scalar_in}
 use Rattle.form_meaning.specs.Binding.{each, is_scalar, is_frame, is_tuple_of, count_of, same_label}
@@ -18,10 +18,6 @@ use Rattle.form_meaning.specs.Select.{cells_of, labels_of}
 use Rattle.pick_meaning.specs.Faults.{PickFault, not_there, bound_not_unique, out_of_range, no_mask_label, step_zero}
 use Rattle.pick_meaning.specs.Keys.{LabelKey, all_rows, one_key, each_key, between, PlaceKey, one_place, each_place, place_slice, Pick, listed_pick, sliced_pick, single_pick, picked_by_label, picked_by_place}
 use Rattle.pick_meaning.specs.Masks.{is_kept, masked_rows}
-
--- on one level; settings on several aren't built
-abbrev pub on_one_level : {A : Type 0} → Table → Result A FaultValue → Result A FaultValue
-on_one_level t rest = if nat_eq (length t.level_names) 1 then rest else Err not_built
 
 -- a tuple of scalars: one, and at most as many as there are levels
 abbrev pub is_tuple_within : ℕ → GivenList → Bool

@@ -21,7 +21,7 @@ use Rattle.form_meaning.specs.Set.{list_column, of_length}
 use Rattle.pick_meaning.specs.Keys.{Pick}
 use Rattle.align_meaning.specs.Faults.{met_rows}
 use Rattle.align_meaning.specs.Targets.{reindexed}
-use Rattle.select_meaning.specs.Keys.{on_one_level, rows_by, columns_by, all_columns, only_column, may_stand_alone}
+use Rattle.select_meaning.specs.Keys.{rows_by, columns_by, joined_key, all_columns, only_column, may_stand_alone}
 use Rattle.select_meaning.specs.Select.{Way, plain, through}
 
 -- the value of a setting: a scalar for each cell, a list, or a Series
@@ -112,8 +112,12 @@ or_added None tuples pick = then_value pick (λ p. Ok (picked p))
 or_added (Some l) tuples pick =
     if list_any (same_tuple (l ∷ [])) tuples then then_value pick (λ p. Ok (picked p)) else Ok record { places = length tuples ∷ []; added = Some l }
 
+-- a row is added on one level alone
+abbrev pub row_to_add : Accessor → Table → GivenSub → Option LabelValue
+row_to_add by t k = if nat_eq (length t.level_names) 1 then added_label by k else None
+
 abbrev pub rows_set : Accessor → Table → GivenSub → Result Reached FaultValue
-rows_set by t k = or_added (added_label by k) t.labels (rows_by by t k)
+rows_set by t k = or_added (row_to_add by t k) t.labels (rows_by by t k)
 
 abbrev pub columns_set : Accessor → Table → GivenSub → Result Reached FaultValue
 columns_set by t k = or_added (added_label by k) (column_labels t) (columns_by by t k)
@@ -126,10 +130,10 @@ pub record Target : Type 0 where
 abbrev pub target_of : Result Reached FaultValue → Result Reached FaultValue → Result Target FaultValue
 target_of rows columns = then_value rows (λ r. then_value columns (λ c. Ok record { rows = r; columns = c }))
 
--- as many keys as in a selection
+-- as many keys as in a selection: two scalars of a Series are one tuple
 abbrev pub target_by : Shape → Accessor → Table → GivenSub → Option GivenSub → Result Target FaultValue
 target_by Series by t k None = target_of (rows_set by t k) (Ok (picked only_column))
-target_by Series by t k (Some other) = Err wrong_kind
+target_by Series by t k (Some other) = target_of (then_value (joined_key by (length t.level_names) k other) (rows_set by t)) (Ok (picked only_column))
 target_by Frame by t k None = if may_stand_alone by k then target_of (rows_set by t k) (Ok (picked (all_columns t))) else Err wrong_kind
 target_by Frame by t k (Some other) = target_of (rows_set by t k) (columns_set by t other)
 
@@ -203,8 +207,7 @@ target_set by t value target =
 
 -- a setting behind an accessor: the form of the value, the keys, and then the cells
 abbrev pub access_set : Accessor → Table → GivenSub → Option GivenSub → Given → Result Table FaultValue
-access_set by t first second g =
-    on_one_level t (then_value (set_value g) (λ value. then_value (target_by t.shape by t first second) (target_set by t value)))
+access_set by t first second g = then_value (set_value g) (λ value. then_value (target_by t.shape by t first second) (target_set by t value))
 
 -- of a Series, brackets alone are `loc`; of a frame they take one key
 abbrev pub item_set : Shape → Table → GivenSub → Option GivenSub → Given → Result Table FaultValue

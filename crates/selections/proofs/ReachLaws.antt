@@ -48,14 +48,10 @@ use Rattle.pick_meaning.specs.Masks.{is_kept, masked_rows}
 use Rattle.pick_meaning.proofs.SeenLaws.{masked_rows-map}
 use Rattle.select_meaning.specs.Keys as meant
 use Rattle.select_meaning.specs.Keys.{found_pick, found_labels, once, Reach}
-use Rattle.selections.specs.Reaches.{label_key_value, tuples_value, pick_value, found_result, object_key, heading_tuple, columns_axis, is_row, is_series, CanPick, CanSelect}
+use Rattle.selections.specs.Reaches.{label_key_value, tuples_value, pick_value, found_result, object_key, heading_tuple, columns_axis, is_row, is_series, CanSelect}
 use Rattle.selections.proofs.AnswerLaws.{column_seen}
 use Rattle.selections.proofs.PickedLaws.{list_is}
 use Rattle.selections.proofs.SeenKeys.{IsGivenTuple, tuples_given, tuples_same, mask_in, found_seen}
-
--- a table of one level is one whose rows have labels on each level
-pub can_select : (texts : List Text) (t : NumberedTable) → CanPick texts t → CanSelect texts t
-can_select texts t c = record { known = c.known; levels = subst (λ (n : ℕ). HaveLevels n t.labels) (sym c.one) c.levels }
 
 -- a refusal before the last step
 pub refused_then : {X Y A B : Type 0} (v : List Text → X → A) (w : List Text → Y → B) (texts : List Text) (why : OpFault) (m : Result A FaultValue) (go : A → Result B FaultValue)

@@ -106,17 +106,6 @@ pub record CanSelect (texts : List Text) (t : NumberedTable) : Type 0 where
   pub known : IsKnownTable texts t
   pub levels : HaveLevels (length t.level_names) t.labels
 
--- such a table of one level, whose cells can be set
-pub record CanPick (texts : List Text) (t : NumberedTable) : Type 0 where
-  pub known : IsKnownTable texts t
-  pub one : length t.level_names ≡ 1
-  pub levels : HaveLevels 1 t.labels
-
--- one level, or the refusal of a table of several
-abbrev pub ExpectsOne : Result ⊤ OpFault → ℕ → Type 0
-ExpectsOne (Ok done) levels = levels ≡ 1
-ExpectsOne (Err why) levels = (why ≡ op.Refused code.NotBuilt) × (nat_eq levels 1 ≡ false)
-
 abbrev pub is_series : Shape → Bool
 is_series Series = true
 is_series Frame = false

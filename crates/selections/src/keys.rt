@@ -129,8 +129,13 @@ fn whole_item(alloc: Global, levels: usize, item: &Item) -> Result<Tuple, OpFaul
     }
 }
 
-// The keys of a list.
-fn listed_keys(alloc: Global, levels: usize, items: &[Item]) -> Result<Tuples, OpFault>
+/// The tuples of labels that the items of a list are, for an axis of so many levels: scalars on one level, and on several
+/// tuples with a label for each.
+///
+/// # Errors
+///
+/// `WrongKind` of any other item. `NoMemory` may come in place of any answer.
+pub fn listed_keys(alloc: Global, levels: usize, items: &[Item]) -> Result<Tuples, OpFault>
     requires some { 1 ≤ levels }
     requires few { levels ≤ 4 }
     ensures labels { (live : Tables) (texts : List OneText) → MakesBy tuples_value texts result

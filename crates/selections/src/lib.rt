@@ -7,7 +7,8 @@
 //! another one, or tables of some rows; methods are built on them.
 //!
 //! Labels are compared by their numbers. In brackets one column is looked up by a walk, which takes
-//! no memory, and a list of them by a map of all columns, made once. What isn't built is refused by `NotBuilt`.
+//! no memory, and a list of them by a map of all columns, made once. Rows have labels of one to four levels; no call
+//! here answers `NotBuilt`.
 //! The definitions are in the crate `select_meaning`.
 //!
 //! ```text
@@ -27,10 +28,10 @@ mod subscripts;
 mod taking;
 
 pub use headings::different_headings;
-pub use keys::joined_key;
+pub use keys::{joined_key, listed_keys};
 pub use labels::{column_place, column_places, headings_at, place_of_label};
 pub use new_objects::{as_frame, copied, places_below, renamed};
-pub use reaching::{all_columns, columns_by, expect_one_level, may_stand_alone, rows_by};
+pub use reaching::{all_columns, columns_by, may_stand_alone, rows_by};
 pub use selecting::{columns_of, select, sliced};
 pub use subscripts::scalars_of;
-pub use taking::chosen_table;
+pub use taking::{chosen_blocks, chosen_table};

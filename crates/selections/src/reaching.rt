@@ -13,7 +13,7 @@ ghost use Rattle.frame_store.specs.Arguments.{object_value, subscript_of, IsLive
 ghost use Rattle.table_meaning.specs.Settled.{IsSettled};
 ghost use Rattle.frame_store.specs.World.{world, subscript_in, IsKnownSubscript, IsSettledWorld};
 ghost use Rattle.indexers.specs.Keys.{FitsLevels};
-ghost use Rattle.selections.specs.Reaches.{label_key_value, tuples_value, accessor_of, pick_value, reach_value, refusal_of, found_result, columns_axis, object_key, PicksBelow, ReachesWithin, CanSelect, ExpectsOne, is_series, is_row};
+ghost use Rattle.selections.specs.Reaches.{label_key_value, tuples_value, accessor_of, pick_value, reach_value, refusal_of, found_result, columns_axis, object_key, PicksBelow, ReachesWithin, CanSelect, is_series, is_row};
 
 use crate::keys::{joined_key, label_key, position_key, whole_key, wrong_kind};
 use crate::new_objects::places_below;
@@ -56,16 +56,6 @@ fn found<T>(picked: Result<T, KeyFault>) -> Result<T, OpFault>
         Ok(picked) => Ok(picked),
         Err(fault) => Err(refusal(fault)),
     }
-}
-
-/// Refuses a table of several levels by `NotBuilt`: its settings aren't built.
-pub fn expect_one_level(on: &ObjRef<'_>) -> Result<(), OpFault>
-    ensures { ExpectsOne result (length on.now.level_names) }
-{
-    if on.levels() != 1 {
-        return Err(OpFault::Refused(Code::NotBuilt));
-    }
-    Ok(())
 }
 
 // The rows of an axis that a key by label picks.
@@ -207,8 +197,8 @@ fn place_among(alloc: Global, count: usize, key: &Subscript) -> Result<Picked, O
 ///
 /// `WrongKind` of a key of a form that the accessor doesn't take, tested first; then those of what it names: `NoKey` of
 /// a label that isn't there and of an end of a slice that can't be placed, `OutOfRange` of a position, `NoMaskLabel` of a
-/// row that a mask lacks, `BadValue(Argument)` of a step of 0, `BadValue(Repeated)` of a label of `at` that stands several
-/// times. `NoMemory` may come in place of any answer.
+/// row whose label a mask of other labels lacks or has twice, `BadValue(Argument)` of a step of 0, `BadValue(Repeated)` of
+/// a label of `at` that stands several times. `NoMemory` may come in place of any answer.
 pub fn rows_by(
     alloc: Global,
     store: &Store,

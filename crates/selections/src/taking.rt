@@ -113,8 +113,8 @@ fn chosen_column(alloc: Global, a: ColRef<'_>, rows: &Places) -> Result<Column, 
     }
 }
 
-// The cells of these columns at these rows, each column in a block of its own.
-fn chosen_blocks(
+/// The cells of these columns at these rows, each column in a block of its own. `NoMemory` is the only refusal.
+pub fn chosen_blocks(
     alloc: Global,
     on: &ObjRef<'_>,
     rows: &Places,

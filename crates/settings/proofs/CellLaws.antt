@@ -21,14 +21,14 @@ use Rattle.select_meaning.specs.Set as meant
 use Rattle.frame_store.specs.Shown.{cells_value, columns_value, labels_value}
 use Rattle.frame_store.proofs.ColumnLaws.{map-put_at}
 use Rattle.frame_store.proofs.Settling.{cells_settled, columns_part}
-use Rattle.multi_index.specs.Axes.{AxisValue, tuples_at, taken_axis}
+use Rattle.multi_index.specs.Axes.{AxisValue, nameless_axis, tuples_at, taken_axis}
 use Rattle.frame_store.specs.Parts.{axis_of}
 use Rattle.settings.specs.declared.targets.Reached.{Reached}
 use Rattle.settings.specs.declared.targets.Target.{Target}
 use Rattle.settings.specs.Grown.{column_added, columns_with_gap, grown_table, missing_column, reached_tuples, row_added, with_gap}
-use Rattle.settings.specs.Values.{ArePlacesOf, HasKinds, IsReachedOf, columns_after, count_with, kind_added, kind_there, reached_value, rows_after, target_value}
+use Rattle.settings.specs.Values.{AddsOnOne, ArePlacesOf, HasKinds, IsReachedOf, columns_after, count_with, kind_added, kind_there, reached_value, rows_after, target_value}
 use Rattle.settings.proofs.ColumnLaws.{map-replicate}
-use Rattle.settings.proofs.GrowLaws.{grown_columns, grown_rows, reached_below, put_last}
+use Rattle.settings.proofs.GrowLaws.{adds_one, grown_columns, grown_rows, reached_below, put_last}
 
 -- columns and cells with texts
 seen_column : (texts : List Text) (columns : List (ColumnOf Cell)) (place : ℕ) → column_at (columns_value texts columns) place ≡ column_value texts (column_at columns place)
@@ -70,6 +70,10 @@ reached_there t rows none = ap (λ (o : Option Label). map (λ row. slice_index_
 pub taken_reached : {E : Type 0} (t : NumberedTable) (rows : Reached) (r : Result AxisValue E) (axis : AxisValue) → axis ≡ axis_of t → rows.added ≡ None → IfOk r (λ made. made ≡ taken_axis axis rows.places) → IfOk r (λ made. made.tuples ≡ reached_tuples t rows)
 taken_reached t rows (Ok made) axis at none is = ap (λ (a : AxisValue). a.tuples) is ∙ ap (λ (a : AxisValue). tuples_at a.tuples rows.places) at ∙ reached_there t rows none
 taken_reached t rows (Err e) axis at none is = tt
+
+pub named_one : {E : Type 0} (t : NumberedTable) (rows : Reached) (l : Label) (tuples : List (List Label)) (r : Result AxisValue E) → rows.added ≡ Some l → AddsOnOne t rows → IfOk r (λ made. made ≡ nameless_axis tuples 1) → IfOk r (λ made. length made.names ≡ length t.level_names)
+named_one t rows l tuples (Ok made) some one is = ap (λ (a : AxisValue). length a.names) is ∙ sym (adds_one (length t.level_names) rows.added l some one)
+named_one t rows l tuples (Err e) some one is = tt
 
 pub reached_new : (t : NumberedTable) (rows : Reached) (l : Label) → rows.added ≡ Some l → IsReachedOf (length t.labels) rows → (l ∷ []) ∷ [] ≡ reached_tuples t rows
 reached_new t rows l some reached =

@@ -1,6 +1,6 @@
 -- Tables that get a row or a column.
 use Rattle.std.proofs.Common.{◌≡◌, ◌∙◌, ℕ, zero, suc, ◌+◌, ◌<◌, ◌%◌, ◌/◌, false, List, [], ◌∷◌, ◌++◌, length, take, drop, map, refl, ap, sym, subst, arith, All, Option, Some, None}
-use Rattle.std.specs.Prelude.{slice_index_or, slice_get, slice_set}
+use Rattle.std.specs.Prelude.{slice_index_or, slice_get, slice_set, IfSome}
 use Rattle.std.proofs.lemmas.List.{length-map, length-append, length-set, map-append, take_more}
 use Rattle.std.proofs.lemmas.List.Elements.{All-push, All-cons, All-nil}
 use Rattle.cell_core.specs.declared.cell.Cell.{Cell}
@@ -182,6 +182,9 @@ reached_below count places (Some l) reached =
 
 pub one_added : (count : ℕ) (places : List ℕ) (added : Option Label) (label : Label) → ArePlacesOf count places added → added ≡ Some label → places ≡ count ∷ []
 one_added count places added label reached is = subst (ArePlacesOf count places) is reached
+
+pub adds_one : (levels : ℕ) (added : Option Label) (label : Label) → added ≡ Some label → IfSome added (λ l. levels ≡ 1) → levels ≡ 1
+adds_one levels added label is one = subst (λ (o : Option Label). IfSome o (λ l. levels ≡ 1)) is one
 
 -- values that the new column holds
 last_kind : (cs : List (ColumnOf Cell)) (m : ColumnOf Cell) → (column_at (cs ++ m ∷ []) (length cs)).kind ≡ m.kind

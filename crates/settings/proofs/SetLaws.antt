@@ -39,7 +39,6 @@ use Rattle.settings.specs.declared.values.NewValue.{NewValue}
 use Rattle.settings.specs.declared.values.NewValue.TheVariants.{Copied, Moved}
 use Rattle.std.proofs.lemmas.List.{length-map}
 use Rattle.meaning.specs.Symbol.{Accessor, loc}
-use Rattle.meaning.specs.Fault.{not_built}
 use Rattle.meaning.specs.Cell.{na}
 use Rattle.table_meaning.specs.Value.{Given, GivenSub, key_given, span_given, nothing, one, row, many, entries}
 use Rattle.select_meaning.specs.Select.{Way}
@@ -165,15 +164,10 @@ pub may_end : (live : Tables) (on : Value) (id : ObjId) (value : NewValue) → o
 may_end live on id (Copied a) is alive other = tt
 may_end live on id (Moved series) is alive other = (alive, subst (λ (o : Value). IsOther o series) is other)
 
--- a setting behind an accessor, of a table of one level
-one_level : (texts : List Text) (t : NumberedTable) → length t.level_names ≡ 1 → nat_eq (length (table_value texts t).level_names) 1 ≡ true
-one_level texts t single = ap (λ n. nat_eq n 1) (length-map t.level_names (heading_value texts) ∙ single)
-
-pub access_is : (texts : List Text) (t : NumberedTable) (by : Accessor) (first : GivenSub) (second : Option GivenSub) (g : Given) (v : SetValue) → length t.level_names ≡ 1 → set_value g ≡ Ok v
+-- a setting behind an accessor
+pub access_is : (texts : List Text) (t : NumberedTable) (by : Accessor) (first : GivenSub) (second : Option GivenSub) (g : Given) (v : SetValue) → set_value g ≡ Ok v
     → access_set by (table_value texts t) first second g ≡ then_value (target_by t.shape by (table_value texts t) first second) (target_set by (table_value texts t) v)
-access_is texts t by first second g v single is =
-    let go : SetValue → Result Table FaultValue = λ value. then_value (target_by t.shape by (table_value texts t) first second) (target_set by (table_value texts t) value) in
-    ap (λ b. if b then then_value (set_value g) go else Err not_built) (one_level texts t single) ∙ ap (λ r. then_value r go) is
+access_is texts t by first second g v is = ap (λ r. then_value r (λ value. then_value (target_by t.shape by (table_value texts t) first second) (target_set by (table_value texts t) value))) is
 
 -- the label that a settled scalar key is
 abbrev label_in : Option LabelValue → LabelValue

@@ -1,7 +1,8 @@
 -- What a setting reaches: keys whose label isn't there.
 use Rattle.std.proofs.Common.{◌≡◌, ◌∙◌, ℕ, suc, ◌+◌, pos, Bool, true, false, ◌&&◌, List, [], ◌∷◌, ◌++◌, length, map, refl, ap, sym, subst, arith, if◌then◌else◌, All, Option, Some, None, option_map, Result, Ok, Err}
-use Rattle.std.specs.Prelude.{◌||◌, ◌≢◌, not, unwrap_or, IfOk}
+use Rattle.std.specs.Prelude.{◌||◌, ◌≢◌, nat_eq, not, unwrap_or, IfOk, IfSome}
 use Rattle.std.specs.List.{list_any}
+use Rattle.std.proofs.lemmas.Bool.Decides.{nat_tests}
 use Rattle.std.proofs.lemmas.List.{length-map}
 use Rattle.std.proofs.lemmas.List.Elements.{All-nil, All-cons}
 use Rattle.cell_core.specs.declared.cell.Label.{Label}
@@ -21,8 +22,8 @@ use Rattle.pick_meaning.specs.Keys.{Pick, key_pick, one_key}
 use Rattle.pick_meaning.specs.Labels.{unless_none}
 use Rattle.pick_meaning.specs.Leading.{leads}
 use Rattle.pick_meaning.specs.Rows.{rows_where, are_some}
-use Rattle.select_meaning.specs.Keys.{found_pick, rows_by, columns_by, once, whole_key, found_labels}
-use Rattle.select_meaning.specs.Set.{Reached, picked, added_label, or_added}
+use Rattle.select_meaning.specs.Keys.{found_pick, rows_by, columns_by, joined_key, once, whole_key, found_labels}
+use Rattle.select_meaning.specs.Set.{Reached, picked, added_label, row_to_add, or_added, rows_set}
 use Rattle.frame_store.specs.Shown.{labels_value, headings_value}
 use Rattle.cell_core.specs.declared.grid.Shape.TheVariants.{Frame}
 use Rattle.cell_core.specs.declared.code.Code.TheVariants.{NoKey}
@@ -33,12 +34,13 @@ use Rattle.frame_store.specs.declared.fault.OpFault.{OpFault}
 use Rattle.frame_store.specs.declared.fault.OpFault.TheVariants.{Refused}
 use Rattle.indexers.specs.declared.keys.Picked.{Picked as CodePicked}
 use Rattle.selections.specs.Reaches.{pick_value}
+use Rattle.selections.proofs.ReachLaws.{refused_then}
 use Rattle.settings.specs.declared.targets.Reached.{Reached as CodeReached}
 use Rattle.table_meaning.specs.Settled.{IsSettled}
 use Rattle.frame_store.specs.Arguments.{subscript_of}
 use Rattle.frame_store.specs.Objects.{Tables}
 use Rattle.frame_store.specs.declared.arguments.Subscript.{Subscript}
-use Rattle.settings.specs.Values.{reached_value, target_value, is_no_key, IsFreshIn, TellsAbsence}
+use Rattle.settings.specs.Values.{reached_value, target_value, rows_of_pair, is_no_key, AddsOnOne, IsFreshIn, TellsAbsence}
 
 -- a row is found where a label stands
 any_row : {X : Type 0} (p : X → Bool) (first : ℕ) (xs : List X) → are_some (rows_where p first xs) ≡ list_any p xs
@@ -87,26 +89,32 @@ single_labels t = go t.headings
     go [] = All-nil (λ tuple. length tuple ≡ 1)
     go (h ∷ hs) = All-cons (λ tuple. length tuple ≡ 1) (unwrap_or h (int (pos 0)) ∷ []) (map (λ h. unwrap_or h (int (pos 0)) ∷ []) hs) refl (go hs)
 
+-- the tuples of rows on one level
+single_rows : (texts : List Text) (labels : List (List Label)) → HaveLevels 1 labels → All (λ tuple. length tuple ≡ 1) (labels_value texts labels)
+single_rows texts [] single = All-nil (λ tuple. length tuple ≡ 1)
+single_rows texts (t ∷ ts) single =
+    All-cons (λ tuple. length tuple ≡ 1) (tuple_value texts t) (labels_value texts ts) (length-map t (label_datum texts) ∙ single 0 t (omega arith)) (single_rows texts ts (λ k d lt. single (suc k) d (omega (arith, lt))))
+
 -- what an accessor's key tells of its rows and of its columns
-pub rows_tell : (by : Accessor) (t : Table) (k : GivenSub) → length t.level_names ≡ 1 → All (λ tuple. length tuple ≡ 1) t.labels → TellsAbsence (added_label by k) t.labels (rows_by by t k)
-rows_tell iloc t k levels single = tt
-rows_tell iat t k levels single = tt
-rows_tell loc t (key_given (one (cell c))) levels single = label_tells (length t.level_names) (cell_label c) t.labels single
-rows_tell loc t (key_given (one (table m))) levels single = tt
-rows_tell loc t (key_given nothing) levels single = tt
-rows_tell loc t (key_given (row parts)) levels single = tt
-rows_tell loc t (key_given (many parts)) levels single = tt
-rows_tell loc t (key_given (entries pairs)) levels single = tt
-rows_tell loc t (span_given from to by) levels single = tt
-rows_tell at t (key_given (one (cell c))) levels single =
+added_tells : (by : Accessor) (t : Table) (k : GivenSub) → length t.level_names ≡ 1 → All (λ tuple. length tuple ≡ 1) t.labels → TellsAbsence (added_label by k) t.labels (rows_by by t k)
+added_tells iloc t k levels single = tt
+added_tells iat t k levels single = tt
+added_tells loc t (key_given (one (cell c))) levels single = label_tells (length t.level_names) (cell_label c) t.labels single
+added_tells loc t (key_given (one (table m))) levels single = tt
+added_tells loc t (key_given nothing) levels single = tt
+added_tells loc t (key_given (row parts)) levels single = tt
+added_tells loc t (key_given (many parts)) levels single = tt
+added_tells loc t (key_given (entries pairs)) levels single = tt
+added_tells loc t (span_given from to by) levels single = tt
+added_tells at t (key_given (one (cell c))) levels single =
     subst (λ n. TellsAbsence (Some (cell_label c)) t.labels (then_value (whole_key n (key_given (one (cell c)))) (λ key. then_value (found_labels n t.labels (one_key key)) (once key)))) (sym levels)
     (once_tells 1 (cell_label c) t.labels single)
-rows_tell at t (key_given (one (table m))) levels single = tt
-rows_tell at t (key_given nothing) levels single = tt
-rows_tell at t (key_given (row parts)) levels single = tt
-rows_tell at t (key_given (many parts)) levels single = tt
-rows_tell at t (key_given (entries pairs)) levels single = tt
-rows_tell at t (span_given from to by) levels single = tt
+added_tells at t (key_given (one (table m))) levels single = tt
+added_tells at t (key_given nothing) levels single = tt
+added_tells at t (key_given (row parts)) levels single = tt
+added_tells at t (key_given (many parts)) levels single = tt
+added_tells at t (key_given (entries pairs)) levels single = tt
+added_tells at t (span_given from to by) levels single = tt
 
 pub columns_tell : (by : Accessor) (t : Table) (k : GivenSub) → TellsAbsence (added_label by k) (column_labels t) (columns_by by t k)
 columns_tell iloc t k = tt
@@ -125,6 +133,38 @@ columns_tell at t (key_given (row parts)) = tt
 columns_tell at t (key_given (many parts)) = tt
 columns_tell at t (key_given (entries pairs)) = tt
 columns_tell at t (span_given from to by) = tt
+
+-- rows, of which one is added on one level alone
+same_number : (m n : ℕ) → nat_eq m n ≡ true → m ≡ n
+same_number m n e = grind (arith, nat_tests)
+
+pub rows_tell : (texts : List Text) (by : Accessor) (t : NumberedTable) (k : GivenSub) → HaveLevels (length t.level_names) t.labels → TellsAbsence (row_to_add by (table_value texts t) k) (labels_value texts t.labels) (rows_by by (table_value texts t) k)
+rows_tell texts by t k levels = go (nat_eq (length (table_value texts t).level_names) 1) refl
+  where
+    go : (b : Bool) → nat_eq (length (table_value texts t).level_names) 1 ≡ b → TellsAbsence (if b then added_label by k else None) (labels_value texts t.labels) (rows_by by (table_value texts t) k)
+    go true e =
+        let one : length (table_value texts t).level_names ≡ 1 = same_number (length (table_value texts t).level_names) 1 e in
+        added_tells by (table_value texts t) k one (single_rows texts t.labels (subst (λ n. HaveLevels n t.labels) (sym (length-map t.level_names (heading_value texts)) ∙ one) levels))
+    go false e = tt
+
+own_on : (t : NumberedTable) (label added : Option Label) → IfSome label (λ l. length t.level_names ≡ 1) → IfSome added (λ l. label ≡ Some l) → IfSome added (λ l. length t.level_names ≡ 1)
+own_on t label None single own = tt
+own_on t label (Some l) single own = subst (λ (o : Option Label). IfSome o (λ l. length t.level_names ≡ 1)) own single
+
+pub own_on_one : (t : NumberedTable) (label : Option Label) (r : Result CodeReached OpFault) → IfSome label (λ l. length t.level_names ≡ 1) → IfOk r (λ reached. IfSome reached.added (λ added. label ≡ Some added)) → IfOk r (AddsOnOne t)
+own_on_one t label (Err fault) single own = tt
+own_on_one t label (Ok reached) single own = own_on t label reached.added single own
+
+-- two keys of a Series
+module _ (texts : List Text) (t : NumberedTable) (by : Accessor) (levels : ℕ) (first second : GivenSub) (count : levels ≡ length t.level_names) where
+  pair_is : then_value (joined_key by levels first second) (rows_set by (table_value texts t)) ≡ rows_of_pair by (table_value texts t) first second
+  pair_is = ap (λ (n : ℕ). then_value (joined_key by n first second) (rows_set by (table_value texts t))) (count ∙ sym (length-map t.level_names (heading_value texts)))
+
+  pub pair_refused : {X : Type 0} (view : List Text → X → GivenSub) (why : OpFault) → MakesBy view texts (Err why) (joined_key by levels first second) → MakesBy reached_value texts (Err why) (rows_of_pair by (table_value texts t) first second)
+  pair_refused view why refused = subst (MakesBy reached_value texts (Err why)) pair_is (refused_then view reached_value texts why (joined_key by levels first second) (rows_set by (table_value texts t)) refused)
+
+  pub pair_reached : (k : GivenSub) (out : Result CodeReached OpFault) → joined_key by levels first second ≡ Ok k → MakesBy reached_value texts out (rows_set by (table_value texts t) k) → MakesBy reached_value texts out (rows_of_pair by (table_value texts t) first second)
+  pair_reached k out is reached = subst (MakesBy reached_value texts out) (sym (ap (λ r. then_value r (rows_set by (table_value texts t))) is) ∙ pair_is) reached
 
 -- what was picked, or one more
 pub as_picked : (o : Option LabelValue) (tuples : List (List LabelValue)) (pick : Result Pick FaultValue) (p : Pick) → pick ≡ Ok p → TellsAbsence o tuples pick → or_added o tuples pick ≡ Ok (picked p)
@@ -158,12 +198,6 @@ as_nothing texts label rows key tuples pick none is makes =
     let refused : MakesBy pick_value texts (Err (Refused (NoKey key))) pick = subst (λ (r : Result CodePicked OpFault). MakesBy pick_value texts r pick) is makes in
     subst (λ (o : Option Label). MakesBy reached_value texts (Err (Refused (NoKey key))) (or_added (option_map (label_datum texts) o) tuples pick)) (sym none)
     (ap (λ r. then_value r (λ p. Ok (picked p))) refused.0, refused.1)
-
--- the tuples of rows on one level
-pub single_rows : (texts : List Text) (labels : List (List Label)) → HaveLevels 1 labels → All (λ tuple. length tuple ≡ 1) (labels_value texts labels)
-single_rows texts [] single = All-nil (λ tuple. length tuple ≡ 1)
-single_rows texts (t ∷ ts) single =
-    All-cons (λ tuple. length tuple ≡ 1) (tuple_value texts t) (labels_value texts ts) (length-map t (label_datum texts) ∙ single 0 t (omega arith)) (single_rows texts ts (λ k d lt. single (suc k) d (omega (arith, lt))))
 
 pub column_count : (texts : List Text) (t : NumberedTable) → IsWhole t → length (column_labels (table_value texts t)) ≡ length t.columns
 column_count texts t whole = length-map (headings_value texts t.headings) (λ h. unwrap_or h (int (pos 0)) ∷ []) ∙ length-map t.headings (heading_value texts) ∙ whole.headed
@@ -216,6 +250,10 @@ fresh_reached texts t o pick (Ok reached) frame makes = go reached.added refl
     go None e = tt
     go (Some label) e = (frame, absent_headings texts t.headings label (added_absent o (column_labels (table_value texts t)) pick (reached_value texts reached) (label_datum texts label) makes (ap (option_map (label_datum texts)) e)))
 
+-- the label that is added is the one that may be
+pub added_own : (label : Option Label) (l : Label) (count : ℕ) (r : CodeReached) → label ≡ Some l → r ≡ record { places = count ∷ []; added = Some l } → IfSome r.added (λ added. label ≡ Some added)
+added_own label l count r some made = subst (λ (r : CodeReached). IfSome r.added (λ added. label ≡ Some added)) (sym made) some
+
 -- texts of what is reached were given
 pub added_settled : (texts : List Text) (label : Option Label) (l : Label) (count : ℕ) (r : CodeReached) → label ≡ Some l → r ≡ record { places = count ∷ []; added = Some l } → IsSettled heading_value texts label → IsSettled reached_value texts r
 added_settled texts label l count r some made settled = λ more.
@@ -229,6 +267,10 @@ picked_settled texts places r made = λ more. ap (reached_value (texts ++ more))
 pub label_settled : (texts : List Text) (live : Tables) (by : Accessor) (key : Subscript) (label : Option Label) → ((live : Tables) (texts : List Text) → option_map (label_datum texts) label ≡ added_label by (subscript_of live texts key))
     → IsSettled (subscript_of live) texts key → IsSettled heading_value texts label
 label_settled texts live by key label seen settled = λ more. seen live (texts ++ more) ∙ ap (added_label by) (settled more) ∙ sym (seen live texts)
+
+pub row_settled : (texts : List Text) (live : Tables) (by : Accessor) (t : NumberedTable) (key : Subscript) (label : Option Label) → ((live : Tables) (texts : List Text) → option_map (label_datum texts) label ≡ row_to_add by (table_value texts t) (subscript_of live texts key))
+    → IsSettled table_value texts t → IsSettled (subscript_of live) texts key → IsSettled heading_value texts label
+row_settled texts live by t key label seen given settled = λ more. seen live (texts ++ more) ∙ (λ j. row_to_add by (given more j) (settled more j)) ∙ sym (seen live texts)
 
 pub target_settled : (texts : List Text) (rows columns : CodeReached) → IsSettled reached_value texts rows → IsSettled reached_value texts columns → IsSettled target_value texts record { rows = rows; columns = columns }
 target_settled texts rows columns f g = λ more j. record { rows = f more j; columns = g more j }

@@ -1,10 +1,11 @@
 -- Values of settings and what they reach, as they are meant.
-use Rattle.std.specs.Prelude.{◌≡◌, ◌≢◌, ℕ, ◌<◌, ◌+◌, ◌*◌, ◌∷◌, [], nat_lt, slice_index, Bool, true, false, not, List, length, Option, Some, None, option_map, Result, Ok, Err, All, IsOk, ⊤, if◌then◌else◌}
+use Rattle.std.specs.Prelude.{◌≡◌, ◌≢◌, ℕ, ◌<◌, ◌+◌, ◌*◌, ◌∷◌, [], nat_lt, slice_index, Bool, true, false, not, List, length, Option, Some, None, option_map, Result, Ok, Err, All, IfSome, IsOk, ⊤, if◌then◌else◌}
 use Rattle.cell_core.specs.declared.cell.Kind.{Kind}
 use Rattle.cell_core.specs.declared.cell.Kind.TheVariants.{Int64}
 use Rattle.cell_core.specs.declared.code.Code.{Code}
 use Rattle.cell_core.specs.declared.grid.Shape.TheVariants.{Series, Frame}
-use Rattle.meaning.specs.Fault.{FaultValue, no_key}
+use Rattle.meaning.specs.Fault.{FaultValue, no_key, then_value}
+use Rattle.meaning.specs.Symbol.{Accessor}
 use Rattle.std.specs.List.{list_any}
 use Rattle.pick_meaning.specs.Keys.{Pick}
 use Rattle.form_meaning.specs.Infix.{same_tuple}
@@ -14,6 +15,8 @@ use Rattle.cell_core.specs.declared.cell.Label.{Label}
 use Rattle.meaning.specs.Text.{Text}
 use Rattle.meaning.specs.Cell.{LabelValue, datum, label_datum}
 use Rattle.table_meaning.specs.Table.{NumberedTable, Table, column_at}
+use Rattle.table_meaning.specs.Value.{GivenSub}
+use Rattle.select_meaning.specs.Keys.{joined_key}
 use Rattle.select_meaning.specs.Set as meant
 use Rattle.frame_store.specs.Objects.{Tables}
 use Rattle.frame_store.specs.Arguments.{object_value, shape_at, IsLiveObject}
@@ -39,6 +42,10 @@ reached_value texts reached = record { places = reached.places; added = option_m
 
 abbrev pub target_value : List Text → Target → meant.Target
 target_value texts target = record { rows = reached_value texts target.rows; columns = reached_value texts target.columns }
+
+-- the rows that two keys of a Series reach, which are one tuple
+abbrev pub rows_of_pair : Accessor → Table → GivenSub → GivenSub → Result meant.Reached FaultValue
+rows_of_pair by t first second = then_value (joined_key by (length t.level_names) first second) (meant.rows_set by t)
 
 -- how many cells are reached
 abbrev pub cells_reached : Target → ℕ
@@ -66,8 +73,13 @@ abbrev pub IsFreshIn : NumberedTable → Option Label → Type 0
 IsFreshIn t None = Unit {0}
 IsFreshIn t (Some label) = (t.shape ≡ Frame) × All (λ heading. heading ≢ Some label) t.headings
 
+-- a row is added on one level alone
+abbrev pub AddsOnOne : NumberedTable → Reached → Type 0
+AddsOnOne t reached = IfSome reached.added (λ label. length t.level_names ≡ 1)
+
 pub record IsTargetOf (t : NumberedTable) (target : Target) : Type 0 where
   pub rows : IsReachedOf (length t.labels) target.rows
+  pub one : AddsOnOne t target.rows
   pub columns : IsReachedOf (length t.columns) target.columns
   pub fresh : IsFreshIn t target.columns.added
 

@@ -9,7 +9,7 @@ ghost use Rattle.select_meaning.specs.Set as meant;
 ghost use Rattle.form_parts.specs.Makes.{MakesBy};
 ghost use Rattle.frame_store.specs.Objects.{tables};
 ghost use Rattle.frame_store.specs.World.{world, entry_in, subscript_in, IsKnownValue, IsKnownSubscript, IsKnownTable, IsSettledWorld, Sets};
-ghost use Rattle.selections.specs.Reaches.{accessor_of, CanPick};
+ghost use Rattle.selections.specs.Reaches.{accessor_of, CanSelect};
 ghost use Rattle.selections.specs.Selected.{as_it_is, way_of};
 ghost use Rattle.settings.specs.Assigned.{new_value_in, second_in, moved_object, IsKnownNew, IsOther, without};
 ghost use Rattle.settings.specs.Values.{value_in, target_value, kind_added, IsLiveSetValue, IsTargetOf};
@@ -23,7 +23,6 @@ use crate::targets::{Target, label_to_add, target_of};
 use crate::values::{NewValue, SetValue, moved_object, set_value, wrong_kind};
 use cell_core::{Code, Grid, Kind, Reason, Shape, TextDict};
 use frame_store::{ObjRef, OpFault, Selector, Store, Subscript, Value};
-use selections::expect_one_level;
 use std::alloc::Global;
 
 // Whether a setting adds a row to a frame without columns, and names none.
@@ -55,7 +54,7 @@ fn cells_change(
     target: Target,
     value: SetValue,
 ) -> Result<Change, OpFault>
-    requires table { CanPick dict.now on.now }
+    requires table { CanSelect dict.now on.now }
     requires settled { IsSettledWorld (world store.now dict.now) }
     requires target { IsTargetOf on.now target }
     requires given { IsSettled target_value dict.now target }
@@ -102,7 +101,6 @@ fn access_change(
         (new_value_in (world store.now dict.now) value.entry)) }
     ensures fits { IfOk result (IsChangeOf on.now) }
 {
-    expect_one_level(on)?;
     let value = set_value(alloc, store, value)?;
     let target = target_of(alloc, store, dict, on, by, first, second)?;
     cells_change(alloc, store, dict, on, by, target, value)
@@ -182,8 +180,7 @@ fn setting_for(
 /// A setting: `v[..] = value`, `v.loc[..] = value` and so on, as in the pandas user guide,
 /// "Indexing and selecting data" ("Setting with enlargement" among it). Only the table of `on`
 /// changes, and no other object with it (PDEP-7: each object behaves as a copy). A value that is
-/// [`Moved`](NewValue::Moved) ends with the setting. Cells of axes of several levels aren't built
-/// yet.
+/// [`Moved`](NewValue::Moved) ends with the setting.
 ///
 /// Brackets on a frame make or replace a whole column: a scalar in each row, a list by rows, a
 /// Series aligned to the rows. A frame without rows gets those of the Series, or the labels 0, 1
@@ -191,7 +188,7 @@ fn setting_for(
 /// set, as a selection would pick them: a scalar in each, a list by rows in one column or by
 /// columns in one row, a Series by position in `iloc` and `iat` and aligned to the labels of the
 /// rows in `loc` and `at`. Where a cell is picked twice, the later value stays. A scalar key of
-/// `loc` and `at` that isn't there adds a row or a column.
+/// `loc` and `at` that isn't there adds a row or a column, a row on one level alone.
 ///
 /// A Series is aligned ("Intro to data structures", "Data alignment"): it goes by position where
 /// its labels are those of the rows, in one order, and else each row takes the cell at its label,
@@ -200,16 +197,17 @@ fn setting_for(
 /// # Errors
 ///
 /// `WrongKind` where `on` is a scalar. Of a whole column: `WrongKind` of a subscript or a value of
-/// another form and of scalars of different kinds; `BadValue(Length)` of a list, or
-/// `BadValue(Levels)` of a Series on another number of levels than the rows and then
-/// `BadValue(Repeated)` of one that repeats a label, unless its labels are those of the rows;
-/// `Limit`. Of cells: `NotBuilt` of several levels; `WrongKind` of a value of another form; the
-/// refusals of the keys as in a selection (see [`rows_by`](selections::rows_by));
-/// `BadValue(NoColumns)` of a new row of a frame without columns; `BadValue(Length)` of a list;
-/// `WrongKind` of a Series for several columns; `BadValue(Length)` of a Series by position, and
-/// `BadValue(Levels)` and `BadValue(Repeated)` of one that is aligned, as above; `WrongKind` of a
-/// cell that its column's kind doesn't hold; `Limit`. `NoMemory` may come in place of any answer.
-/// After a refusal all objects are as they were, and none ends.
+/// another form and of scalars of different kinds; where the frame has rows, `BadValue(Length)` of a
+/// list that hasn't as many scalars, or `BadValue(Levels)` of a Series on another number of levels
+/// and then `BadValue(Repeated)` of one that repeats a label, unless its labels are those of the
+/// rows; `Limit`. Of cells: `WrongKind` of a value of another form; the refusals of the keys as in a
+/// selection (see [`rows_by`](selections::rows_by)); `BadValue(NoColumns)` of a new row of a frame
+/// without columns, where the keys name no column; `BadValue(Length)` of a list; `WrongKind` of a
+/// Series for several columns or for none; `BadValue(Length)` of a Series by position, and
+/// `BadValue(Levels)` and `BadValue(Repeated)` of one that is aligned, as above; `WrongKind` of
+/// scalars of different kinds for a new column, and of a cell that its column's kind doesn't hold;
+/// `Limit`. `NoMemory` may come in place of any answer. After a refusal all objects are as they
+/// were, and none ends.
 pub fn assign(
     alloc: Global,
     store: &mut Store,

@@ -15,10 +15,10 @@ ghost use Rattle.frame_store.specs.declared.fault.OpFault.TheVariants.{Refused};
 ghost use Rattle.frame_store.specs.Objects.{tables};
 ghost use Rattle.frame_store.specs.Shown.{cells_value};
 ghost use Rattle.frame_store.specs.World.{world, IsKnownTable, IsSettledWorld};
-ghost use Rattle.selections.specs.Reaches.{accessor_of, CanPick};
+ghost use Rattle.selections.specs.Reaches.{accessor_of, CanSelect};
 ghost use Rattle.selections.specs.Selected.{as_it_is};
 ghost use Rattle.settings.specs.Grown.{reached_tuples};
-ghost use Rattle.settings.specs.Values.{value_in, reached_value, target_value, IsLiveSetValue, IsReachedOf, IsTargetOf, Tests, TestsThat, cells_reached, kind_there, HasKinds, count_with, rows_after, columns_after};
+ghost use Rattle.settings.specs.Values.{value_in, reached_value, target_value, AddsOnOne, IsLiveSetValue, IsReachedOf, IsTargetOf, Tests, TestsThat, cells_reached, kind_there, HasKinds, count_with, rows_after, columns_after};
 
 use crate::aligning::aligned_cells;
 use crate::columns::{list_kind, present_kind};
@@ -88,8 +88,9 @@ fn reached_axis(
     on: &ObjRef<'_>,
     rows: &Reached,
 ) -> Result<Axis, NoMemory>
-    requires table { CanPick dict.now on.now }
+    requires table { CanSelect dict.now on.now }
     requires rows { IsReachedOf (length on.now.labels) rows.now }
+    requires one { AddsOnOne on.now rows.now }
     ensures tuples { IfOk result (λ axis. axis.tuples ≡ reached_tuples on.now rows.now) }
     ensures levels { IfOk result (λ axis. length axis.names ≡ length on.now.level_names) }
 {
@@ -126,8 +127,9 @@ fn values_by_label(
     rows: &Reached,
     series: &ObjRef<'_>,
 ) -> Result<Cells, OpFault>
-    requires table { CanPick dict.now on.now }
+    requires table { CanSelect dict.now on.now }
     requires rows { IsReachedOf (length on.now.labels) rows.now }
+    requires one { AddsOnOne on.now rows.now }
     requires given { IsSettled reached_value dict.now rows.now }
     requires series { IsKnownTable dict.now series.now }
     requires single { series.now.shape ≡ Series }
@@ -150,8 +152,9 @@ fn series_values(
     rows: &Reached,
     series: &ObjRef<'_>,
 ) -> Result<Cells, OpFault>
-    requires table { CanPick dict.now on.now }
+    requires table { CanSelect dict.now on.now }
     requires rows { IsReachedOf (length on.now.labels) rows.now }
+    requires one { AddsOnOne on.now rows.now }
     requires given { IsSettled reached_value dict.now rows.now }
     requires series { IsKnownTable dict.now series.now }
     requires single { series.now.shape ≡ Series }
@@ -178,7 +181,7 @@ pub(crate) fn values_for(
     target: &Target,
     value: SetValue,
 ) -> Result<Cells, OpFault>
-    requires table { CanPick dict.now on.now }
+    requires table { CanSelect dict.now on.now }
     requires settled { IsSettledWorld (world store.now dict.now) }
     requires target { IsTargetOf on.now target.now }
     requires given { IsSettled target_value dict.now target.now }

@@ -2,7 +2,7 @@
 ghost use Rattle.std.specs.Prelude.{◌≡◌, ◌<◌, ◌*◌, length, map, All, IfOk};
 ghost use Rattle.table_meaning.specs.Change.{with_values};
 ghost use Rattle.frame_store.specs.Parts.{IsSingle, IsHeld, block_column, AreHeld};
-ghost use Rattle.selections.specs.Reaches.{CanPick};
+ghost use Rattle.selections.specs.Reaches.{CanSelect};
 ghost use Rattle.table_meaning.specs.Valid.{IsWhole};
 ghost use Rattle.settings.specs.Values.{cells_reached, IsTargetOf, IsFreshIn};
 ghost use Rattle.settings.specs.Changes.{changed, IsChangeOf};
@@ -24,7 +24,8 @@ fn axis_with(
     on: &ObjRef<'_>,
     label: Label,
 ) -> Result<Axis, NoMemory>
-    requires { CanPick dict.now on.now }
+    requires table { CanSelect dict.now on.now }
+    requires one { length on.now.level_names ≡ 1 }
     ensures { IfOk result (λ axis. axis ≡ axis_with on.now label) }
 {
     let mut labels = Tuples::new(alloc);
@@ -58,7 +59,8 @@ fn with_row(
     on: &ObjRef<'_>,
     label: Label,
 ) -> Result<Table, NoMemory>
-    requires { CanPick dict.now on.now }
+    requires table { CanSelect dict.now on.now }
+    requires one { length on.now.level_names ≡ 1 }
     ensures { IfOk result (λ made. made ≡ with_row on.now label) }
 {
     let axis = axis_with(alloc, dict, on, label)?;
@@ -122,7 +124,7 @@ pub(crate) fn filled(
     kind: Kind,
     values: Cells,
 ) -> Result<Change, NoMemory>
-    requires table { CanPick dict.now on.now }
+    requires table { CanSelect dict.now on.now }
     requires target { IsTargetOf on.now target }
     requires count { length values ≡ cells_reached target }
     requires held { AreHeld (grown_table on.now target kind).columns target.columns.places values }

@@ -13,16 +13,16 @@ ghost use Rattle.form_parts.specs.Makes.{MakesBy};
 ghost use Rattle.frame_store.specs.Objects.{Tables};
 ghost use Rattle.frame_store.specs.Arguments.{subscript_of};
 ghost use Rattle.frame_store.specs.World.{world, subscript_in, IsKnownSubscript, IsSettledWorld};
-ghost use Rattle.selections.specs.Reaches.{accessor_of, pick_value, CanPick, PicksBelow};
+ghost use Rattle.selections.specs.Reaches.{accessor_of, pick_value, CanSelect, PicksBelow};
 ghost use Rattle.settings.specs.Assigned.{second_in};
-ghost use Rattle.settings.specs.Values.{reached_value, target_value, IsReachedOf, IsTargetOf, IsFreshIn, TellsAbsence};
+ghost use Rattle.settings.specs.Values.{reached_value, target_value, rows_of_pair, IsReachedOf, IsTargetOf, AddsOnOne, IsFreshIn, TellsAbsence};
 
 use crate::values::wrong_kind;
 use cell_core::{Code, Grid, Label, NoMemory, Places, Shape, TextDict};
 use form_parts::label_of;
 use frame_store::{Argument, ObjRef, OpFault, Selector, Store, Subscript, Value};
 use indexers::Picked;
-use selections::{all_columns, columns_by, may_stand_alone, rows_by};
+use selections::{all_columns, columns_by, joined_key, may_stand_alone, rows_by};
 use std::alloc::Global;
 
 /// The rows or the columns that a setting reaches, and the label of one that it adds behind the
@@ -76,6 +76,20 @@ pub(crate) fn label_to_add(by: Selector, key: &Subscript) -> Option<Label>
     }
 }
 
+// The label of the row that a key adds where it isn't there, on one level alone.
+fn row_to_add(on: &ObjRef<'_>, by: Selector, key: &Subscript) -> Option<Label>
+    ensures label { (live : Tables) (texts : List OneText) → option_map (label_datum texts) result
+        ≡ meant.row_to_add (accessor_of by) (table_value texts on.now)
+        (subscript_of live texts key.now) }
+    ensures one { IfSome result (λ label. length on.now.level_names ≡ 1) }
+{
+    if on.levels() == 1 {
+        label_to_add(by, key)
+    } else {
+        None
+    }
+}
+
 // What was picked, or one more where the label isn't there and may be added.
 fn picked_or_added(
     alloc: Global,
@@ -91,6 +105,7 @@ fn picked_or_added(
         → MakesBy reached_value texts result
         (meant.or_added (heading_value texts label) tuples pick) }
     ensures within { IfOk result (IsReachedOf count) }
+    ensures own { IfOk result (λ reached. IfSome reached.added (λ added. label ≡ Some added)) }
     ensures given { (texts : List OneText) → IsSettled heading_value texts label
         → IfOk result (IsSettled reached_value texts) }
 {
@@ -113,16 +128,42 @@ fn rows_reached(
     by: Selector,
     key: &Subscript,
 ) -> Result<Reached, OpFault>
-    requires table { CanPick dict.now on.now }
+    requires table { CanSelect dict.now on.now }
     requires settled { IsSettledWorld (world store.now dict.now) }
     requires key { IsKnownSubscript (world store.now dict.now) key.now }
     ensures rows { MakesBy reached_value dict.now result (meant.rows_set (accessor_of by)
         (table_value dict.now on.now) (subscript_in (world store.now dict.now) key.now)) }
     ensures within { IfOk result (IsReachedOf (length on.now.labels)) }
+    ensures one { IfOk result (AddsOnOne on.now) }
     ensures given { IfOk result (IsSettled reached_value dict.now) }
 {
     let rows = rows_by(alloc, store, dict, on, by, key);
-    picked_or_added(alloc, rows, on.rows(), label_to_add(by, key))
+    picked_or_added(alloc, rows, on.rows(), row_to_add(on, by, key))
+}
+
+// The rows that two keys of a Series reach, which are one tuple.
+fn rows_of_pair(
+    alloc: Global,
+    store: &Store,
+    dict: &TextDict,
+    on: &ObjRef<'_>,
+    by: Selector,
+    first: &Subscript,
+    second: &Subscript,
+) -> Result<Reached, OpFault>
+    requires table { CanSelect dict.now on.now }
+    requires settled { IsSettledWorld (world store.now dict.now) }
+    requires first { IsKnownSubscript (world store.now dict.now) first.now }
+    requires second { IsKnownSubscript (world store.now dict.now) second.now }
+    ensures rows { MakesBy reached_value dict.now result (rows_of_pair (accessor_of by)
+        (table_value dict.now on.now) (subscript_in (world store.now dict.now) first.now)
+        (subscript_in (world store.now dict.now) second.now)) }
+    ensures within { IfOk result (IsReachedOf (length on.now.labels)) }
+    ensures one { IfOk result (AddsOnOne on.now) }
+    ensures given { IfOk result (IsSettled reached_value dict.now) }
+{
+    let key = joined_key(alloc, by, on.levels(), first, second)?;
+    rows_reached(alloc, store, dict, on, by, &key)
 }
 
 // The columns that a key reaches.
@@ -133,7 +174,7 @@ fn columns_reached(
     by: Selector,
     key: &Subscript,
 ) -> Result<Reached, OpFault>
-    requires table { CanPick dict.now on.now }
+    requires table { CanSelect dict.now on.now }
     requires shape { on.now.shape ≡ Frame }
     ensures columns { (live : Tables) → IsSettled (subscript_of live) dict.now key.now
         → MakesBy reached_value dict.now result (meant.columns_set (accessor_of by)
@@ -158,7 +199,7 @@ pub(crate) fn target_of(
     first: &Subscript,
     second: Option<&Subscript>,
 ) -> Result<Target, OpFault>
-    requires table { CanPick dict.now on.now }
+    requires table { CanSelect dict.now on.now }
     requires settled { IsSettledWorld (world store.now dict.now) }
     requires first { IsKnownSubscript (world store.now dict.now) first.now }
     requires second { IfSome second (λ key. IsKnownSubscript (world store.now dict.now) key.now) }
@@ -176,11 +217,16 @@ pub(crate) fn target_of(
             let columns = picked(all_columns(alloc, on)?);
             Ok(Target { rows, columns })
         }
+        None => Err(wrong_kind()),
         Some(key) if on.shape() == Shape::Frame => {
             let rows = rows_reached(alloc, store, dict, on, by, first)?;
             let columns = columns_reached(alloc, dict, on, by, key)?;
             Ok(Target { rows, columns })
         }
-        _ => Err(wrong_kind()),
+        Some(key) => {
+            let rows = rows_of_pair(alloc, store, dict, on, by, first, key)?;
+            let columns = picked(all_columns(alloc, on)?);
+            Ok(Target { rows, columns })
+        }
     }
 }

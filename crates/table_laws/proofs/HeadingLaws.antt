@@ -120,12 +120,15 @@ place_absent (h ∷ hs) l e = by (same_heading (Some l) h) refl e (place_absent 
     by true is none rest = Prim.cc
     by false is none rest = All-cons (λ h. h ≢ Some l) h hs (λ e. other (Some l) h is (sym e)) (rest (no_later (place_of_label hs l) none))
 
-pub column_place_found : (t : Table) (l : LabelValue) → IfOk (column_place t l) (λ place. place < length t.headings)
-column_place_found t l = by (place_of_label t.headings l) (place_found t.headings l)
+pub found_within : (hs : List Heading) (l : LabelValue) → IfOk (found l (place_of_label hs l)) (λ place. place < length hs)
+found_within hs l = by (place_of_label hs l) (place_found hs l)
   where
-    by : (o : Option ℕ) → IfSome o (IsPlace t.headings l) → IfOk (found l o) (λ place. place < length t.headings)
+    by : (o : Option ℕ) → IfSome o (IsPlace hs l) → IfOk (found l o) (λ place. place < length hs)
     by None h = tt
     by (Some n) h = h.below
+
+pub column_place_found : (t : Table) (l : LabelValue) → IfOk (column_place t l) (λ place. place < length t.headings)
+column_place_found t l = found_within t.headings l
 
 set_same : {X : Type 0} (xs : List X) (i : ℕ) (x d : X) → i < length xs → slice_index_or xs i d ≡ x → slice_set xs i x ≡ xs
 set_same [] i x d lt is = refl

@@ -9,19 +9,21 @@ use Rattle.cell_core.specs.declared.grid.Shape.TheVariants.{Series, Frame}
 use Rattle.meaning.specs.Cell.{CellValue, int_cell, na_cell, Kind, LabelValue}
 use Rattle.meaning.specs.Column.{gap_cell, taken}
 use Rattle.meaning.specs.Symbol.{Binary, sub}
-use Rattle.meaning.specs.Fault.{FaultValue, wrong_kind, bad_value, not_aligned, limit, then_value, not_built}
+use Rattle.meaning.specs.Fault.{FaultValue, wrong_kind, bad_value, not_aligned, limit, then_value}
 use Rattle.align_meaning.specs.Faults.{AlignRefusal, met_rows}
 use Rattle.align_meaning.specs.Joins.{outer}
-use Rattle.align_meaning.proofs.InsideLaws.{AreInside, joined_inside}
+use Rattle.align_meaning.proofs.DifferLaws.{joined_apart}
+use Rattle.align_meaning.proofs.InsideLaws.{IsRowOf, AreInside, joined_inside}
 use Rattle.table_meaning.specs.Table.{ColumnOf, Table, column_at}
 use Rattle.table_meaning.specs.Valid.{IsValid, within_limits}
 use Rattle.table_meaning.specs.Value.{Entry, cell, table}
-use Rattle.form_meaning.specs.Finish.{same_heading, try_all, with_columns}
-use Rattle.form_meaning.specs.Infix.{Meeting, swapped, meets, met, infix_table, with_scalar, beside, across, turned, scalar_infix, on_levels, same_tuple, same_tuples, tuple_before, same_headings, are_headings, same_count, has_one, common_name, common_names, first_heading, compares, Joined, joined_rows, on_rows, with_joined, joined_infix, unequal_infix, rows_infix, series_infix, frame_infix, across_series, across_infix, table_infix, infix_result, is_truth_column, inverted_column, inverted, sign_result}
+use Rattle.form_meaning.specs.Finish.{same_heading, first_repeated, unless_repeated, limited_table, try_all, with_columns, column_labels}
+use Rattle.form_meaning.specs.Infix.{Meeting, swapped, meets, met, infix_table, with_scalar, beside, across, turned, scalar_infix, on_levels, same_tuple, same_tuples, tuple_before, same_headings, are_headings, same_count, has_one, common_name, common_names, first_heading, compares, Joined, joined_rows, on_rows, with_joined, joined_infix, unequal_infix, rows_infix, series_infix, on_columns, common_infix, unequal_columns, wide_infix, joined_frames, frame_infix, across_series, takes_each, labels_fit, spread_series, spread_frame, joined_turned, across_unequal, across_infix, table_infix, infix_result, is_truth_column, inverted_column, inverted, sign_result}
 use Rattle.table_laws.specs.Validity.{IsValidObject, IsValidEntry}
 use Rattle.table_laws.proofs.ListLaws.{both_true, all_made, all_mapped, at_or, then_keeps, try_keeps}
 use Rattle.table_laws.proofs.CellLaws.{Held, na_held}
 use Rattle.table_laws.proofs.ColumnLaws.{side, IsColumn, IsMeeting, met_keeps, scalar_meets, inverted_keeps, spread_column}
+use Rattle.table_laws.proofs.WideLaws.{tuple_decides, labels_single, labels_many, labels_apart, length_wide, wide_shaped, spread_shaped}
 use Rattle.table_laws.proofs.TableLaws.{IsShaped, shaped, valid, with_columns_shaped, column_of_table, series_heading, frame_headings, one_column}
 
 -- as many meetings as columns, all of the table's rows
@@ -120,7 +122,7 @@ gap_held : (kind : Kind) (cells : List CellValue) (gap : Option ℕ) → All (He
 gap_held kind cells None h = na_held kind
 gap_held kind cells (Some place) h = at_or (Held kind) cells place na_cell (na_held kind) h
 
-columns_on : (n count : ℕ) (rows : List (Option ℕ)) (cs : List (ColumnOf CellValue)) → length rows ≡ count → All (IsColumn n) cs → All (IsColumn count) (on_rows na_cell rows cs)
+pub columns_on : (n count : ℕ) (rows : List (Option ℕ)) (cs : List (ColumnOf CellValue)) → length rows ≡ count → All (IsColumn n) cs → All (IsColumn count) (on_rows na_cell rows cs)
 columns_on n count rows cs same h =
     all_made (IsColumn n) (IsColumn count) (λ c. record { kind = c.kind; cells = taken na_cell c.cells rows })
     (λ c k. record { filled = length-map rows (gap_cell na_cell c.cells) ∙ same; held = all_mapped (Held c.kind) (gap_cell na_cell c.cells) (λ gap. gap_held c.kind c.cells gap k.held) rows }) cs h
@@ -209,8 +211,8 @@ series_keep op a b s r is is' = rows_keep op a b t s r fits refl refl (one_colum
     fits : IsShaped t
     fits = record { some = s.some; few = s.few; levels = s.levels; headed = sym (one_column a s is); columns = s.columns; headings = series_heading a.shape a.columns_name _ is (s.headings.nameless is) }
 
-frames_keep : (op : Binary) (a b : Table) → IsShaped a → IsShaped b → a.shape ≡ Frame → IfOk (frame_infix op a b) IsValidEntry
-frames_keep op a b s r is = by (same_headings a.headings b.headings) refl
+common_keep : (op : Binary) (a b : Table) → IsShaped a → IsShaped b → a.shape ≡ Frame → length a.columns ≡ length b.columns → IfOk (common_infix op a b) IsValidEntry
+common_keep op a b s r is columns = rows_keep op a b t s r fits refl refl columns
   where
     t : Table
     t = record a { columns_name = common_name a.columns_name b.columns_name }
@@ -225,12 +227,66 @@ frames_keep op a b s r is = by (same_headings a.headings b.headings) refl
       headings = frame_headings a.shape _ a.headings is (s.headings.labelled is) (s.headings.different is);
     }
 
-    by : (c : Bool) → same_headings a.headings b.headings ≡ c → IfOk (if c then rows_infix op a b t else Err not_built) IsValidEntry
-    by true e = rows_keep op a b t s r fits refl refl (sym s.headed ∙ length_headings a.headings b.headings e ∙ r.headed)
-    by false e = tt
+unequal_columns_keep : (op : Binary) (a b : Table) → IsShaped a → IsShaped b → a.shape ≡ Frame → length a.columns ≡ length b.columns → IfOk (unequal_columns op a b) IsValidEntry
+unequal_columns_keep op a b s r is columns = by (list_all (meets op) (beside a.columns b.columns)) (same_count a.level_names b.level_names) (compares op)
+  where
+    by : (k l c : Bool) → IfOk (on_levels k l (if c then Err (bad_value not_aligned) else common_infix op a b)) IsValidEntry
+    by false l c = tt
+    by true false c = tt
+    by true true true = tt
+    by true true false = common_keep op a b s r is columns
 
-across_keep : (op : Binary) (left : Bool) (f s : Table) → IsShaped f → IsShaped s → s.shape ≡ Series → IfOk (across_infix op left f s) IsValidEntry
-across_keep op left f s h k is = by (are_headings s.labels f.headings) refl
+wide_keep : (op : Binary) (a b : Table) → IsShaped a → IsShaped b → a.shape ≡ Frame → b.shape ≡ Frame → IfOk (joined_frames op a b) IsValidEntry
+wide_keep op a b s r is is' = by (joined_rows (column_labels a) (column_labels b)) refl
+  where
+    by : (met : Result Joined FaultValue) → joined_rows (column_labels a) (column_labels b) ≡ met → IfOk (then_value met (wide_infix op a b)) IsValidEntry
+    by (Err fault) e = tt
+    by (Ok j) e =
+        let joined = met_is (outer same_tuple tuple_before (column_labels a) (column_labels b)) j e in
+        let inside = joined_inside (λ tuple. length tuple ≡ 1) same_tuple tuple_before (column_labels a) (column_labels b) (labels_single a) (labels_single b) j joined in
+        let apart = joined_apart same_tuple tuple_before tuple_decides (column_labels a) (column_labels b) (labels_apart a s is) (labels_apart b r is') j joined in
+        let lefts = subst (λ n. All (IsRowOf n) j.left) (labels_many a s) inside.left in
+        let rights = subst (λ n. All (IsRowOf n) j.right) (labels_many b r) inside.right in
+        unequal_columns_keep op (on_columns a b j.keys j.left j.right) (on_columns b a j.keys j.right j.left)
+        (wide_shaped a b j.keys j.left j.right s is inside.keyed apart inside.left_count inside.right_count lefts) (wide_shaped b a j.keys j.right j.left r is' inside.keyed apart inside.right_count inside.left_count rights) is
+        (length_wide a b j.keys j.left j.right inside.left_count inside.right_count ∙ sym (length_wide b a j.keys j.right j.left inside.right_count inside.left_count))
+
+frames_keep : (op : Binary) (a b : Table) → IsShaped a → IsShaped b → a.shape ≡ Frame → b.shape ≡ Frame → IfOk (frame_infix op a b) IsValidEntry
+frames_keep op a b s r is is' = by (same_headings a.headings b.headings) refl
+  where
+    by : (c : Bool) → same_headings a.headings b.headings ≡ c → IfOk (if c then common_infix op a b else joined_frames op a b) IsValidEntry
+    by true e = common_keep op a b s r is (sym s.headed ∙ length_headings a.headings b.headings e ∙ r.headed)
+    by false e = wide_keep op a b s r is is'
+
+turned_keep : (op : Binary) (left : Bool) (f g : Table) → IsShaped f → IsShaped g → f.shape ≡ Frame → g.shape ≡ Frame → IfOk (joined_turned op left f g) IsValidEntry
+turned_keep op false f g h k is is' = wide_keep op f g h k is is'
+turned_keep op true f g h k is is' = wide_keep op g f k h is' is
+
+spread_keep : (op : Binary) (left : Bool) (f s : Table) → IsShaped f → IsShaped s → f.shape ≡ Frame → s.shape ≡ Series → length s.level_names ≡ 1 → IfOk (then_value (spread_frame f s) (joined_turned op left f)) IsValidEntry
+spread_keep op left f s h k is is' one = by (first_repeated (spread_series f s).headings) (within_limits (length f.labels) (length (spread_series f s).columns)) refl
+  where
+    by : (o : Option LabelValue) (b : Bool) → first_repeated (spread_series f s).headings ≡ o → IfOk (then_value (unless_repeated o (if b then Ok (spread_series f s) else Err limit)) (joined_turned op left f)) IsValidEntry
+    by (Some l) b e = tt
+    by None false e = tt
+    by None true e = turned_keep op left f (spread_series f s) h (spread_shaped f s h k is is' one e) is is
+
+across_unequal_keep : (op : Binary) (left : Bool) (f s : Table) → IsShaped f → IsShaped s → f.shape ≡ Frame → s.shape ≡ Series → IfOk (across_unequal op left f s) IsValidEntry
+across_unequal_keep op left f s h k is is' = by (takes_each op f s) (has_one s.level_names) (labels_fit same_tuple (column_at s.columns 0).kind s.labels (column_labels f) f.columns) (compares op) refl
+  where
+    only : {A : Type 0} (xs : List A) → has_one xs ≡ true → length xs ≡ 1
+    only [] e = Prim.cc
+    only (x ∷ []) e = refl
+    only (x ∷ y ∷ xs) e = Prim.cc
+
+    by : (t l fit c : Bool) → has_one s.level_names ≡ l → IfOk (on_levels t l (if fit then (if c then Err (bad_value not_aligned) else then_value (spread_frame f s) (joined_turned op left f)) else Err wrong_kind)) IsValidEntry
+    by false l fit c e = tt
+    by true false fit c e = tt
+    by true true false c e = tt
+    by true true true true e = tt
+    by true true true false e = spread_keep op left f s h k is is' (only s.level_names e)
+
+across_keep : (op : Binary) (left : Bool) (f s : Table) → IsShaped f → IsShaped s → f.shape ≡ Frame → s.shape ≡ Series → IfOk (across_infix op left f s) IsValidEntry
+across_keep op left f s h k is' is = by (are_headings s.labels f.headings) refl
   where
     c : ColumnOf CellValue
     c = column_at s.columns 0
@@ -239,19 +295,19 @@ across_keep op left f s h k is = by (are_headings s.labels f.headings) refl
     series = column_of_table s k 0 (Prim.omega (arith, one_column s k is))
 
     by : (b : Bool) → are_headings s.labels f.headings ≡ b
-        → IfOk (if b then on_levels (list_all (meets op) (across_series left f s)) (has_one s.level_names) (infix_table op f (across_series left f s)) else Err not_built) IsValidEntry
+        → IfOk (if b then on_levels (list_all (meets op) (across_series left f s)) (has_one s.level_names) (infix_table op f (across_series left f s)) else across_unequal op left f s) IsValidEntry
     by true e = levels_keep _ _ (infix_table op f (across_series left f s)) (infix_keeps op f (across_series left f s) h
         (turned_meet left f _ record {
           count = length_across (length f.labels) c.kind f.columns c.cells (sym h.headed ∙ sym (length_labels s.labels f.headings e) ∙ sym series.filled);
           each = across_meet (length f.labels) c.kind f.columns c.cells h.columns series.held;
         }))
-    by false e = tt
+    by false e = across_unequal_keep op left f s h k is' is
 
 tables_keep : (op : Binary) (p q : Shape) (a b : Table) → IsShaped a → IsShaped b → a.shape ≡ p → b.shape ≡ q → IfOk (table_infix op p q a b) IsValidEntry
 tables_keep op Series Series a b s r is is' = series_keep op a b s r is is'
-tables_keep op Series Frame a b s r is is' = across_keep op true b a r s is
-tables_keep op Frame Series a b s r is is' = across_keep op false a b s r is'
-tables_keep op Frame Frame a b s r is is' = frames_keep op a b s r is
+tables_keep op Series Frame a b s r is is' = across_keep op true b a r s is' is
+tables_keep op Frame Series a b s r is is' = across_keep op false a b s r is is'
+tables_keep op Frame Frame a b s r is is' = frames_keep op a b s r is is'
 
 -- an operator on two values
 pub infix_result_keeps : (op : Binary) (v w : Entry) → IsValidObject v → IsValidObject w → IfOk (infix_result op v w) IsValidEntry

@@ -1,25 +1,33 @@
 -- Methods that give the rows other levels make valid tables of valid ones.
-use Rattle.std.proofs.Common.{◌≡◌, ◌∙◌, refl, sym, subst, ℕ, ◌<◌, ◌≤◌, List, length, map, arith}
-use Rattle.std.specs.Prelude.{Bool, true, false, nat_le, ◌&&◌, if◌then◌else◌, Option, Some, None, Result, Err, IfOk, All}
+use Rattle.std.proofs.Common.{◌≡◌, ◌∙◌, refl, sym, subst, ap, ℕ, ◌<◌, ◌≤◌, ◌+◌, List, [], ◌∷◌, ◌++◌, length, map, length-append, arith}
+use Rattle.std.specs.Prelude.{Bool, true, false, nat_le, ◌&&◌, if◌then◌else◌, remove, swap, Option, Some, None, IsSome, Result, IfOk, All}
+use Rattle.std.specs.List.{list_any, range_with_len}
 use Rattle.std.proofs.lemmas.Bool.Decides.{nat_tests}
 use Rattle.std.proofs.lemmas.List.{length-map}
-use Rattle.std.proofs.lemmas.List.Elements.{All-filter}
-use Rattle.cell_core.specs.declared.grid.Shape.TheVariants.{Frame}
-use Rattle.meaning.specs.Cell.{CellValue, LabelValue, na_cell}
+use Rattle.std.proofs.lemmas.List.FromFn.{length-range_with_len}
+use Rattle.std.proofs.lemmas.List.Edits.{length-remove, length-swap}
+use Rattle.std.proofs.lemmas.List.Elements.{All-filter, All-append}
+use Rattle.cell_core.specs.declared.grid.Shape.TheVariants.{Series, Frame}
+use Rattle.meaning.specs.Cell.{CellValue, LabelValue, na_cell, int_cell, text_cell, text}
 use Rattle.meaning.specs.Operator.{cell_label}
-use Rattle.meaning.specs.Fault.{FaultValue, limit}
-use Rattle.table_meaning.specs.Table.{RowOf, Table, row_of, rows_of}
+use Rattle.meaning.specs.Fault.{FaultValue, bad_value, levels, limit, then_value}
+use Rattle.pick_meaning.specs.Positions.{row_at}
+use Rattle.pick_meaning.proofs.PositionLaws.{at_inside}
+use Rattle.table_meaning.specs.Table.{ColumnOf, RowOf, Table, row_of, rows_of}
 use Rattle.table_meaning.specs.Value.{Entry, Given}
-use Rattle.form_meaning.specs.Finish.{first_repeated, unless_repeated, limited}
+use Rattle.form_meaning.specs.Finish.{first_repeated, unless_repeated, limited, default_labels, try_all}
 use Rattle.form_meaning.specs.Select.{heading_at, columns_frame, column_places}
+use Rattle.form_meaning.specs.Set.{list_column}
 use Rattle.method_meaning.specs.Rows.{cells_by_row, all_places, labels_in, places_besides}
-use Rattle.method_meaning.specs.Levels.{names_in, rename_axis_result, on_levels, indexed_by, index_set, set_index_result}
+use Rattle.method_meaning.specs.Levels.{names_in, axis_renamed, rename_axis_result, on_levels, indexed_by, index_set, set_index_result, renumbered, level_cells, level_columns, level_labels, with_levels, levels_reset, level_of, of_several, level_dropped, droplevel_result, levels_swapped, swaplevel_result}
 use Rattle.table_laws.specs.Validity.{IsValidEntry}
-use Rattle.table_laws.proofs.ListLaws.{both_true, all_made, all_tabulated, then_keeps, of_length_keeps}
-use Rattle.table_laws.proofs.ColumnLaws.{IsColumn}
-use Rattle.table_laws.proofs.TableLaws.{IsShaped, limited_keeps}
-use Rattle.table_laws.proofs.ReachLaws.{below_all}
+use Rattle.table_laws.proofs.ListLaws.{both_true, all_made, all_any, all_mapped, all_tabulated, then_keeps, try_keeps, of_length_keeps}
+use Rattle.table_laws.proofs.ColumnLaws.{IsColumn, list_keeps}
+use Rattle.table_laws.proofs.TableLaws.{IsShaped, limited_keeps, frame_headings}
+use Rattle.table_laws.proofs.HeadingLaws.{different, finished_keeps, found_within}
+use Rattle.table_laws.proofs.ReachLaws.{below_all, found_is}
 use Rattle.table_laws.proofs.RowLaws.{kept_shaped, rows_counted, anything}
+use Rattle.table_laws.proofs.SetLaws.{length_default, default_levels}
 
 abbrev Has : ℕ → List LabelValue → Type 0
 Has n tuple = length tuple ≡ n
@@ -48,7 +56,7 @@ on_levels_keep count rest h = by (nat_le 1 count && nat_le count 4) refl
     at_most : nat_le count 4 ≡ true → count ≤ 4
     at_most e = Prim.grind (arith, nat_tests)
 
-    by : (b : Bool) → nat_le 1 count && nat_le count 4 ≡ b → IfOk (if b then rest else Err limit) IsValidEntry
+    by : (b : Bool) → nat_le 1 count && nat_le count 4 ≡ b → IfOk (if b then rest else Rattle.std.specs.Prelude.Err limit) IsValidEntry
     by true e = let x = both_true (nat_le 1 count) (nat_le count 4) e in h (at_least x.0) (at_most x.1)
     by false e = tt
 
@@ -85,3 +93,109 @@ index_set_keeps t places s is = by (first_repeated (indexed_by t places).heading
 pub set_index_keeps : (t : Table) (keys : Given) → IsShaped t → t.shape ≡ Frame → IfOk (set_index_result t keys) IsValidEntry
 set_index_keeps t keys s is =
     then_keeps (λ places. Unit {0}) IsValidEntry (column_places t (labels_in keys)) (index_set t) (anything (column_places t (labels_in keys))) (λ places h. index_set_keeps t places s is)
+
+-- the labels 0, 1 and so on
+renumbered_shaped : (t : Table) → IsShaped t → IsShaped (renumbered t)
+renumbered_shaped t s = record {
+  some = Prim.omega arith;
+  few = Prim.omega arith;
+  levels = default_levels (length t.labels);
+  headed = s.headed;
+  columns = subst (λ n. All (IsColumn n) t.columns) (sym (length_default (length t.labels))) s.columns;
+  headings = s.headings;
+}
+
+pub renumbered_keeps : (t : Table) → IsShaped t → IfOk (limited (renumbered t)) IsValidEntry
+renumbered_keeps t s = limited_keeps (renumbered t) (renumbered_shaped t s)
+
+-- levels as columns
+level_keeps : (t : Table) (level : ℕ) → IfOk (list_column (level_cells t level)) (IsColumn (length t.labels))
+level_keeps t level = subst (λ n. IfOk (list_column (level_cells t level)) (IsColumn n)) (length-map t.labels _) (list_keeps (level_cells t level))
+
+with_levels_shaped : (t : Table) (columns : List (ColumnOf CellValue)) → IsShaped t → t.shape ≡ Frame → length columns ≡ length t.level_names → All (IsColumn (length t.labels)) columns → first_repeated (with_levels t columns).headings ≡ None
+    → IsShaped (with_levels t columns)
+with_levels_shaped t columns s is size h none =
+    let r = renumbered_shaped t s in
+    let own : List (Option LabelValue) = map (λ l. Some l) (level_labels t) in
+    let count : length own ≡ length columns = length-map (level_labels t) _ ∙ length-map (range_with_len 0 (length t.level_names)) _ ∙ length-range_with_len 0 (length t.level_names) ∙ sym size in
+    let some : All IsSome (own ++ t.headings) = All-append IsSome own t.headings (all_mapped IsSome (λ l. Some l) (λ l. refl) (level_labels t)) (s.headings.labelled is) in
+    record {
+      some = r.some;
+      few = r.few;
+      levels = r.levels;
+      headed = length-append own t.headings ∙ (λ j. count j + s.headed j) ∙ sym (length-append columns t.columns);
+      columns = All-append (IsColumn (length (renumbered t).labels)) columns t.columns (subst (λ n. All (IsColumn n) columns) (sym (length_default (length t.labels))) h) r.columns;
+      headings = frame_headings t.shape t.columns_name (own ++ t.headings) is some (different (own ++ t.headings) some none);
+    }
+
+pub levels_reset_keeps : (t : Table) → IsShaped t → t.shape ≡ Frame → IfOk (levels_reset t) IsValidEntry
+levels_reset_keeps t s is =
+    let levels = range_with_len 0 (length t.level_names) in
+    then_keeps (λ columns. (length columns ≡ length levels) × All (IsColumn (length t.labels)) columns) IsValidEntry (level_columns t) _
+    (try_keeps (λ level. Unit {0}) (IsColumn (length t.labels)) (λ level. list_column (level_cells t level)) (λ level h. level_keeps t level) levels (all_any (λ level. Unit {0}) (λ level. tt) levels))
+    (λ columns made. finished_keeps (with_levels t columns) (with_levels_shaped t columns s is (made.0 ∙ length-range_with_len 0 (length t.level_names)) made.1))
+
+-- a level that is named stands there
+abbrev pub IsLevel : Table → ℕ → Type 0
+IsLevel t level = level < length t.level_names
+
+pub level_of_keeps : (t : Table) (level : Option CellValue) → IfOk (level_of t level) (IsLevel t)
+level_of_keeps t (Some (int_cell z)) = found_is (IsLevel t) (row_at (length t.level_names) z) (λ k is. at_inside (length t.level_names) z k is)
+level_of_keeps t (Some (text_cell name)) = found_within t.level_names (text name)
+level_of_keeps t level = tt
+
+-- where a level goes, another one stays
+pub of_several_keeps : {A : Type 0} (P : A → Type 0) (t : Table) (rest : Result A FaultValue) → (2 ≤ length t.level_names → IfOk rest P) → IfOk (of_several t rest) P
+of_several_keeps P t rest h = by (nat_le 2 (length t.level_names)) refl
+  where
+    at_least : nat_le 2 (length t.level_names) ≡ true → 2 ≤ length t.level_names
+    at_least e = Prim.grind (arith, nat_tests)
+
+    by : (b : Bool) → nat_le 2 (length t.level_names) ≡ b → IfOk (if b then rest else Rattle.std.specs.Prelude.Err (bad_value levels)) P
+    by true e = h (at_least e)
+    by false e = tt
+
+-- the table without a level
+one_less : (n : ℕ) (level : ℕ) → level < n → (tuple : List LabelValue) → length tuple ≡ n → length (remove tuple level) + 1 ≡ n
+one_less n level lt tuple has = length-remove tuple level (subst (λ k. level < k) (sym has) lt) ∙ has
+
+dropped_has : (t : Table) (level : ℕ) → IsLevel t level → (tuple : List LabelValue) → length tuple ≡ length t.level_names → Has (length (remove t.level_names level)) (remove tuple level)
+dropped_has t level lt tuple has =
+    let here : length (remove tuple level) + 1 ≡ length t.level_names = one_less (length t.level_names) level lt tuple has in
+    let there : length (remove t.level_names level) + 1 ≡ length t.level_names = length-remove t.level_names level lt in
+    Prim.omega (arith, here, there)
+
+pub dropped_shaped : (t : Table) (level : ℕ) → IsShaped t → IsLevel t level → 2 ≤ length t.level_names → IsShaped (level_dropped t level)
+dropped_shaped t level s lt several =
+    let count : length (remove t.level_names level) + 1 ≡ length t.level_names = length-remove t.level_names level lt in
+    record {
+      some = Prim.omega (arith, count, several);
+      few = Prim.omega (arith, count, s.few);
+      levels = all_made (Has (length t.level_names)) (Has (length (remove t.level_names level))) (λ tuple. remove tuple level) (dropped_has t level lt) t.labels s.levels;
+      headed = s.headed;
+      columns = subst (λ n. All (IsColumn n) t.columns) (sym (length-map t.labels _)) s.columns;
+      headings = s.headings;
+    }
+
+pub droplevel_keeps : (t : Table) (level : Option CellValue) → IsShaped t → IfOk (droplevel_result t level) IsValidEntry
+droplevel_keeps t level s =
+    then_keeps (IsLevel t) IsValidEntry (level_of t level) _ (level_of_keeps t level)
+    (λ k lt. of_several_keeps IsValidEntry t (limited (level_dropped t k)) (λ several. limited_keeps (level_dropped t k) (dropped_shaped t k s lt several)))
+
+-- two levels exchanged
+swapped_shaped : (t : Table) (i j : ℕ) → IsShaped t → IsShaped (levels_swapped t i j)
+swapped_shaped t i j s =
+    let count : length (swap t.level_names i j) ≡ length t.level_names = length-swap t.level_names i j in
+    record {
+      some = subst (λ n. 1 ≤ n) (sym count) s.some;
+      few = subst (λ n. n ≤ 4) (sym count) s.few;
+      levels = all_made (Has (length t.level_names)) (Has (length (swap t.level_names i j))) (λ tuple. swap tuple i j) (λ tuple has. length-swap tuple i j ∙ has ∙ sym count) t.labels s.levels;
+      headed = s.headed;
+      columns = subst (λ n. All (IsColumn n) t.columns) (sym (length-map t.labels _)) s.columns;
+      headings = s.headings;
+    }
+
+pub swaplevel_keeps : (t : Table) (first second : Option CellValue) → IsShaped t → IfOk (swaplevel_result t first second) IsValidEntry
+swaplevel_keeps t first second s =
+    then_keeps (IsLevel t) IsValidEntry (level_of t first) _ (level_of_keeps t first)
+    (λ i here. then_keeps (IsLevel t) IsValidEntry (level_of t second) _ (level_of_keeps t second) (λ j there. limited_keeps (levels_swapped t i j) (swapped_shaped t i j s)))

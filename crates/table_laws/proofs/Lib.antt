@@ -2,6 +2,7 @@ pub mod ListLaws
 pub mod CellLaws
 pub mod ColumnLaws
 pub mod TableLaws
+pub mod WideLaws
 pub mod InfixLaws
 pub mod HeadingLaws
 pub mod SelectLaws
@@ -9,6 +10,8 @@ pub mod ReachLaws
 pub mod SetLaws
 pub mod RowLaws
 pub mod LevelLaws
+pub mod ReindexLaws
+pub mod SectionLaws
 pub mod MethodLaws
 pub mod MakeLaws
 pub mod CsvLaws

@@ -3,7 +3,7 @@ use Rattle.std.proofs.Common.{◌≡◌, ◌∙◌, refl, sym, subst, ℕ, pos, 
 use Rattle.std.specs.Prelude.{Bool, true, false, ◌||◌, nat_lt, if◌then◌else◌, codes, unwrap_or, Option, Some, None, IsSome, IfSome, option_map, Result, Ok, Err, IfOk, All}
 use Rattle.std.specs.List.{list_all}
 use Rattle.std.proofs.lemmas.List.{length-map}
-use Rattle.std.proofs.lemmas.List.Elements.{All-nil, All-cons}
+use Rattle.std.proofs.lemmas.List.Elements.{All-nil, All-cons, All-head, All-tail}
 use Rattle.cell_core.specs.declared.grid.Shape.{Shape}
 use Rattle.cell_core.specs.declared.grid.Shape.TheVariants.{Series, Frame}
 use Rattle.meaning.specs.Text.{Text, same_text}
@@ -15,6 +15,7 @@ use Rattle.meaning.specs.Reduce.{Reduction, reduction_takes, reduction_cell, sam
 use Rattle.meaning.specs.Cumulate as cumulation
 use Rattle.meaning.specs.Fault.{FaultValue, wrong_kind, bad_value, no_columns, not_built}
 use Rattle.table_meaning.specs.Table.{ColumnOf, Table, column_at}
+use Rattle.table_meaning.specs.Valid.{AreHeadings}
 use Rattle.table_meaning.specs.Value.{Entry, cell, table, Given, NamedGiven, nothing, scalar_in, list_in, dict_in}
 use Rattle.form_meaning.specs.declared.Method.{Method}
 use Rattle.form_meaning.specs.declared.Method.TheVariants as method
@@ -24,7 +25,7 @@ use Rattle.form_meaning.specs.Finish.{first_repeated, limited, finished, try_all
 use Rattle.form_meaning.specs.Select.{cells_of}
 use Rattle.form_meaning.specs.Make.{on, kind_given, pairs_in}
 use Rattle.format_meaning.specs.CsvWrite.{csv_text_of}
-use Rattle.method_meaning.specs.Methods.{each_column, mapped, missing_mark, present_mark, filled_column, is_in, shifted_column, cast_as, cumulated, Summary, reduced, distinct, made_cell, summary_cell, summary_kind, kind_for, summary_as, summary_of, summary, renamed_series, is_scalar_pair, renamed_heading, renamed_frame, as_frame, csv_answer, answer_for, is_built}
+use Rattle.method_meaning.specs.Methods.{each_column, mapped, missing_mark, present_mark, filled_column, is_in, shifted_column, cast_as, cumulated, Summary, reduced, distinct, made_cell, summary_cell, summary_kind, kind_for, summary_as, summary_of, summary, renamed_series, is_scalar_pair, renamed_heading, renamed_frame, as_frame, reset_index_result, csv_answer, answer_for, is_built}
 use Rattle.method_meaning.specs.Calls.{has_method, called, method_result, ChainValue, plain, through, not_built_if, chain_result}
 use Rattle.table_laws.specs.Validity.{IsValidObject, IsValidEntry}
 use Rattle.table_laws.proofs.ListLaws.{all_made, all_mapped, then_keeps, try_keeps}
@@ -34,7 +35,10 @@ use Rattle.table_laws.proofs.TableLaws.{IsShaped, shaped, limited_keeps, with_co
 use Rattle.table_laws.proofs.HeadingLaws.{different, finished_keeps}
 use Rattle.table_laws.proofs.SelectLaws.{kind_is}
 use Rattle.table_laws.proofs.RowLaws.{head_keeps, tail_keeps, dropna_keeps, duplicated_keeps, sort_values_keeps, sort_by_keeps, sorted_keeps, drop_keeps}
-use Rattle.table_laws.proofs.LevelLaws.{rename_axis_keeps, set_index_keeps}
+use Rattle.table_laws.proofs.LevelLaws.{rename_axis_keeps, set_index_keeps, renumbered_keeps, levels_reset_keeps, droplevel_keeps, swaplevel_keeps}
+use Rattle.table_laws.proofs.ReindexLaws.{reindex_keeps}
+use Rattle.table_laws.proofs.SectionLaws.{xs_keeps}
+use Rattle.method_meaning.specs.Levels.{renumbered, levels_reset}
 use Rattle.method_meaning.specs.Rows.{all_places}
 
 -- each column by itself
@@ -135,10 +139,18 @@ renamed_frame_keeps t pairs s is = by (list_all is_scalar_pair pairs)
     by true = finished_keeps u fits
     by false = tt
 
-as_frame_keeps : (t : Table) → IsShaped t → t.shape ≡ Series → IfOk (limited (as_frame t)) IsValidEntry
-as_frame_keeps t s is =
+heading_kept : (h : Option LabelValue) → IsSome h → Some (unwrap_or h (int (pos 0))) ≡ h
+heading_kept None s = Prim.cc
+heading_kept (Some l) s = refl
+
+headings_kept : (hs : List (Option LabelValue)) → All IsSome hs → map (λ h. Some (unwrap_or h (int (pos 0)))) hs ≡ hs
+headings_kept [] some = refl
+headings_kept (h ∷ hs) some = λ j. heading_kept h (All-head IsSome h hs some) j ∷ headings_kept hs (All-tail IsSome h hs some) j
+
+as_frame_shaped : (p : Shape) (t : Table) → IsShaped t → t.shape ≡ p → IsShaped (as_frame t)
+as_frame_shaped Series t s is =
     let size : length (as_frame t).headings ≡ 1 = length-map t.headings _ ∙ s.headings.single is in
-    limited_keeps (as_frame t) record {
+    record {
       some = s.some;
       few = s.few;
       levels = s.levels;
@@ -146,6 +158,21 @@ as_frame_keeps t s is =
       columns = s.columns;
       headings = frame_headings Frame t.columns_name (as_frame t).headings refl (all_mapped IsSome (λ h. Some (unwrap_or h (int (pos 0)))) (λ h. refl) t.headings) (λ i j d lt within. absurd (Prim.omega (arith, lt, within, size)));
     }
+as_frame_shaped Frame t s is = record {
+  some = s.some;
+  few = s.few;
+  levels = s.levels;
+  headed = length-map t.headings _ ∙ s.headed;
+  columns = s.columns;
+  headings = subst (λ hs. AreHeadings Frame t.columns_name hs) (sym (headings_kept t.headings (s.headings.labelled is))) (subst (λ p. AreHeadings p t.columns_name t.headings) is s.headings);
+}
+
+as_frame_keeps : (t : Table) → IsShaped t → IfOk (limited (as_frame t)) IsValidEntry
+as_frame_keeps t s = limited_keeps (as_frame t) (as_frame_shaped t.shape t s refl)
+
+reset_index_keeps : (t : Table) (drop : Bool) → IsShaped t → IfOk (reset_index_result t drop) IsValidEntry
+reset_index_keeps t true s = renumbered_keeps t s
+reset_index_keeps t false s = levels_reset_keeps (as_frame t) (as_frame_shaped t.shape t s refl) refl
 
 csv_keeps : (index : Bool) (t : Table) → IfOk (csv_answer index t) IsValidEntry
 csv_keeps index t = by (index || nat_lt 0 (length t.columns))
@@ -161,6 +188,7 @@ suits method.RenameFrame Series = false
 suits method.ToFrame Frame = false
 suits method.DropColumns Series = false
 suits method.SetIndex Series = false
+suits method.ReindexFrame Series = false
 suits m s = true
 
 series_of : (t : Table) (m : Method) → suits m Frame ≡ false → suits m t.shape ≡ true → t.shape ≡ Series
@@ -211,8 +239,14 @@ answer_keeps method.RenameSeries (name ∷ []) t s fit = renamed_series_keeps t 
 answer_keeps method.RenameFrame (columns ∷ []) t s fit = on_keeps IsValidEntry (dict_in columns) _ (λ pairs. renamed_frame_keeps t (pairs_in pairs) s (frame_of t method.RenameFrame refl fit))
 answer_keeps method.RenameAxis (names ∷ []) t s fit = rename_axis_keeps t names s
 answer_keeps method.SetIndex (keys ∷ []) t s fit = set_index_keeps t keys s (frame_of t method.SetIndex refl fit)
+answer_keeps method.ResetIndex (drop ∷ []) t s fit = on_keeps IsValidEntry (truth_in drop) _ (λ b. reset_index_keeps t b s)
+answer_keeps method.Droplevel (level ∷ []) t s fit = droplevel_keeps t (scalar_in level) s
+answer_keeps method.Swaplevel (i ∷ j ∷ []) t s fit = swaplevel_keeps t (scalar_in i) (scalar_in j) s
+answer_keeps method.ReindexSeries (index ∷ []) t s fit = reindex_keeps t (list_in index) None s (λ none. Prim.cc)
+answer_keeps method.ReindexFrame (index ∷ columns ∷ []) t s fit = reindex_keeps t (list_in index) (list_in columns) s (λ some. frame_of t method.ReindexFrame refl fit)
+answer_keeps method.Xs (key ∷ level ∷ []) t s fit = on_keeps IsValidEntry (scalar_in key) _ (λ c. xs_keeps t c (scalar_in level) s)
 answer_keeps method.DropColumns (columns ∷ []) t s fit = drop_keeps t columns s (frame_of t method.DropColumns refl fit)
-answer_keeps method.ToFrame gs t s fit = as_frame_keeps t s (series_of t method.ToFrame refl fit)
+answer_keeps method.ToFrame gs t s fit = as_frame_keeps t s
 answer_keeps method.ToCsv (index ∷ []) t s fit = on_keeps IsValidEntry (truth_in index) _ (λ b. csv_keeps b t)
 answer_keeps m gs t s fit = tt
 

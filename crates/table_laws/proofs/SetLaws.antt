@@ -15,7 +15,7 @@ use Rattle.meaning.specs.Column.{gap_cell}
 use Rattle.meaning.specs.Cell.{CellValue, na_cell, LabelValue, Kind, int, Int64, holds}
 use Rattle.meaning.specs.Operator.{cell_label, scalar_kind}
 use Rattle.meaning.specs.Symbol.{Accessor, loc}
-use Rattle.meaning.specs.Fault.{FaultValue, wrong_kind, bad_value, levels, no_columns, not_built, then_value}
+use Rattle.meaning.specs.Fault.{FaultValue, wrong_kind, bad_value, levels, no_columns, then_value}
 use Rattle.table_meaning.specs.Table.{ColumnOf, Table, column_at}
 use Rattle.table_meaning.specs.Change.{put_at, without_column, with_cell_at, with_cell, with_values_from, with_values}
 use Rattle.table_meaning.specs.Valid.{IsValid, within_limits}
@@ -29,9 +29,9 @@ use Rattle.pick_meaning.specs.Keys.{Pick}
 use Rattle.align_meaning.specs.Faults.{AlignRefusal, met_rows}
 use Rattle.align_meaning.specs.Targets.{reindexed}
 use Rattle.align_meaning.proofs.FoundLaws.{reindexed_count}
-use Rattle.select_meaning.specs.Keys.{columns_by, all_columns, only_column, may_stand_alone}
+use Rattle.select_meaning.specs.Keys.{rows_by, columns_by, joined_key, all_columns, only_column, may_stand_alone}
 use Rattle.select_meaning.specs.Select.{Way, plain, through}
-use Rattle.select_meaning.specs.Set.{SetValue, same, listed, aligned, set_value, with_labelled, put_result, with_rows, has_none, list_set, aligned_rows, column_at_rows, aligned_column, series_set, scalar_column, column_set, frame_set, Reached, picked, added_label, or_added, rows_set, columns_set, Target, target_of, target_by, lacks_columns, with_gap, with_row, values_for, kind_of_value, with_new_column, fit_from, filled_table, target_set, access_set, item_set, assign_result, removal_result}
+use Rattle.select_meaning.specs.Set.{SetValue, same, listed, aligned, set_value, with_labelled, put_result, with_rows, has_none, list_set, aligned_rows, column_at_rows, aligned_column, series_set, scalar_column, column_set, frame_set, Reached, picked, added_label, or_added, row_to_add, rows_set, columns_set, Target, target_of, target_by, lacks_columns, with_gap, with_row, values_for, kind_of_value, with_new_column, fit_from, filled_table, target_set, access_set, item_set, assign_result, removal_result}
 use Rattle.table_laws.specs.Validity.{IsValidObject, IsHeldCell, IsValidGiven}
 use Rattle.table_laws.proofs.ListLaws.{both_true, all_made, all_mapped, at_or, then_keeps, All-put_at, length-put_at, All-remove, of_length_keeps}
 use Rattle.table_laws.proofs.CellLaws.{Held, na_held}
@@ -85,7 +85,7 @@ list_set_keeps t l c s is h = by (has_none t.labels && not (has_none c.cells))
     by false = of_length_keeps IsValid (length t.labels) (length c.cells) (put_result t l c) (λ e. put_keeps t l c s is (subst (λ n. IsColumn n c) (sym e) h))
 
 -- the column of a Series at the rows that labels take
-met_keeps : {A : Type 0} (P : A → Type 0) (r : Result A (AlignRefusal (List LabelValue))) → IfOk r P → IfOk (met_rows r) P
+pub met_keeps : {A : Type 0} (P : A → Type 0) (r : Result A (AlignRefusal (List LabelValue))) → IfOk r P → IfOk (met_rows r) P
 met_keeps P (Ok a) h = h
 met_keeps P (Err refusal) h = tt
 
@@ -226,7 +226,7 @@ gap_column count c h = record {
   held = All-append (Held c.kind) c.cells (na_cell ∷ []) h.held (All-cons (Held c.kind) na_cell [] (na_held c.kind) (All-nil (Held c.kind)));
 }
 
-row_shaped : (t : Table) (added : Option LabelValue) → IsShaped t → length t.level_names ≡ 1 → IsShaped (with_row t added)
+row_shaped : (t : Table) (added : Option LabelValue) → IsShaped t → IfSome added (λ l. length t.level_names ≡ 1) → IsShaped (with_row t added)
 row_shaped t None s is = s
 row_shaped t (Some l) s is = record {
   some = s.some;
@@ -275,9 +275,13 @@ new_column_shaped t (Some l) value s h =
     anything (Ok a) = tt
     anything (Err fault) = tt
 
+-- a row is added on one level, and a column under a label that no column has
+abbrev AddsTo : Table → Target → Type 0
+AddsTo t target = IfSome target.rows.added (λ l. length t.level_names ≡ 1) × IsNew t target.columns.added
+
 -- the cells that a setting reaches
-target_keeps : (by : Accessor) (t : Table) (value : SetValue) (target : Target) → IsShaped t → length t.level_names ≡ 1 → IsNew t target.columns.added → IfOk (target_set by t value target) IsValid
-target_keeps by t value target s is new = go (lacks_columns t target)
+target_keeps : (by : Accessor) (t : Table) (value : SetValue) (target : Target) → IsShaped t → AddsTo t target → IfOk (target_set by t value target) IsValid
+target_keeps by t value target s adds = go (lacks_columns t target)
   where
     grown_new : (added : Option LabelValue) → IsNew t added → IsNew (with_row t target.rows.added) added
     grown_new None h = tt
@@ -294,7 +298,7 @@ target_keeps by t value target s is new = go (lacks_columns t target)
     go false =
         then_keeps (λ values. Unit {0}) IsValid (values_for by t target value) _ (anything (values_for by t target value))
         (λ values h. then_keeps IsShaped IsValid (with_new_column (with_row t target.rows.added) target.columns.added value) _
-        (new_column_shaped (with_row t target.rows.added) target.columns.added value (row_shaped t target.rows.added s is) (grown_new target.columns.added new))
+        (new_column_shaped (with_row t target.rows.added) target.columns.added value (row_shaped t target.rows.added s adds.0) (grown_new target.columns.added adds.1))
         (λ grown g. filled_keeps grown target.rows.places target.columns.places values g))
 
 -- a label that a key adds is new
@@ -327,34 +331,59 @@ columns_new t (Some l) pick s is = by (list_any (same_tuple (l ∷ [])) (column_
     by true e = picked_new t pick
     by false e = (is, not_there t.headings l (s.headings.labelled is) e)
 
-frame_target_new : (t : Table) (rows columns : Result Reached FaultValue) → IfOk columns (λ r. IsNew t r.added) → IfOk (target_of rows columns) (λ target. IsNew t target.columns.added)
-frame_target_new t (Err fault) columns h = tt
-frame_target_new t (Ok r) (Err fault) h = tt
-frame_target_new t (Ok r) (Ok c) h = h
+-- and a row is added on one level
+picked_when : (Q : Type 0) (pick : Result Pick FaultValue) → IfOk (then_value pick (λ p. Ok (picked p))) (λ (r : Reached). IfSome r.added (λ l. Q))
+picked_when Q (Ok p) = tt
+picked_when Q (Err fault) = tt
 
-target_new : (p : Shape) (by : Accessor) (t : Table) (first : GivenSub) (second : Option GivenSub) → IsShaped t → t.shape ≡ p → IfOk (target_by p by t first second) (λ target. IsNew t target.columns.added)
-target_new Series by t first None s is = frame_target_new t (rows_set by t first) (Ok (picked only_column)) tt
-target_new Series by t first (Some second) s is = tt
-target_new Frame by t first None s is = alone (may_stand_alone by first)
+added_when : (Q : Type 0) (o : Option LabelValue) (tuples : List (List LabelValue)) (pick : Result Pick FaultValue) → IfSome o (λ l. Q) → IfOk (or_added o tuples pick) (λ (r : Reached). IfSome r.added (λ l. Q))
+added_when Q None tuples pick h = picked_when Q pick
+added_when Q (Some l) tuples pick h = by (list_any (same_tuple (l ∷ [])) tuples)
   where
-    alone : (b : Bool) → IfOk (if b then target_of (rows_set by t first) (Ok (picked (all_columns t))) else Err wrong_kind) (λ target. IsNew t target.columns.added)
-    alone true = frame_target_new t (rows_set by t first) (Ok (picked (all_columns t))) tt
-    alone false = tt
-target_new Frame by t first (Some second) s is = frame_target_new t (rows_set by t first) (columns_set by t second) (columns_new t (added_label by second) (columns_by by t second) s is)
+    by : (b : Bool) → IfOk (if b then then_value pick (λ p. Ok (picked p)) else Ok record { places = length tuples ∷ []; added = Some l }) (λ (r : Reached). IfSome r.added (λ l. Q))
+    by true = picked_when Q pick
+    by false = h
 
 one_level : (n : ℕ) → nat_eq n 1 ≡ true → n ≡ 1
 one_level n e = Prim.grind (arith, nat_tests)
 
-access_set_keeps : (by : Accessor) (t : Table) (first : GivenSub) (second : Option GivenSub) (g : Given) → IsShaped t → IsValidGiven g → IfOk (access_set by t first second g) IsValid
-access_set_keeps by t first second g s h = go (nat_eq (length t.level_names) 1) refl
+rows_one : (by : Accessor) (t : Table) (k : GivenSub) → IfOk (rows_set by t k) (λ r. IfSome r.added (λ l. length t.level_names ≡ 1))
+rows_one by t k = added_when (length t.level_names ≡ 1) (row_to_add by t k) t.labels (rows_by by t k) (to_add (nat_eq (length t.level_names) 1) refl)
   where
-    go : (b : Bool) → nat_eq (length t.level_names) 1 ≡ b
-        → IfOk (if b then then_value (set_value g) (λ value. then_value (target_by t.shape by t first second) (target_set by t value)) else Err not_built) IsValid
-    go true e =
-        then_keeps IsValidValue IsValid (set_value g) _ (set_value_valid g h)
-        (λ value v. then_keeps (λ target. IsNew t target.columns.added) IsValid (target_by t.shape by t first second) (target_set by t value) (target_new t.shape by t first second s refl)
-        (λ target new. target_keeps by t value target s (one_level (length t.level_names) e) new))
-    go false e = tt
+    any : (o : Option LabelValue) → length t.level_names ≡ 1 → IfSome o (λ l. length t.level_names ≡ 1)
+    any None single = tt
+    any (Some l) single = single
+
+    to_add : (b : Bool) → nat_eq (length t.level_names) 1 ≡ b → IfSome (if b then added_label by k else None) (λ l. length t.level_names ≡ 1)
+    to_add true e = any (added_label by k) (one_level (length t.level_names) e)
+    to_add false e = tt
+
+both_added : (t : Table) (rows columns : Result Reached FaultValue) → IfOk rows (λ r. IfSome r.added (λ l. length t.level_names ≡ 1)) → IfOk columns (λ r. IsNew t r.added) → IfOk (target_of rows columns) (AddsTo t)
+both_added t (Err fault) columns single new = tt
+both_added t (Ok r) (Err fault) single new = tt
+both_added t (Ok r) (Ok c) single new = (single, new)
+
+target_adds : (p : Shape) (by : Accessor) (t : Table) (first : GivenSub) (second : Option GivenSub) → IsShaped t → t.shape ≡ p → IfOk (target_by p by t first second) (AddsTo t)
+target_adds Series by t first None s is = both_added t (rows_set by t first) (Ok (picked only_column)) (rows_one by t first) tt
+target_adds Series by t first (Some second) s is =
+    both_added t (then_value (joined_key by (length t.level_names) first second) (rows_set by t)) (Ok (picked only_column))
+    (then_keeps (λ k. Unit {0}) (λ r. IfSome r.added (λ l. length t.level_names ≡ 1)) (joined_key by (length t.level_names) first second) (rows_set by t) (anything (joined_key by (length t.level_names) first second)) (λ k u. rows_one by t k)) tt
+  where
+    anything : {A : Type 0} (r : Result A FaultValue) → IfOk r (λ a. Unit {0})
+    anything (Ok a) = tt
+    anything (Err fault) = tt
+target_adds Frame by t first None s is = alone (may_stand_alone by first)
+  where
+    alone : (b : Bool) → IfOk (if b then target_of (rows_set by t first) (Ok (picked (all_columns t))) else Err wrong_kind) (AddsTo t)
+    alone true = both_added t (rows_set by t first) (Ok (picked (all_columns t))) (rows_one by t first) tt
+    alone false = tt
+target_adds Frame by t first (Some second) s is = both_added t (rows_set by t first) (columns_set by t second) (rows_one by t first) (columns_new t (added_label by second) (columns_by by t second) s is)
+
+access_set_keeps : (by : Accessor) (t : Table) (first : GivenSub) (second : Option GivenSub) (g : Given) → IsShaped t → IsValidGiven g → IfOk (access_set by t first second g) IsValid
+access_set_keeps by t first second g s h =
+    then_keeps IsValidValue IsValid (set_value g) _ (set_value_valid g h)
+    (λ value v. then_keeps (AddsTo t) IsValid (target_by t.shape by t first second) (target_set by t value) (target_adds t.shape by t first second s refl)
+    (λ target adds. target_keeps by t value target s adds))
 
 item_set_keeps : (p : Shape) (t : Table) (first : GivenSub) (second : Option GivenSub) (g : Given) → IsShaped t → t.shape ≡ p → IsValidGiven g → IfOk (item_set p t first second g) IsValid
 item_set_keeps Series t first second g s is h = access_set_keeps loc t first second g s h

@@ -106,4 +106,13 @@ returns-in-Levels c =
     let call = c.args.call.now in
     let t = table_value c.args.dict.now (table_at (tables c.args.store.now) c.args.on.0) in
     forms_so _ _ _ _ _ (ap (λ b. answer_in w (method_of b) call.bound t) (sym c.in-Levels.is))
-    (c.placed-in-Levels.ensures.answers c.args.dict.now _ (longer_self c.args.dict.now) c.requires.settled c.levels_made-table.ensures)
+    (c.placed-in-Levels.ensures.answers c.args.dict.now _ c.levels_made-table.ensures.longer c.requires.settled c.levels_made-table.ensures.answer)
+
+-- a table of the rows, or the columns, of labels
+pub returns-in-Labels : goal.returns-in-Labels
+returns-in-Labels c =
+    let w = world c.args.store.now c.args.dict.now in
+    let call = c.args.call.now in
+    let t = table_value c.args.dict.now (table_at (tables c.args.store.now) c.args.on.0) in
+    forms_so _ _ _ _ _ (ap (λ b. answer_in w (method_of b) call.bound t) (sym c.in-Labels.is))
+    (c.placed-in-Labels.ensures.answers c.args.dict.now _ (longer_self c.args.dict.now) c.requires.settled c.labels_made-table.ensures)

@@ -1,15 +1,18 @@
-use Rattle.std.proofs.Common.{◌≡◌, ◌∙◌, ap, sym, subst, refl, List, Option, Err}
+use Rattle.std.proofs.Common.{◌≡◌, ◌∙◌, ap, sym, subst, refl, true, List, Option, Err, rules}
 use Rattle.std.proofs.lemmas.Result.{err_from_is_err_and}
 use Rattle.cell_core.specs.declared.cell.Label.{Label}
 use Rattle.meaning.specs.Fault.{then_value}
 use Rattle.table_meaning.specs.Settled.{IsSettled}
 use Rattle.table_meaning.specs.Table.{NumberedTable, table_value}
+use Rattle.form_meaning.specs.Binding.{truth_in}
+use Rattle.form_meaning.specs.Make.{on}
 use Rattle.form_meaning.specs.Select.{column_places}
 use Rattle.form_meaning.specs.declared.Method.TheVariants as method
 use Rattle.form_parts.proofs.TableMade.{refused_on}
 use Rattle.method_meaning.specs.Rows.{labels_in}
 use Rattle.method_meaning.specs.Levels.{axis_renamed, rename_axis_result, index_set, set_index_result}
-use Rattle.frame_store.specs.Objects.{table_at, table_or}
+use Rattle.method_meaning.specs.Methods.{reset_index_result}
+use Rattle.frame_store.specs.Objects.{tables, table_at, table_or}
 use Rattle.frame_store.specs.Parts.{AreColumnsOf}
 use Rattle.frame_store.specs.Shown.{headings_value}
 use Rattle.frame_store.specs.World.{world}
@@ -19,6 +22,7 @@ use Rattle.frame_methods.specs.Built.{level_method}
 use Rattle.frame_methods.specs.Named.{first_in}
 use Rattle.frame_methods.proofs.AnswerLaws.{known_table, makes_by}
 use Rattle.frame_methods.proofs.LevelNameLaws.{names_given}
+use Rattle.frame_methods.proofs.LevelMoveLaws.{option_given}
 use Rattle.frame_methods.proofs.calling.levels_made.Goals as goal
 
 pub set_index-requires-clause-known : goal.set_index-requires-clause-known
@@ -28,8 +32,8 @@ pub set_index-requires-clause-places : goal.set_index-requires-clause-places
 set_index-requires-clause-places c =
     subst (λ (n : NumberedTable). AreColumnsOf n c.in_ok-places-in-SetIndex.places) (ap table_or c.read-source.ensures.table) c.in_ok-places-in-SetIndex.ensures.1
 
-pub returns-in_err-places-in-SetIndex : goal.returns-in_err-places-in-SetIndex
-returns-in_err-places-in-SetIndex c =
+pub returns-in_err-places-in-SetIndex-clause-answer : goal.returns-in_err-places-in-SetIndex-clause-answer
+returns-in_err-places-in-SetIndex-clause-answer c =
     let w = world c.args.store.now c.args.dict.now in
     let t = table_at w.tables c.args.on.0 in
     let v = table_value w.texts t in
@@ -39,8 +43,8 @@ returns-in_err-places-in-SetIndex c =
     (makes_by w (level_method c.args.method) method.SetIndex c.args.bound.now t t (Err c.in_err-places-in-SetIndex.field-0.0) (λ a t. set_index_result t (a 0)) _ refl (ap level_method c.in-SetIndex.is) c.requires.call.parameters (λ v. refl) refl
     (refused_on as_it_is w.texts (column_places v (labels_in g)) (index_set v) c.named_places.result c.in_err-places-in-SetIndex.field-0.0 c.in_err-places-in-SetIndex.was c.named_places.ensures.0))
 
-pub returns-in_ok-places-in-SetIndex : goal.returns-in_ok-places-in-SetIndex
-returns-in_ok-places-in-SetIndex c =
+pub returns-in_ok-places-in-SetIndex-clause-answer : goal.returns-in_ok-places-in-SetIndex-clause-answer
+returns-in_ok-places-in-SetIndex-clause-answer c =
     let w = world c.args.store.now c.args.dict.now in
     let s = table_value w.texts c.read-source.result in
     let at : c.read-source.result ≡ table_at w.tables c.args.on.0 = sym (ap table_or c.read-source.ensures.table) in
@@ -49,8 +53,8 @@ returns-in_ok-places-in-SetIndex c =
     (ap (λ r. then_value r (index_set s)) (sym (ap (λ (n : NumberedTable). column_places (table_value w.texts n) (labels_in g)) at ∙ c.in_ok-places-in-SetIndex.ensures.0)))
     c.set_index.ensures
 
-pub returns-in_ok-names-in-RenameAxis : goal.returns-in_ok-names-in-RenameAxis
-returns-in_ok-names-in-RenameAxis c =
+pub returns-in_ok-names-in-RenameAxis-clause-answer : goal.returns-in_ok-names-in-RenameAxis-clause-answer
+returns-in_ok-names-in-RenameAxis-clause-answer c =
     let w = world c.args.store.now c.args.dict.now in
     let s = table_value w.texts c.read-source.result in
     let at : c.read-source.result ≡ table_at w.tables c.args.on.0 = sym (ap table_or c.read-source.ensures.table) in
@@ -60,3 +64,34 @@ returns-in_ok-names-in-RenameAxis c =
     makes_by w (level_method c.args.method) method.RenameAxis c.args.bound.now c.read-source.result _ c.rename_axis.result (λ a t. rename_axis_result t (a 0)) _ at (ap level_method c.in-RenameAxis.is) c.requires.call.parameters (λ v. refl)
     (ap (axis_renamed s) (ap (headings_value w.texts) c.as_slice.ensures.value ∙ c.in_ok-names-in-RenameAxis.ensures w.tables w.texts))
     (c.rename_axis.ensures w.texts settled (subst (λ (ns : List (Option Label)). IsSettled headings_value w.texts ns) (sym c.as_slice.ensures.value) given))
+
+-- levels as columns, or none of them
+pub reset_levels-requires : goal.reset_levels-requires
+reset_levels-requires c = known_table (world c.args.store.now c.args.dict.now) c.args.on.0 c.read-source.result c.read-source.ensures.table c.read-source.ensures.whole c.requires.settled
+
+pub returns-then-truth-clause-answer : goal.returns-then-truth-clause-answer
+returns-then-truth-clause-answer c =
+    let w = world c.args.store.now c.args.dict.now in
+    let s = table_value w.texts c.read-source.result in
+    let at : c.read-source.result ≡ table_at w.tables c.args.on.0 = sym (ap table_or c.read-source.ensures.table) in
+    let settled = object_settled w.texts w.tables c.args.on.0 c.read-source.result c.read-source.ensures.table c.requires.settled in
+    let dropped : c.truth.result ≡ true = search rules in
+    makes_by w (level_method c.args.method) method.ResetIndex c.args.bound.now c.read-source.result _ c.renumber.result (λ a t. on (truth_in (a 0)) (reset_index_result t)) _ at (ap level_method c.in-ResetIndex.is) c.requires.call.parameters (λ v. refl)
+    (ap (reset_index_result s) (sym dropped) ∙ ap (λ o. on o (reset_index_result s)) (c.truth.ensures w.tables w.texts))
+    (c.renumber.ensures w.texts settled)
+
+-- a level that goes, and two that change places
+pub drop_level-requires-clause-known : goal.drop_level-requires-clause-known
+drop_level-requires-clause-known c = known_table (world c.args.store.now c.args.dict.now) c.args.on.0 c.read-source.result c.read-source.ensures.table c.read-source.ensures.whole c.requires.settled
+
+pub drop_level-requires-clause-given : goal.drop_level-requires-clause-given
+drop_level-requires-clause-given c = option_given c.args.bound.now 0 c.scalar_or_none.result (tables c.args.store.now) c.args.dict.now c.scalar_or_none.ensures c.requires.call.given
+
+pub swap_levels-requires-clause-known : goal.swap_levels-requires-clause-known
+swap_levels-requires-clause-known c = known_table (world c.args.store.now c.args.dict.now) c.args.on.0 c.read-source.result c.read-source.ensures.table c.read-source.ensures.whole c.requires.settled
+
+pub swap_levels-requires-clause-first : goal.swap_levels-requires-clause-first
+swap_levels-requires-clause-first c = option_given c.args.bound.now 0 c.scalar_or_none-first.result (tables c.args.store.now) c.args.dict.now c.scalar_or_none-first.ensures c.requires.call.given
+
+pub swap_levels-requires-clause-second : goal.swap_levels-requires-clause-second
+swap_levels-requires-clause-second c = option_given c.args.bound.now 1 c.scalar_or_none-in-Swaplevel.result (tables c.args.store.now) c.args.dict.now c.scalar_or_none-in-Swaplevel.ensures c.requires.call.given

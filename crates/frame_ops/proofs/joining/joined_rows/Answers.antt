@@ -1,12 +1,24 @@
 use Rattle.std.proofs.Common.{◌∙◌, length, subst, sym, Err}
 use Rattle.multi_index.specs.Axes.{HaveLevels}
+use Rattle.row_keys.specs.Keys.{same_tuple}
+use Rattle.align_meaning.proofs.DifferLaws.{joined_apart}
+use Rattle.label_align.specs.Joined.{lists_seen}
+use Rattle.label_align.specs.Tuples.{tuple_less}
+use Rattle.label_align.proofs.SameLaws.{tuple_decides}
 use Rattle.form_meaning.specs.Infix as meant
 use Rattle.form_parts.specs.Makes.{MakesBy}
 use Rattle.frame_store.specs.declared.fault.OpFault.{OpFault}
 use Rattle.frame_store.specs.Shown.{labels_value}
 use Rattle.frame_ops.specs.Joining.{joined_value}
 use Rattle.frame_ops.proofs.JoinLaws.{rows_meant, rows_refused, rows_inside, is_joined, joined_given}
+use Rattle.form_parts.proofs.RowLaws.{tuples_given}
 use Rattle.frame_ops.proofs.joining.joined_rows.Goals as goal
+
+pub outer-requires-clause-given_a : goal.outer-requires-clause-given_a
+outer-requires-clause-given_a c = tuples_given c.args.dict.now c.args.a.now.tuples c.requires.given_a
+
+pub outer-requires-clause-given_b : goal.outer-requires-clause-given_b
+outer-requires-clause-given_b c = tuples_given c.args.dict.now c.args.b.now.tuples c.requires.given_b
 
 pub returns-in-Ok-clause-rows : goal.returns-in-Ok-clause-rows
 returns-in-Ok-clause-rows c = rows_meant c.args.dict.now c.args.a.now.tuples c.args.b.now.tuples c.len.ensures.distinct c.requires.given_a c.requires.given_b c.in-Ok.rows c.in-Ok.ensures.rows
@@ -34,3 +46,6 @@ returns-in-Ok-clause-inside c =
     is_joined c.args.dict.now a b c.in-Ok.rows
     (rows_inside c.args.dict.now a.tuples b.tuples c.len.ensures.distinct c.requires.given_a c.requires.given_b (length a.names)
     (subst (λ n. HaveLevels n a.tuples) c.levels.ensures.count c.levels.ensures.alike) (subst (λ n. HaveLevels n b.tuples) (c.levels-2.ensures.count ∙ sym c.requires.levels) c.levels-2.ensures.alike) c.in-Ok.rows c.in-Ok.ensures.rows)
+
+pub returns-in-Ok-clause-apart : goal.returns-in-Ok-clause-apart
+returns-in-Ok-clause-apart c = λ left right. joined_apart same_tuple (tuple_less c.args.dict.now) tuple_decides c.args.a.now.tuples c.args.b.now.tuples left right (lists_seen c.in-Ok.rows) c.in-Ok.ensures.rows

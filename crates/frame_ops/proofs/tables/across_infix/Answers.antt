@@ -1,6 +1,6 @@
-use Rattle.std.proofs.Common.{◌≡◌, ◌∙◌, sym, true, rules}
+use Rattle.std.proofs.Common.{◌≡◌, ◌∙◌, sym, true, false, rules}
 use Rattle.nullable_array.specs.Tasks.{operator_of}
-use Rattle.frame_ops.proofs.InfixLaws.{makes_as, across_is_meant, across_opposite, series_given}
+use Rattle.frame_ops.proofs.InfixLaws.{makes_as, across_is_meant, across_is_unequal, across_opposite, series_given}
 use Rattle.frame_ops.proofs.tables.across_infix.Goals as goal
 
 pub table_met-requires-clause-opposite : goal.table_met-requires-clause-opposite
@@ -17,3 +17,8 @@ returns-clause-makes c =
     makes_as _ _ _ _ c.table_met.ensures.makes
     (across_is_meant (operator_of c.args.op) c.args.dict.now c.args.frame.now c.args.series c.args.left c.requires.known_frame.whole (sym c.are_headings.ensures ∙ same)
     (across_opposite c.args.dict.now c.args.frame.now c.args.series c.args.left c.requires.known_frame.whole c.requires.known_series.whole c.requires.series (sym c.are_headings.ensures ∙ same)).1)
+
+pub returns-then-not-are_headings-clause-makes : goal.returns-then-not-are_headings-clause-makes
+returns-then-not-are_headings-clause-makes c =
+    let same : c.are_headings.result ≡ false = search rules in
+    makes_as _ _ _ _ c.across_unequal.ensures.makes (across_is_unequal (operator_of c.args.op) c.args.dict.now c.args.frame.now c.args.series c.args.left (sym c.are_headings.ensures ∙ same))

@@ -1,25 +1,19 @@
-use Rattle.std.proofs.Common.{◌≡◌, ◌∙◌, ap, sym, true, rules}
+use Rattle.std.proofs.Common.{◌≡◌, ◌∙◌, sym, true, false, rules}
 use Rattle.nullable_array.specs.Tasks.{operator_of}
-use Rattle.table_meaning.specs.Table.{table_value}
-use Rattle.form_meaning.specs.Infix.{rows_infix}
-use Rattle.frame_ops.proofs.InfixLaws.{makes_as, frame_named, frame_is_meant, frame_columns, columns_name_settled}
+use Rattle.frame_ops.proofs.InfixLaws.{makes_as, frame_is_meant, frame_is_wide, frame_columns}
 use Rattle.frame_ops.proofs.tables.frame_infix.Goals as goal
 
-pub common_name-name-requires-clause-a : goal.common_name-name-requires-clause-a
-common_name-name-requires-clause-a c = columns_name_settled c.args.dict.now c.args.a.now c.columns_name.result c.requires.known_a.given c.columns_name.ensures
+pub returns-then-not-same_headings-clause-makes : goal.returns-then-not-same_headings-clause-makes
+returns-then-not-same_headings-clause-makes c =
+    let same : c.same_headings.result ≡ false = search rules in
+    makes_as _ _ _ _ c.wide_infix.ensures.makes (frame_is_wide (operator_of c.args.op) c.args.dict.now c.args.a.now c.args.b (sym c.same_headings.ensures ∙ same))
 
-pub common_name-name-requires-clause-b : goal.common_name-name-requires-clause-b
-common_name-name-requires-clause-b c = columns_name_settled c.args.dict.now c.args.b c.columns_name-2.result c.requires.known_b.given c.columns_name-2.ensures
-
-pub rows_infix-requires-clause-columns : goal.rows_infix-requires-clause-columns
-rows_infix-requires-clause-columns c =
+pub common_infix-requires-clause-columns : goal.common_infix-requires-clause-columns
+common_infix-requires-clause-columns c =
     let same : c.same_headings.result ≡ true = search rules in
     frame_columns c.args.dict.now c.args.a.now c.args.b c.requires.known_a.whole c.requires.known_b.whole (sym c.same_headings.ensures ∙ same)
 
 pub returns-clause-makes : goal.returns-clause-makes
 returns-clause-makes c =
     let same : c.same_headings.result ≡ true = search rules in
-    makes_as _ _ _ _ c.rows_infix.ensures.makes
-    (ap (rows_infix (operator_of c.args.op) (table_value c.args.dict.now c.args.a.now) (table_value c.args.dict.now c.args.b))
-    (frame_named c.args.dict.now c.args.a.now c.args.b c.columns_name.result c.columns_name-2.result c.common_name-name.result c.columns_name.ensures c.columns_name-2.ensures c.common_name-name.ensures.name)
-    ∙ frame_is_meant (operator_of c.args.op) c.args.dict.now c.args.a.now c.args.b (sym c.same_headings.ensures ∙ same))
+    makes_as _ _ _ _ c.common_infix.ensures.makes (frame_is_meant (operator_of c.args.op) c.args.dict.now c.args.a.now c.args.b (sym c.same_headings.ensures ∙ same))

@@ -1,7 +1,6 @@
-use Rattle.std.proofs.Common.{arith, ◌<◌, ℕ, List, Some, length, ap, sym, ◌∙◌, subst}
+use Rattle.std.proofs.Common.{arith, ◌<◌, ◌-◌, ℕ, map, List, Some, length, ap, sym, ◌∙◌, subst}
 use Rattle.std.specs.List.{flat_map}
 use Rattle.std.proofs.lemmas.List.{take_all}
-use Rattle.cell_core.specs.declared.cell.Label.{Label}
 use Rattle.align_meaning.specs.Joins.{Entry, entries_with}
 use Rattle.label_align.specs.Joined.{HasMore}
 use Rattle.label_align.proofs.EntryLaws.{entries_of_some, flat_map_more}
@@ -13,7 +12,7 @@ loop-left-init c = more_none c.args.out.now
 
 pub loop-left-preserved : goal.loop-left-preserved
 loop-left-preserved c =
-    let of_row : ℕ → List (Entry (List Label)) = λ r. entries_with c.args.key.now c.args.rights.now (Some r) in
+    let of_row : ℕ → List (Entry ℕ) = λ r. entries_with c.args.key (map (λ row. row - c.args.first) c.args.rights.now) (Some r) in
     let lt : c.loop-left.left-index < length c.args.lefts.now = omega arith in
     subst (HasMore c.args.out.now c.push_left-in-loop-left.new.out) (sym (flat_map_more of_row c.args.lefts.now c.loop-left.left-index 0 lt))
     (more_more c.args.out.now c.loop-left.out c.push_left-in-loop-left.new.out _ _ c.loop-left.invariant c.in_ok-push_left.ensures)
@@ -22,5 +21,5 @@ pub returns : goal.returns
 returns c =
     let some : 0 < length c.args.lefts.now = grind arith in
     subst (HasMore c.args.out.now c.loop-left.out)
-    (ap (flat_map (λ r. entries_with c.args.key.now c.args.rights.now (Some r))) (take_all c.loop-left.left-index c.args.lefts.now (omega arith)) ∙ entries_of_some c.args.key.now c.args.lefts.now c.args.rights.now some)
+    (ap (flat_map (λ r. entries_with c.args.key (map (λ row. row - c.args.first) c.args.rights.now) (Some r))) (take_all c.loop-left.left-index c.args.lefts.now (omega arith)) ∙ entries_of_some c.args.key c.args.lefts.now (map (λ row. row - c.args.first) c.args.rights.now) some)
     c.loop-left.invariant

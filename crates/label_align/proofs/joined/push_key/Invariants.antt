@@ -1,8 +1,8 @@
-use Rattle.std.proofs.Common.{Some, take}
+use Rattle.std.proofs.Common.{Some, take, map, ◌-◌}
 use Rattle.std.specs.List.{flat_map}
 use Rattle.align_meaning.specs.Joins.{entries_with}
 use Rattle.label_align.specs.Joined.{HasMore}
 use Rattle.label_align.proofs.joined.push_key.Given as goal
 
 abbrev pub invariant-loop-left : goal.invariant-loop-left
-invariant-loop-left l = HasMore l.fn.out l.out (flat_map (λ r. entries_with l.key l.rights (Some r)) (take l.left-index l.lefts))
+invariant-loop-left l = HasMore l.fn.out l.out (flat_map (λ r. entries_with l.key (map (λ row. row - l.first) l.rights) (Some r)) (take l.left-index l.lefts))

@@ -1,4 +1,4 @@
-use Rattle.std.proofs.Common.{arith, ◌<◌, Some, map, length, ap, ◌∙◌, subst}
+use Rattle.std.proofs.Common.{arith, ◌<◌, ◌-◌, Some, map, length, ap, ◌∙◌, subst}
 use Rattle.std.proofs.lemmas.List.{take_all}
 use Rattle.align_meaning.specs.Joins.{entry}
 use Rattle.label_align.specs.Joined.{HasMore}
@@ -9,5 +9,5 @@ pub returns : goal.returns
 returns c =
     let some : 0 < length c.args.rights.now = grind arith in
     subst (HasMore c.args.out.now c.loop-right.out)
-    (ap (map (λ r. entry c.args.key.now c.args.left (Some r))) (take_all c.loop-right.right-index c.args.rights.now (omega arith)) ∙ entries_with_some c.args.key.now c.args.left c.args.rights.now some)
+    (ap (map (λ r. entry c.args.key c.args.left (Some (r - c.args.first)))) (take_all c.loop-right.right-index c.args.rights.now (omega arith)) ∙ entries_with_some c.args.key (λ r. r - c.args.first) c.args.left c.args.rights.now some)
     c.loop-right.invariant

@@ -1,7 +1,7 @@
-use Rattle.std.proofs.Common.{map, Some, take}
+use Rattle.std.proofs.Common.{map, Some, take, ◌-◌}
 use Rattle.align_meaning.specs.Joins.{entry}
 use Rattle.label_align.specs.Joined.{HasMore}
 use Rattle.label_align.proofs.joined.push_left.Given as goal
 
 abbrev pub invariant-loop-right : goal.invariant-loop-right
-invariant-loop-right l = HasMore l.fn.out l.out (map (λ r. entry l.key l.left (Some r)) (take l.right-index l.rights))
+invariant-loop-right l = HasMore l.fn.out l.out (map (λ r. entry l.key l.left (Some (r - l.first))) (take l.right-index l.rights))

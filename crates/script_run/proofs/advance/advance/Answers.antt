@@ -6,7 +6,7 @@ use Rattle.meaning.specs.Text.{Contents}
 use Rattle.meaning.specs.FaultOf.{fault_of}
 use Rattle.script_meaning.specs.Reading.{Reading}
 use Rattle.script_meaning.specs.Statement.{Answer, done, refused, statement_result}
-use Rattle.script_syntax.specs.View.{form_of}
+use Rattle.script_tree.specs.View.{form_of}
 use Rattle.script_session.specs.Reads.{files_in, paths_of}
 use Rattle.script_session.specs.Session.{state_of, texts_of}
 use Rattle.script_run.specs.Ends.{Outside, outside}

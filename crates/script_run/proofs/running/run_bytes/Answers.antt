@@ -1,7 +1,7 @@
 use Rattle.std.proofs.Common.{inl, inr, refl}
 use Rattle.script_meaning.specs.State.{no_names}
 use Rattle.script_meaning.specs.Run.{IsScriptResult, statements_result, syntax_line, too_large_line, syntax}
-use Rattle.script_syntax.specs.ScriptView.{statements_of}
+use Rattle.script_tree.specs.ScriptView.{statements_of}
 use Rattle.script_session.specs.Reads.{files_in}
 use Rattle.script_session.proofs.Rides.{serves_self}
 use Rattle.script_run.specs.Ends.{Outside, outside, Ends, Is}

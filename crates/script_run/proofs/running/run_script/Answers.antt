@@ -4,8 +4,8 @@ use Rattle.script_meaning.specs.Reading.{Reading}
 use Rattle.script_meaning.specs.State.{no_names}
 use Rattle.script_meaning.specs.Statement.{Answer, statement_result}
 use Rattle.script_meaning.specs.Run.{RunResult, statements_result}
-use Rattle.script_syntax.specs.View.{form_of, statement_of}
-use Rattle.script_syntax.specs.ScriptView.{statements_of}
+use Rattle.script_tree.specs.View.{form_of, statement_of}
+use Rattle.script_tree.specs.ScriptView.{statements_of}
 use Rattle.script_session.specs.Reads.{files_in, paths_of}
 use Rattle.script_session.specs.Session.{state_of}
 use Rattle.script_session.proofs.Rides.{serves_self, serves_both}

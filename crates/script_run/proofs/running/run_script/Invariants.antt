@@ -3,7 +3,7 @@ use Rattle.std.specs.Prelude.{IfSome}
 use Rattle.outside_io.specs.Files.{Serves}
 use Rattle.script_meaning.specs.State.{no_names}
 use Rattle.script_meaning.specs.Run.{statements_result}
-use Rattle.script_syntax.specs.ScriptView.{statements_of}
+use Rattle.script_tree.specs.ScriptView.{statements_of}
 use Rattle.script_session.specs.Reads.{files_in}
 use Rattle.script_session.specs.Session.{state_of}
 use Rattle.script_run.specs.Errors.{Warns}

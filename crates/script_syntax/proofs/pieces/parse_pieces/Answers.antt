@@ -1,7 +1,7 @@
 use Rattle.std.proofs.Common.{◌<◌, ◌+◌, ◌∙◌, length, sym, subst, arith}
 use Rattle.std.proofs.lemmas.Result.{err_from_is_err_and}
 use Rattle.language_meaning.specs.Pieces.{pieces}
-use Rattle.script_syntax.specs.ScriptView.{statements_of}
+use Rattle.script_tree.specs.ScriptView.{statements_of}
 use Rattle.script_syntax.specs.PieceRead.{Reads}
 use Rattle.script_syntax.proofs.ScriptLaws.{settled, unsettled, reads_first, reads_all, some_bytes, no_bytes}
 use Rattle.script_syntax.proofs.pieces.parse_pieces.Goals as goal

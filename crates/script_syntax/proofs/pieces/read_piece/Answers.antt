@@ -1,6 +1,6 @@
 use Rattle.std.proofs.Common.{◌≡◌, subst, Some, None}
 use Rattle.language_meaning.specs.Script.{IsBlank}
-use Rattle.script_syntax.specs.View.{form_of}
+use Rattle.script_tree.specs.View.{form_of}
 use Rattle.script_syntax.specs.Found.{Fails}
 use Rattle.script_syntax.specs.Reading.{form_read}
 use Rattle.script_tokens.specs.View.{tokens_of}

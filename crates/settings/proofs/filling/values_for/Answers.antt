@@ -17,6 +17,9 @@ use Rattle.settings.proofs.filling.values_for.Goals as goal
 pub series_values-requires-clause-given : goal.series_values-requires-clause-given
 series_values-requires-clause-given c = λ more. ap (λ (t : meant.Target). t.rows) (c.requires.given more)
 
+pub series_values-requires-clause-one : goal.series_values-requires-clause-one
+series_values-requires-clause-one c = c.requires.target.one
+
 pub series_values-requires-clause-series : goal.series_values-requires-clause-series
 series_values-requires-clause-series c =
     record {

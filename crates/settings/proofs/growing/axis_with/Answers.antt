@@ -1,4 +1,5 @@
-use Rattle.std.proofs.Common.{◌≡◌, ◌∙◌, ◌<◌, List, [], ◌∷◌, ◌++◌, length, ap, arith}
+use Rattle.std.proofs.Common.{◌≡◌, ◌∙◌, ◌<◌, List, [], ◌∷◌, ◌++◌, length, ap, subst, arith}
+use Rattle.multi_index.specs.Axes.{HaveLevels}
 use Rattle.cell_core.specs.declared.cell.Label.{Label}
 use Rattle.settings.proofs.FillLaws.{label_more, take_whole}
 use Rattle.settings.proofs.GrowLaws.{axis_made, one_level}
@@ -7,7 +8,8 @@ use Rattle.settings.proofs.growing.axis_with.Goals as goal
 pub loop-row-preserved : goal.loop-row-preserved
 loop-row-preserved c =
     let lt : c.loop-row.row < length c.args.on.now.labels = omega arith in
-    label_more c.args.on.now.labels c.loop-row.row c.label.result c.loop-row.labels c.push.new.self c.requires.levels lt c.label.ensures c.loop-row.invariant
+    let levels : HaveLevels 1 c.args.on.now.labels = subst (λ n. HaveLevels n c.args.on.now.labels) c.requires.one c.requires.table.levels in
+    label_more c.args.on.now.labels c.loop-row.row c.label.result c.loop-row.labels c.push.new.self levels lt c.label.ensures c.loop-row.invariant
     (c.in_ok-push.ensures.ok ∙ ap (λ (t : List Label). c.loop-row.labels ++ t ∷ []) c.of.ensures)
 
 pub from_tuples-requires-clause-alike : goal.from_tuples-requires-clause-alike
@@ -15,7 +17,8 @@ from_tuples-requires-clause-alike c =
     let end : c.loop-row.row ≡ length c.args.on.now.labels = omega arith in
     let all : c.push-2.new.self ≡ c.args.on.now.labels ++ (c.args.label ∷ []) ∷ [] =
     c.in_ok-push-2.ensures.ok ∙ (λ j. (c.loop-row.invariant ∙ take_whole c.args.on.now.labels c.loop-row.row end) j ++ c.of-2.ensures j ∷ []) in
-    one_level c.args.on.now.labels c.push-2.new.self c.args.label c.requires.levels all
+    let levels : HaveLevels 1 c.args.on.now.labels = subst (λ n. HaveLevels n c.args.on.now.labels) c.requires.one c.requires.table.levels in
+    one_level c.args.on.now.labels c.push-2.new.self c.args.label levels all
 
 pub returns : goal.returns
 returns c =

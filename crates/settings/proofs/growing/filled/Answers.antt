@@ -3,7 +3,7 @@ use Rattle.table_meaning.specs.Change.{with_column, with_values}
 use Rattle.frame_store.specs.Parts.{block_column}
 use Rattle.settings.specs.Grown.{new_column}
 use Rattle.settings.specs.Values.{IsFreshIn}
-use Rattle.settings.proofs.GrowLaws.{column_filled, fresh_headed, grown_by, new_held, one_added}
+use Rattle.settings.proofs.GrowLaws.{adds_one, column_filled, fresh_headed, grown_by, new_held, one_added}
 use Rattle.settings.proofs.growing.filled.Goals as goal
 
 pub new_column-requires-clause-held : goal.new_column-requires-clause-held
@@ -33,3 +33,6 @@ returns-in_ok-new_column-in-None-Some-clause-fits c =
       rows = c.in_ok-new_column-in-None-Some.ensures.rows ∙ c.rows.ensures;
       headings = fresh_headed t k.label c.columns.result c.requires.table.known.whole (subst (IsFreshIn t) k.is-1 c.requires.target.fresh) c.columns.ensures;
     }
+
+pub with_row-requires-clause-one : goal.with_row-requires-clause-one
+with_row-requires-clause-one c = adds_one (length c.args.on.now.level_names) c.args.target.rows.added c.in-Some-default.row c.in-Some-default.is-0 c.requires.target.one

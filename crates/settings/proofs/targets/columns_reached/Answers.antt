@@ -7,13 +7,9 @@ use Rattle.select_meaning.specs.Set.{or_added, added_label}
 use Rattle.form_parts.specs.Makes.{MakesBy}
 use Rattle.frame_store.specs.Arguments.{subscript_of}
 use Rattle.selections.specs.Reaches.{accessor_of}
-use Rattle.selections.proofs.ReachLaws.{can_select}
 use Rattle.settings.specs.Values.{reached_value, TellsAbsence}
 use Rattle.settings.proofs.TargetLaws.{columns_tell, column_count, fresh_reached, label_settled}
 use Rattle.settings.proofs.targets.columns_reached.Goals as goal
-
-pub columns_by-columns-requires-clause-table : goal.columns_by-columns-requires-clause-table
-columns_by-columns-requires-clause-table c = can_select c.args.dict.now c.args.on.now c.requires.table
 
 pub returns-clause-columns : goal.returns-clause-columns
 returns-clause-columns c = λ live settled.

@@ -1,6 +1,6 @@
 use Rattle.std.proofs.Common.{◌∙◌, ap, Err}
 use Rattle.frame_store.specs.declared.fault.OpFault.TheVariants.{Refused}
-use Rattle.settings.proofs.TargetLaws.{as_nothing, added_settled}
+use Rattle.settings.proofs.TargetLaws.{as_nothing, added_own, added_settled}
 use Rattle.settings.proofs.targets.picked_or_added.Goals as goal
 
 pub returns-in-None-clause-reached : goal.returns-in-None-clause-reached
@@ -11,3 +11,6 @@ returns-in-None-clause-reached c = λ texts tuples pick many makes tells.
 pub returns-in_ok-added-in-Some-clause-given : goal.returns-in_ok-added-in-Some-clause-given
 returns-in_ok-added-in-Some-clause-given c = λ texts settled.
     added_settled texts c.args.label c.in-Some.label c.args.count c.in_ok-added-in-Some.field-0 c.in-Some.is c.in_ok-added-in-Some.ensures settled
+
+pub returns-in_ok-added-in-Some-clause-own : goal.returns-in_ok-added-in-Some-clause-own
+returns-in_ok-added-in-Some-clause-own c = added_own c.args.label c.in-Some.label c.args.count c.in_ok-added-in-Some.field-0 c.in-Some.is c.in_ok-added-in-Some.ensures

@@ -1,20 +1,16 @@
 use Rattle.std.proofs.Common.{◌≡◌, ◌∙◌, sym, subst, length, Option}
 use Rattle.std.proofs.lemmas.List.{length-map}
 use Rattle.meaning.specs.Cell.{LabelValue}
-use Rattle.table_meaning.specs.Table.{table_value, tuple_value, heading_value}
+use Rattle.table_meaning.specs.Table.{table_value, tuple_value}
 use Rattle.select_meaning.specs.Keys.{rows_by}
 use Rattle.select_meaning.specs.Set.{or_added}
 use Rattle.form_parts.specs.Makes.{MakesBy}
 use Rattle.frame_store.specs.Objects.{tables}
 use Rattle.frame_store.specs.Arguments.{subscript_of}
 use Rattle.selections.specs.Reaches.{accessor_of}
-use Rattle.selections.proofs.ReachLaws.{can_select}
 use Rattle.settings.specs.Values.{reached_value, TellsAbsence}
-use Rattle.settings.proofs.TargetLaws.{label_settled, rows_tell, single_rows}
+use Rattle.settings.proofs.TargetLaws.{own_on_one, row_settled, rows_tell}
 use Rattle.settings.proofs.targets.rows_reached.Goals as goal
-
-pub rows_by-rows-requires-clause-table : goal.rows_by-rows-requires-clause-table
-rows_by-rows-requires-clause-table c = can_select c.args.dict.now c.args.on.now c.requires.table
 
 pub returns-clause-rows : goal.returns-clause-rows
 returns-clause-rows c =
@@ -24,11 +20,13 @@ returns-clause-rows c =
     let k = subscript_of live texts c.args.key.now in
     let by = accessor_of c.args.by in
     let many : length t.labels ≡ c.rows.result = length-map c.args.on.now.labels (tuple_value texts) ∙ sym c.rows.ensures in
-    subst (λ (o : Option LabelValue). MakesBy reached_value texts c.picked_or_added.result (or_added o t.labels (rows_by by t k))) (c.label_to_add.ensures live texts)
+    subst (λ (o : Option LabelValue). MakesBy reached_value texts c.picked_or_added.result (or_added o t.labels (rows_by by t k))) (c.row_to_add.ensures.label live texts)
     (c.picked_or_added.ensures.reached texts t.labels (rows_by by t k) many c.rows_by-rows.ensures.rows
-    (subst (λ (o : Option LabelValue). TellsAbsence o t.labels (rows_by by t k)) (sym (c.label_to_add.ensures live texts))
-    (rows_tell by t k (length-map c.args.on.now.level_names (heading_value texts) ∙ c.requires.table.one) (single_rows texts c.args.on.now.labels c.requires.table.levels))))
+    (subst (λ (o : Option LabelValue). TellsAbsence o t.labels (rows_by by t k)) (sym (c.row_to_add.ensures.label live texts)) (rows_tell texts by c.args.on.now k c.requires.table.levels)))
+
+pub returns-clause-one : goal.returns-clause-one
+returns-clause-one c = own_on_one c.args.on.now c.row_to_add.result c.picked_or_added.result c.row_to_add.ensures.one c.picked_or_added.ensures.own
 
 pub returns-clause-given : goal.returns-clause-given
 returns-clause-given c =
-    c.picked_or_added.ensures.given c.args.dict.now (label_settled c.args.dict.now (tables c.args.store.now) (accessor_of c.args.by) c.args.key.now c.label_to_add.result c.label_to_add.ensures c.requires.key.given)
+    c.picked_or_added.ensures.given c.args.dict.now (row_settled c.args.dict.now (tables c.args.store.now) (accessor_of c.args.by) c.args.on.now c.args.key.now c.row_to_add.result c.row_to_add.ensures.label c.requires.table.known.given c.requires.key.given)

@@ -1,7 +1,7 @@
 use Rattle.std.proofs.Common.{refl, sym, ◌∙◌, ap}
 use Rattle.script_session.specs.Bindings.{Bindings, state_over}
 use Rattle.script_session.specs.Work.{names_in, tables_in, world_of, state_in}
-use Rattle.script_syntax.specs.View.{form_of}
+use Rattle.script_tree.specs.View.{form_of}
 use Rattle.script_session.proofs.States.{state_swept, refused_kept}
 use Rattle.script_session.proofs.Naming.{live_are_named, named_live}
 use Rattle.script_session.proofs.Answering.{performs_after, state_refused, live_refused}

@@ -20,8 +20,8 @@ use Rattle.frame_store.specs.declared.arguments.Named.{Named}
 use Rattle.script_tokens.specs.View.{binary_of}
 use Rattle.script_meaning.specs.Reading.{Reads, at_once, gives, then_read}
 use Rattle.script_meaning.specs.Expression.{where_named, is_minus, made, named_by, value_of, stepped, named_of, parts_of as parts_given, part_of, pairs_of, given_of, sub_of, second_of, bound_of, stride_of, cell_of}
-use Rattle.script_syntax.specs.View.{unary_of, expr_of, step_of, arg_of, accessor_of, optional_arg, parts_of, named_parts_of, pair_parts_of, sub_of as view_sub, literal_of}
-use Rattle.script_syntax.proofs.Rows.{expr_of-Make, step_of-Method, step_of-Group, step_of-Rolling, step_of-Expanding, arg_of-Many, arg_of-Row, arg_of-Table}
+use Rattle.script_tree.specs.View.{unary_of, expr_of, step_of, arg_of, accessor_of, optional_arg, parts_of, named_parts_of, pair_parts_of, sub_of as view_sub, literal_of}
+use Rattle.script_tree.proofs.Rows.{expr_of-Make, step_of-Method, step_of-Group, step_of-Rolling, step_of-Expanding, arg_of-Many, arg_of-Row, arg_of-Table}
 use Rattle.selections.specs.Selected.{way_of}
 use Rattle.script_session.specs.Parts.{optional_sub, optional_expr}
 use Rattle.frame_store.specs.World.{entry_in}

@@ -2,7 +2,7 @@ use Rattle.std.proofs.Common.{drop, ◌*◌, ◌+◌, ◌++◌, max}
 use Rattle.language_meaning.specs.Tree.{arg_list, named_args, arg_pairs}
 use Rattle.language_meaning.specs.Depth.{depth, step_depth, sub_depth, optional_sub_depth, optional_arg_depth, arg_depth, list_depth, args_depth, pairs_depth}
 use Rattle.script_meaning.specs.Expression.{parts_of as parts_given, named_of, pairs_of}
-use Rattle.script_syntax.specs.View.{expr_of, step_of, sub_of, arg_of, optional_arg, parts_of, named_parts_of, pair_parts_of}
+use Rattle.script_tree.specs.View.{expr_of, step_of, sub_of, arg_of, optional_arg, parts_of, named_parts_of, pair_parts_of}
 use Rattle.script_session.specs.Parts.{optional_sub}
 use Rattle.script_session.specs.Evaluates.{moment, items_in, pairs_in, arguments_in}
 use Rattle.frame_store.specs.World.{AreKnownItems, AreKnownPairs, AreKnownArguments}

@@ -3,7 +3,7 @@ use Rattle.std.proofs.lemmas.Result.{err_from_is_err_and}
 use Rattle.script_meaning.specs.Reading.{at_once}
 use Rattle.script_meaning.specs.Expression.{named_by}
 use Rattle.script_meaning.specs.Statement.{done, with_value}
-use Rattle.script_syntax.specs.View.{expr_of}
+use Rattle.script_tree.specs.View.{expr_of}
 use Rattle.frame_store.specs.World.{entry_in}
 use Rattle.script_session.specs.Bindings.{bound, state_over}
 use Rattle.script_session.specs.Work.{names_in, world_of, state_in}

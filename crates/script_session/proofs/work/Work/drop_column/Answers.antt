@@ -5,7 +5,7 @@ use Rattle.select_meaning.specs.Set.{removal_result}
 use Rattle.script_meaning.specs.Reading.{at_once}
 use Rattle.script_meaning.specs.Expression.{value_of_name, value_of}
 use Rattle.script_meaning.specs.Statement.{done, then_answer, set_answer}
-use Rattle.script_syntax.specs.View.{expr_of}
+use Rattle.script_tree.specs.View.{expr_of}
 use Rattle.frame_store.specs.World.{entry_in, Sets}
 use Rattle.script_session.specs.Bindings.{value_at, state_over}
 use Rattle.script_session.specs.Reads.{files_in}

@@ -1,6 +1,6 @@
 use Rattle.std.proofs.Common.{ap}
 use Rattle.script_meaning.specs.Statement.{statement_result}
-use Rattle.script_syntax.specs.View.{form_of}
+use Rattle.script_tree.specs.View.{form_of}
 use Rattle.script_session.specs.Reads.{files_in}
 use Rattle.script_session.specs.Work.{world_of, state_in}
 use Rattle.script_session.proofs.Answering.{performs_by, performs_once}

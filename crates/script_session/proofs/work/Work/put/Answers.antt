@@ -6,7 +6,7 @@ use Rattle.selections.specs.Selected.{way_of}
 use Rattle.script_meaning.specs.Reading.{at_once, gives}
 use Rattle.script_meaning.specs.Expression.{named_by, value_of, target_of}
 use Rattle.script_meaning.specs.Statement.{done, then_answer, set_answer, assigned, is_chained}
-use Rattle.script_syntax.specs.View.{expr_of, step_of}
+use Rattle.script_tree.specs.View.{expr_of, step_of}
 use Rattle.script_session.specs.Bindings.{IsOf, state_over}
 use Rattle.script_session.specs.Parts.{target_seen}
 use Rattle.script_session.specs.Reads.{files_in}

@@ -6,7 +6,7 @@ use Rattle.frame_store.specs.declared.arguments.Selector.TheVariants as selector
 use Rattle.frame_store.specs.declared.arguments.Subscript.TheVariants as subscript
 use Rattle.script_meaning.specs.Reading.{gives}
 use Rattle.script_meaning.specs.Expression.{Target, target_of}
-use Rattle.script_syntax.specs.View.{step_of, accessor_of}
+use Rattle.script_tree.specs.View.{step_of, accessor_of}
 use Rattle.script_session.specs.Evaluates.{subscript_in}
 use Rattle.script_session.specs.Work.{world_of, state_in}
 use Rattle.script_session.proofs.Evaluations.{evaluates_by, stops, makes}

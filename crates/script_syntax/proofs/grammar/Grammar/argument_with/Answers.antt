@@ -1,7 +1,7 @@
 use Rattle.std.proofs.Common.{sym, arith}
 use Rattle.std.proofs.lemmas.Result.{err_from_is_err_and}
 use Rattle.script_tokens.specs.View.{tokens_of}
-use Rattle.script_syntax.specs.View.{parts_of}
+use Rattle.script_tree.specs.View.{parts_of}
 use Rattle.script_syntax.specs.Found.{items_of}
 use Rattle.script_syntax.proofs.Rooms as rooms
 use Rattle.script_syntax.proofs.Loops as loops

@@ -1,6 +1,6 @@
 use Rattle.std.proofs.Common.{◌≡◌, ◌≤◌, ◌-◌, length}
 use Rattle.language_meaning.specs.Depth.{args_depth}
-use Rattle.script_syntax.specs.View.{named_parts_of}
+use Rattle.script_tree.specs.View.{named_parts_of}
 use Rattle.script_tokens.specs.View.{tokens_of}
 use Rattle.script_syntax.specs.Found.{args_of, after_args}
 use Rattle.script_syntax.specs.At as at

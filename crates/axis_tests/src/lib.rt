@@ -1,0 +1,11 @@
+//! Tests of the crates from cells to columns, axes and keys: what no clause says, and what no script reaches.
+#![tactic(auto)]
+
+#[cfg(test)]
+mod axes;
+#[cfg(test)]
+mod cells;
+#[cfg(test)]
+mod columns;
+#[cfg(test)]
+mod picks;

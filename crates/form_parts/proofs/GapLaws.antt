@@ -1,0 +1,106 @@
+-- The rows that labels take, by their numbers as by their texts, and the columns on such rows.
+use Rattle.std.proofs.Common.{◌≡◌, ◌∙◌, ap, refl, sym, subst, ℕ, ◌+◌, ◌<◌, Bool, false, List, [], ◌∷◌, ◌++◌, map, length, take, slice_index_or, All, Option, Some, None, Result, Ok, Err}
+use Rattle.std.specs.Prelude.{IfOk}
+use Rattle.std.proofs.Math.ListN.{get_or-map}
+use Rattle.std.proofs.lemmas.List.{map-append, take_more}
+use Rattle.std.proofs.lemmas.List.Elements.{All-map, All-push}
+use Rattle.cell_core.specs.declared.cell.Cell.{Cell}
+use Rattle.cell_core.specs.declared.cell.Cell.TheVariants.{Na}
+use Rattle.cell_core.specs.declared.cell.Label.{Label}
+use Rattle.cell_core.specs.Texts.{AreDistinct, AreGiven, IsGiven}
+use Rattle.meaning.specs.Text.{Text}
+use Rattle.meaning.specs.Cell.{CellValue, na_cell, datum}
+use Rattle.meaning.specs.Column.{gap_cell, taken}
+use Rattle.meaning.specs.Fault.{FaultValue, bad_value, repeated}
+use Rattle.column_core.specs.Blocks.{CellBlock}
+use Rattle.column_core.specs.Columns.{CellColumn}
+use Rattle.column_core.specs.Moves.{IsPlaceOf}
+use Rattle.table_meaning.specs.Settled.{IsSettled}
+use Rattle.table_meaning.specs.Table.{ColumnOf, tuple_value, no_column}
+use Rattle.form_meaning.specs.Infix.{same_tuple, on_rows}
+use Rattle.align_meaning.specs.Faults.{AlignRefusal, met_rows}
+use Rattle.align_meaning.specs.Targets.{reindexed}
+use Rattle.align_meaning.proofs.SeenLaws.{gaps_seen, reindexed_seen}
+use Rattle.align_meaning.proofs.FoundLaws.{reindexed_count, reindexed_below, repeat_given}
+use Rattle.row_keys.specs.Keys as numbers
+use Rattle.label_align.specs.Answers.{AlignsBy, as_it_is}
+use Rattle.label_align.specs.declared.fault.AlignFault.{AlignFault}
+use Rattle.label_align.specs.declared.fault.AlignFault.TheVariants.{DuplicateLabels, TooLarge, NoMemory}
+use Rattle.frame_store.specs.Parts.{HaveRows, IsSingle, block_column, table_column}
+use Rattle.frame_store.specs.Shown.{labels_value, columns_value}
+use Rattle.form_parts.specs.Makes.{MakesBy}
+use Rattle.form_parts.specs.Faults.{align_refusal}
+use Rattle.form_parts.proofs.RowLaws.{tuple_by_number, tuples_settled}
+
+module _ (texts : List Text) (distinct : AreDistinct texts) (keys targets : List (List Label)) (given : IsSettled labels_value texts keys) (asked : IsSettled labels_value texts targets) where
+  -- rows that are found by numbers are those by texts
+  reindexed_by_number : reindexed same_tuple (labels_value texts keys) (labels_value texts targets) ≡ gaps_seen (tuple_value texts) (reindexed numbers.same_tuple keys targets)
+  reindexed_by_number =
+      reindexed_seen (tuple_value texts) (IsSettled tuple_value texts) numbers.same_tuple (λ x y. false) same_tuple (λ x y. false) (λ x y f g. tuple_by_number texts x y distinct f g) (λ x y f g. refl)
+      keys (tuples_settled texts keys given) targets (tuples_settled texts targets asked)
+
+  abbrev pub found_rows : Result (List (Option ℕ)) FaultValue
+  found_rows = met_rows (reindexed same_tuple (labels_value texts keys) (labels_value texts targets))
+
+  pub rows_met : (rows : List (Option ℕ)) → reindexed numbers.same_tuple keys targets ≡ Ok rows → found_rows ≡ Ok rows
+  rows_met rows is = ap met_rows (reindexed_by_number ∙ ap (gaps_seen (tuple_value texts)) is)
+
+  pub rows_refused : (fault : AlignFault) → AlignsBy as_it_is (Err fault) (reindexed numbers.same_tuple keys targets) → MakesBy (λ _ rows. rows) texts (Err (align_refusal fault)) found_rows
+  rows_refused (DuplicateLabels key) is =
+      let settled : IsSettled tuple_value texts key = repeat_given numbers.same_tuple keys targets (IsSettled tuple_value texts) key (tuples_settled texts keys given) is in
+      (ap met_rows (reindexed_by_number ∙ ap (gaps_seen (tuple_value texts)) is), λ more. ap (λ t. bad_value (repeated t)) (settled more))
+  rows_refused TooLarge is = (ap met_rows (reindexed_by_number ∙ ap (gaps_seen (tuple_value texts)) is), λ more. refl)
+  rows_refused NoMemory is = tt
+
+-- as many rows as labels, and rows of the axis
+pub rows_counted : (keys targets : List (List Label)) (rows : List (Option ℕ)) → reindexed numbers.same_tuple keys targets ≡ Ok rows → length rows ≡ length targets
+rows_counted keys targets rows is = subst (λ (r : Result (List (Option ℕ)) (AlignRefusal (List Label))). IfOk r (λ rows. length rows ≡ length targets)) is (reindexed_count numbers.same_tuple keys targets)
+
+pub rows_below : (keys targets : List (List Label)) (rows : List (Option ℕ)) → reindexed numbers.same_tuple keys targets ≡ Ok rows → All (IsPlaceOf (length keys)) rows
+rows_below keys targets rows is = subst (λ (r : Result (List (Option ℕ)) (AlignRefusal (List Label))). IfOk r (All (IsPlaceOf (length keys)))) is (reindexed_below numbers.same_tuple keys targets)
+
+module _ (texts : List Text) where
+  -- cells on other rows, with texts
+  cell_on : (cells : List Cell) (gap : Option ℕ) → datum texts (gap_cell Na cells gap) ≡ gap_cell na_cell (map (datum texts) cells) gap
+  cell_on cells None = refl
+  cell_on cells (Some place) = sym (get_or-map (datum texts) cells place Na)
+
+  cells_on : (cells : List Cell) (rows : List (Option ℕ)) → map (datum texts) (taken Na cells rows) ≡ taken na_cell (map (datum texts) cells) rows
+  cells_on cells [] = refl
+  cells_on cells (gap ∷ rows) = λ i. cell_on cells gap i ∷ cells_on cells rows i
+
+  pub on_rows_seen : (rows : List (Option ℕ)) (cs : List (ColumnOf Cell)) → columns_value texts (on_rows Na rows cs) ≡ on_rows na_cell rows (columns_value texts cs)
+  on_rows_seen rows [] = refl
+  on_rows_seen rows (c ∷ cs) = λ i. record { kind = c.kind; cells = cells_on c.cells rows i } ∷ on_rows_seen rows cs i
+
+  -- their texts were given
+  gap_given : (cells : List Cell) (gap : Option ℕ) → AreGiven texts cells → IsPlaceOf (length cells) gap → IsGiven texts (gap_cell Na cells gap)
+  gap_given cells None given inside = tt
+  gap_given cells (Some place) given inside = given place Na inside
+
+  pub on_rows_given : (count : ℕ) (rows : List (Option ℕ)) (cs : List (ColumnOf Cell)) → HaveRows count cs → All (IsPlaceOf count) rows → All (λ c. AreGiven texts c.cells) cs → All (λ c. AreGiven texts c.cells) (on_rows Na rows cs)
+  on_rows_given count rows cs filled inside given =
+      All-map (λ (c : ColumnOf Cell). AreGiven texts c.cells) (λ (c : ColumnOf Cell). record { kind = c.kind; cells = taken Na c.cells rows }) cs
+      (λ k d lt. let c : ColumnOf Cell = slice_index_or cs k d in
+      All-map (IsGiven texts) (gap_cell Na c.cells) rows (λ j e within. gap_given c.cells (slice_index_or rows j e) (given k d lt) (subst (λ n. IsPlaceOf n (slice_index_or rows j e)) (sym (filled k d lt)) (inside j e within))))
+
+-- one more column on other rows
+pub block_on : (block : CellBlock) (made a : CellColumn) (at : ColumnOf Cell) (rows : List (Option ℕ)) → block ≡ record { kind = made.kind; rows = length made.cells; columns = made.cells ∷ [] } → made.kind ≡ a.kind → made.cells ≡ taken Na a.cells rows → at ≡ table_column a
+    → block_column block ≡ record { kind = at.kind; cells = taken Na at.cells rows }
+block_on block made a at rows is kind cells here =
+    let kinds : made.kind ≡ at.kind = kind ∙ sym (ap (λ (c : ColumnOf Cell). c.kind) here) in
+    let same : made.cells ≡ taken Na at.cells rows = cells ∙ sym (ap (λ (c : ColumnOf Cell). taken Na c.cells rows) here) in
+    ap block_column is ∙ (λ i. record { kind = kinds i; cells = same i })
+
+pub single_on : (blocks blocks' : List CellBlock) (block : CellBlock) (made : CellColumn) → All IsSingle blocks → block ≡ record { kind = made.kind; rows = length made.cells; columns = made.cells ∷ [] } → blocks' ≡ blocks ++ block ∷ [] → All IsSingle blocks'
+single_on blocks blocks' block made all is pushed = subst (All IsSingle) (sym pushed) (All-push IsSingle blocks block all (subst IsSingle (sym is) refl))
+
+pub one_more_on : (columns : List (ColumnOf Cell)) (rows : List (Option ℕ)) (place : ℕ) (made made' : List CellBlock) (block : CellBlock) → place < length columns
+    → map block_column made ≡ on_rows Na rows (take place columns) → made' ≡ made ++ block ∷ [] → block_column block ≡ record { kind = (slice_index_or columns place no_column).kind; cells = taken Na (slice_index_or columns place no_column).cells rows }
+    → map block_column made' ≡ on_rows Na rows (take (place + 1) columns)
+one_more_on columns rows place made made' block lt before pushed here =
+    let on : ColumnOf Cell → ColumnOf Cell = λ c. record { kind = c.kind; cells = taken Na c.cells rows } in
+    ap (map block_column) pushed ∙ map-append block_column made (block ∷ [])
+    ∙ (λ i. before i ++ here i ∷ [])
+    ∙ sym (map-append on (take place columns) (slice_index_or columns place no_column ∷ []))
+    ∙ ap (map on) (sym (take_more columns place no_column lt))

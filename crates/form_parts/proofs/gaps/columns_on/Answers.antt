@@ -1,0 +1,24 @@
+use Rattle.std.proofs.Common.{◌∙◌, ◌<◌, ap, length, subst, sym, arith, take_all, All}
+use Rattle.cell_core.specs.declared.cell.Cell.TheVariants.{Na}
+use Rattle.column_core.specs.Moves.{IsPlaceOf}
+use Rattle.form_meaning.specs.Infix.{on_rows}
+use Rattle.form_parts.proofs.GapLaws.{one_more_on, block_on, single_on}
+use Rattle.form_parts.proofs.gaps.columns_on.Goals as goal
+
+pub take-requires : goal.take-requires
+take-requires c = subst (λ n. All (IsPlaceOf n) c.args.rows.now) (sym c.column.ensures.rows) c.requires
+
+pub loop-place-preserved : goal.loop-place-preserved
+loop-place-preserved c =
+    let lt : c.loop-place.place < length c.args.on.now.columns = omega arith in
+    record {
+      columns = one_more_on c.args.on.now.columns c.args.rows.now c.loop-place.place c.loop-place.made c.push.new.self c.into_block.result lt c.loop-place.invariant.columns c.in_ok-push.ensures.ok
+          (block_on c.into_block.result c.in_ok-column.column c.column.result _ c.args.rows.now c.into_block.ensures c.in_ok-column.ensures.kind c.in_ok-column.ensures.cells c.column.ensures.column);
+      single = single_on c.loop-place.made c.push.new.self c.into_block.result c.in_ok-column.column c.loop-place.invariant.single c.into_block.ensures c.in_ok-push.ensures.ok;
+    }
+
+pub returns-clause-columns : goal.returns-clause-columns
+returns-clause-columns c = c.loop-place.invariant.columns ∙ ap (on_rows Na c.args.rows.now) (take_all c.loop-place.place c.args.on.now.columns (omega arith))
+
+pub returns-clause-single : goal.returns-clause-single
+returns-clause-single c = c.loop-place.invariant.single

@@ -1,0 +1,67 @@
+use Rattle.std.proofs.Common.{◌≡◌, ◌∙◌, ap, sym, subst, refl, None, Some, Option}
+use Rattle.table_meaning.specs.Table.{NumberedTable, table_value}
+use Rattle.table_meaning.specs.Value.{GivenList, scalar_in, list_in}
+use Rattle.form_meaning.specs.Make.{on}
+use Rattle.form_meaning.specs.declared.Method.TheVariants as method
+use Rattle.method_meaning.specs.Reindex.{reindex_result}
+use Rattle.method_meaning.specs.Section.{xs_result}
+use Rattle.frame_store.specs.Objects.{tables, table_at, table_or}
+use Rattle.frame_store.specs.World.{world}
+use Rattle.signatures.proofs.ToldLaws.{scalar_given, told_settled}
+use Rattle.frame_methods.specs.Built.{label_method}
+use Rattle.frame_methods.specs.Reindexed.{list_lent}
+use Rattle.frame_methods.proofs.AnswerLaws.{known_table, makes_by}
+use Rattle.frame_methods.proofs.LevelMoveLaws.{option_given}
+use Rattle.frame_methods.proofs.ReindexLaws.{frame_fits}
+use Rattle.frame_methods.proofs.calling.labels_made.Goals as goal
+
+-- labels of rows
+pub reindex-requires-clause-rows : goal.reindex-requires-clause-rows
+reindex-requires-clause-rows c = λ more.
+    told_settled c.args.bound.now 0 list_in (λ live texts. list_lent live texts c.list_or_none.result) (tables c.args.store.now) c.args.dict.now c.list_or_none.ensures.value c.requires.call.given more
+
+pub returns-in-ReindexSeries : goal.returns-in-ReindexSeries
+returns-in-ReindexSeries c =
+    let w = world c.args.store.now c.args.dict.now in
+    let t = table_at w.tables c.args.on.0 in
+    makes_by w (label_method c.args.method) method.ReindexSeries c.args.bound.now t t c.reindex.result (λ a v. reindex_result v (list_in (a 0)) None) _ refl (ap label_method c.in-ReindexSeries.is) c.requires.call.parameters (λ v. refl)
+    (ap (λ (o : Option GivenList). reindex_result (table_value w.texts t) o None) (c.list_or_none.ensures.value w.tables w.texts))
+    c.reindex.ensures
+
+-- labels of rows, or of columns
+pub reindex-requires-in-ReindexFrame-clause-frame : goal.reindex-requires-in-ReindexFrame-clause-frame
+reindex-requires-in-ReindexFrame-clause-frame c = λ some. frame_fits _ (label_method c.args.method) (ap label_method c.in-ReindexFrame.is) c.requires.call.shaped
+
+pub reindex-requires-in-ReindexFrame-clause-rows : goal.reindex-requires-in-ReindexFrame-clause-rows
+reindex-requires-in-ReindexFrame-clause-rows c = λ more.
+    told_settled c.args.bound.now 0 list_in (λ live texts. list_lent live texts c.list_or_none-rows.result) (tables c.args.store.now) c.args.dict.now c.list_or_none-rows.ensures.value c.requires.call.given more
+
+pub reindex-requires-in-ReindexFrame-clause-columns : goal.reindex-requires-in-ReindexFrame-clause-columns
+reindex-requires-in-ReindexFrame-clause-columns c = λ more.
+    told_settled c.args.bound.now 1 list_in (λ live texts. list_lent live texts c.list_or_none-columns.result) (tables c.args.store.now) c.args.dict.now c.list_or_none-columns.ensures.value c.requires.call.given more
+
+pub returns-in-ReindexFrame : goal.returns-in-ReindexFrame
+returns-in-ReindexFrame c =
+    let w = world c.args.store.now c.args.dict.now in
+    let t = table_at w.tables c.args.on.0 in
+    makes_by w (label_method c.args.method) method.ReindexFrame c.args.bound.now t t c.reindex-in-ReindexFrame.result (λ a v. reindex_result v (list_in (a 0)) (list_in (a 1))) _ refl (ap label_method c.in-ReindexFrame.is) c.requires.call.parameters (λ v. refl)
+    (λ j. reindex_result (table_value w.texts t) (c.list_or_none-rows.ensures.value w.tables w.texts j) (c.list_or_none-columns.ensures.value w.tables w.texts j))
+    c.reindex-in-ReindexFrame.ensures
+
+-- a label of rows on one level
+pub xs-requires-clause-known : goal.xs-requires-clause-known
+xs-requires-clause-known c = known_table (world c.args.store.now c.args.dict.now) c.args.on.0 c.read.result c.read.ensures.table c.read.ensures.whole c.requires.settled
+
+pub xs-requires-clause-key : goal.xs-requires-clause-key
+xs-requires-clause-key c = scalar_given c.args.bound.now 0 c.scalar-key.result (tables c.args.store.now) c.args.dict.now c.scalar-key.ensures c.requires.call.given
+
+pub xs-requires-clause-level : goal.xs-requires-clause-level
+xs-requires-clause-level c = option_given c.args.bound.now 1 c.scalar_or_none-level.result (tables c.args.store.now) c.args.dict.now c.scalar_or_none-level.ensures c.requires.call.given
+
+pub returns-in-Xs : goal.returns-in-Xs
+returns-in-Xs c =
+    let w = world c.args.store.now c.args.dict.now in
+    let at : c.read.result ≡ table_at w.tables c.args.on.0 = sym (ap table_or c.read.ensures.table) in
+    makes_by w (label_method c.args.method) method.Xs c.args.bound.now c.read.result _ c.xs.result (λ a v. on (scalar_in (a 0)) (λ k. xs_result v k (scalar_in (a 1)))) _ at (ap label_method c.in-Xs.is) c.requires.call.parameters (λ v. refl)
+    (λ j. on (c.scalar-key.ensures w.tables w.texts j) (λ k. xs_result (table_value w.texts c.read.result) k (c.scalar_or_none-level.ensures w.tables w.texts j)))
+    c.xs.ensures

@@ -1,0 +1,146 @@
+-- A frame and a Series of other labels than its columns.
+use Rattle.std.proofs.Common.{◌≡◌, ◌≢◌, ◌∙◌, ◌<◌, ◌+◌, ◌&&◌, ◌||◌, ℕ, suc, nat_eq, Bool, true, false, List, [], ◌∷◌, length, map, drop, refl, ap, sym, arith, add-one, All, Result, Err, slice_index_or, if◌then◌else◌}
+use Rattle.std.specs.List.{list_any}
+use Rattle.std.proofs.Math.Seq.{drop-cons}
+use Rattle.std.proofs.lemmas.List.{get_or-map}
+use Rattle.std.proofs.lemmas.List.Elements.{All-head, All-tail}
+use Rattle.std.proofs.lemmas.List.Folds.{list_all-map}
+use Rattle.std.proofs.lemmas.Bool.Decides.{nat_tests}
+use Rattle.cell_core.specs.declared.cell.Cell.{Cell}
+use Rattle.cell_core.specs.declared.cell.Kind.{Kind}
+use Rattle.cell_core.specs.declared.cell.Label.{Label}
+use Rattle.cell_core.specs.Texts.{AreDistinct}
+use Rattle.meaning.specs.Text.{Text}
+use Rattle.meaning.specs.Cell.{CellValue}
+use Rattle.meaning.specs.Fault.{FaultValue, wrong_kind, bad_value, levels, not_aligned, then_value}
+use Rattle.meaning.specs.Symbol.{Binary}
+use Rattle.pick_meaning.specs.Rows.{rows_where, are_some}
+use Rattle.row_keys.specs.Keys.{same_tuple as same_numbers}
+use Rattle.row_keys.specs.Partners.{rows_with}
+use Rattle.table_meaning.specs.Settled.{IsSettled}
+use Rattle.table_meaning.specs.Table.{ColumnOf, NumberedTable, Table, column_at, column_value, heading_value, tuple_value, table_value, no_column}
+use Rattle.table_meaning.specs.Value.{Entry}
+use Rattle.form_meaning.specs.Finish.{column_labels, same_kind}
+use Rattle.form_meaning.specs.Infix.{same_tuple, on_levels, compares, takes_twice, takes_rows, takes_each, labels_fit, spread_frame, joined_turned, across_unequal}
+use Rattle.frame_store.specs.Shown.{labels_value, columns_value}
+use Rattle.form_parts.proofs.RowLaws.{tuple_by_number, tuples_settled}
+use Rattle.frame_store.proofs.Settling.{labels_part}
+use Rattle.frame_ops.specs.Widening.{heading_tuple, labels_axis}
+use Rattle.frame_ops.proofs.MeetingLaws.{first_column, levels_one}
+use Rattle.frame_ops.proofs.WideLaws.{tuples_seen, labels_given}
+
+-- a Series has a row, or none
+pub no_row : {K C : Type 0} (op : Binary) (labels : List K) (c : ColumnOf C) → length labels ≡ 0 → true ≡ takes_rows op labels c
+no_row op [] c none = refl
+no_row op (l ∷ ls) c none = absurd (omega (arith, none))
+
+pub some_row : {K C : Type 0} (op : Binary) (labels : List K) (c : ColumnOf C) → length labels ≢ 0 → takes_twice op c ≡ takes_rows op labels c
+some_row op [] c some = absurd (some refl)
+some_row op (l ∷ ls) c some = refl
+
+-- the kinds need no texts
+rows_seen : (op : Binary) (texts : List Text) (labels : List (List Label)) (c : ColumnOf CellValue) (d : ColumnOf Cell) → c ≡ column_value texts d → takes_rows op (labels_value texts labels) c ≡ takes_rows op labels d
+rows_seen op texts [] c d is = refl
+rows_seen op texts (l ∷ ls) c d is = ap (λ (x : ColumnOf CellValue). takes_twice op x) is
+
+takes_seen : (op : Binary) (texts : List Text) (f s : NumberedTable) → takes_each op (table_value texts f) (table_value texts s) ≡ takes_each op f s
+takes_seen op texts f s =
+    λ i. list_all-map (takes_twice op) (column_value texts) f.columns i && rows_seen op texts s.labels (column_at (columns_value texts s.columns) 0) (column_at s.columns 0) (first_column texts s.columns) i
+
+-- a label is one of the rows' where some rows have it
+any_rows : (p : List Label → Bool) (row : ℕ) (xs : List (List Label)) → are_some (rows_where p row xs) ≡ list_any p xs
+any_rows p row [] = refl
+any_rows p row (x ∷ xs) = by (any_rows p (row + 1) xs) (p x)
+  where
+    by : are_some (rows_where p (row + 1) xs) ≡ list_any p xs → (b : Bool) → are_some (if b then row ∷ rows_where p (row + 1) xs else rows_where p (row + 1) xs) ≡ (b || list_any p xs)
+    by rest true = refl
+    by rest false = rest
+
+-- one column more
+module _ (kind : Kind) (labels keys : List (List Label)) (cs : List (ColumnOf Cell)) where
+  fits_from : (place : ℕ) (rows : List ℕ) → place < length keys → place < length cs → rows ≡ slice_index_or (map (rows_with labels) keys) place []
+      → labels_fit same_numbers kind labels (drop place keys) (drop place cs) ≡ ((if are_some rows then same_kind (column_at cs place).kind kind else true) && labels_fit same_numbers kind labels (drop (place + 1) keys) (drop (place + 1) cs))
+  fits_from place rows lt lt' is =
+      let key : List Label = slice_index_or keys place [] in
+      let found : rows ≡ rows_where (same_numbers key) 0 labels = is ∙ get_or-map (rows_with labels) keys place [] [] lt in
+      let there : list_any (same_numbers key) labels ≡ are_some rows = sym (ap are_some found ∙ any_rows (same_numbers key) 0 labels) in
+      (λ i. labels_fit same_numbers kind labels (drop-cons keys place [] lt i) (drop-cons cs place no_column lt' i))
+      ∙ (λ i. (if there i then same_kind (column_at cs place).kind kind else true) && labels_fit same_numbers kind labels (drop (suc place) keys) (drop (suc place) cs))
+      ∙ (λ i. (if are_some rows then same_kind (column_at cs place).kind kind else true) && labels_fit same_numbers kind labels (drop (sym (add-one place) i) keys) (drop (sym (add-one place) i) cs))
+
+  pub one_more_fits : (place : ℕ) (rows : List ℕ) (whole : Bool) → place < length keys → place < length cs → rows ≡ slice_index_or (map (rows_with labels) keys) place [] → (if are_some rows then same_kind (column_at cs place).kind kind else true) ≡ true
+      → labels_fit same_numbers kind labels (drop place keys) (drop place cs) ≡ whole → labels_fit same_numbers kind labels (drop (place + 1) keys) (drop (place + 1) cs) ≡ whole
+  one_more_fits place rows whole lt lt' is fits before =
+      sym (fits_from place rows lt lt' is ∙ ap (λ b. b && labels_fit same_numbers kind labels (drop (place + 1) keys) (drop (place + 1) cs)) fits) ∙ before
+
+  pub one_unfit : (place : ℕ) (rows : List ℕ) (whole : Bool) → place < length keys → place < length cs → rows ≡ slice_index_or (map (rows_with labels) keys) place [] → (if are_some rows then same_kind (column_at cs place).kind kind else true) ≡ false
+      → labels_fit same_numbers kind labels (drop place keys) (drop place cs) ≡ whole → false ≡ whole
+  one_unfit place rows whole lt lt' is unfit before =
+      sym (fits_from place rows lt lt' is ∙ ap (λ b. b && labels_fit same_numbers kind labels (drop (place + 1) keys) (drop (place + 1) cs)) unfit) ∙ before
+
+-- with texts
+any_seen : (texts : List Text) (key : List Label) (labels : List (List Label)) → AreDistinct texts → IsSettled tuple_value texts key → All (IsSettled tuple_value texts) labels → list_any (same_tuple (tuple_value texts key)) (labels_value texts labels) ≡ list_any (same_numbers key) labels
+any_seen texts key [] distinct here all = refl
+any_seen texts key (t ∷ ts) distinct here all =
+    λ j. tuple_by_number texts key t distinct here (All-head (IsSettled tuple_value texts) t ts all) j || any_seen texts key ts distinct here (All-tail (IsSettled tuple_value texts) t ts all) j
+
+fit_seen : (texts : List Text) (kind : Kind) (labels keys : List (List Label)) (cs : List (ColumnOf Cell)) → AreDistinct texts → All (IsSettled tuple_value texts) labels → All (IsSettled tuple_value texts) keys
+    → labels_fit same_tuple kind (labels_value texts labels) (labels_value texts keys) (columns_value texts cs) ≡ labels_fit same_numbers kind labels keys cs
+fit_seen texts kind labels [] cs distinct all each = refl
+fit_seen texts kind labels (k ∷ ks) [] distinct all each = refl
+fit_seen texts kind labels (k ∷ ks) (c ∷ cs) distinct all each =
+    λ j. (if any_seen texts k labels distinct (All-head (IsSettled tuple_value texts) k ks each) all j then same_kind c.kind kind else true)
+    && fit_seen texts kind labels ks cs distinct all (All-tail (IsSettled tuple_value texts) k ks each) j
+
+module _ (op : Binary) (texts : List Text) (f s : NumberedTable) (left : Bool) where
+  abbrev v : Table
+  v = table_value texts f
+
+  abbrev w : Table
+  w = table_value texts s
+
+  abbrev kind : Kind
+  kind = (column_at s.columns 0).kind
+
+  abbrev met : Result Entry FaultValue
+  met = then_value (spread_frame v w) (joined_turned op left v)
+
+  abbrev rest : Bool → Bool → Result Entry FaultValue
+  rest fit compared = if fit then (if compared then Err (bad_value not_aligned) else met) else Err wrong_kind
+
+  abbrev fit_meant : Bool
+  fit_meant = labels_fit same_tuple (column_at w.columns 0).kind w.labels (column_labels v) v.columns
+
+  fit_is : AreDistinct texts → IsSettled table_value texts f → IsSettled table_value texts s → fit_meant ≡ labels_fit same_numbers kind s.labels (map heading_tuple f.headings) f.columns
+  fit_is distinct given given' =
+      (λ i. labels_fit same_tuple (first_column texts s.columns i).kind w.labels (tuples_seen texts f.headings i) v.columns)
+      ∙ fit_seen texts kind s.labels (map heading_tuple f.headings) f.columns distinct (tuples_settled texts s.labels (labels_part texts s given')) (tuples_settled texts (map heading_tuple f.headings) (labels_given texts (labels_axis f) f refl given))
+
+  by_tests : (k l : Bool) → takes_each op f s ≡ k → nat_eq (length s.level_names) 1 ≡ l → across_unequal op left v w ≡ on_levels k l (rest fit_meant (compares op))
+  by_tests k l kinds counted = λ i. on_levels ((takes_seen op texts f s ∙ kinds) i) ((sym (levels_one (heading_value texts) s.level_names) ∙ counted) i) (rest fit_meant (compares op))
+
+  equal : (n : ℕ) → n ≡ 1 → nat_eq n 1 ≡ true
+  equal n same = grind (arith, nat_tests)
+
+  not_equal : (n : ℕ) → n ≢ 1 → nat_eq n 1 ≡ false
+  not_equal n apart = grind (arith, nat_tests)
+
+  pub across_kinds : takes_each op f s ≡ false → across_unequal op left v w ≡ Err wrong_kind
+  across_kinds kinds = by_tests false (nat_eq (length s.level_names) 1) kinds refl
+
+  module _ (kinds : takes_each op f s ≡ true) where
+    pub across_levels : length s.level_names ≢ 1 → across_unequal op left v w ≡ Err (bad_value levels)
+    across_levels apart = by_tests true false kinds (not_equal (length s.level_names) apart)
+
+    module _ (one : length s.level_names ≡ 1) (distinct : AreDistinct texts) (given : IsSettled table_value texts f) (given' : IsSettled table_value texts s) where
+      by_labels : (fit : Bool) → fit ≡ labels_fit same_numbers kind s.labels (map heading_tuple f.headings) f.columns → across_unequal op left v w ≡ rest fit (compares op)
+      by_labels fit is = by_tests true true kinds (equal (length s.level_names) one) ∙ ap (λ b. rest b (compares op)) (fit_is distinct given given' ∙ sym is)
+
+      pub across_unfit : false ≡ labels_fit same_numbers kind s.labels (map heading_tuple f.headings) f.columns → across_unequal op left v w ≡ Err wrong_kind
+      across_unfit is = by_labels false is
+
+      pub across_compared : true ≡ labels_fit same_numbers kind s.labels (map heading_tuple f.headings) f.columns → compares op ≡ true → across_unequal op left v w ≡ Err (bad_value not_aligned)
+      across_compared is compared = by_labels true is ∙ ap (rest true) compared
+
+      pub across_met : true ≡ labels_fit same_numbers kind s.labels (map heading_tuple f.headings) f.columns → compares op ≡ false → met ≡ across_unequal op left v w
+      across_met is compared = sym (by_labels true is ∙ ap (rest true) compared)

@@ -1,0 +1,12 @@
+use Rattle.std.proofs.Common.{◌≡◌, drop, map}
+use Rattle.row_keys.specs.Keys.{same_tuple}
+use Rattle.table_meaning.specs.Table.{column_at}
+use Rattle.form_meaning.specs.Infix.{labels_fit}
+use Rattle.frame_ops.specs.Widening.{heading_tuple}
+use Rattle.frame_ops.proofs.spreading.labels_fit.Given as goal
+
+-- the columns so far fit
+abbrev pub invariant-loop-place : goal.invariant-loop-place
+invariant-loop-place l =
+    labels_fit same_tuple (column_at l.series.columns 0).kind l.series.labels (drop l.place (map heading_tuple l.frame.headings)) (drop l.place l.frame.columns)
+    ≡ labels_fit same_tuple (column_at l.series.columns 0).kind l.series.labels (map heading_tuple l.frame.headings) l.frame.columns

@@ -1,0 +1,27 @@
+use Rattle.std.proofs.Common.{◌∙◌, Result, ap, sym, true, false}
+use Rattle.meaning.specs.Fault.{FaultValue, then_value}
+use Rattle.nullable_array.specs.Tasks.{operator_of}
+use Rattle.table_meaning.specs.Table.{NumberedTable, Table, table_value}
+use Rattle.form_meaning.specs.Infix.{joined_frames, joined_turned, spread_frame}
+use Rattle.frame_ops.proofs.InfixLaws.{makes_as}
+use Rattle.frame_ops.proofs.tables.joined_across.Goals as goal
+
+pub returns-then-left-clause-makes : goal.returns-then-left-clause-makes
+returns-then-left-clause-makes c =
+    let op = operator_of c.args.op in
+    let f = table_value c.args.dict.now c.args.frame.now in
+    let s = table_value c.args.dict.now c.args.series.now in
+    makes_as _ _ _ _ c.wide_infix.ensures.makes
+    (ap (λ (t : NumberedTable). joined_frames op (table_value c.args.dict.now t) f) c.read-other.ensures
+    ∙ sym (ap (λ (r : Result Table FaultValue). then_value r (joined_turned op true f)) c.in_ok-spread.ensures.made)
+    ∙ (λ i. then_value (spread_frame f s) (joined_turned op (sym c.if-left.true i) f)))
+
+pub returns-clause-makes : goal.returns-clause-makes
+returns-clause-makes c =
+    let op = operator_of c.args.op in
+    let f = table_value c.args.dict.now c.args.frame.now in
+    let s = table_value c.args.dict.now c.args.series.now in
+    makes_as _ _ _ _ c.wide_infix-2.ensures.makes
+    (ap (λ (t : NumberedTable). joined_frames op f (table_value c.args.dict.now t)) c.read-other.ensures
+    ∙ sym (ap (λ (r : Result Table FaultValue). then_value r (joined_turned op false f)) c.in_ok-spread.ensures.made)
+    ∙ (λ i. then_value (spread_frame f s) (joined_turned op (sym c.if-left.false i) f)))

@@ -1,0 +1,212 @@
+-- Rows in the order of their keys are the rows of one key after the other, and so are their runs.
+use Rattle.std.proofs.Common.{◌≡◌, ◌∙◌, ◌<◌, ◌≤◌, ◌+◌, ◌||◌, ◌&&◌, ◌++◌, ℕ, zero, suc, Bool, true, false, not, cond, List, [], ◌∷◌, map, filter, length, refl, ap, sym, subst, slice_index_or, arith, All, nat_lt, lt-ltb, le-ltb}
+use Rattle.std.specs.Bool.{Decides}
+use Rattle.std.specs.Cmp.{IsStrictWeakOrder}
+use Rattle.std.specs.List.{flat_map, list_any, range_with_len}
+use Rattle.std.specs.List.Sorted.{ties, IsStableBy}
+use Rattle.std.proofs.lemmas.Bool.{false≢true, true≢false}
+use Rattle.std.proofs.lemmas.List.{append-nil}
+use Rattle.std.proofs.lemmas.List.Elements.{All-nil, All-cons, All-head, All-tail, All-filter}
+use Rattle.meaning.specs.Reduce.{distinct}
+use Rattle.pick_meaning.specs.Rows.{rows_where}
+use Rattle.sorting.specs.Sorting.{put_in, in_order}
+use Rattle.sorting.proofs.SortLaws.{Ascends, in_order_ascends, in_order_ties, one_order}
+use Rattle.align_meaning.specs.Joins.{keys_in_order}
+use Rattle.align_meaning.proofs.OrderLaws.{all_in_order, all_distinct, all_put_in}
+use Rattle.row_keys.proofs.KeyLaws.{any_at}
+use Rattle.label_align.specs.declared.runs.Run.{Run}
+use Rattle.label_align.specs.Runs.{no_run, with_row, gathered, ends, runs_from}
+use Rattle.label_align.proofs.OuterJoinLaws.{Rises, in_order_rises, parts_rise, parts_apart, in_order_keeps, once, gone}
+
+-- the rows that pass a test
+module _ {K : Type 0} (p : K → Bool) where
+  rows_filtered : (f : ℕ → K) (d : K) (at : ℕ) (xs : List K) → ((k : ℕ) → k < length xs → f (at + k) ≡ slice_index_or xs k d) → filter (λ row. p (f row)) (range_with_len at (length xs)) ≡ rows_where p at xs
+  rows_filtered f d at [] there = refl
+  rows_filtered f d at (x ∷ xs) there =
+      let here : f at ≡ x = ap f (omega arith) ∙ there 0 (omega arith) in
+      let rest : filter (λ row. p (f row)) (range_with_len (at + 1) (length xs)) ≡ rows_where p (at + 1) xs = rows_filtered f d (at + 1) xs (λ k lt. ap f (omega arith) ∙ there (suc k) (omega (arith, lt))) in
+      λ i. cond (p (here i)) (at ∷ rest i) (rest i)
+
+  rows_some : (at : ℕ) (xs : List K) → list_any p xs ≡ true → 0 < length (rows_where p at xs)
+  rows_some at [] h = absurd (false≢true h)
+  rows_some at (x ∷ xs) h =
+      elim (p x) as (λ b. (b || list_any p xs) ≡ true → 0 < length (cond b (at ∷ rows_where p (at + 1) xs) (rows_where p (at + 1) xs))) [
+        | true ↦ λ t. omega arith
+        | false ↦ λ t. rows_some (at + 1) xs t
+      ] h
+
+  rows_none : (at : ℕ) (xs : List K) → list_any p xs ≡ false → rows_where p at xs ≡ []
+  rows_none at [] h = refl
+  rows_none at (x ∷ xs) h =
+      elim (p x) as (λ b. (b || list_any p xs) ≡ false → cond b (at ∷ rows_where p (at + 1) xs) (rows_where p (at + 1) xs) ≡ []) [
+        | true ↦ λ t. absurd (true≢false t)
+        | false ↦ λ t. rows_none (at + 1) xs t
+      ] h
+
+rises_ascend : {X : Type 0} (less : X → X → Bool) (weak : IsStrictWeakOrder less) (xs : List X) → Rises less xs → Ascends less weak xs
+rises_ascend less weak [] up = tt
+rises_ascend less weak (x ∷ xs) up = (up.0, rises_ascend less weak xs up.1)
+
+module _ {K : Type 0} (same less : K → K → Bool) (decides : (a b : K) → Decides (same a b) (a ≡ b)) (weak : IsStrictWeakOrder less) where
+  itself : (k : K) → same k k ≡ true
+  itself k = (decides k k).1 refl
+
+  back : (x y : K) → same x y ≡ false → same y x ≡ false
+  back x y h = elim (same y x) as (λ b. same y x ≡ b → b ≡ false) [
+    | true ↦ λ e. absurd (false≢true (sym h ∙ (decides x y).1 (sym ((decides y x).0 e))))
+    | false ↦ λ e. refl
+  ] refl
+
+  -- keys that differ
+  abbrev Apart : List K → Type 0
+  Apart [] = Unit {0}
+  Apart (k ∷ ks) = All (λ y. same k y ≡ false) ks × Apart ks
+
+  filter_apart : (p : K → Bool) (ks : List K) → Apart ks → Apart (filter p ks)
+  filter_apart p [] up = tt
+  filter_apart p (k ∷ ks) up = elim (p k) as (λ b. Apart (cond b (k ∷ filter p ks) (filter p ks))) [
+    | true ↦ (All-filter p (λ y. same k y ≡ false) ks up.0, filter_apart p ks up.1)
+    | false ↦ filter_apart p ks up.1
+  ]
+
+  others : (x : K) (ks : List K) → All (λ y. same x y ≡ false) (filter (λ q. not (same q x)) ks)
+  others x [] = All-nil (λ y. same x y ≡ false)
+  others x (k ∷ ks) =
+      elim (same k x) as (λ b. same k x ≡ b → All (λ y. same x y ≡ false) (cond (not b) (k ∷ filter (λ q. not (same q x)) ks) (filter (λ q. not (same q x)) ks))) [
+        | true ↦ λ h. others x ks
+        | false ↦ λ h. All-cons (λ y. same x y ≡ false) k (filter (λ q. not (same q x)) ks) (back k x h) (others x ks)
+      ] refl
+
+  distinct_apart : (xs : List K) → Apart (distinct same xs)
+  distinct_apart [] = tt
+  distinct_apart (x ∷ xs) = (others x (distinct same xs), filter_apart (λ q. not (same q x)) (distinct same xs) (distinct_apart xs))
+
+  put_in_apart : (x : K) (ys : List K) → All (λ y. same x y ≡ false) ys → Apart ys → Apart (put_in less x ys)
+  put_in_apart x [] here up = (All-nil (λ y. same x y ≡ false), tt)
+  put_in_apart x (y ∷ ys) here up = elim (less y x) as (λ b. Apart (cond b (y ∷ put_in less x ys) (x ∷ y ∷ ys))) [
+    | true ↦ (
+      all_put_in (λ z. same y z ≡ false) less x ys (back x y (All-head (λ z. same x z ≡ false) y ys here)) up.0,
+      put_in_apart x ys (All-tail (λ z. same x z ≡ false) y ys here) up.1,
+    )
+    | false ↦ (here, up)
+  ]
+
+  order_apart : (xs : List K) → Apart xs → Apart (in_order less xs)
+  order_apart [] up = tt
+  order_apart (x ∷ xs) up = put_in_apart x (in_order less xs) (all_in_order (λ y. same x y ≡ false) less xs up.0) (order_apart xs up.1)
+
+  module _ (all : List K) (d : K) where
+    abbrev pub key_at : ℕ → K
+    key_at row = slice_index_or all row d
+
+    abbrev pub before : ℕ → ℕ → Bool
+    before i j = less (key_at i) (key_at j)
+
+    before_weak : IsStrictWeakOrder before
+    before_weak = record { one_way = λ i j. weak.one_way (key_at i) (key_at j); chain = λ i j k. weak.chain (key_at i) (key_at j) (key_at k) }
+
+    -- the rows of a key
+    abbrev pub part : K → List ℕ
+    part k = rows_where (same k) 0 all
+
+    abbrev pub keys : List K
+    keys = keys_in_order same less all
+
+    abbrev Carry : K → List ℕ → Type 0
+    Carry k rows = All (λ row. key_at row ≡ k) rows
+
+    carried : (k : K) (at : ℕ) (xs : List K) → ((i : ℕ) → i < length xs → key_at (at + i) ≡ slice_index_or xs i d) → Carry k (rows_where (same k) at xs)
+    carried k at [] there = All-nil (λ row. key_at row ≡ k)
+    carried k at (x ∷ xs) there =
+        let here : key_at at ≡ x = ap key_at (omega arith) ∙ there 0 (omega arith) in
+        let rest : Carry k (rows_where (same k) (at + 1) xs) = carried k (at + 1) xs (λ i lt. ap key_at (omega arith) ∙ there (suc i) (omega (arith, lt))) in
+        elim (same k x) as (λ b. same k x ≡ b → Carry k (cond b (at ∷ rows_where (same k) (at + 1) xs) (rows_where (same k) (at + 1) xs))) [
+          | true ↦ λ h. All-cons (λ row. key_at row ≡ k) at (rows_where (same k) (at + 1) xs) (here ∙ sym ((decides k x).0 h)) rest
+          | false ↦ λ h. rest
+        ] refl
+
+    there : (i : ℕ) → i < length all → key_at (0 + i) ≡ slice_index_or all i d
+    there i lt = let e : 0 + i ≡ i = omega arith in ap key_at e
+
+    pub keyed : (k : K) → Carry k (part k)
+    keyed k = carried k 0 all there
+
+    one_key : (k : K) → filter (λ row. same k (key_at row)) (flat_map part keys) ≡ part k
+    one_key k =
+        parts_apart same less decides weak key_at part keyed k keys
+        ∙ ap (flat_map part) (in_order_keeps same less decides weak k (distinct same all))
+        ∙ (elim (list_any (same k) all) as (λ b. list_any (same k) all ≡ b → flat_map part (filter (same k) (distinct same all)) ≡ part k) [
+          | true ↦ λ h. ap (flat_map part) (once same less decides weak k all h) ∙ append-nil (part k)
+          | false ↦ λ h. ap (flat_map part) (gone same less decides weak k all h) ∙ sym (rows_none (same k) 0 all h)
+        ] refl)
+
+    -- rows in order, where ties carry the same key
+    module _ (tied : (i j : ℕ) → ties less (key_at i) (key_at j) ≡ same (key_at i) (key_at j)) where
+      stable : IsStableBy before (range_with_len 0 (length all)) (flat_map part keys)
+      stable x =
+          (λ q. filter (λ row. tied x row q) (flat_map part keys))
+          ∙ one_key (key_at x)
+          ∙ sym (rows_filtered (same (key_at x)) key_at d 0 all there)
+          ∙ (λ q. filter (λ row. sym (tied x row) q) (range_with_len 0 (length all)))
+
+      pub rows_are : in_order before (range_with_len 0 (length all)) ≡ flat_map part keys
+      rows_are =
+          one_order before before_weak (flat_map part keys) (in_order before (range_with_len 0 (length all)))
+          (rises_ascend before before_weak (flat_map part keys) (parts_rise same less decides weak key_at part keyed keys (in_order_rises less weak (distinct same all))))
+          (in_order_ascends before before_weak (range_with_len 0 (length all)))
+          (λ x. in_order_ties before before_weak (range_with_len 0 (length all)) x ∙ sym (stable x))
+
+    -- their runs
+    abbrev pub alike : ℕ → ℕ → Bool
+    alike i j = same (key_at i) (key_at j)
+
+    abbrev NotFirst : K → List ℕ → Type 0
+    NotFirst k [] = Unit {0}
+    NotFirst k (row ∷ rows) = same k (key_at row) ≡ false
+
+    ends_here : (k : K) (row : ℕ) (rest : List ℕ) → key_at row ≡ k → NotFirst k rest → ends alike row rest ≡ true
+    ends_here k row [] is other = refl
+    ends_here k row (next ∷ rest) is other = ap not (ap (λ z. same z (key_at next)) is ∙ other)
+
+    one_run : (count : ℕ) (k : K) (run : Run) (row : ℕ) (rows rest : List ℕ) → key_at row ≡ k → Carry k rows → NotFirst k rest
+        → runs_from alike count run (row ∷ (rows ++ rest)) ≡ gathered count run (row ∷ rows) ∷ runs_from alike count no_run rest
+    one_run count k run row [] rest is carry other =
+        ap (λ b. cond b (with_row count run row ∷ runs_from alike count no_run rest) (runs_from alike count (with_row count run row) rest)) (ends_here k row rest is other)
+    one_run count k run row (next ∷ rows) rest is carry other =
+        let here : key_at next ≡ k = All-head (λ r. key_at r ≡ k) next rows carry in
+        ap (λ b. cond b (with_row count run row ∷ runs_from alike count no_run (next ∷ (rows ++ rest))) (runs_from alike count (with_row count run row) (next ∷ (rows ++ rest)))) (ap not ((λ q. same (is q) (here q)) ∙ itself k))
+        ∙ one_run count k (with_row count run row) next rows rest here (All-tail (λ r. key_at r ≡ k) next rows carry) other
+
+    one_part : (count : ℕ) (k : K) (rows rest : List ℕ) → 0 < length rows → Carry k rows → NotFirst k rest → runs_from alike count no_run (rows ++ rest) ≡ gathered count no_run rows ∷ runs_from alike count no_run rest
+    one_part count k [] rest some carry other = absurd (omega (arith, some))
+    one_part count k (row ∷ rows) rest some carry other = one_run count k no_run row rows rest (All-head (λ r. key_at r ≡ k) row rows carry) (All-tail (λ r. key_at r ≡ k) row rows carry) other
+
+    first_other : (k y : K) (rows rest : List ℕ) → 0 < length rows → Carry y rows → same k y ≡ false → NotFirst k (rows ++ rest)
+    first_other k y [] rest some carry other = absurd (omega (arith, some))
+    first_other k y (row ∷ rows) rest some carry other = ap (same k) (All-head (λ r. key_at r ≡ y) row rows carry) ∙ other
+
+    abbrev pub HaveRows : List K → Type 0
+    HaveRows ks = All (λ k. 0 < length (part k)) ks
+
+    not_next : (k : K) (ks : List K) → All (λ y. same k y ≡ false) ks → HaveRows ks → NotFirst k (flat_map part ks)
+    not_next k [] other some = tt
+    not_next k (y ∷ ys) other some =
+        first_other k y (part y) (flat_map part ys) (All-head (λ k. 0 < length (part k)) y ys some) (keyed y) (All-head (λ z. same k z ≡ false) y ys other)
+
+    runs_apart : (count : ℕ) (ks : List K) → Apart ks → HaveRows ks → runs_from alike count no_run (flat_map part ks) ≡ map (λ k. gathered count no_run (part k)) ks
+    runs_apart count [] apart some = refl
+    runs_apart count (k ∷ ks) apart some =
+        let later : HaveRows ks = All-tail (λ k. 0 < length (part k)) k ks some in
+        one_part count k (part k) (flat_map part ks) (All-head (λ k. 0 < length (part k)) k ks some) (keyed k) (not_next k ks apart.0 later)
+        ∙ ap (λ l. gathered count no_run (part k) ∷ l) (runs_apart count ks apart.1 later)
+
+    stands : All (λ k. list_any (same k) all ≡ true) keys
+    stands =
+        all_in_order (λ k. list_any (same k) all ≡ true) less (distinct same all)
+        (all_distinct (λ k. list_any (same k) all ≡ true) same all (λ i e lt. any_at (same (slice_index_or all i e)) all i e lt (itself (slice_index_or all i e))))
+
+    pub have_rows : HaveRows keys
+    have_rows i e lt = rows_some (same (slice_index_or keys i e)) 0 all (stands i e lt)
+
+    pub runs_are : (count : ℕ) → runs_from alike count no_run (flat_map part keys) ≡ map (λ k. gathered count no_run (part k)) keys
+    runs_are count = runs_apart count keys (order_apart (distinct same all) (distinct_apart all)) have_rows

@@ -1,0 +1,26 @@
+use Rattle.std.proofs.Common.{◌≡◌, ◌∙◌, ◌<◌, ◌+◌, List, ℕ, take, drop, length, ap, sym, subst, arith, slice_index_or}
+use Rattle.std.proofs.lemmas.List.Sums.{sum_by_more}
+use Rattle.align_meaning.specs.Joins.{lists_of}
+use Rattle.label_align.specs.declared.runs.Run.{Run}
+use Rattle.label_align.specs.Joined.{HasMore}
+use Rattle.label_align.specs.Runs.{no_run, run_entries, entries_in, rows_in, total}
+use Rattle.label_align.proofs.JoinedLaws.{lists_more}
+use Rattle.label_align.proofs.SideLaws.{run_more, entries_here}
+use Rattle.label_align.proofs.joined.entries_of_runs.Goals as goal
+
+pub loop-run-preserved : goal.loop-run-preserved
+loop-run-preserved c =
+    let count = c.args.count in
+    let runs : List Run = c.args.runs.now in
+    let rows : List ℕ = c.args.rows.now in
+    let k = c.loop-run.run-index in
+    let lt : k < length runs = omega arith in
+    let run : Run = slice_index_or runs k no_run in
+    let more = sum_by_more rows_in runs k no_run lt in
+    let here : drop c.loop-run.from rows ≡ drop (total (take k runs)) rows = ap (λ n. drop n rows) c.loop-run.invariant.from in
+    record {
+      made = lists_more c.loop-run.out c.push_key.new.out (run_entries count (take k runs) rows) (entries_in count run (drop (total (take k runs)) rows)) c.loop-run.invariant.made
+          (subst (HasMore c.loop-run.out c.push_key.new.out) (entries_here count run rows c.loop-run.from ∙ ap (entries_in count run) here) c.in_ok-push_key.ensures)
+          ∙ ap lists_of (sym (run_more count runs rows k no_run lt));
+      from = omega (arith, more, c.loop-run.invariant.from);
+    }

@@ -1,0 +1,12 @@
+use Rattle.std.proofs.Common.{◌≡◌, take}
+use Rattle.align_meaning.specs.Joins.{lists_of}
+use Rattle.label_align.specs.Joined.{entries_seen}
+use Rattle.label_align.specs.Runs.{run_entries, total}
+use Rattle.label_align.proofs.joined.entries_of_runs.Given as goal
+
+-- the entries of the runs so far
+abbrev pub invariant-loop-run : goal.invariant-loop-run
+invariant-loop-run l = record {
+  made : entries_seen l.out ≡ lists_of (run_entries l.count (take l.run-index l.runs) l.rows);
+  from : l.from ≡ total (take l.run-index l.runs);
+}

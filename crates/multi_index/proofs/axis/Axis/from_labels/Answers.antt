@@ -1,0 +1,11 @@
+use Rattle.std.proofs.Common.{arith, ap, refl}
+use Rattle.multi_index.specs.Axes.{single_tuples}
+use Rattle.multi_index.proofs.NameLaws.{axis_is_nameless}
+use Rattle.multi_index.proofs.TupleLaws.{levels_of_single}
+use Rattle.multi_index.proofs.axis.Axis.from_labels.Goals as goal
+
+pub returns : goal.returns
+returns c = axis_is_nameless _ _ 1 (ap single_tuples c.from_vec.ensures) (omega arith)
+
+pub invariant_of-result : goal.invariant_of-result
+invariant_of-result c = record { room = refl; some = omega arith; few = omega arith; alike = levels_of_single c.from_vec.result; kept = refl }

@@ -1,0 +1,7 @@
+use Rattle.std.proofs.Common.{◌≡◌, None, take}
+use Rattle.multi_index.proofs.AddedLaws.{four_with}
+use Rattle.multi_index.proofs.levels.names_with.Given as goal
+
+-- the names so far stand there, and none in all other places
+abbrev pub invariant-loop-level : goal.invariant-loop-level
+invariant-loop-level l = l.names ≡ four_with l.outer None (take l.level l.axis.names)

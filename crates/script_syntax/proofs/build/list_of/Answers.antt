@@ -1,5 +1,0 @@
-use Rattle.script_syntax.proofs.Rows.{arg_of-Many}
-use Rattle.script_syntax.proofs.build.list_of.Goals as goal
-
-pub returns : goal.returns
-returns c = arg_of-Many c.args.parts

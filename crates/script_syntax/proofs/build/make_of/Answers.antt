@@ -1,5 +1,0 @@
-use Rattle.script_syntax.proofs.Rows.{expr_of-Make}
-use Rattle.script_syntax.proofs.build.make_of.Goals as goal
-
-pub returns : goal.returns
-returns c = expr_of-Make c.args.name c.args.args

@@ -1,5 +1,0 @@
-use Rattle.script_syntax.proofs.Rows.{step_of-Method}
-use Rattle.script_syntax.proofs.build.method_of.Goals as goal
-
-pub returns : goal.returns
-returns c = step_of-Method c.args.name c.args.args

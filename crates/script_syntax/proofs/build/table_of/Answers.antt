@@ -1,5 +1,0 @@
-use Rattle.script_syntax.proofs.Rows.{arg_of-Table}
-use Rattle.script_syntax.proofs.build.table_of.Goals as goal
-
-pub returns : goal.returns
-returns c = arg_of-Table c.args.entries

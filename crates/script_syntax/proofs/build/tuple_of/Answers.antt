@@ -1,5 +1,0 @@
-use Rattle.script_syntax.proofs.Rows.{arg_of-Row}
-use Rattle.script_syntax.proofs.build.tuple_of.Goals as goal
-
-pub returns : goal.returns
-returns c = arg_of-Row c.args.parts

@@ -1,0 +1,22 @@
+use Rattle.frame_store.specs.Objects.{tables}
+use Rattle.frame_store.specs.Arguments.{subscript_of}
+use Rattle.selections.specs.Reaches.{accessor_of}
+use Rattle.selections.proofs.ReachLaws.{joined_settled}
+use Rattle.settings.proofs.TargetLaws.{pair_reached}
+use Rattle.settings.proofs.targets.rows_of_pair.Goals as goal
+
+pub rows_reached-requires-clause-key : goal.rows_reached-requires-clause-key
+rows_reached-requires-clause-key c =
+    let live = tables c.args.store.now in
+    record {
+      live = c.in_ok-key.ensures.live live;
+      given = joined_settled c.args.dict.now (accessor_of c.args.by) c.levels.result (λ texts. subscript_of live texts c.args.first.now) (λ texts. subscript_of live texts c.args.second.now) (λ texts. subscript_of live texts c.in_ok-key.key)
+          (c.in_ok-key.ensures.key live) c.requires.first.given c.requires.second.given;
+    }
+
+pub returns-clause-rows : goal.returns-clause-rows
+returns-clause-rows c =
+    let live = tables c.args.store.now in
+    let dict = c.args.dict.now in
+    pair_reached dict c.args.on.now (accessor_of c.args.by) c.levels.result (subscript_of live dict c.args.first.now) (subscript_of live dict c.args.second.now) c.levels.ensures
+    (subscript_of live dict c.in_ok-key.key) c.rows_reached.result (c.in_ok-key.ensures.key live dict) c.rows_reached.ensures.rows

@@ -1,0 +1,137 @@
+-- `reindex` makes valid tables of valid ones.
+use Rattle.std.proofs.Common.{◌≡◌, ◌∙◌, refl, ap, sym, subst, ℕ, suc, ◌+◌, ◌<◌, List, [], ◌∷◌, length, map, arith}
+use Rattle.std.specs.Prelude.{Bool, true, false, ◌&&◌, nat_eq, nat_lt, if◌then◌else◌, Option, Some, None, IsSome, IfSome, Result, Ok, Err, IfOk, All}
+use Rattle.std.proofs.lemmas.Bool.{eqb-true}
+use Rattle.std.proofs.lemmas.List.{length-map}
+use Rattle.std.proofs.lemmas.List.Elements.{All-nil, All-cons}
+use Rattle.cell_core.specs.declared.grid.Shape.TheVariants.{Frame}
+use Rattle.meaning.specs.Cell.{CellValue, na_cell, LabelValue, Int64}
+use Rattle.meaning.specs.Fault.{wrong_kind}
+use Rattle.meaning.specs.Operator.{cell_label}
+use Rattle.align_meaning.specs.Faults.{AlignRefusal, met_rows}
+use Rattle.align_meaning.specs.Targets.{reindexed}
+use Rattle.align_meaning.proofs.FoundLaws.{reindexed_count, reindexed_below}
+use Rattle.table_meaning.specs.Table.{ColumnOf, Table}
+use Rattle.table_meaning.specs.Value.{Given, GivenList, cell, table, nothing, one, row, many, entries, no_given, more_given}
+use Rattle.form_meaning.specs.Binding.{each, is_scalar, count_of, is_tuple_of}
+use Rattle.form_meaning.specs.Finish.{first_repeated, column_labels}
+use Rattle.form_meaning.specs.Infix.{same_tuple, on_rows}
+use Rattle.form_meaning.specs.Select.{labels_of}
+use Rattle.select_meaning.specs.Keys.{whole_item, whole_items}
+use Rattle.select_meaning.specs.Select.{row_name}
+use Rattle.method_meaning.specs.Reindex.{rows_at, rows_reindexed, column_or_missing, columns_at, columns_reindexed, reindex_rows, reindex_columns, reindex_result}
+use Rattle.table_laws.specs.Validity.{IsValidEntry}
+use Rattle.table_laws.proofs.ListLaws.{both_true, all_made, then_keeps}
+use Rattle.table_laws.proofs.CellLaws.{na_held}
+use Rattle.table_laws.proofs.ColumnLaws.{IsColumn, spread_column}
+use Rattle.table_laws.proofs.TableLaws.{IsShaped, limited_keeps, column_of_table, frame_headings}
+use Rattle.table_laws.proofs.HeadingLaws.{different, finished_keeps}
+use Rattle.table_laws.proofs.InfixLaws.{columns_on}
+use Rattle.table_laws.proofs.SetLaws.{met_keeps}
+
+abbrev Has : ℕ → List LabelValue → Type 0
+Has n tuple = length tuple ≡ n
+
+-- each item of a list has a label for each level
+labels_count : (parts : GivenList) → each is_scalar parts ≡ true → length (labels_of parts) ≡ count_of parts
+labels_count no_given h = refl
+labels_count (more_given (one (cell c)) rest) h = let more : suc (count_of rest) ≡ count_of rest + 1 = Prim.omega arith in ap suc (labels_count rest h) ∙ more
+labels_count (more_given (one (table t)) rest) h = Prim.cc
+labels_count (more_given nothing rest) h = Prim.cc
+labels_count (more_given (row parts) rest) h = Prim.cc
+labels_count (more_given (many parts) rest) h = Prim.cc
+labels_count (more_given (entries pairs) rest) h = Prim.cc
+
+item_has : (n : ℕ) (g : Given) → IfOk (whole_item n g) (Has n)
+item_has n (one (cell c)) = by (nat_eq n 1) refl
+  where
+    by : (b : Bool) → nat_eq n 1 ≡ b → IfOk (if b then Ok (cell_label c ∷ []) else Err wrong_kind) (Has n)
+    by true e = sym (eqb-true n 1 e)
+    by false e = tt
+item_has n (row parts) = by (nat_lt 1 n && is_tuple_of n (row parts)) refl
+  where
+    by : (b : Bool) → nat_lt 1 n && is_tuple_of n (row parts) ≡ b → IfOk (if b then Ok (labels_of parts) else Err wrong_kind) (Has n)
+    by true e =
+        let tuple : is_tuple_of n (row parts) ≡ true = (both_true (nat_lt 1 n) (is_tuple_of n (row parts)) e).1 in
+        let x = both_true (nat_eq (count_of parts) n) (each is_scalar parts) tuple in
+        labels_count parts x.1 ∙ eqb-true (count_of parts) n x.0
+    by false e = tt
+item_has n (one (table t)) = tt
+item_has n nothing = tt
+item_has n (many parts) = tt
+item_has n (entries pairs) = tt
+
+items_have : (n : ℕ) (items : GivenList) → IfOk (whole_items n items) (All (Has n))
+items_have n no_given = All-nil (Has n)
+items_have n (more_given g rest) =
+    then_keeps (Has n) (All (Has n)) (whole_item n g) _ (item_has n g)
+    (λ key first. then_keeps (All (Has n)) (All (Has n)) (whole_items n rest) _ (items_have n rest) (λ keys others. All-cons (Has n) key keys first others))
+
+-- rows
+rows_at_shaped : (t : Table) (labels : List (List LabelValue)) (rows : List (Option ℕ)) → IsShaped t → All (Has (length t.level_names)) labels → length rows ≡ length labels → IsShaped (rows_at na_cell t labels rows)
+rows_at_shaped t labels rows s has count = record {
+  some = s.some;
+  few = s.few;
+  levels = has;
+  headed = s.headed ∙ sym (length-map t.columns _);
+  columns = columns_on (length t.labels) (length labels) rows t.columns count s.columns;
+  headings = s.headings;
+}
+
+rows_reindexed_keeps : (t : Table) (labels : List (List LabelValue)) → IsShaped t → All (Has (length t.level_names)) labels → IfOk (rows_reindexed t labels) IsValidEntry
+rows_reindexed_keeps t labels s has =
+    then_keeps (λ rows. length rows ≡ length labels) IsValidEntry (met_rows (reindexed same_tuple t.labels labels)) _
+    (met_keeps (λ rows. length rows ≡ length labels) (reindexed same_tuple t.labels labels) (reindexed_count same_tuple t.labels labels))
+    (λ rows count. limited_keeps (rows_at na_cell t labels rows) (rows_at_shaped t labels rows s has count))
+
+-- columns
+column_or_missing_keeps : (t : Table) (place : Option ℕ) → IsShaped t → IfSome place (λ k. k < length t.columns) → IsColumn (length t.labels) (column_or_missing na_cell t place)
+column_or_missing_keeps t None s inside = spread_column Int64 (length t.labels) na_cell (na_held Int64)
+column_or_missing_keeps t (Some place) s inside = column_of_table t s place inside
+
+name_there : (tuple : List LabelValue) → Has 1 tuple → IsSome (row_name tuple)
+name_there [] one_label = absurd (Prim.omega (arith, one_label))
+name_there (l ∷ []) one_label = refl
+name_there (l ∷ m ∷ more) one_label = absurd (Prim.omega (arith, one_label))
+
+abbrev ArePlaces : Table → List (List LabelValue) → List (Option ℕ) → Type 0
+ArePlaces t labels places = (length places ≡ length labels) × All (λ place. IfSome place (λ k. k < length t.columns)) places
+
+columns_at_shaped : (t : Table) (labels : List (List LabelValue)) (places : List (Option ℕ)) → IsShaped t → t.shape ≡ Frame → All (Has 1) labels → ArePlaces t labels places → first_repeated (map row_name labels) ≡ None
+    → IsShaped (columns_at na_cell t (map row_name labels) places)
+columns_at_shaped t labels places s is has found none =
+    let some : All IsSome (map row_name labels) = all_made (Has 1) IsSome row_name name_there labels has in
+    record {
+      some = s.some;
+      few = s.few;
+      levels = s.levels;
+      headed = length-map labels row_name ∙ sym found.0 ∙ sym (length-map places (column_or_missing na_cell t));
+      columns = all_made (λ place. IfSome place (λ k. k < length t.columns)) (IsColumn (length t.labels)) (column_or_missing na_cell t) (λ place inside. column_or_missing_keeps t place s inside) places found.1;
+      headings = frame_headings t.shape t.columns_name (map row_name labels) is some (different (map row_name labels) some none);
+    }
+
+both_hold : {A : Type 0} (P Q : A → Type 0) (r : Result A (AlignRefusal (List LabelValue))) → IfOk r P → IfOk r Q → IfOk r (λ a. P a × Q a)
+both_hold P Q (Ok a) p q = (p, q)
+both_hold P Q (Err refusal) p q = tt
+
+places_found : (t : Table) (labels : List (List LabelValue)) → IsShaped t → IfOk (reindexed same_tuple (column_labels t) labels) (ArePlaces t labels)
+places_found t labels s =
+    let count : length (column_labels t) ≡ length t.columns = length-map t.headings _ ∙ s.headed in
+    both_hold (λ places. length places ≡ length labels) (All (λ place. IfSome place (λ k. k < length t.columns))) (reindexed same_tuple (column_labels t) labels)
+    (reindexed_count same_tuple (column_labels t) labels)
+    (subst (λ n. IfOk (reindexed same_tuple (column_labels t) labels) (All (λ place. IfSome place (λ k. k < n)))) count (reindexed_below same_tuple (column_labels t) labels))
+
+columns_reindexed_keeps : (t : Table) (labels : List (List LabelValue)) → IsShaped t → t.shape ≡ Frame → All (Has 1) labels → IfOk (columns_reindexed t labels) IsValidEntry
+columns_reindexed_keeps t labels s is has =
+    then_keeps (ArePlaces t labels) IsValidEntry (met_rows (reindexed same_tuple (column_labels t) labels)) _
+    (met_keeps (ArePlaces t labels) (reindexed same_tuple (column_labels t) labels) (places_found t labels s))
+    (λ places found. finished_keeps (columns_at na_cell t (map row_name labels) places) (columns_at_shaped t labels places s is has found))
+
+-- of a list of labels
+pub reindex_keeps : (t : Table) (rows columns : Option GivenList) → IsShaped t → (IsSome columns → t.shape ≡ Frame) → IfOk (reindex_result t rows columns) IsValidEntry
+reindex_keeps t (Some items) None s is =
+    then_keeps (All (Has (length t.level_names))) IsValidEntry (whole_items (length t.level_names) items) _ (items_have (length t.level_names) items) (λ labels has. rows_reindexed_keeps t labels s has)
+reindex_keeps t None (Some items) s is =
+    then_keeps (All (Has 1)) IsValidEntry (whole_items 1 items) _ (items_have 1 items) (λ labels has. columns_reindexed_keeps t labels s (is refl) has)
+reindex_keeps t None None s is = tt
+reindex_keeps t (Some items) (Some others) s is = tt
