@@ -69,21 +69,21 @@ rows_seen : (texts : List Text) (t : NumberedTable) (places rows : List ℕ) →
 rows_seen texts t places [] = refl
 rows_seen texts t places (r ∷ rs) = λ j. row_seen texts t places r j ∷ rows_seen texts t places rs j
 
-abbrev all_rows : NumberedTable → List ℕ
+abbrev pub all_rows : NumberedTable → List ℕ
 all_rows t = range_with_len 0 (length t.labels)
 
-tuples_seen : (texts : List Text) (t : NumberedTable) (places : List ℕ) → labels_value texts (map (row_labels t places) (all_rows t)) ≡ map (map cell_label) (cells_by_row (table_value texts t) places)
+pub tuples_seen : (texts : List Text) (t : NumberedTable) (places : List ℕ) → labels_value texts (map (row_labels t places) (all_rows t)) ≡ map (map cell_label) (cells_by_row (table_value texts t) places)
 tuples_seen texts t places =
     let T = table_value texts t in
     rows_seen texts t places (all_rows t)
     ∙ ap (λ n. map (map cell_label) (map (cells_in T places) (range_with_len 0 n))) (sym (length-map t.labels (tuple_value texts)))
     ∙ ap (map (map cell_label)) (sym (by_rows T places))
 
-headings_seen : (texts : List Text) (t : NumberedTable) (places : List ℕ) → headings_value texts (headings_at t places) ≡ map (heading_at (table_value texts t)) places
+pub headings_seen : (texts : List Text) (t : NumberedTable) (places : List ℕ) → headings_value texts (headings_at t places) ≡ map (heading_at (table_value texts t)) places
 headings_seen texts t [] = refl
 headings_seen texts t (p ∷ ps) = λ j. sym (heading_seen texts t.headings p) j ∷ headings_seen texts t ps j
 
-headings_settled : (texts : List Text) (t : NumberedTable) (places : List ℕ) → IsSettled headings_value texts t.headings → IsSettled headings_value texts (headings_at t places)
+pub headings_settled : (texts : List Text) (t : NumberedTable) (places : List ℕ) → IsSettled headings_value texts t.headings → IsSettled headings_value texts (headings_at t places)
 headings_settled texts t [] settled = λ more. refl
 headings_settled texts t (p ∷ ps) settled = λ more j. heading_settled texts t.headings p (heading_of t p) refl settled more j ∷ headings_settled texts t ps settled more j
 
@@ -170,7 +170,7 @@ column_rows t (p ∷ ps) whole below =
     All-cons (λ (c : ColumnOf Cell). length c.cells ≡ length t.labels) (column_at t.columns p) (map (column_at t.columns) ps) (whole.filled p no_column (below 0 p (omega arith)))
     (column_rows t ps whole (λ k d lt. below (suc k) d (omega (arith, lt))))
 
-labelled : (t : NumberedTable) (kept : List ℕ) → All IsSome t.headings → All (λ place. place < length t.headings) kept → All IsSome (headings_at t kept)
+pub labelled : (t : NumberedTable) (kept : List ℕ) → All IsSome t.headings → All (λ place. place < length t.headings) kept → All IsSome (headings_at t kept)
 labelled t [] some below = All-nil IsSome
 labelled t (p ∷ ps) some below =
     All-cons IsSome (heading_of t p) (headings_at t ps) (some p None (below 0 p (omega arith))) (labelled t ps some (λ k d lt. below (suc k) d (omega (arith, lt))))

@@ -23,8 +23,8 @@ pub(crate) struct BoundCall<'a> {
     pub(crate) bound: Bound<'a>,
 }
 
-// An AttributeError of the name, or want of memory.
-pub(crate) fn no_attribute(alloc: Global, name: &str) -> OpFault
+/// An AttributeError of the name, or want of memory.
+pub fn no_attribute(alloc: Global, name: &str) -> OpFault
     ensures { NamesNone result name.now }
 {
     match Words::from_text(alloc, name) {

@@ -1,5 +1,5 @@
 // Calls of methods on objects.
-ghost use Rattle.std.specs.Prelude.{List, IsSome, Result, IfOk};
+ghost use Rattle.std.specs.Prelude.{◌≡◌, false, List, IsSome, Result, IfOk};
 ghost use Rattle.meaning.specs.Text.{Text as OneText};
 ghost use Rattle.meaning.specs.Cell.{IsLonger};
 ghost use Rattle.meaning.specs.Fault.{FaultValue};
@@ -14,7 +14,7 @@ ghost use Rattle.frame_store.specs.Objects.{tables, table_at};
 ghost use Rattle.frame_store.specs.Shown.{Makes};
 ghost use Rattle.frame_store.specs.World.{world, entry_in, arguments_in, IsSettledWorld, AreKnownArguments, Forms};
 ghost use Rattle.frame_methods.specs.Built.{method_of, column_method, row_method, level_method, label_method};
-ghost use Rattle.frame_methods.specs.Calls.{chain_of, answer_in, IsCall};
+ghost use Rattle.frame_methods.specs.Calls.{chain_in, is_grouped, answer_in, IsCall};
 ghost use Rattle.frame_methods.specs.Made.{made_value};
 ghost use Rattle.frame_methods.specs.Faults.{IsChained};
 
@@ -327,7 +327,7 @@ fn call(
     answer(alloc, store, dict, &call, id)
 }
 
-/// A method of a value: `s.name(..)`, or one with `groupby`, `rolling` or `expanding` before it.
+/// A method of a value: `s.name(..)`, or one with `rolling` or `expanding` before it.
 ///
 /// The answer is a scalar, or a new object whose table is that of its own rows; no other object
 /// changes. The scalar that `to_csv` answers is a text, to which the dictionary gives a number. The
@@ -348,16 +348,17 @@ pub fn method(
     chain: &Chain,
     args: &NamedList,
 ) -> Result<Value, OpFault>
+    requires chain { is_grouped chain.now ≡ false }
     requires live { IsLive (tables store.old) on }
     requires settled { IsSettledWorld (world store.old dict.old) }
     requires arguments { AreKnownArguments (world store.old dict.old) args.now.items.items }
-    ensures { Forms result (chain_result (entry_in (world store.old dict.old) on)
-        (chain_of chain.now) (arguments_in (world store.old dict.old) args.now.items.items))
-        (world store.old dict.old) (world store.new dict.new) }
+    ensures { let w = world store.old dict.old in
+        Forms result (chain_result (entry_in w on) (chain_in w chain.now)
+        (arguments_in w args.now.items.items)) w (world store.new dict.new) }
 {
     match chain {
         Chain::Plain(name) => call(alloc, store, dict, on, name.as_str(), args.as_slice()),
-        Chain::Group(_, _, _) => Err(chained(alloc, store, on, "groupby")),
+        Chain::Group(_, _, _) => unreachable!(),
         Chain::Rolling(_, _) => Err(chained(alloc, store, on, "rolling")),
         Chain::Expanding(_, _) => Err(chained(alloc, store, on, "expanding")),
     }

@@ -23,8 +23,8 @@ use multi_index::Axis;
 use selections::{different_headings, headings_at};
 use std::alloc::Global;
 
-// The cells of a row in these columns, as a tuple of labels.
-fn row_tuple(alloc: Global, on: &ObjRef<'_>, places: &Places, row: usize) -> Tuple
+/// The cells of a row in these columns, of which there are one to four, as a tuple of labels.
+pub fn row_tuple(alloc: Global, on: &ObjRef<'_>, places: &Places, row: usize) -> Tuple
     requires row { row < length on.now.labels }
     requires places { AreColumnsOf on.now places.now }
     requires some { 1 ≤ length places.now }

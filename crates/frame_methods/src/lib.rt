@@ -15,6 +15,8 @@
 //! (`levels`), and become columns again (`level_columns`, `resetting`); `under` makes the table under another axis. The
 //! text of a whole table, which `to_csv` answers, is made by `frame_format` (`csv`).
 //!
+//! Calls behind `groupby` are in the crate `group_forms`, which takes some parts from here.
+//!
 //! ```text
 //! let mut args = NamedList::new(alloc);
 //! args.push(Named { name: None, value: Argument::One(Value::Scalar(Cell::Int(0))) })?;
@@ -51,5 +53,8 @@ mod summaries;
 mod tables;
 mod under;
 
-pub use binding::exists;
+pub use binding::{exists, no_attribute};
 pub use calling::method;
+pub use indexing::row_tuple;
+pub use named_columns::{named_places, places_besides};
+pub use under::named_axis;

@@ -71,8 +71,10 @@ fn places_of(
     column_places(alloc, dict, on, &cells)
 }
 
-// The columns that the first argument names: a label, or the labels of a list.
-pub(crate) fn named_places(
+/// The columns that the first argument names: a label, or the labels of a list.
+///
+/// `NoKey` of the first label that no column has. `NoMemory` may come in place of any answer.
+pub fn named_places(
     alloc: Global,
     store: &Store,
     dict: &TextDict,
@@ -129,12 +131,8 @@ fn marked(alloc: Global, count: usize, places: &Places) -> Result<Vec<bool>, NoM
     Ok(marks)
 }
 
-// The numbers below a count that aren't among these places.
-pub(crate) fn places_besides(
-    alloc: Global,
-    count: usize,
-    places: &Places,
-) -> Result<Places, NoMemory>
+/// The numbers below a count that aren't among these places. `NoMemory` is the only refusal.
+pub fn places_besides(alloc: Global, count: usize, places: &Places) -> Result<Places, NoMemory>
     requires { All (λ place. place < count) places.now }
     ensures { IfOk result (λ others. others
         ≡ filter (λ place. not (list_any (nat_eq place) places.now)) (range_with_len 0 count)) }

@@ -31,8 +31,8 @@ pub(crate) fn copied_columns(
     Ok(blocks)
 }
 
-// The axis with these names of its levels.
-pub(crate) fn named_axis(axis: Axis, names: &[Option<Label>]) -> Axis
+/// The axis with these names of its levels. Takes no memory.
+pub fn named_axis(axis: Axis, names: &[Option<Label>]) -> Axis
     requires { length names.now ≡ length axis.names }
     ensures { result ≡ record { tuples = axis.tuples; names = names.now } }
 {

@@ -3,10 +3,11 @@ use Rattle.std.specs.Prelude.{Bool, true, false, List, is_some, Option, Some, No
 use Rattle.meaning.specs.Text.{Text}
 use Rattle.meaning.specs.Fault.{FaultValue, no_attribute, not_built}
 use Rattle.table_meaning.specs.Table.{Table}
-use Rattle.table_meaning.specs.Value.{Entry, cell, table, NamedGiven}
+use Rattle.table_meaning.specs.Value.{Entry, cell, table, Given, NamedGiven}
 use Rattle.form_meaning.specs.declared.Method.{Method}
 use Rattle.form_meaning.specs.Signature.{parameters_of, method_named}
 use Rattle.form_meaning.specs.Binding.{bound_of, on_bound}
+use Rattle.method_meaning.specs.Groups.{grouped_result}
 use Rattle.method_meaning.specs.Methods.{answer_for, is_built}
 
 -- whether a value has a method of the name
@@ -23,9 +24,10 @@ abbrev pub method_result : Entry → Text → List NamedGiven → Result Entry F
 method_result (cell c) name gs = Err (no_attribute name)
 method_result (table t) name gs = called (method_named t.shape name) name gs t
 
--- the name of a method; or that of groups or windows, which stand between an object and a method of theirs
+-- what stands between an object and the arguments of a call: the name of a method; the arguments of `groupby`, its brackets and the name behind them; or the name of windows
 pub data ChainValue : Type 0 where
   plain : Text → ChainValue
+  grouped : List NamedGiven → Option Given → Text → ChainValue
   through : Text → ChainValue
 
 abbrev pub not_built_if : Bool → Text → Result Entry FaultValue
@@ -34,4 +36,5 @@ not_built_if false name = Err (no_attribute name)
 
 abbrev pub chain_result : Entry → ChainValue → List NamedGiven → Result Entry FaultValue
 chain_result v (plain name) gs = method_result v name gs
+chain_result v (grouped by brackets name) gs = grouped_result v by brackets name gs
 chain_result v (through name) gs = not_built_if (has_method v name) name

@@ -69,7 +69,7 @@ abbrev mutual
   stepped files s v (tree.method n args) = where_named (has_method v n) n (then_read (named_of files s args) (λ gs. at_once (chain_result v (calls.plain n) gs)))
   stepped files s v (tree.group args by n more) =
       where_named (has_method v (codes "groupby")) (codes "groupby")
-      (then_read (named_of files s args) (λ g. then_read (bound_of files s by) (λ h. then_read (named_of files s more) (λ gs. at_once (chain_result v (calls.through (codes "groupby")) gs)))))
+      (then_read (named_of files s args) (λ g. then_read (brackets_of files s by) (λ h. then_read (named_of files s more) (λ gs. at_once (chain_result v (calls.grouped g h n) gs)))))
   stepped files s v (tree.rolling args n more) =
       where_named (has_method v (codes "rolling")) (codes "rolling")
       (then_read (named_of files s args) (λ g. then_read (named_of files s more) (λ gs. at_once (chain_result v (calls.through (codes "rolling")) gs))))
@@ -85,6 +85,11 @@ abbrev mutual
   pub second_of : Files → State → OptionalSub → Reads (Option GivenSub)
   second_of files s tree.no_sub = gives None
   second_of files s (tree.some_sub sub) = then_read (sub_of files s sub) (λ g. gives (Some g))
+
+  -- what stands in brackets behind `groupby`
+  pub brackets_of : Files → State → OptionalArg → Reads (Option Given)
+  brackets_of files s tree.no_arg = gives None
+  brackets_of files s (tree.some_arg a) = then_read (given_of files s a) (λ g. gives (Some g))
 
   pub bound_of : Files → State → OptionalArg → Reads Given
   bound_of files s tree.no_arg = gives nothing

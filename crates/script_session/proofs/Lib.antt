@@ -9,6 +9,7 @@ pub mod Binding
 pub mod FormFaults
 pub mod SelectFaults
 pub mod SetFaults
+pub mod GroupFaults
 pub mod MethodFaults
 pub mod Rides
 pub mod Fetching

@@ -19,6 +19,7 @@ use Rattle.method_meaning.specs.Section.{xs_result}
 use Rattle.method_meaning.specs.Calls as call
 use Rattle.method_meaning.specs.Calls.{ChainValue, called, method_result, not_built_if, chain_result}
 use Rattle.script_session.specs.FormFault.{HasFormFault}
+use Rattle.script_session.proofs.GroupFaults.{grouped_result_fault}
 use Rattle.script_session.proofs.FormFaults.{if_fault, then_value_fault, of_length_fault, unless_repeated_fault, met_rows_fault, list_column_fault, on_bound_fault, limited_fault, finished_fault, column_fault, made_column_fault, try_all_fault, found_fault, column_places_fault, on_fault}
 use Rattle.script_session.proofs.SelectFaults.{found_pick_fault, whole_items_fault}
 
@@ -174,4 +175,5 @@ not_built_if_fault false name = tt
 
 pub chain_result_fault : (v : Entry) (chain : ChainValue) (gs : List NamedGiven) → HasFormFault (chain_result v chain gs)
 chain_result_fault v (call.plain name) gs = method_result_fault v name gs
+chain_result_fault v (call.grouped by brackets name) gs = grouped_result_fault v by brackets name gs
 chain_result_fault v (call.through name) gs = not_built_if_fault _ name

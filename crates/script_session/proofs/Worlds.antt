@@ -1,6 +1,6 @@
 -- What forms do to the objects and the texts.
 use Rattle.std.proofs.Common.{◌≡◌, ℕ, Bool, true, false, nat_eq, List, [], ◌∷◌, ◌++◌, Option, Some, None, refl, sym, ◌∙◌, ap, subst, IsSome}
-use Rattle.std.specs.Prelude.{if◌then◌else◌, option_map, ⊤, Result, Ok, Err, IfOk}
+use Rattle.std.specs.Prelude.{if◌then◌else◌, option_map, ⊤, Result, Ok, Err, IfOk, IfSome}
 use Rattle.cell_core.specs.declared.cell.Label.{Label}
 use Rattle.meaning.specs.Cell.{IsLonger, datum}
 use Rattle.meaning.specs.Text.{Text}
@@ -22,7 +22,7 @@ use Rattle.frame_store.specs.declared.arguments.Subscript.{Subscript}
 use Rattle.frame_store.specs.declared.fault.OpFault.{OpFault}
 use Rattle.frame_store.specs.declared.fault.OpFault.TheVariants.{Refused, NoMemory}
 use Rattle.frame_store.proofs.Settling.{settled_later, seen_later, longer_self, longer_twice}
-use Rattle.frame_store.specs.World.{World, objects_of, entry_in, IsSettledWorld, Keeps, IsKnown, IsKnownValue, AreKnownItems, IsKnownArgument, AreKnownPairs, AreKnownArguments, IsKnownSubscript, Forms, Sets}
+use Rattle.frame_store.specs.World.{World, objects_of, entry_in, argument_in, IsSettledWorld, Keeps, IsKnown, IsKnownValue, AreKnownItems, IsKnownArgument, AreKnownPairs, AreKnownArguments, IsKnownSubscript, Forms, Sets}
 use Rattle.script_session.specs.Bindings.{Bindings, is_named, contains, noted, AreLive, AreGiven, AreNoted}
 use Rattle.script_session.proofs.Numbers.{nat_same, some_none}
 use Rattle.script_session.proofs.LiveObjects.{or_right, or_map, contains_last, contains_more}
@@ -116,6 +116,14 @@ module _ (old new : World) (settled : IsSettledWorld old) (settled' : IsSettledW
 
   pub argument_kept : (a : Argument) → IsKnownArgument old a → IsKnownArgument new a
   argument_kept a known = known_kept IsLiveArgument argument_of (λ ts t t' same x live. argument_same ts t t' same x live) (λ t t' later x live. argument_later t t' later x live) a known
+
+  pub brackets_seen : (by : Option Argument) → IfSome by (IsKnownArgument old) → option_map (argument_in new) by ≡ option_map (argument_in old) by
+  brackets_seen None known = refl
+  brackets_seen (Some a) known = ap (λ g. Some g) (argument_seen a known)
+
+  pub brackets_kept : (by : Option Argument) → IfSome by (IsKnownArgument old) → IfSome by (IsKnownArgument new)
+  brackets_kept None known = tt
+  brackets_kept (Some a) known = argument_kept a known
 
   pub pairs_seen : (pairs : List (Label × Argument)) → AreKnownPairs old pairs → entries_of new.tables new.texts pairs ≡ entries_of old.tables old.texts pairs
   pairs_seen pairs known = seen_kept AreLivePairs entries_of (λ ts t t' same x live. pairs_same ts t t' same x live) (λ t t' later x live. pairs_later t t' later x live) pairs known

@@ -1,5 +1,5 @@
 -- Parts of trees that may be left out, and parts that are evaluated one after the other.
-use Rattle.std.specs.Prelude.{Option, Some, None, option_map}
+use Rattle.std.specs.Prelude.{Option, Some, None, option_map, IfSome}
 use Rattle.language_meaning.specs.Tree as tree
 use Rattle.script_meaning.specs.Reading.{Reads, gives, then_read}
 use Rattle.script_tree.specs.declared.tree.Sub.{Sub}
@@ -10,7 +10,11 @@ use Rattle.frame_store.specs.declared.arguments.Selector.{Selector}
 use Rattle.frame_store.specs.declared.arguments.Subscript.{Subscript}
 use Rattle.selections.specs.Selected.{way_of}
 use Rattle.script_meaning.specs.Expression.{Target}
-use Rattle.frame_store.specs.World.{World}
+use Rattle.table_meaning.specs.Value.{Given}
+use Rattle.frame_store.specs.declared.arguments.Argument.{Argument}
+use Rattle.frame_store.specs.World.{World, argument_in, IsKnownArgument}
+use Rattle.script_session.specs.Work.{world_of}
+use Rattle.script_session.specs.declared.work.Work.{Work}
 
 abbrev pub optional_sub : Option Sub → tree.OptionalSub
 optional_sub None = tree.no_sub
@@ -27,3 +31,10 @@ both_of x y = then_read x (λ v. then_read y (λ w. gives (v, w)))
 -- the last step of a target, as it is seen
 abbrev pub target_seen : World → Selector × Subscript × Option Subscript → Target
 target_seen w p = record { way = way_of p.0; first = subscript_of w.tables w.texts p.1; second = option_map (subscript_of w.tables w.texts) p.2 }
+
+-- what stands in brackets behind `groupby`, if they are there
+abbrev pub brackets_in : World → Option Argument → Option Given
+brackets_in w a = option_map (argument_in w) a
+
+abbrev pub AreBrackets : Work → Option Argument → Type 0
+AreBrackets w a = IfSome a (IsKnownArgument (world_of w))

@@ -1,11 +1,11 @@
 // The values of expressions and arguments. What they make is noted.
 ghost use Rattle.std.specs.Prelude.{None};
 ghost use Rattle.language_meaning.specs.Tree.{arg_list, named_args, arg_pairs};
-ghost use Rattle.script_meaning.specs.Expression.{named_by, value_of, stepped, given_of, part_of, parts_of as parts_given, pairs_of, named_of, sub_of, second_of, bound_of};
+ghost use Rattle.script_meaning.specs.Expression.{named_by, value_of, stepped, given_of, part_of, parts_of as parts_given, pairs_of, named_of, sub_of, second_of, brackets_of, bound_of};
 ghost use Rattle.script_tree.specs.View.{expr_of, step_of, sub_of as view_sub, arg_of, optional_arg, parts_of, named_parts_of, pair_parts_of};
 ghost use Rattle.frame_store.specs.World.{IsKnownValue, IsKnownItem, AreKnownItems, IsKnownArgument, AreKnownPairs, AreKnownArguments, IsKnownSubscript, entry_in};
 ghost use Rattle.script_session.specs.Evaluates.{moment, IsValue, Evaluates, AreSubscripts, item_in, items_in, argument_in, pairs_in, arguments_in, subscript_in, subscripts_in};
-ghost use Rattle.script_session.specs.Parts.{optional_sub, both_of};
+ghost use Rattle.script_session.specs.Parts.{optional_sub, both_of, AreBrackets, brackets_in};
 ghost use Rattle.script_session.specs.Links.{linked};
 
 use crate::fault::{EvalFault, evaluated};
@@ -128,7 +128,7 @@ impl Work {
     {
         expect_method(self.alloc, &self.store, on, call.link.name())?;
         let args = self.arguments(files, names, call.args)?;
-        let by = self.bound(files, names, call.by)?;
+        let by = self.brackets(files, names, call.by)?;
         let more = self.arguments(files, names, call.more)?;
         let name = Words::from_text(self.alloc, call.name.as_str())?;
         evaluated(self.method(on, &call.link.chain(args, by, name), &more))
@@ -191,7 +191,29 @@ impl Work {
         }
     }
 
-    // An end of a slice, or what stands in brackets after `groupby`; None where it is left out.
+    // What stands in brackets behind `groupby`, if they are there.
+    #[cycle(evaluating)]
+    fn brackets<F: Files>(
+        &mut self,
+        files: &mut F,
+        names: &FileNames,
+        arg: &Option<Arg>,
+    ) -> Result<Option<Argument>, EvalFault>
+        ensures { let at = moment F.seen in
+            Evaluates names.now AreBrackets brackets_in
+            (λ fs s. brackets_of fs s (optional_arg arg.now))
+            (at self.old files.old) (at self.new files.new) result }
+    {
+        match arg {
+            Some(arg) => {
+                let given = self.given(files, names, arg)?;
+                Ok(Some(given))
+            }
+            None => Ok(None),
+        }
+    }
+
+    // An end of a slice; None where it is left out.
     #[cycle(evaluating)]
     fn bound<F: Files>(
         &mut self,

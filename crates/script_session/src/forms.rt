@@ -15,14 +15,14 @@ ghost use Rattle.method_meaning.specs.Readers.{make_with};
 ghost use Rattle.table_laws.specs.Validity.{IsHeldCell};
 ghost use Rattle.frame_store.specs.Objects.{tables};
 ghost use Rattle.frame_store.specs.Arguments.{entry_of, argument_of, IsLive};
-ghost use Rattle.frame_methods.specs.Calls.{chain_of};
+ghost use Rattle.frame_methods.specs.Calls.{chain_in, IsKnownChain};
 ghost use Rattle.selections.specs.Selected.{way_of};
 ghost use Rattle.settings.specs.Assigned.{new_value, moved_object, IsLiveNew, IsOther};
 ghost use Rattle.nullable_array.specs.Tasks.{operator_of};
 ghost use Rattle.script_tokens.specs.View.{binary_of};
 ghost use Rattle.script_tree.specs.View.{literal_of, unary_of};
 ghost use Rattle.script_meaning.specs.Expression.{cell_of, is_minus};
-ghost use Rattle.frame_store.specs.World.{entry_in, argument_in, arguments_in, subscript_in, Keeps, IsKnownValue, IsKnownArgument, AreKnownArguments, IsKnownSubscript, Forms, Sets};
+ghost use Rattle.frame_store.specs.World.{world, IsSettledWorld, entry_in, argument_in, arguments_in, subscript_in, Keeps, IsKnownValue, IsKnownArgument, AreKnownArguments, IsKnownSubscript, Forms, Sets};
 ghost use Rattle.script_session.specs.Bindings.{value_at, noted, is_spare, IsOf};
 ghost use Rattle.script_session.specs.Faults.{IsNoName, IsNoAttribute};
 
@@ -30,7 +30,7 @@ use crate::fault::EvalFault;
 use crate::literal::cell_of;
 use crate::names::find;
 use crate::work::Work;
-use cell_core::{Cell, Code, Grid, Label, Words};
+use cell_core::{Cell, Code, Grid, Label, TextDict, Words};
 use constructors::function_exists;
 use form_parts::label_of;
 use frame_methods::exists;
@@ -160,21 +160,16 @@ impl Work {
         args: &NamedList,
     ) -> Result<Value, OpFault>
         requires on { IsKnownValue (world_of self.old) on }
+        requires before { IsKnownChain (world_of self.old) chain.now }
         requires arguments { AreKnownArguments (world_of self.old) args.now.items.items }
         ensures names { names_in self.new ≡ names_in self.old }
         ensures answers { Forms result (chain_result (entry_in (world_of self.old) on)
-            (chain_of chain.now) (arguments_in (world_of self.old) args.now.items.items))
+            (chain_in (world_of self.old) chain.now)
+            (arguments_in (world_of self.old) args.now.items.items))
             (world_of self.old) (world_of self.new) }
     {
         self.temps.reserve(1)?;
-        let made = frame_methods::method(
-            self.alloc,
-            &mut self.store,
-            &mut self.dict,
-            on,
-            chain,
-            args,
-        )?;
+        let made = chain_call(self.alloc, &mut self.store, &mut self.dict, on, chain, args)?;
         note(&mut self.temps, made);
         Ok(made)
     }
@@ -302,6 +297,31 @@ impl Work {
                 Ok(Value::Scalar(Cell::Int(rows.cast_signed())))
             }
             Value::Scalar(_) => Err(OpFault::Refused(Code::WrongKind)),
+        }
+    }
+}
+
+// What a method gives, alone or behind `groupby` or a window.
+fn chain_call(
+    alloc: Global,
+    store: &mut Store,
+    dict: &mut TextDict,
+    on: Value,
+    chain: &Chain,
+    args: &NamedList,
+) -> Result<Value, OpFault>
+    requires live { IsLive (tables store.old) on }
+    requires settled { IsSettledWorld (world store.old dict.old) }
+    requires before { IsKnownChain (world store.old dict.old) chain.now }
+    requires arguments { AreKnownArguments (world store.old dict.old) args.now.items.items }
+    ensures { let w = world store.old dict.old in
+        Forms result (chain_result (entry_in w on) (chain_in w chain.now)
+        (arguments_in w args.now.items.items)) w (world store.new dict.new) }
+{
+    match chain {
+        Chain::Group(_, _, _) => group_forms::method(alloc, store, dict, on, chain, args),
+        Chain::Plain(_) | Chain::Rolling(_, _) | Chain::Expanding(_, _) => {
+            frame_methods::method(alloc, store, dict, on, chain, args)
         }
     }
 }

@@ -61,11 +61,11 @@ impl Link {
     }
 
     // The chain of evaluated parts. Only `groupby` has brackets.
-    pub(crate) fn chain(self, args: NamedList, by: Argument, name: Words) -> Chain
+    pub(crate) fn chain(self, args: NamedList, by: Option<Argument>, name: Words) -> Chain
         ensures { result ≡ chain_behind self args by name }
     {
         match self {
-            Link::Groupby => Chain::Group(args, Some(by), name),
+            Link::Groupby => Chain::Group(args, by, name),
             Link::Rolling => {
                 drop(by);
                 Chain::Rolling(args, name)

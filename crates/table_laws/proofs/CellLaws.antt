@@ -187,7 +187,7 @@ cast_held string (text_cell t) h = refl
 
 -- reductions
 
-fold_keeps : {A B : Type 0} (P : B → Type 0) (Q : A → Type 0) (f : B → A → B) → ((b : B) (a : A) → P b → Q a → P (f b a)) → (b : B) → P b → (xs : List A) → All Q xs → P (fold f b xs)
+pub fold_keeps : {A B : Type 0} (P : B → Type 0) (Q : A → Type 0) (f : B → A → B) → ((b : B) (a : A) → P b → Q a → P (f b a)) → (b : B) → P b → (xs : List A) → All Q xs → P (fold f b xs)
 fold_keeps P Q f so b h [] k = h
 fold_keeps P Q f so b h (x ∷ xs) k = fold_keeps P Q f so (f b x) (so b x h (All-head Q x xs k)) xs (All-tail Q x xs k)
 
@@ -226,7 +226,7 @@ reduction_held count kind cells h = fold_keeps (λ z. has_64_bits z ≡ true) (H
 
 -- cumulations
 
-unless_held : (kind : Kind) (c answer : CellValue) → Held kind answer → Held kind (unless_missing c answer)
+pub unless_held : (kind : Kind) (c answer : CellValue) → Held kind answer → Held kind (unless_missing c answer)
 unless_held kind na_cell answer h = refl
 unless_held kind (int_cell z) answer h = h
 unless_held kind (truth_cell b) answer h = h
@@ -243,7 +243,7 @@ running_held kind made f so before (c ∷ cs) h k =
     let now : All (Held kind) (before ++ c ∷ []) = All-append (Held kind) before (c ∷ []) h (All-cons (Held kind) c [] (All-head (Held kind) c cs k) (All-nil (Held kind))) in
     All-cons (Held made) _ (running f (before ++ c ∷ []) cs) (unless_held made c (f (before ++ c ∷ [])) (so (before ++ c ∷ []) now)) (running_held kind made f so (before ++ c ∷ []) cs now (All-tail (Held kind) c cs k))
 
-cumulation_held : (op : Cumulation) (kind : Kind) → cumulation_takes op kind ≡ true → (cells : List CellValue) → All (Held kind) cells → Held Int64 (cumulation_cell op cells)
+pub cumulation_held : (op : Cumulation) (kind : Kind) → cumulation_takes op kind ≡ true → (cells : List CellValue) → All (Held kind) cells → Held Int64 (cumulation_cell op cells)
 cumulation_held cumulation.sum kind takes cells h = reduction_held sum kind cells h
 cumulation_held cumulation.min Int64 takes cells h = reduction_held min Int64 cells h
 cumulation_held cumulation.max Int64 takes cells h = reduction_held max Int64 cells h

@@ -60,7 +60,7 @@ on_levels_keep count rest h = by (nat_le 1 count && nat_le count 4) refl
     by true e = let x = both_true (nat_le 1 count) (nat_le count 4) e in h (at_least x.0) (at_most x.1)
     by false e = tt
 
-row_has : (t : Table) (places : List ℕ) → All (λ (r : RowOf LabelValue CellValue). length r.cells ≡ length places) (rows_of na_cell (columns_frame t places))
+pub row_has : (t : Table) (places : List ℕ) → All (λ (r : RowOf LabelValue CellValue). length r.cells ≡ length places) (rows_of na_cell (columns_frame t places))
 row_has t places =
     all_tabulated (λ (r : RowOf LabelValue CellValue). length r.cells ≡ length places) (row_of na_cell (columns_frame t places)) (λ k. length-map (columns_frame t places).columns _ ∙ length-map places _) (length t.labels)
 

@@ -10,6 +10,7 @@ pub mod ReachLaws
 pub mod SetLaws
 pub mod RowLaws
 pub mod LevelLaws
+pub mod GroupLaws
 pub mod ReindexLaws
 pub mod SectionLaws
 pub mod MethodLaws

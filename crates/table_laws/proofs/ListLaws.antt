@@ -12,6 +12,7 @@ use Rattle.meaning.specs.Column.{tabulate, then_rows, try_each, try_pairs}
 use Rattle.table_meaning.specs.Change.{put_at}
 use Rattle.form_meaning.specs.Finish.{try_all}
 use Rattle.form_meaning.specs.Set.{of_length}
+use Rattle.form_meaning.specs.Make.{on}
 
 pub both_true : (a b : Bool) → a && b ≡ true → (a ≡ true) × (b ≡ true)
 both_true true b e = (refl, e)
@@ -56,6 +57,11 @@ then_keeps P Q (Ok a) go h so = so a h
 then_keeps P Q (Err fault) go h so = tt
 
 -- what is made of each of them, where all are
+-- what follows where something is given
+pub on_keeps : {A B : Type 0} (P : B → Type 0) (o : Option A) (go : A → Result B FaultValue) → ((a : A) → IfOk (go a) P) → IfOk (on o go) P
+on_keeps P None go h = tt
+on_keeps P (Some a) go h = h a
+
 pub try_keeps : {A B : Type 0} (P : A → Type 0) (Q : B → Type 0) (f : A → Result B FaultValue) → ((a : A) → P a → IfOk (f a) Q) → (xs : List A) → All P xs
     → IfOk (try_all f xs) (λ ys. (length ys ≡ length xs) × All Q ys)
 try_keeps P Q f so [] h = (refl, All-nil Q)

@@ -25,12 +25,11 @@ use Rattle.form_meaning.specs.Functions.{constructed, made_by, made_named, make_
 use Rattle.form_meaning.proofs.BoundLaws.{bound_list}
 use Rattle.form_meaning.proofs.IndexLaws.{GivesAlike, index_taken}
 use Rattle.table_laws.specs.Validity.{IsValidEntry}
-use Rattle.table_laws.proofs.ListLaws.{all_made, all_mapped, then_keeps, try_keeps, of_length_keeps}
+use Rattle.table_laws.proofs.ListLaws.{all_made, all_mapped, then_keeps, try_keeps, of_length_keeps, on_keeps}
 use Rattle.table_laws.proofs.ColumnLaws.{IsColumn, list_keeps, cast_to_keeps}
 use Rattle.table_laws.proofs.TableLaws.{IsShaped, limited_keeps, series_heading, frame_headings}
 use Rattle.table_laws.proofs.HeadingLaws.{label_decides}
 use Rattle.table_laws.proofs.SetLaws.{length_default, default_levels}
-use Rattle.table_laws.proofs.MethodLaws.{on_keeps}
 
 -- a column of its own number of rows
 abbrev IsOwnColumn : ColumnOf CellValue → Type 0

@@ -26,15 +26,16 @@ use Rattle.form_meaning.specs.Select.{cells_of}
 use Rattle.form_meaning.specs.Make.{on, kind_given, pairs_in}
 use Rattle.format_meaning.specs.CsvWrite.{csv_text_of}
 use Rattle.method_meaning.specs.Methods.{each_column, mapped, missing_mark, present_mark, filled_column, is_in, shifted_column, cast_as, cumulated, Summary, reduced, distinct, made_cell, summary_cell, summary_kind, kind_for, summary_as, summary_of, summary, renamed_series, is_scalar_pair, renamed_heading, renamed_frame, as_frame, reset_index_result, csv_answer, answer_for, is_built}
-use Rattle.method_meaning.specs.Calls.{has_method, called, method_result, ChainValue, plain, through, not_built_if, chain_result}
+use Rattle.method_meaning.specs.Calls.{has_method, called, method_result, ChainValue, plain, grouped, through, not_built_if, chain_result}
 use Rattle.table_laws.specs.Validity.{IsValidObject, IsValidEntry}
-use Rattle.table_laws.proofs.ListLaws.{all_made, all_mapped, then_keeps, try_keeps}
+use Rattle.table_laws.proofs.ListLaws.{all_made, all_mapped, then_keeps, try_keeps, on_keeps}
 use Rattle.table_laws.proofs.CellLaws.{Held, held_cell, wrap_fits, reduced_kind, reduction_held}
 use Rattle.table_laws.proofs.ColumnLaws.{IsColumn, mapped_keeps, filled_keeps, shifted_keeps, cast_keeps, cumulated_keeps}
 use Rattle.table_laws.proofs.TableLaws.{IsShaped, shaped, limited_keeps, with_columns_shaped, column_of_table, series_heading, frame_headings, one_column}
 use Rattle.table_laws.proofs.HeadingLaws.{different, finished_keeps}
 use Rattle.table_laws.proofs.SelectLaws.{kind_is}
 use Rattle.table_laws.proofs.RowLaws.{head_keeps, tail_keeps, dropna_keeps, duplicated_keeps, sort_values_keeps, sort_by_keeps, sorted_keeps, drop_keeps}
+use Rattle.table_laws.proofs.GroupLaws.{grouped_result_keeps}
 use Rattle.table_laws.proofs.LevelLaws.{rename_axis_keeps, set_index_keeps, renumbered_keeps, levels_reset_keeps, droplevel_keeps, swaplevel_keeps}
 use Rattle.table_laws.proofs.ReindexLaws.{reindex_keeps}
 use Rattle.table_laws.proofs.SectionLaws.{xs_keeps}
@@ -205,10 +206,6 @@ frame_of t m never fit = by t.shape fit
     by Frame e = refl
     by Series e = Prim.cc
 
-pub on_keeps : {A B : Type 0} (P : B → Type 0) (o : Option A) (go : A → Result B FaultValue) → ((a : A) → IfOk (go a) P) → IfOk (on o go) P
-on_keeps P None go h = tt
-on_keeps P (Some a) go h = h a
-
 answer_keeps : (m : Method) (gs : List Given) (t : Table) → IsShaped t → suits m t.shape ≡ true → IfOk (answer_for m gs t) IsValidEntry
 answer_keeps method.Copy gs t s fit = limited_keeps t s
 answer_keeps method.Head (n ∷ []) t s fit = on_keeps IsValidEntry (whole_in n) _ (λ z. head_keeps t z s)
@@ -338,6 +335,7 @@ method_result_keeps (table t) name gs h = called_keeps (method_named t.shape nam
 -- a method of a value
 pub chain_result_keeps : (v : Entry) (chain : ChainValue) (gs : List NamedGiven) → IsValidObject v → IfOk (chain_result v chain gs) IsValidEntry
 chain_result_keeps v (plain name) gs h = method_result_keeps v name gs h
+chain_result_keeps v (grouped by brackets name) gs h = grouped_result_keeps v by brackets name gs h
 chain_result_keeps v (through name) gs h = by (has_method v name)
   where
     by : (b : Bool) → IfOk (not_built_if b name) IsValidEntry

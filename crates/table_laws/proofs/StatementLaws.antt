@@ -19,7 +19,7 @@ use Rattle.method_meaning.specs.Calls.{has_method, chain_result}
 use Rattle.method_meaning.specs.Readers.{reads_file, file_name_of, read_result}
 use Rattle.script_meaning.specs.State.{State, with_new, without_name}
 use Rattle.script_meaning.specs.Reading.{Files, Reading, Reads, at_once, goes_on, then_read, of_bytes, of_path, of_file, path_of_name}
-use Rattle.script_meaning.specs.Expression.{named_by, value_of_name, is_minus, where_named, made, value_of, stepped, sub_of, second_of, bound_of, given_of, parts_of, pairs_of, named_of, target_of}
+use Rattle.script_meaning.specs.Expression.{named_by, value_of_name, is_minus, where_named, made, value_of, stepped, sub_of, second_of, brackets_of, bound_of, given_of, parts_of, pairs_of, named_of, target_of}
 use Rattle.script_meaning.specs.Statement.{Answer, refused, then_answer, with_value, set_answer, assigned, statement_result}
 use Rattle.table_laws.specs.Validity.{IsValidObject, IsValidEntry, IsValidGiven, IsValidState, LeavesValid, HasHeldLiterals, IsHeldArgument, IsHeldForm}
 use Rattle.table_laws.proofs.InfixLaws.{infix_result_keeps, sign_result_keeps}
@@ -87,7 +87,7 @@ module _ (files : Files) (s : State) where
   step_keeps v (tree.method n args) h = named_keeps (has_method v n) n _ (after_any IsValidEntry (named_of files s args) _ (λ gs. chain_result_keeps v (calls.plain n) gs h))
   step_keeps v (tree.group args by n more) h =
       named_keeps (has_method v (codes "groupby")) (codes "groupby") _
-      (after_any IsValidEntry (named_of files s args) _ (λ g. after_any IsValidEntry (bound_of files s by) _ (λ k. after_any IsValidEntry (named_of files s more) _ (λ gs. chain_result_keeps v (calls.through (codes "groupby")) gs h))))
+      (after_any IsValidEntry (named_of files s args) _ (λ g. after_any IsValidEntry (brackets_of files s by) _ (λ k. after_any IsValidEntry (named_of files s more) _ (λ gs. chain_result_keeps v (calls.grouped g k n) gs h))))
   step_keeps v (tree.rolling args n more) h =
       named_keeps (has_method v (codes "rolling")) (codes "rolling") _
       (after_any IsValidEntry (named_of files s args) _ (λ g. after_any IsValidEntry (named_of files s more) _ (λ gs. chain_result_keeps v (calls.through (codes "rolling")) gs h)))

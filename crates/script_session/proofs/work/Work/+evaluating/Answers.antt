@@ -1,5 +1,5 @@
 use Rattle.std.proofs.Common.{refl, [], ◌∷◌, ◌++◌, length, codes, ◌≡◌, sym, ◌∙◌, ap, subst, Some, None, drop, ◌+◌, ◌≤◌, max, suc, arith, true, Option, Err}
-use Rattle.std.specs.Prelude.{List, is_some, option_map, IsErrAnd}
+use Rattle.std.specs.Prelude.{List, is_some, option_map, IsErrAnd, IfSome}
 use Rattle.std.proofs.lemmas.List.{append-nil}
 use Rattle.language_meaning.specs.Tree.{arg_list, named_args, arg_pairs}
 use Rattle.language_meaning.specs.Depth.{depth, step_depth, optional_arg_depth, arg_depth, list_depth, args_depth, pairs_depth}
@@ -19,16 +19,16 @@ use Rattle.frame_store.specs.declared.arguments.Subscript.TheVariants as subscri
 use Rattle.frame_store.specs.declared.arguments.Named.{Named}
 use Rattle.script_tokens.specs.View.{binary_of}
 use Rattle.script_meaning.specs.Reading.{Reads, at_once, gives, then_read}
-use Rattle.script_meaning.specs.Expression.{where_named, is_minus, made, named_by, value_of, stepped, named_of, parts_of as parts_given, part_of, pairs_of, given_of, sub_of, second_of, bound_of, stride_of, cell_of}
+use Rattle.script_meaning.specs.Expression.{where_named, is_minus, made, named_by, value_of, stepped, named_of, parts_of as parts_given, part_of, pairs_of, given_of, sub_of, second_of, brackets_of, bound_of, stride_of, cell_of}
 use Rattle.script_tree.specs.View.{unary_of, expr_of, step_of, arg_of, accessor_of, optional_arg, parts_of, named_parts_of, pair_parts_of, sub_of as view_sub, literal_of}
 use Rattle.script_tree.proofs.Rows.{expr_of-Make, step_of-Method, step_of-Group, step_of-Rolling, step_of-Expanding, arg_of-Many, arg_of-Row, arg_of-Table}
 use Rattle.selections.specs.Selected.{way_of}
-use Rattle.script_session.specs.Parts.{optional_sub, optional_expr}
-use Rattle.frame_store.specs.World.{entry_in}
+use Rattle.script_session.specs.Parts.{optional_sub, optional_expr, brackets_in}
+use Rattle.frame_store.specs.World.{World, entry_in, IsKnownArgument, AreKnownArguments}
 use Rattle.script_session.specs.Evaluates.{item_in, items_in, argument_in, pairs_in, arguments_in, subscript_in}
 use Rattle.script_session.specs.Faults.{IsNoAttribute}
 use Rattle.script_session.specs.Work.{world_of, state_in}
-use Rattle.script_session.proofs.Worlds.{keeps_both, value_seen, value_kept, subscript_seen, subscript_kept, items_seen, items_kept, pairs_seen, pairs_kept, arguments_seen, arguments_kept, argument_seen, argument_kept}
+use Rattle.script_session.proofs.Worlds.{keeps_both, value_seen, value_kept, subscript_seen, subscript_kept, items_seen, items_kept, pairs_seen, pairs_kept, arguments_seen, arguments_kept, argument_seen, argument_kept, brackets_seen, brackets_kept}
 use Rattle.script_session.proofs.Seconds.{seconds_stop, seconds, strides_stop, strides}
 use Rattle.script_session.proofs.Evaluations.{evaluates_by, runs_out, stops, goes_on, adds, makes, stays, as_value, forms, knows, knows_none, names_value, writes_out, value_if}
 use Rattle.script_session.proofs.Gathering.{gathered, gathers_next, gathers_none, gathers_out}
@@ -37,9 +37,9 @@ use Rattle.script_session.proofs.FormFaults.{sign_result_fault, infix_result_fau
 use Rattle.script_session.proofs.SelectFaults.{select_result_fault}
 use Rattle.script_session.proofs.MethodFaults.{chain_result_fault}
 use Rattle.meaning.specs.Text.{Text}
-use Rattle.frame_methods.specs.Calls.{chain_of}
-use Rattle.table_meaning.specs.Value.{NamedGiven}
-use Rattle.script_session.specs.Links.{link_name, chain_behind, after_brackets, after_link, linked}
+use Rattle.frame_methods.specs.Calls.{chain_in, IsKnownChain}
+use Rattle.table_meaning.specs.Value.{Given, NamedGiven}
+use Rattle.script_session.specs.Links.{link_name, chain_behind, chain_meant, after_brackets, after_link, linked}
 use Rattle.script_session.specs.declared.link.Link.{Link}
 use Rattle.script_session.specs.declared.link.Link.TheVariants.{Groupby, Rolling, Expanding}
 use Rattle.cell_core.specs.declared.words.Words.{Words}
@@ -346,6 +346,7 @@ after-method-requires g t c =
     let x = c.in_ok-args-in-Method.ensures in
     record {
       on = value_kept (world_of s) (world_of w) s.settled w.settled x.kept c.args.on c.requires;
+      before = tt;
       arguments = x.found;
     }
 
@@ -368,15 +369,23 @@ after-returns-in_ok-name-in-Method g t c =
     (λ fs. ap (λ y. stepped fs (state_in s) v (step_of y)) c.in-Method.is ∙ ap (stepped fs (state_in s) v) (step_of-Method n c.in-Method.args))
 
 -- what a chain is seen as
-behind_seen : (link : Link) (args : NamedList) (by : Argument) (name : Words) → chain_of (chain_behind link args by name) ≡ calls.through (link_name link)
-behind_seen Groupby args by name = refl
-behind_seen Rolling args by name = refl
-behind_seen Expanding args by name = refl
+chain_seen : (w : World) (link : Link) (args : NamedList) (by : Option Argument) (name : Words) → chain_in w (chain_behind link args by name) ≡ chain_meant link (arguments_in w args) (brackets_in w by) name
+chain_seen w Groupby args by name = refl
+chain_seen w Rolling args by name = refl
+chain_seen w Expanding args by name = refl
+
+-- its arguments and brackets are known
+chain_known : (w : World) (link : Link) (args : NamedList) (by : Option Argument) (name : Words) → AreKnownArguments w args.items.items → IfSome by (IsKnownArgument w) → IsKnownChain w (chain_behind link args by name)
+chain_known w Groupby args by name known k = (known, k)
+chain_known w Rolling args by name known k = tt
+chain_known w Expanding args by name known k = tt
 
 -- a call without brackets reads nothing in their place
 no_brackets : (v : Entry) (n : Text) (args more : Reads (List NamedGiven)) → where_named (has_method v n) n (then_read args (λ g. then_read more (λ gs. at_once (chain_result v (calls.through n) gs))))
-    ≡ where_named (has_method v n) n (then_read args (λ g. then_read (gives nothing) (λ h. then_read more (λ gs. at_once (chain_result v (calls.through n) gs)))))
-no_brackets v n args more = ap (λ m. where_named (has_method v n) n (then_read args (λ g. m))) (sym (then_gives Err nothing (λ h. then_read more (λ gs. at_once (chain_result v (calls.through n) gs)))))
+    ≡ where_named (has_method v n) n (then_read args (λ g. then_read (gives None) (λ (h : Option Given). then_read more (λ gs. at_once (chain_result v (calls.through n) gs)))))
+no_brackets v n args more =
+    let nowhere : Option Given = None in
+    ap (λ m. where_named (has_method v n) n (then_read args (λ g. m))) (sym (then_gives Err nowhere (λ (h : Option Given). then_read more (λ gs. at_once (chain_result v (calls.through n) gs)))))
 
 pub after-through-requires : goal.after-through-requires
 after-through-requires g t c =
@@ -442,9 +451,10 @@ through-returns-in_err-by g t c =
     let call = c.args.call in
     let n = link_name call.link in
     let known : has_method v n ≡ true = ap (has_method v) (sym c.name.ensures) ∙ c.in_ok-expect_method.ensures.known s.dict in
+    let a = arguments_in (world_of c.arguments.new.self) c.in_ok-args.args in
     knows (λ fs s. then_read (named_of fs s (named_args (named_parts_of call.args.now))) (after_link fs s v call)) (has_method v n) n known
     (goes_on (λ fs s. after_link fs s v call) c.in_ok-args.args c.in_ok-args.ensures
-    (stops (λ fs s. after_brackets fs s v call) c.in_err-by.ensures c.from_residual-in_err-by.result c.from_residual-in_err-by.ensures.1))
+    (stops (λ fs s. after_brackets fs s v call a) c.in_err-by.ensures c.from_residual-in_err-by.result c.from_residual-in_err-by.ensures.1))
 
 pub through-returns-in_err-more : goal.through-returns-in_err-more
 through-returns-in_err-more g t c =
@@ -453,10 +463,12 @@ through-returns-in_err-more g t c =
     let call = c.args.call in
     let n = link_name call.link in
     let known : has_method v n ≡ true = ap (has_method v) (sym c.name.ensures) ∙ c.in_ok-expect_method.ensures.known s.dict in
+    let a = arguments_in (world_of c.arguments.new.self) c.in_ok-args.args in
+    let b = brackets_in (world_of c.brackets.new.self) c.in_ok-by.by in
     knows (λ fs s. then_read (named_of fs s (named_args (named_parts_of call.args.now))) (after_link fs s v call)) (has_method v n) n known
     (goes_on (λ fs s. after_link fs s v call) c.in_ok-args.args c.in_ok-args.ensures
-    (goes_on (λ fs s. after_brackets fs s v call) c.in_ok-by.by c.in_ok-by.ensures
-    (stops (λ fs s gs. at_once (chain_result v (calls.through n) gs)) c.in_err-more.ensures c.from_residual-in_err-more.result c.from_residual-in_err-more.ensures.1)))
+    (goes_on (λ fs s. after_brackets fs s v call a) c.in_ok-by.by c.in_ok-by.ensures
+    (stops (λ fs s gs. at_once (chain_result v (chain_meant call.link a b call.name.now) gs)) c.in_err-more.ensures c.from_residual-in_err-more.result c.from_residual-in_err-more.ensures.1)))
 
 pub through-returns-in_err-name : goal.through-returns-in_err-name
 through-returns-in_err-name g t c =
@@ -465,19 +477,31 @@ through-returns-in_err-name g t c =
     let call = c.args.call in
     let n = link_name call.link in
     let known : has_method v n ≡ true = ap (has_method v) (sym c.name.ensures) ∙ c.in_ok-expect_method.ensures.known s.dict in
+    let a = arguments_in (world_of c.arguments.new.self) c.in_ok-args.args in
+    let b = brackets_in (world_of c.brackets.new.self) c.in_ok-by.by in
     knows (λ fs s. then_read (named_of fs s (named_args (named_parts_of call.args.now))) (after_link fs s v call)) (has_method v n) n known
     (goes_on (λ fs s. after_link fs s v call) c.in_ok-args.args c.in_ok-args.ensures
-    (goes_on (λ fs s. after_brackets fs s v call) c.in_ok-by.by c.in_ok-by.ensures
-    (goes_on (λ fs s gs. at_once (chain_result v (calls.through n) gs)) c.in_ok-more.more c.in_ok-more.ensures
+    (goes_on (λ fs s. after_brackets fs s v call a) c.in_ok-by.by c.in_ok-by.ensures
+    (goes_on (λ fs s gs. at_once (chain_result v (chain_meant call.link a b call.name.now) gs)) c.in_ok-more.more c.in_ok-more.ensures
     (runs_out c.from_residual-in_err-name.result c.from_residual-in_err-name.ensures.1))))
 
 pub through-method-requires : goal.through-method-requires
 through-method-requires g t c =
     let s = c.args.self.now in
+    let p = c.arguments.new.self in
+    let q = c.brackets.new.self in
     let w = c.arguments-2.new.self in
+    let x = c.in_ok-args.ensures in
+    let y = c.in_ok-by.ensures in
     let z = c.in_ok-more.ensures in
-    let kept = keeps_both _ _ _ c.in_ok-args.ensures.kept (keeps_both _ _ _ c.in_ok-by.ensures.kept z.kept) in
-    record { on = value_kept (world_of s) (world_of w) s.settled w.settled kept c.args.on c.requires; arguments = z.found }
+    let kept = keeps_both _ _ _ x.kept (keeps_both _ _ _ y.kept z.kept) in
+    let args = arguments_kept (world_of p) (world_of w) p.settled w.settled (keeps_both _ _ _ y.kept z.kept) c.in_ok-args.args.items.items x.found in
+    let by = brackets_kept (world_of q) (world_of w) q.settled w.settled z.kept c.in_ok-by.by y.found in
+    record {
+      on = value_kept (world_of s) (world_of w) s.settled w.settled kept c.args.on c.requires;
+      before = subst (IsKnownChain (world_of w)) (sym c.chain.ensures) (chain_known (world_of w) c.args.call.link c.in_ok-args.args c.in_ok-by.by c.in_ok-name.name args by);
+      arguments = z.found;
+    }
 
 pub through-returns : goal.through-returns
 through-returns g t c =
@@ -486,22 +510,32 @@ through-returns g t c =
     let call = c.args.call in
     let n = link_name call.link in
     let known : has_method v n ≡ true = ap (has_method v) (sym c.name.ensures) ∙ c.in_ok-expect_method.ensures.known s.dict in
+    let p = c.arguments.new.self in
+    let q = c.brackets.new.self in
     let w = c.arguments-2.new.self in
     let u = c.method.new.self in
     let x = c.in_ok-args.ensures in
     let y = c.in_ok-by.ensures in
     let z = c.in_ok-more.ensures in
     let on = entry_in (world_of w) c.args.on in
-    let k = chain_of c.chain.result in
+    let a = arguments_in (world_of p) c.in_ok-args.args in
+    let b = brackets_in (world_of q) c.in_ok-by.by in
+    let k = chain_in (world_of w) c.chain.result in
     let args = arguments_in (world_of w) c.in_ok-more.more in
     let kept = keeps_both _ _ _ x.kept (keeps_both _ _ _ y.kept z.kept) in
     let same = value_seen (world_of s) (world_of w) s.settled w.settled kept c.args.on c.requires in
+    let args_same : arguments_in (world_of w) c.in_ok-args.args ≡ a = arguments_seen (world_of p) (world_of w) p.settled w.settled (keeps_both _ _ _ y.kept z.kept) c.in_ok-args.args.items.items x.found in
+    let by_same : brackets_in (world_of w) c.in_ok-by.by ≡ b = brackets_seen (world_of q) (world_of w) q.settled w.settled z.kept c.in_ok-by.by y.found in
+    let named : c.in_ok-name.name ≡ call.name.now = c.in_ok-name.ensures ∙ c.as_str.ensures in
+    let chained : k ≡ chain_meant call.link a b call.name.now =
+    ap (chain_in (world_of w)) c.chain.ensures ∙ chain_seen (world_of w) call.link c.in_ok-args.args c.in_ok-by.by c.in_ok-name.name
+    ∙ (λ i. chain_meant call.link (args_same i) (by_same i) (named i)) in
     knows (λ fs s. then_read (named_of fs s (named_args (named_parts_of call.args.now))) (after_link fs s v call)) (has_method v n) n known
     (goes_on (λ fs s. after_link fs s v call) c.in_ok-args.args x
-    (goes_on (λ fs s. after_brackets fs s v call) c.in_ok-by.by y
-    (goes_on (λ fs s gs. at_once (chain_result v (calls.through n) gs)) c.in_ok-more.more z
+    (goes_on (λ fs s. after_brackets fs s v call a) c.in_ok-by.by y
+    (goes_on (λ fs s gs. at_once (chain_result v (chain_meant call.link a b call.name.now) gs)) c.in_ok-more.more z
     (evaluates_by (forms w u (chain_result on k args) (chain_result_fault on k args) c.method.ensures.names c.method.result c.evaluated.result c.evaluated.ensures c.method.ensures.answers)
-    (λ fs. ap (λ e. at_once (chain_result e (calls.through n) args)) (sym same) ∙ ap (λ k. at_once (chain_result on k args)) (sym (ap chain_of c.chain.ensures ∙ behind_seen call.link c.in_ok-args.args c.in_ok-by.by c.in_ok-name.name)))))))
+    (λ fs. ap (λ e. at_once (chain_result e (chain_meant call.link a b call.name.now) args)) (sym same) ∙ ap (λ k. at_once (chain_result on k args)) (sym chained))))))
 
 pub subscripts-returns-in_err-first : goal.subscripts-returns-in_err-first
 subscripts-returns-in_err-first g t c =
@@ -629,6 +663,23 @@ sub-returns-in-None g t c =
     (ap (λ z. span_given z b nothing) (argument_seen (world_of w) (world_of u) w.settled u.settled x2.kept from x1.found)))
     (λ fs. ap (λ o. then_read (bound_of fs (state_in w) (optional_arg y.to)) (λ h. then_read (stride_of fs (state_in w) (optional_expr o)) (λ k. gives (span_given a h k)))) c.in-None.is)))
     (λ fs. ap (λ z. sub_of fs (state_in s) (view_sub z)) y.is ∙ ap (sub_of fs (state_in s)) (sub_of-Span y.from y.to y.by))
+
+pub brackets-returns-in_err-given-in-Some : goal.brackets-returns-in_err-given-in-Some
+brackets-returns-in_err-given-in-Some g t c =
+    let s = c.args.self.now in
+    evaluates_by (stops (λ fs s h. gives (Some h)) c.in_err-given-in-Some.ensures c.from_residual.result c.from_residual.ensures.1) (λ fs. ap (λ o. brackets_of fs (state_in s) (optional_arg o)) c.in-Some.is)
+
+pub brackets-returns-in_ok-given-in-Some : goal.brackets-returns-in_ok-given-in-Some
+brackets-returns-in_ok-given-in-Some g t c =
+    let s = c.args.self.now in
+    let given = c.in_ok-given-in-Some.given in
+    let x = c.in_ok-given-in-Some.ensures in
+    evaluates_by (makes (λ h. Some h) given (Some given) x x.found refl) (λ fs. ap (λ o. brackets_of fs (state_in s) (optional_arg o)) c.in-Some.is)
+
+pub brackets-returns-in-None : goal.brackets-returns-in-None
+brackets-returns-in-None g t c =
+    let s = c.args.self.now in
+    evaluates_by (stays None tt) (λ fs. ap (λ o. brackets_of fs (state_in s) (optional_arg o)) c.in-None.is)
 
 pub bound-returns-in-Some : goal.bound-returns-in-Some
 bound-returns-in-Some g t c =

@@ -50,6 +50,9 @@ decreases-arguments g l = 8 * args_depth (named_args (named_parts_of l.args.now)
 abbrev pub decreases-bound : goal.decreases-bound
 decreases-bound g l = 8 * optional_arg_depth (optional_arg l.arg.now) + 2
 
+abbrev pub decreases-brackets : goal.decreases-brackets
+decreases-brackets g l = 8 * optional_arg_depth (optional_arg l.arg.now) + 2
+
 abbrev pub decreases-sub : goal.decreases-sub
 decreases-sub g l = 8 * sub_depth (sub_of l.sub.now) + 3
 

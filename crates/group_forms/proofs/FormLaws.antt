@@ -1,0 +1,105 @@
+-- What a form answers, by what it reads.
+use Rattle.std.proofs.Common.{◌≡◌, ◌∙◌, ℕ, refl, ap, sym, subst, List, [], ◌++◌, Bool, true, false, Option, Some, None, Result, Ok, Err, if◌then◌else◌}
+use Rattle.meaning.specs.Text.{Text}
+use Rattle.meaning.specs.Cell.{CellValue, IsLonger}
+use Rattle.meaning.specs.Fault.{FaultValue, then_value}
+use Rattle.table_meaning.specs.Settled.{IsSettled}
+use Rattle.table_meaning.specs.Table.{NumberedTable, Table, table_value}
+use Rattle.table_meaning.specs.Valid.{IsWhole}
+use Rattle.table_meaning.specs.Value.{Entry, Given, NamedGiven, GivenList, list_in}
+use Rattle.form_meaning.specs.Binding.{each, is_scalar}
+use Rattle.cell_core.specs.declared.cell.Cell.{Cell}
+use Rattle.form_meaning.specs.Select.{cells_of}
+use Rattle.method_meaning.specs.Groups as meant
+use Rattle.method_meaning.specs.Groups.{grouping_of, values_in, group_call_of, group_answer, grouped_frame}
+use Rattle.form_parts.specs.Makes.{MakesBy}
+use Rattle.frame_store.specs.declared.arguments.Value.{Value}
+use Rattle.frame_store.specs.declared.arguments.Argument.{Argument}
+use Rattle.frame_store.specs.declared.arguments.Item.{Item}
+use Rattle.frame_store.specs.declared.fault.OpFault.{OpFault}
+use Rattle.frame_store.specs.declared.fault.OpFault.TheVariants.{Refused, NoMemory}
+use Rattle.frame_store.specs.Arguments.{argument_of, items_of}
+use Rattle.frame_store.specs.Objects.{Tables, table_or}
+use Rattle.frame_store.specs.Shown.{shown, cells_value}
+use Rattle.frame_store.specs.World.{World, IsSettledWorld, IsKnownTable, IsKnownArgument, Forms}
+use Rattle.frame_store.proofs.Settling.{object_settled, settled_later, seen_later, longer_self}
+use Rattle.frame_store.specs.Parts.{AreColumnsOf}
+use Rattle.selections.specs.Selected.{scalars_in}
+use Rattle.signatures.specs.Scalars.{scalars}
+use Rattle.signatures.proofs.ScalarLaws.{scalars_are}
+use Rattle.signatures.proofs.ToldLaws.{some_same}
+use Rattle.group_forms.specs.declared.values.Values.{Values}
+use Rattle.group_forms.specs.Grouped.{AreValues}
+
+-- a table that is read
+pub known_table : (w : World) (id : ℕ) (t : NumberedTable) → w.tables id ≡ Some t → IsWhole t → IsSettledWorld w → IsKnownTable w.texts t
+known_table w id t at whole settled = record { whole = whole; given = object_settled w.texts w.tables id t at settled }
+
+-- and after texts were added
+pub known_later : (w : World) (texts : List Text) (id : ℕ) (t : NumberedTable) → w.tables id ≡ Some t → IsWhole t → IsLonger w.texts texts → IsSettledWorld w → IsKnownTable texts t
+known_later w texts id t at whole longer settled = record { whole = whole; given = settled_later table_value w.texts texts t longer (object_settled w.texts w.tables id t at settled) }
+
+pub seen_before : (w : World) (texts : List Text) (id : ℕ) (t : NumberedTable) → w.tables id ≡ Some t → IsLonger w.texts texts → IsSettledWorld w → table_value texts t ≡ table_value w.texts (table_or (w.tables id))
+seen_before w texts id t at longer settled = seen_later table_value w.texts texts t longer (object_settled w.texts w.tables id t at settled) ∙ ap (λ n. table_value w.texts (table_or n)) (sym at)
+
+-- want of memory after texts were added
+pub no_memory_forms : (w : World) (texts : List Text) (r : Result Value OpFault) (meant : Result Entry FaultValue) → r ≡ Err NoMemory → IsLonger w.texts texts → IsSettledWorld w → Forms r meant w (record { tables = w.tables; texts = texts })
+no_memory_forms w texts r meant is longer settled =
+    subst (λ (x : Result Value OpFault). Forms x meant w (record { tables = w.tables; texts = texts })) (sym is) (seen_later shown w.texts texts w.tables longer settled, longer, settled_later shown w.texts texts w.tables longer settled)
+
+-- a refusal on the way
+abbrev refused : {X : Type 0} → OpFault → Result X OpFault
+refused fault = Err fault
+
+pub refused_by : {X Y : Type 0} (view : List Text → X → Y) (w : World) (m : Result Y FaultValue) (go : Y → Result Entry FaultValue) (fault : OpFault) → MakesBy view w.texts (refused {X = X} fault) m → IsSettledWorld w → Forms (Err fault) (then_value m go) w w
+refused_by view w m go (Refused code) refuses settled = (((ap (λ r. then_value r go) refuses.0, refuses.1), refl), longer_self w.texts, settled)
+refused_by view w m go NoMemory refuses settled = (refl, longer_self w.texts, settled)
+
+pub forms_so : (r : Result Value OpFault) (meant meant' : Result Entry FaultValue) (old new : World) → meant ≡ meant' → Forms r meant old new → Forms r meant' old new
+forms_so r meant meant' old new same = subst (λ (m : Result Entry FaultValue). Forms r m old new) same
+
+-- the cells of a list of scalars alone
+some_if : (b : Bool) (a x : List CellValue) → Some a ≡ (if b then Some x else None) → a ≡ x
+some_if true a x e = some_same a x e
+some_if false a x e = cc
+
+abbrev no_tables : Tables
+no_tables = λ id. None
+
+cells_are : (texts : List Text) (items : List Item) (cells : List Cell) → Some (cells_value texts cells) ≡ scalars_in (items_of no_tables texts items) → cells_value texts cells ≡ scalars texts items
+cells_are texts items cells is = some_if (each is_scalar (items_of no_tables texts items)) (cells_value texts cells) (cells_of (items_of no_tables texts items)) is
+
+pub listed_settled : (texts : List Text) (items : List Item) (cells : List Cell) → ((live : Tables) (ts : List Text) → Some (cells_value ts cells) ≡ scalars_in (items_of live ts items)) → IsSettled scalars texts items → IsSettled cells_value texts cells
+listed_settled texts items cells is settled = λ more. cells_are (texts ++ more) items cells (is no_tables (texts ++ more)) ∙ settled more ∙ sym (cells_are texts items cells (is no_tables texts))
+
+pub items_known : (w : World) (a : Argument) (items : List Item) → ((live : Tables) (ts : List Text) → Some (items_of live ts items) ≡ list_in (argument_of live ts a)) → IsKnownArgument w a → IsSettled scalars w.texts items
+items_known w a items told known = λ more.
+    sym (scalars_are w.tables (w.texts ++ more) items)
+    ∙ ap cells_of (some_same _ _ (told w.tables (w.texts ++ more) ∙ ap list_in (known.given more) ∙ sym (told w.tables w.texts)))
+    ∙ scalars_are w.tables w.texts items
+
+-- several columns
+not_single : {P : Type 0} → false ≡ true → P
+not_single e = cc
+
+pub many_values : (t : NumberedTable) (places : List ℕ) → AreColumnsOf t places → AreValues t (record { places = places; single = false })
+many_values t places below = record { below = below; one = λ e. not_single e }
+
+-- what is meant, where the arguments of `groupby`, the brackets and the last call are taken
+module _ (t : Table) (by gs : List NamedGiven) (brackets : Option Given) (name : Text) where
+  abbrev pub after_values : meant.Grouping → meant.Values → Result Entry FaultValue
+  after_values g v = then_value (group_call_of name gs) (group_answer t g v)
+
+  abbrev pub after_grouping : meant.Grouping → Result Entry FaultValue
+  after_grouping g = then_value (values_in t g.keys brackets) (after_values g)
+
+  module _ (g : meant.Grouping) (grouped : grouping_of t by ≡ Ok g) where
+    pub frame_grouped : after_grouping g ≡ grouped_frame t by brackets name gs
+    frame_grouped = sym (ap (λ r. then_value r after_grouping) grouped)
+
+    module _ (v : meant.Values) (valued : values_in t g.keys brackets ≡ Ok v) where
+      pub frame_valued : after_values g v ≡ grouped_frame t by brackets name gs
+      frame_valued = sym (ap (λ r. then_value r (after_values g)) valued) ∙ frame_grouped
+
+      pub frame_called : (call : meant.GroupCall) → group_call_of name gs ≡ Ok call → group_answer t g v call ≡ grouped_frame t by brackets name gs
+      frame_called call called = sym (ap (λ r. then_value r (group_answer t g v)) called) ∙ frame_valued

@@ -1,0 +1,238 @@
+-- The groups of a frame's rows are those of the rows with their texts.
+use Rattle.std.proofs.Common.{◌≡◌, ◌∙◌, refl, ap, sym, subst, arith, zero-add, ℕ, suc, ◌+◌, ◌<◌, ◌≤◌, Bool, true, false, ◌&&◌, List, [], ◌∷◌, ◌++◌, map, length, take, slice_index_or, All, Option, Some, None}
+use Rattle.std.specs.Prelude.{slice_get, Result, Ok, Err, IfOk}
+use Rattle.std.specs.List.{range_with_len}
+use Rattle.std.specs.Cmp.Lexicographic.{pointwise}
+use Rattle.std.specs.Ordering.{is_eq}
+use Rattle.std.proofs.Math.ListN.{get_or-map}
+use Rattle.std.proofs.lemmas.List.{length-map, map-append, take_all, take_more}
+use Rattle.std.proofs.lemmas.Option.{get_or_from_slice_get}
+use Rattle.std.proofs.lemmas.List.FromFn.{length-range_with_len, length-map-range_with_len, get_or-map-range_with_len}
+use Rattle.cell_core.specs.Texts.{AreDistinct}
+use Rattle.cell_core.specs.declared.cell.Cell.{Cell}
+use Rattle.cell_core.specs.declared.cell.Cell.TheVariants as cell
+use Rattle.cell_core.specs.declared.cell.Label.{Label}
+use Rattle.meaning.specs.Text.{Text}
+use Rattle.meaning.specs.Cell.{CellValue, na_cell, datum, LabelValue, label_cmp, label_datum}
+use Rattle.meaning.specs.Operator.{cell_label}
+use Rattle.column_core.specs.Columns.{CellColumn}
+use Rattle.table_meaning.specs.Settled.{IsSettled}
+use Rattle.table_meaning.specs.Table.{ColumnOf, NumberedTable, Table, column_at, table_value, tuple_value}
+use Rattle.index_core.specs.Labels.{same_number}
+use Rattle.index_core.proofs.NumberLaws.{label_decides}
+use Rattle.row_keys.specs.Keys.{same_tuple, place_among}
+use Rattle.multi_index.specs.Axes.{tuples_at}
+use Rattle.row_groups.specs.Labels.{label_of_cell}
+use Rattle.factorize.specs.Keys.{seen_rules, row_key, column_keys}
+use Rattle.factorize.specs.declared.factor.KeyGroups.{KeyGroups}
+use Rattle.factorize.proofs.GroupLaws.{rows_inside, tuples_there}
+use Rattle.group_meaning.specs.Keys.{tuple_rules, group_keys, group_codes}
+use Rattle.group_meaning.specs.Rows.{GroupsValue}
+use Rattle.group_meaning.proofs.ListLaws.{map_map, map_on}
+use Rattle.group_meaning.proofs.SeenLaws.{keys_seen, codes_seen}
+use Rattle.method_meaning.specs.Rows.{cells_by_row}
+use Rattle.method_meaning.specs.Groups as meant
+use Rattle.form_meaning.specs.Binding.{same_label}
+use Rattle.form_parts.specs.Labels.{label_of}
+use Rattle.form_parts.proofs.LabelLaws.{same_by_number}
+use Rattle.form_parts.proofs.RowLaws.{tuples_settled}
+use Rattle.frame_store.specs.Parts.{table_column, AreRowsOf}
+use Rattle.frame_store.specs.Shown.{labels_value}
+use Rattle.frame_store.proofs.Settling.{settled_by}
+use Rattle.selections.specs.Across.{cell_across}
+use Rattle.selections.proofs.AnswerLaws.{column_seen}
+use Rattle.frame_methods.specs.Levels.{row_labels}
+use Rattle.frame_methods.specs.Rows.{row_cells}
+use Rattle.frame_methods.proofs.IndexingLaws.{all_rows, tuples_seen}
+use Rattle.group_forms.specs.Grouped.{grouping_seen}
+use Rattle.group_forms.specs.declared.grouping.Grouping.{Grouping}
+
+-- the cells of columns as keys are the labels of rows
+label_is : (c : Cell) → label_of_cell c ≡ label_of c
+label_is cell.Na = refl
+label_is (cell.Int z) = refl
+label_is (cell.Bool b) = refl
+label_is (cell.Text id) = refl
+
+abbrev label_here : ℕ → ColumnOf Cell → Label
+label_here row c = label_of (slice_index_or c.cells row cell.Na)
+
+key_of_row : (columns : List CellColumn) (row : ℕ) → row_key columns row ≡ map (label_here row) (map table_column columns)
+key_of_row [] row = refl
+key_of_row (c ∷ cs) row = λ i. label_is (slice_index_or c.cells row cell.Na) i ∷ key_of_row cs row i
+
+labels_of_row : (t : NumberedTable) (places : List ℕ) (row : ℕ) → map (label_here row) (map (column_at t.columns) places) ≡ row_labels t places row
+labels_of_row t [] row = refl
+labels_of_row t (p ∷ ps) row = ap (λ l. label_of (cell_across t row p) ∷ l) (labels_of_row t ps row)
+
+keys_of_rows : (t : NumberedTable) (places : List ℕ) (columns : List CellColumn) (rows : List ℕ) → map table_column columns ≡ map (column_at t.columns) places → map (row_key columns) rows ≡ map (row_labels t places) rows
+keys_of_rows t places columns [] is = refl
+keys_of_rows t places columns (r ∷ rs) is = λ i. (key_of_row columns r ∙ ap (map (label_here r)) is ∙ labels_of_row t places r) i ∷ keys_of_rows t places columns rs is i
+
+abbrev pub numbered_keys : NumberedTable → List ℕ → List (List Label)
+numbered_keys t places = map (row_labels t places) (all_rows t)
+
+pub keys_are : (t : NumberedTable) (places : List ℕ) (columns : List CellColumn) (count : ℕ) → map table_column columns ≡ map (column_at t.columns) places → count ≡ length t.labels → column_keys columns count ≡ numbered_keys t places
+keys_are t places columns count is counted = ap (column_keys columns) counted ∙ keys_of_rows t places columns (all_rows t) is
+
+-- tuples are told apart by their texts as by the numbers of these
+label_settled : (texts : List Text) (l : Label) (ls : List Label) → IsSettled tuple_value texts (l ∷ ls) → IsSettled label_datum texts l
+label_settled texts l ls settled = λ more. ap (first_or (label_datum texts l)) (settled more)
+  where
+    first_or : LabelValue → List LabelValue → LabelValue
+    first_or d [] = d
+    first_or d (x ∷ xs) = x
+
+rest_settled : (texts : List Text) (l : Label) (ls : List Label) → IsSettled tuple_value texts (l ∷ ls) → IsSettled tuple_value texts ls
+rest_settled texts l ls settled = λ more. ap rest (settled more)
+  where
+    rest : List LabelValue → List LabelValue
+    rest [] = []
+    rest (x ∷ xs) = xs
+
+same_seen : (texts : List Text) (a b : List Label) → AreDistinct texts → IsSettled tuple_value texts a → IsSettled tuple_value texts b → pointwise same_label (tuple_value texts a) (tuple_value texts b) ≡ same_tuple a b
+same_seen texts [] [] distinct f g = refl
+same_seen texts [] (b ∷ bs) distinct f g = refl
+same_seen texts (a ∷ as') [] distinct f g = refl
+same_seen texts (a ∷ as') (b ∷ bs) distinct f g =
+    λ i. sym (same_by_number texts a b (same_number a b) distinct (label_settled texts a as' f) (label_settled texts b bs g) (label_decides a b)) i
+    && same_seen texts as' bs distinct (rest_settled texts a as' f) (rest_settled texts b bs g) i
+
+-- a group for each row
+pub codes_counted : (texts : List Text) (t : NumberedTable) (g : Grouping) (groups : GroupsValue) → groups ≡ meant.groups_of (table_value texts t) (grouping_seen texts g) → length groups.codes ≡ length t.labels
+codes_counted texts t g groups is =
+    ap (λ (v : GroupsValue). length v.codes) is
+    ∙ length-map (meant.row_keys (table_value texts t) g.keys) _
+    ∙ ap (λ (l : List (List LabelValue)). length l) (sym (tuples_seen texts t g.keys))
+    ∙ length-map (numbered_keys t g.keys) (tuple_value texts)
+    ∙ length-map (all_rows t) (row_labels t g.keys)
+    ∙ length-range_with_len 0 (length t.labels)
+
+module _ (texts : List Text) (t : NumberedTable) (g : Grouping) (distinct : AreDistinct texts) (settled : IsSettled table_value texts t) where
+  abbrev T : Table
+  T = table_value texts t
+
+  abbrev K : List (List Label)
+  K = numbered_keys t g.keys
+
+  rows_settled : All (IsSettled tuple_value texts) K
+  rows_settled = tuples_settled texts K (settled_by table_value labels_value (λ v. meant.row_keys v g.keys) texts t K (λ ts. sym (tuples_seen ts t g.keys)) settled)
+
+  seen : meant.row_keys T g.keys ≡ map (tuple_value texts) K
+  seen = sym (tuples_seen texts t g.keys)
+
+  keys_with_texts : meant.keys_of T (grouping_seen texts g) ≡ map (tuple_value texts) (group_keys (seen_rules texts) g.sorted g.dropna K)
+  keys_with_texts =
+      ap (group_keys tuple_rules g.sorted g.dropna) seen
+      ∙ keys_seen (IsSettled tuple_value texts) (tuple_value texts) (seen_rules texts) tuple_rules (λ a b f h. same_seen texts a b distinct f h) (λ a b f h. refl) (λ a f. refl) g.sorted g.dropna K rows_settled
+
+  codes_with_texts : group_codes tuple_rules g.sorted g.dropna (meant.row_keys T g.keys) ≡ group_codes (seen_rules texts) g.sorted g.dropna K
+  codes_with_texts =
+      ap (group_codes tuple_rules g.sorted g.dropna) seen
+      ∙ codes_seen (IsSettled tuple_value texts) (tuple_value texts) (seen_rules texts) tuple_rules (λ a b f h. same_seen texts a b distinct f h) (λ a b f h. refl) (λ a f. refl) g.sorted g.dropna K rows_settled
+
+  pub groups_are : (groups : GroupsValue) → groups.count ≡ length (group_keys (seen_rules texts) g.sorted g.dropna K) → groups.codes ≡ group_codes (seen_rules texts) g.sorted g.dropna K → groups ≡ meant.groups_of T (grouping_seen texts g)
+  groups_are groups counted coded =
+      let count : groups.count ≡ length (meant.keys_of T (grouping_seen texts g)) = counted ∙ sym (length-map (group_keys (seen_rules texts) g.sorted g.dropna K) (tuple_value texts)) ∙ ap (λ (l : List (List LabelValue)). length l) (sym keys_with_texts) in
+      let codes = coded ∙ sym codes_with_texts in
+      λ i. record { count = count i; codes = codes i }
+
+  -- the first row of each group
+  rows_counted : length K ≡ length t.labels
+  rows_counted = length-map (all_rows t) (row_labels t g.keys) ∙ length-range_with_len 0 (length t.labels)
+
+  pub firsts_inside : (firsts : List ℕ) → firsts ≡ map (place_among same_tuple K) (group_keys (seen_rules texts) g.sorted g.dropna K) → AreRowsOf t firsts
+  firsts_inside firsts is = subst (λ n. All (λ row. row < n) firsts) rows_counted (subst (All (λ row. row < length K)) (sym is) (rows_inside texts K g.sorted g.dropna))
+
+  tuple_there : (row : ℕ) → row < length t.labels → row_labels t g.keys row ≡ slice_index_or K row []
+  tuple_there row lt = sym (get_or-map-range_with_len (row_labels t g.keys) 0 (length t.labels) row row [] lt (zero-add row))
+
+  pub labels_are : (firsts : List ℕ) → firsts ≡ map (place_among same_tuple K) (group_keys (seen_rules texts) g.sorted g.dropna K) → labels_value texts (map (row_labels t g.keys) firsts) ≡ meant.keys_of T (grouping_seen texts g)
+  labels_are firsts is =
+      ap (map (tuple_value texts))
+      (map_on (λ row. row < length t.labels) (row_labels t g.keys) (λ row. slice_index_or K row []) tuple_there firsts (firsts_inside firsts is)
+      ∙ ap (tuples_at K) is
+      ∙ tuples_there texts K g.sorted g.dropna)
+      ∙ sym keys_with_texts
+
+  -- the same, where the keys are those of the rows
+  module _ (keys : List (List Label)) (same : keys ≡ K) where
+    pub groups_by : (groups : GroupsValue) → groups.count ≡ length (group_keys (seen_rules texts) g.sorted g.dropna keys) → groups.codes ≡ group_codes (seen_rules texts) g.sorted g.dropna keys → groups ≡ meant.groups_of T (grouping_seen texts g)
+    groups_by groups counted coded =
+        groups_are groups (counted ∙ ap (λ ks. length (group_keys (seen_rules texts) g.sorted g.dropna ks)) same) (coded ∙ ap (group_codes (seen_rules texts) g.sorted g.dropna) same)
+
+    firsts_by : (firsts : List ℕ) → firsts ≡ map (place_among same_tuple keys) (group_keys (seen_rules texts) g.sorted g.dropna keys) → firsts ≡ map (place_among same_tuple K) (group_keys (seen_rules texts) g.sorted g.dropna K)
+    firsts_by firsts is = is ∙ ap (λ ks. map (place_among same_tuple ks) (group_keys (seen_rules texts) g.sorted g.dropna ks)) same
+
+    pub inside_by : (firsts : List ℕ) → firsts ≡ map (place_among same_tuple keys) (group_keys (seen_rules texts) g.sorted g.dropna keys) → AreRowsOf t firsts
+    inside_by firsts is = firsts_inside firsts (firsts_by firsts is)
+
+    pub labels_by : (firsts : List ℕ) → firsts ≡ map (place_among same_tuple keys) (group_keys (seen_rules texts) g.sorted g.dropna keys) → labels_value texts (map (row_labels t g.keys) firsts) ≡ meant.keys_of T (grouping_seen texts g)
+    labels_by firsts is = labels_are firsts (firsts_by firsts is)
+
+    -- and of what was found, if memory sufficed
+    pub groups_found : {E : Type 0} (r : Result KeyGroups E) → IfOk r (λ found. found.groups.count ≡ length (group_keys (seen_rules texts) g.sorted g.dropna keys)) → IfOk r (λ found. found.groups.codes ≡ group_codes (seen_rules texts) g.sorted g.dropna keys)
+        → IfOk r (λ found. found.groups ≡ meant.groups_of T (grouping_seen texts g))
+    groups_found (Ok found) counted coded = groups_by found.groups counted coded
+    groups_found (Err e) counted coded = tt
+
+    pub rows_found : {E : Type 0} (r : Result KeyGroups E) → IfOk r (λ found. found.firsts ≡ map (place_among same_tuple keys) (group_keys (seen_rules texts) g.sorted g.dropna keys)) → IfOk r (λ found. AreRowsOf t found.firsts)
+    rows_found (Ok found) is = inside_by found.firsts is
+    rows_found (Err e) is = tt
+
+    pub labels_found : {E : Type 0} (r : Result KeyGroups E) → IfOk r (λ found. found.firsts ≡ map (place_among same_tuple keys) (group_keys (seen_rules texts) g.sorted g.dropna keys))
+        → IfOk r (λ found. labels_value texts (map (row_labels t g.keys) found.firsts) ≡ meant.keys_of T (grouping_seen texts g))
+    labels_found (Ok found) is = labels_by found.firsts is
+    labels_found (Err e) is = tt
+
+-- what holds of an answer
+pub if_ok : {A E : Type 0} (P Q : A → Type 0) (r : Result A E) → ((a : A) → P a → Q a) → IfOk r P → IfOk r Q
+if_ok P Q (Ok a) f h = f a h
+if_ok P Q (Err e) f h = tt
+
+pub if_both : {A E : Type 0} (P Q R : A → Type 0) (r : Result A E) → ((a : A) → P a → Q a → R a) → IfOk r P → IfOk r Q → IfOk r R
+if_both P Q R (Ok a) f h k = f a h k
+if_both P Q R (Err e) f h k = tt
+
+-- one more of what is made of places
+one_more_of : {X : Type 0} (f : ℕ → X) (places : List ℕ) (k place : ℕ) (x : X) (made made' : List X) → k < length places → slice_get places k ≡ Some place → x ≡ f place → made' ≡ made ++ x ∷ [] → made ≡ map f (take k places) → made' ≡ map f (take (k + 1) places)
+one_more_of f places k place x made made' lt at is pushed so_far =
+    pushed
+    ∙ (λ i. so_far i ++ is i ∷ [])
+    ∙ ap (λ p. map f (take k places) ++ f p ∷ []) (sym (get_or_from_slice_get places k place 0 at))
+    ∙ sym (ap (map f) (take_more places k 0 lt) ∙ map-append f (take k places) (slice_index_or places k 0 ∷ []))
+
+label_datum_is : (texts : List Text) (c : Cell) → label_datum texts (label_of c) ≡ cell_label (datum texts c)
+label_datum_is texts cell.Na = refl
+label_datum_is texts (cell.Int z) = refl
+label_datum_is texts (cell.Bool b) = refl
+label_datum_is texts (cell.Text id) = refl
+
+-- one column more
+pub one_more_ref : (t : NumberedTable) (places : List ℕ) (k place : ℕ) (c : CellColumn) (cs cs' : List CellColumn) → k < length places → slice_get places k ≡ Some place → column_at t.columns place ≡ table_column c → cs' ≡ cs ++ c ∷ []
+    → map table_column cs ≡ map (column_at t.columns) (take k places) → map table_column cs' ≡ map (column_at t.columns) (take (k + 1) places)
+one_more_ref t places k place c cs cs' lt at here pushed before =
+    one_more_of (column_at t.columns) places k place (table_column c) (map table_column cs) (map table_column cs') lt at (sym here) (ap (map table_column) pushed ∙ map-append table_column cs (c ∷ [])) before
+
+-- one tuple more
+pub one_more_tuple : (t : NumberedTable) (keys rows : List ℕ) (k row : ℕ) (tuple : List Label) (tuples tuples' : List (List Label)) → k < length rows → slice_get rows k ≡ Some row → tuple ≡ row_labels t keys row → tuples' ≡ tuples ++ tuple ∷ []
+    → tuples ≡ map (row_labels t keys) (take k rows) → tuples' ≡ map (row_labels t keys) (take (k + 1) rows)
+one_more_tuple t keys rows k row tuple tuples tuples' lt at is pushed before = one_more_of (row_labels t keys) rows k row tuple tuples tuples' lt at is pushed before
+
+-- all of them
+pub all_of : {X : Type 0} (f : ℕ → X) (places : List ℕ) (k : ℕ) (made : List X) → length places ≤ k → made ≡ map f (take k places) → made ≡ map f places
+all_of f places k made end before = before ∙ ap (map f) (take_all k places end)
+
+-- the texts of keys were given
+pub key_labels_settled : (texts : List Text) (t : NumberedTable) (keys rows : List ℕ) → IsSettled table_value texts t → IsSettled labels_value texts (map (row_labels t keys) rows)
+key_labels_settled texts t keys [] settled = λ more. refl
+key_labels_settled texts t keys (r ∷ rs) settled = λ more i. row_settled keys more i ∷ key_labels_settled texts t keys rs settled more i
+  where
+    cell_seen : (ts : List Text) (place : ℕ) → label_datum ts (label_of (cell_across t r place)) ≡ cell_label (slice_index_or (column_at (table_value ts t).columns place).cells r na_cell)
+    cell_seen ts place = label_datum_is ts (cell_across t r place) ∙ ap cell_label (sym (get_or-map (datum ts) (column_at t.columns place).cells r cell.Na) ∙ ap (λ (c : ColumnOf CellValue). slice_index_or c.cells r na_cell) (sym (column_seen ts t.columns place)))
+
+    row_settled : (keys : List ℕ) → IsSettled tuple_value texts (row_labels t keys r)
+    row_settled [] = λ more. refl
+    row_settled (p ∷ ps) = λ more i.
+        (cell_seen (texts ++ more) p ∙ ap (λ (v : Table). cell_label (slice_index_or (column_at v.columns p).cells r na_cell)) (settled more) ∙ sym (cell_seen texts p)) i
+        ∷ row_settled ps more i

@@ -1,0 +1,137 @@
+-- New tables, and what is tested before they are made.
+use Rattle.std.proofs.Common.{◌≡◌, ◌≢◌, ◌∙◌, refl, ap, sym, subst, arith, ℕ, ◌*◌, ◌^◌, ◌<◌, ◌≤◌, Bool, true, false, ◌&&◌, List, [], ◌∷◌, ◌++◌, map, length, All, Option, Some, None, Result, Ok, Err, if◌then◌else◌}
+use Rattle.std.specs.Prelude.{IsSome, nat_le}
+use Rattle.std.proofs.lemmas.Bool.Decides.{nat_tests}
+use Rattle.std.proofs.lemmas.List.{length-map}
+use Rattle.cell_core.specs.Texts.{AreDistinct}
+use Rattle.cell_core.specs.declared.code.Code.TheVariants.{Limit}
+use Rattle.cell_core.specs.declared.cell.Label.{Label}
+use Rattle.cell_core.specs.declared.grid.Shape.TheVariants.{Series, Frame}
+use Rattle.meaning.specs.Text.{Text}
+use Rattle.meaning.specs.Cell.{LabelValue, AreGiven}
+use Rattle.meaning.specs.Fault.{FaultValue, limit, then_value}
+use Rattle.meaning.specs.FaultOf.{fault_of}
+use Rattle.column_core.specs.Blocks.{CellBlock}
+use Rattle.multi_index.specs.Axes.{AxisValue}
+use Rattle.table_meaning.specs.Settled.{IsSettled}
+use Rattle.table_meaning.specs.Table.{NumberedTable, Table, table_value, heading_value}
+use Rattle.table_meaning.specs.Valid.{AreHeadings, IsWhole}
+use Rattle.table_meaning.specs.Value.{Entry, table}
+use Rattle.form_meaning.specs.Finish.{within_limits, limited, limited_table, first_repeated, unless_repeated, finished}
+use Rattle.select_meaning.specs.Select.{as_series, shown_as}
+use Rattle.form_parts.specs.Makes.{blocks_value}
+use Rattle.frame_store.specs.declared.fault.OpFault.{OpFault}
+use Rattle.frame_store.specs.declared.fault.OpFault.TheVariants.{Refused, NoMemory}
+use Rattle.frame_store.specs.Parts.{HeadingList, block_column, table_of, IsSingle, HaveRows}
+use Rattle.frame_store.specs.Shown.{labels_value, headings_value, Makes}
+use Rattle.frame_store.proofs.Settling.{table_settled, columns_settled}
+use Rattle.selections.specs.Headings.{NamesRepeated, repeated_heading}
+use Rattle.selections.proofs.HeadingLaws.{repeated_seen, different}
+use Rattle.selections.proofs.RefusalLaws.{repeated_settled}
+use Rattle.frame_methods.proofs.TableLaws.{limited_within}
+use Rattle.group_forms.specs.Columns.{AreBlocks}
+use Rattle.group_forms.specs.Tables.{shape_if, name_if, headings_if, shown_if, HasHeadings, MayShow, IsAxis}
+
+-- within the limits, or beyond them
+abbrev within_then : Table → Bool → Result Entry FaultValue
+within_then t b = then_value (if b then Ok t else Err limit) (λ t. Ok (table t))
+
+limited_beyond : (t : Table) (rows columns : ℕ) → length t.labels ≡ rows → length t.columns ≡ columns → within_limits rows columns ≡ false → limited t ≡ Err limit
+limited_beyond t rows columns counted headed beyond = ap (within_then t) ((λ i. within_limits (counted i) (headed i)) ∙ beyond)
+
+limit_refuses : (texts : List Text) (single : Bool) (t : Table) → shown_as false single t ≡ Err limit → MayShow {X = HeadingList} texts (Err (Refused Limit)) single t
+limit_refuses texts single t is = (is, λ more. refl)
+
+module _ (texts : List Text) (labels : List (Option Label)) (rows : ℕ) (t : Table) (h : HasHeadings texts labels rows t) where
+  -- a Series
+  pub series_shows : length labels ≡ 1 → within_limits rows 1 ≡ true → shown_as false true t ≡ Ok (table (as_series t))
+  series_shows one within = limited_within (as_series t) rows 1 h.rows (h.headed ∙ one) within
+
+  pub series_beyond : length labels ≡ 1 → within_limits rows 1 ≡ false → MayShow {X = HeadingList} texts (Err (Refused Limit)) true t
+  series_beyond one beyond = limit_refuses texts true t (limited_beyond (as_series t) rows 1 h.rows (h.headed ∙ one) beyond)
+
+  -- a frame
+  module _ (distinct : AreDistinct texts) (settled : IsSettled headings_value texts labels) where
+    again : (found : Option Label) → repeated_heading labels ≡ found → finished t ≡ unless_repeated (heading_value texts found) (limited t)
+    again found is = ap (λ o. unless_repeated o (limited t)) (ap first_repeated h.headings ∙ sym (repeated_seen texts labels distinct settled) ∙ ap (heading_value texts) is)
+
+    pub frame_shows : repeated_heading labels ≡ None → within_limits rows (length labels) ≡ true → shown_as false false t ≡ Ok (table t)
+    frame_shows none within = again None none ∙ limited_within t rows (length labels) h.rows h.headed within
+
+    pub frame_beyond : repeated_heading labels ≡ None → within_limits rows (length labels) ≡ false → MayShow {X = HeadingList} texts (Err (Refused Limit)) false t
+    frame_beyond none beyond = limit_refuses texts false t (again None none ∙ limited_beyond t rows (length labels) h.rows h.headed beyond)
+
+    pub frame_repeated : (why : OpFault) → NamesRepeated why (repeated_heading labels) → MayShow {X = HeadingList} texts (Err why) false t
+    frame_repeated (Refused code) named = (again (Some named.0) named.1 ∙ ap (λ c. Err (fault_of texts c)) (sym named.2), repeated_settled texts code labels named.0 named.1 named.2 settled)
+    frame_repeated NoMemory named = tt
+
+-- headings that fit
+pub series_fit : (labels : List (Option Label)) → length labels ≡ 1 → AreHeadings Series None labels
+series_fit labels one = record { single = λ e. one; nameless = λ e. refl; labelled = λ e. cc; different = λ e. cc }
+
+pub frame_fit : (name : Option Label) (labels : List (Option Label)) → All IsSome labels → repeated_heading labels ≡ None → AreHeadings Frame name labels
+frame_fit name labels some none = record { single = λ e. cc; nameless = λ e. cc; labelled = λ e. some; different = λ e. different labels some none }
+
+-- the table that was made is the one that is meant
+abbrev pub made_table : Bool → AxisValue → Option Label → List (Option Label) → List CellBlock → NumberedTable
+made_table single axis name labels blocks = table_of (shape_if single) axis (headings_if single name labels) blocks
+
+pub record IsMade (texts : List Text) (t : Table) (axis : AxisValue) (name : Option Label) (labels : List (Option Label)) (blocks : List CellBlock) : Type 0 where
+  pub frame : t.shape ≡ Frame
+  pub named : t.columns_name ≡ heading_value texts name
+  pub axis_is : IsAxis texts t.labels t.level_names axis
+  pub headings : t.headings ≡ headings_value texts labels
+  pub columns : blocks_value texts blocks ≡ t.columns
+  pub name_given : IsSettled heading_value texts name
+  pub labels_given : IsSettled headings_value texts labels
+  pub blocks_given : All (λ c. AreGiven texts c.cells) (map block_column blocks)
+
+made_value : (texts : List Text) (single : Bool) (t : Table) (axis : AxisValue) (name : Option Label) (labels : List (Option Label)) (blocks : List CellBlock) → IsMade texts t axis name labels blocks → shown_if single t ≡ table_value texts (made_table single axis name labels blocks)
+made_value texts true t axis name labels blocks m = λ i. record {
+  shape = Series;
+  columns_name = None;
+  level_names = sym m.axis_is.names_seen i;
+  labels = sym m.axis_is.labels_seen i;
+  headings = m.headings i;
+  columns = sym m.columns i;
+}
+made_value texts false t axis name labels blocks m = λ i. record {
+  shape = m.frame i;
+  columns_name = m.named i;
+  level_names = sym m.axis_is.names_seen i;
+  labels = sym m.axis_is.labels_seen i;
+  headings = m.headings i;
+  columns = sym m.columns i;
+}
+
+name_settled : (texts : List Text) (single : Bool) (name : Option Label) → IsSettled heading_value texts name → IsSettled heading_value texts (name_if single name)
+name_settled texts true name settled = λ more. refl
+name_settled texts false name settled = settled
+
+made_settled : (texts : List Text) (single : Bool) (t : Table) (axis : AxisValue) (name : Option Label) (labels : List (Option Label)) (blocks : List CellBlock) → IsMade texts t axis name labels blocks → IsSettled table_value texts (made_table single axis name labels blocks)
+made_settled texts single t axis name labels blocks m =
+    table_settled texts (made_table single axis name labels blocks) (name_settled texts single name m.name_given) m.axis_is.names_given m.axis_is.labels_given m.labels_given (columns_settled texts (map block_column blocks) m.blocks_given)
+
+pub made_is : (texts : List Text) (single : Bool) (t : Table) (meant : Result Entry FaultValue) (axis : AxisValue) (name : Option Label) (labels : List (Option Label)) (blocks : List CellBlock) (headings : HeadingList) (made : NumberedTable) → IsMade texts t axis name labels blocks
+    → meant ≡ shown_as false single t → shown_as false single t ≡ Ok (table (shown_if single t)) → headings ≡ headings_if single name labels → made ≡ table_of (shape_if single) axis headings blocks → Makes texts (Ok made) meant
+made_is texts single t meant axis name labels blocks headings made m is shows headed tabled =
+    let whole : made ≡ made_table single axis name labels blocks = tabled ∙ ap (λ hs. table_of (shape_if single) axis hs blocks) headed in (
+      is ∙ shows ∙ ap (λ v. Ok (table v)) (made_value texts single t axis name labels blocks m) ∙ ap (λ u. Ok (table (table_value texts u))) (sym whole),
+      subst (IsSettled table_value texts) (sym whole) (made_settled texts single t axis name labels blocks m),
+    )
+
+-- why no table is made
+pub refused_is : (texts : List Text) (single : Bool) (t : Table) (meant : Result Entry FaultValue) (why : OpFault) → meant ≡ shown_as false single t → MayShow {X = HeadingList} texts (Err why) single t → Makes texts (Err why) meant
+refused_is texts single t meant (Refused code) is shows = (is ∙ shows.0, shows.1)
+refused_is texts single t meant NoMemory is shows = tt
+
+-- few rows
+pub within_few : (rows columns : ℕ) → within_limits rows columns ≡ true → rows ≤ 2 ^ 26
+within_few rows columns is = few (first (nat_le rows (2 ^ 26)) (nat_le columns (2 ^ 16)) (nat_le (rows * columns) (2 ^ 26)) is)
+  where
+    first : (a b c : Bool) → a && b && c ≡ true → a ≡ true
+    first true b c e = refl
+    first false b c e = cc
+
+    few : nat_le rows (2 ^ 26) ≡ true → rows ≤ 2 ^ 26
+    few e = grind (arith, nat_tests)

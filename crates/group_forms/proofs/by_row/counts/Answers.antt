@@ -1,0 +1,49 @@
+use Rattle.std.proofs.Common.{◌≡◌, ◌∙◌, ap, sym, subst, refl, true, [], ◌∷◌, None, length, map, ℕ}
+use Rattle.std.proofs.lemmas.Result.{err_from_is_err_and}
+use Rattle.multi_index.specs.Axes.{AxisValue}
+use Rattle.frame_store.specs.Parts.{block_column, HaveRows}
+use Rattle.frame_store.proofs.Settling.{columns_name_part}
+use Rattle.group_forms.proofs.RowLaws.{own_axis, counts_table, counts_headings, counts_boxed, counts_seen}
+use Rattle.group_forms.proofs.ShownLaws.{made_is, refused_is}
+use Rattle.group_forms.proofs.by_row.counts.Goals as goal
+
+pub returns-in_err-headings : goal.returns-in_err-headings
+returns-in_err-headings c =
+    let dict = c.args.dict.now in
+    let t = c.args.on.now in
+    let g = c.args.grouping.now in
+    let table = counts_table dict t g in
+    let p = err_from_is_err_and c.from_residual-in_err-headings.result c.from_residual-in_err-headings.ensures.1 in
+    rw (p.1, p.2) (refused_is dict true table _ c.in_err-headings.field-0.0 refl (c.in_err-headings.ensures.may table (counts_headings dict t g c.rows.result c.rows.ensures)))
+
+pub new_table-requires-clause-rows : goal.new_table-requires-clause-rows
+new_table-requires-clause-rows c =
+    let dict = c.args.dict.now in
+    let t = c.args.on.now in
+    let boxed = counts_boxed dict t c.args.grouping.now c.in_ok-found.found.groups c.in_ok-found.ensures.groups c.in_ok-column.column c.into_block.result c.new-blocks.result c.push.new.self c.new-blocks.ensures c.into_block.ensures c.in_ok-push.ensures.ok
+    (c.in_ok-column.ensures.answer dict) (c.in_ok-column.ensures.given dict) in
+    let counted = sym (ap (λ (a : AxisValue). length a.tuples) (c.in_ok-axis.ensures ∙ c.axis.ensures)) in
+    subst (λ (n : ℕ). HaveRows n (map block_column c.push.new.self)) counted boxed.filled
+
+pub returns : goal.returns
+returns c =
+    let dict = c.args.dict.now in
+    let t = c.args.on.now in
+    let g = c.args.grouping.now in
+    let table = counts_table dict t g in
+    let found = c.in_ok-found.found.groups in
+    let boxed = counts_boxed dict t g found c.in_ok-found.ensures.groups c.in_ok-column.column c.into_block.result c.new-blocks.result c.push.new.self c.new-blocks.ensures c.into_block.ensures c.in_ok-push.ensures.ok
+    (c.in_ok-column.ensures.answer dict) (c.in_ok-column.ensures.given dict) in
+    let seen = counts_seen dict t g found c.in_ok-found.ensures.groups c.in_ok-column.column c.into_block.result c.new-blocks.result c.push.new.self c.new-blocks.ensures c.into_block.ensures c.in_ok-push.ensures.ok (c.in_ok-column.ensures.answer dict) in
+    made_is dict true table _ c.in_ok-axis.axis t.columns_name (None ∷ []) c.push.new.self c.in_ok-headings.headings c.new_table.result
+    record {
+      frame = c.requires.shape;
+      named = refl;
+      axis_is = own_axis dict t c.in_ok-axis.axis (c.in_ok-axis.ensures ∙ c.axis.ensures) c.requires.known.given;
+      headings = refl;
+      columns = seen;
+      name_given = columns_name_part dict t c.requires.known.given;
+      labels_given = λ more. refl;
+      blocks_given = boxed.given;
+    }
+    refl (c.in_ok-headings.ensures.may table (counts_headings dict t g c.rows.result c.rows.ensures)) c.in_ok-headings.ensures.made c.new_table.ensures

@@ -1,0 +1,71 @@
+use Rattle.std.proofs.Common.{◌≡◌, ◌∙◌, ap, sym, subst, Result}
+use Rattle.meaning.specs.Fault.{FaultValue}
+use Rattle.table_meaning.specs.Table.{NumberedTable, table_value}
+use Rattle.table_meaning.specs.Value.{Entry}
+use Rattle.method_meaning.specs.Groups as meant
+use Rattle.method_meaning.specs.Groups.{group_answer}
+use Rattle.frame_store.specs.Objects.{tables, table_or}
+use Rattle.frame_store.specs.World.{world, Forms}
+use Rattle.frame_store.proofs.Settling.{longer_self}
+use Rattle.group_by.specs.Operations.{reduction_of}
+use Rattle.group_forms.specs.declared.calls.GroupCall.{GroupCall}
+use Rattle.group_forms.specs.Calls.{call_of}
+use Rattle.group_forms.specs.Grouped.{grouping_seen, values_seen}
+use Rattle.group_forms.proofs.FormLaws.{known_table}
+use Rattle.group_forms.proofs.calling.answer.Goals as goal
+
+pub reduced-table-requires-clause-known : goal.reduced-table-requires-clause-known
+reduced-table-requires-clause-known c = known_table (world c.args.store.now c.args.dict.now) c.args.on.0 c.read.result c.read.ensures.table c.read.ensures.whole c.requires.settled
+
+pub along_rows-table-requires-clause-known : goal.along_rows-table-requires-clause-known
+along_rows-table-requires-clause-known c = known_table (world c.args.store.now c.args.dict.now) c.args.on.0 c.read-in-Transformed.result c.read-in-Transformed.ensures.table c.read-in-Transformed.ensures.whole c.requires.settled
+
+pub along_rows-table-requires-in-Cumsum-clause-known : goal.along_rows-table-requires-in-Cumsum-clause-known
+along_rows-table-requires-in-Cumsum-clause-known c = known_table (world c.args.store.now c.args.dict.now) c.args.on.0 c.read-in-Cumsum.result c.read-in-Cumsum.ensures.table c.read-in-Cumsum.ensures.whole c.requires.settled
+
+pub counts-table-requires-clause-known : goal.counts-table-requires-clause-known
+counts-table-requires-clause-known c = known_table (world c.args.store.now c.args.dict.now) c.args.on.0 c.read-in-Cumcount.result c.read-in-Cumcount.ensures.table c.read-in-Cumcount.ensures.whole c.requires.settled
+
+pub returns-in-Reduced : goal.returns-in-Reduced
+returns-in-Reduced c =
+    let dict = c.args.dict.now in
+    let g = grouping_seen dict c.args.grouping.now in
+    let v = values_seen dict c.args.values.now in
+    let call = (meant.reduced (reduction_of c.in-Reduced.op)) in
+    let at : c.read.result ≡ table_or (tables c.args.store.now c.args.on.0) = sym (ap table_or c.read.ensures.table) in
+    let same = ap (λ (n : NumberedTable). group_answer (table_value dict n) g v call) at ∙ ap (λ (x : GroupCall). group_answer (table_value dict (table_or (tables c.args.store.now c.args.on.0))) g v (call_of x)) (sym c.in-Reduced.is) in
+    subst (λ (meant : Result Entry FaultValue). Forms c.placed.result meant (world c.args.store.now dict) (world c.placed.new.store dict)) same
+    (c.placed.ensures.answers dict _ (longer_self dict) c.requires.settled c.reduced-table.ensures)
+
+pub returns-in-Transformed : goal.returns-in-Transformed
+returns-in-Transformed c =
+    let dict = c.args.dict.now in
+    let g = grouping_seen dict c.args.grouping.now in
+    let v = values_seen dict c.args.values.now in
+    let call = (meant.transformed (reduction_of c.in-Transformed.op)) in
+    let at : c.read-in-Transformed.result ≡ table_or (tables c.args.store.now c.args.on.0) = sym (ap table_or c.read-in-Transformed.ensures.table) in
+    let same = ap (λ (n : NumberedTable). group_answer (table_value dict n) g v call) at ∙ ap (λ (x : GroupCall). group_answer (table_value dict (table_or (tables c.args.store.now c.args.on.0))) g v (call_of x)) (sym c.in-Transformed.is) in
+    subst (λ (meant : Result Entry FaultValue). Forms c.placed-in-Transformed.result meant (world c.args.store.now dict) (world c.placed-in-Transformed.new.store dict)) same
+    (c.placed-in-Transformed.ensures.answers dict _ (longer_self dict) c.requires.settled c.along_rows-table.ensures)
+
+pub returns-in-Cumsum : goal.returns-in-Cumsum
+returns-in-Cumsum c =
+    let dict = c.args.dict.now in
+    let g = grouping_seen dict c.args.grouping.now in
+    let v = values_seen dict c.args.values.now in
+    let call = meant.cumsum in
+    let at : c.read-in-Cumsum.result ≡ table_or (tables c.args.store.now c.args.on.0) = sym (ap table_or c.read-in-Cumsum.ensures.table) in
+    let same = ap (λ (n : NumberedTable). group_answer (table_value dict n) g v call) at ∙ ap (λ (x : GroupCall). group_answer (table_value dict (table_or (tables c.args.store.now c.args.on.0))) g v (call_of x)) (sym c.in-Cumsum.is) in
+    subst (λ (meant : Result Entry FaultValue). Forms c.placed-in-Cumsum.result meant (world c.args.store.now dict) (world c.placed-in-Cumsum.new.store dict)) same
+    (c.placed-in-Cumsum.ensures.answers dict _ (longer_self dict) c.requires.settled c.along_rows-table-in-Cumsum.ensures)
+
+pub returns-in-Cumcount : goal.returns-in-Cumcount
+returns-in-Cumcount c =
+    let dict = c.args.dict.now in
+    let g = grouping_seen dict c.args.grouping.now in
+    let v = values_seen dict c.args.values.now in
+    let call = meant.cumcount in
+    let at : c.read-in-Cumcount.result ≡ table_or (tables c.args.store.now c.args.on.0) = sym (ap table_or c.read-in-Cumcount.ensures.table) in
+    let same = ap (λ (n : NumberedTable). group_answer (table_value dict n) g v call) at ∙ ap (λ (x : GroupCall). group_answer (table_value dict (table_or (tables c.args.store.now c.args.on.0))) g v (call_of x)) (sym c.in-Cumcount.is) in
+    subst (λ (meant : Result Entry FaultValue). Forms c.placed-in-Cumcount.result meant (world c.args.store.now dict) (world c.placed-in-Cumcount.new.store dict)) same
+    (c.placed-in-Cumcount.ensures.answers dict _ (longer_self dict) c.requires.settled c.counts-table.ensures)

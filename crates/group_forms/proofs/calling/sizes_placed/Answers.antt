@@ -1,0 +1,28 @@
+use Rattle.std.proofs.Common.{◌≡◌, ap, Err, rules}
+use Rattle.table_meaning.specs.Table.{Table}
+use Rattle.method_meaning.specs.Groups as meant
+use Rattle.method_meaning.specs.Groups.{group_answer}
+use Rattle.frame_store.specs.declared.fault.OpFault.TheVariants.{NoMemory}
+use Rattle.frame_store.specs.World.{world}
+use Rattle.group_forms.specs.Grouped.{grouping_seen, values_seen}
+use Rattle.group_forms.proofs.FormLaws.{known_later, seen_before, no_memory_forms, forms_so}
+use Rattle.group_forms.proofs.calling.sizes_placed.Goals as goal
+
+pub returns-in_err-heading : goal.returns-in_err-heading
+returns-in_err-heading c =
+    let out : c.from_residual.result ≡ Err NoMemory = search rules in
+    no_memory_forms (world c.args.store.now c.args.dict.now) c.size_heading.new.dict c.from_residual.result _ out c.in_err-heading.ensures.longer c.requires.settled
+
+pub sizes-table-requires-clause-known : goal.sizes-table-requires-clause-known
+sizes-table-requires-clause-known c =
+    known_later (world c.args.store.now c.args.dict.now) c.size_heading.new.dict c.args.on.0 c.read.result c.read.ensures.table c.read.ensures.whole c.in_ok-heading.ensures.longer c.requires.settled
+
+pub returns : goal.returns
+returns c =
+    let dict = c.args.dict.now in
+    let g = grouping_seen dict c.args.grouping.now in
+    let v = values_seen dict c.args.values.now in
+    let longer = c.in_ok-heading.ensures.longer in
+    forms_so c.placed.result _ _ _ _
+    (ap (λ (t : Table). group_answer t g v meant.size) (seen_before (world c.args.store.now dict) c.size_heading.new.dict c.args.on.0 c.read.result c.read.ensures.table longer c.requires.settled))
+    (c.placed.ensures.answers dict _ longer c.requires.settled c.sizes-table.ensures)

@@ -1,0 +1,4 @@
+pub mod Calls
+pub mod Grouped
+pub mod Columns
+pub mod Tables

@@ -1,0 +1,157 @@
+// The last call: what is made of groups.
+ghost use Rattle.std.specs.Prelude.{◌≡◌, List, slice_get, Some};
+ghost use Rattle.std.specs.Option.{option_map};
+ghost use Rattle.meaning.specs.Text.{Text};
+ghost use Rattle.meaning.specs.Cell.{datum, text_of};
+ghost use Rattle.form_meaning.specs.Binding as plain;
+ghost use Rattle.method_meaning.specs.Groups as meant;
+ghost use Rattle.form_parts.specs.Makes.{MakesBy};
+ghost use Rattle.group_by.specs.Operations.{reduction_of};
+ghost use Rattle.frame_store.specs.Objects.{Tables};
+ghost use Rattle.frame_store.specs.World.{world, arguments_in, AreKnownArguments};
+ghost use Rattle.signatures.specs.Bound.{given_in, stands_at};
+ghost use Rattle.group_forms.specs.Calls.{call_of, call_seen, IsTransform};
+
+use cell_core::{Cell, Code, Reason, TextDict, TextId};
+use form_meaning::{Form, Listed, Omitted, Parameter, ParameterName};
+use frame_methods::no_attribute;
+use frame_store::{Named, OpFault, Store};
+use group_by::GroupOp;
+use signatures::{Bound, bind};
+use std::alloc::Global;
+
+// What is made of groups: a cell for each group, or one for each row.
+#[derive(Clone, Copy)]
+pub(crate) enum GroupCall {
+    Reduced(GroupOp),
+    Size,
+    Transformed(GroupOp),
+    Cumsum,
+    Cumcount,
+}
+
+// The reduction that a name means.
+fn reduction_named(name: &str) -> Option<GroupOp>
+    ensures { option_map reduction_of result ≡ meant.reduction_named name.now }
+{
+    match name {
+        "sum" => Some(GroupOp::Sum),
+        "min" => Some(GroupOp::Min),
+        "max" => Some(GroupOp::Max),
+        "count" => Some(GroupOp::Count),
+        "nunique" => Some(GroupOp::Distinct),
+        "first" => Some(GroupOp::First),
+        "last" => Some(GroupOp::Last),
+        _ => None,
+    }
+}
+
+// The call that a name means which takes no argument.
+fn plain_call(name: &str) -> Option<GroupCall>
+    ensures { option_map call_of result ≡ meant.plain_call name.now }
+{
+    match name {
+        "size" => Some(GroupCall::Size),
+        "cumsum" => Some(GroupCall::Cumsum),
+        "cumcount" => Some(GroupCall::Cumcount),
+        _ => match reduction_named(name) {
+            Some(op) => Some(GroupCall::Reduced(op)),
+            None => None,
+        },
+    }
+}
+
+// What `transform` is told: the name of a reduction.
+fn transform_parameters() -> &'static [Parameter]
+    ensures { result.now ≡ meant.transform_parameters }
+{
+    &[Parameter {
+        name: ParameterName::Name,
+        form: Form::Text,
+        omitted: Omitted::Required,
+        listed: Listed::Any,
+    }]
+}
+
+// The text that a scalar is, if it is one.
+fn text_of(cell: Cell) -> Option<TextId>
+    ensures { (texts : List Text)
+        → option_map (text_of texts) result ≡ plain.text_of (Some (datum texts cell)) }
+{
+    match cell {
+        Cell::Text(id) => Some(id),
+        Cell::Int(_) => None,
+        Cell::Bool(_) => None,
+        Cell::Na => None,
+    }
+}
+
+// The text that is the first argument, if it is one.
+fn text_told(bound: &Bound<'_>) -> Option<TextId>
+    requires { plain.HasNoText (slice_get bound.now.parameters.now 0) }
+    ensures { (live : Tables) (texts : List Text)
+        → option_map (text_of texts) result ≡ plain.text_in (stands_at live texts bound.now 0) }
+{
+    match bound.scalar_or_none(0) {
+        Some(cell) => text_of(cell),
+        None => None,
+    }
+}
+
+// What `transform` makes, by the name that is bound.
+fn transformed(store: &Store, dict: &TextDict, bound: &Bound<'_>) -> Result<GroupCall, OpFault>
+    requires { IsTransform bound.now }
+    ensures { MakesBy call_seen dict.now result
+        (meant.transform_in (given_in (world store.now dict.now) bound.now)) }
+{
+    // The tables matter to the clauses alone.
+    let _ = store;
+    let Some(id) = text_told(bound) else {
+        return Err(OpFault::Refused(Code::WrongKind));
+    };
+    match reduction_named(dict.text(id)) {
+        Some(op) => Ok(GroupCall::Transformed(op)),
+        None => Err(OpFault::Refused(Code::BadValue(Reason::Argument))),
+    }
+}
+
+// A call without arguments.
+fn without_arguments(
+    alloc: Global,
+    store: &Store,
+    dict: &TextDict,
+    name: &str,
+    args: &[Named],
+) -> Result<GroupCall, OpFault>
+    requires { AreKnownArguments (world store.now dict.now) args.now }
+    ensures { let gs = arguments_in (world store.now dict.now) args.now in
+        MakesBy call_seen dict.now result
+        (meant.without_arguments (meant.plain_call name.now) name.now gs) }
+{
+    let Some(call) = plain_call(name) else {
+        return Err(no_attribute(alloc, name));
+    };
+    let _bound = bind(store, dict, &[], args)?;
+    Ok(call)
+}
+
+// The last call, of this name and with these arguments.
+pub(crate) fn group_call(
+    alloc: Global,
+    store: &Store,
+    dict: &TextDict,
+    name: &str,
+    args: &[Named],
+) -> Result<GroupCall, OpFault>
+    requires { AreKnownArguments (world store.now dict.now) args.now }
+    ensures { let gs = arguments_in (world store.now dict.now) args.now in
+        MakesBy call_seen dict.now result (meant.group_call_of name.now gs) }
+{
+    match name {
+        "transform" => {
+            let bound = bind(store, dict, transform_parameters(), args)?;
+            transformed(store, dict, &bound)
+        }
+        _ => without_arguments(alloc, store, dict, name, args),
+    }
+}
