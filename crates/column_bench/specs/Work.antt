@@ -15,7 +15,7 @@ use Rattle.nullable_array.specs.declared.ops.ArrayFault.{ArrayFault}
 use Rattle.nullable_array.specs.Answers.{IsRefusal}
 use Rattle.column_core.specs.Columns.{CellColumn, column_value}
 use Rattle.column_core.specs.Moves.{IsPlaceOf}
-use Rattle.nullable_array.specs.Tasks.{operator_of}
+use Rattle.column_operators.specs.Tasks.{operator_of}
 use Rattle.column_bench.specs.declared.work.Answer.{Answer}
 use Rattle.column_bench.specs.declared.work.Answer.TheVariants.{Whole, One}
 use Rattle.column_bench.specs.declared.work.Work.{Work}

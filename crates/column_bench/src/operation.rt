@@ -8,7 +8,7 @@ ghost use Rattle.column_bench.specs.Operation.{name_of, operation_named, work_of
 use crate::data::{Data, places};
 use crate::work::Work;
 use cell_core::NoMemory;
-use nullable_array::Binary;
+use column_operators::Binary;
 use std::alloc::Global;
 
 /// An operation on columns.

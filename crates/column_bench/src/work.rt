@@ -8,7 +8,8 @@ ghost use Rattle.column_bench.specs.Work.{NeedNoTexts, ArePaired, IsReady, whole
 
 use cell_core::{Cell, Gaps, Kind, TextDict};
 use column_core::{Column, shift, take};
-use nullable_array::{ArrayFault, Binary, Cumulation, Reduction, binary, cast, cumulate, reduce};
+use column_operators::{Binary, binary};
+use nullable_array::{ArrayFault, Cumulation, Reduction, cast, cumulate, reduce};
 use std::alloc::Global;
 
 /// An operation with the columns that it is made on.

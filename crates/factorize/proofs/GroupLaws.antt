@@ -1,11 +1,11 @@
 -- The groups of rows whose keys are tuples of labels.
-use Rattle.std.proofs.Common.{◌≡◌, ◌∙◌, ◌<◌, ◌==◌, ap, sym, subst, arith, ℕ, Bool, true, false, cond, List, [], map, filter, length, slice_index_or, All, Option}
+use Rattle.std.proofs.Common.{◌≡◌, ◌∙◌, ◌<◌, ◌==◌, ap, sym, subst, arith, ℕ, Bool, List, [], map, filter, length, slice_index_or, All, Option}
 use Rattle.std.specs.List.{list_any, position, range_with_len}
 use Rattle.std.specs.Cmp.Lexicographic.{lists_total}
 use Rattle.std.proofs.lemmas.List.{length-map, get_or-map, map-id}
 use Rattle.std.proofs.lemmas.List.Sums.{passes_at_first}
 use Rattle.std.proofs.lemmas.List.Sorted.{ranks_by}
-use Rattle.std.proofs.lemmas.List.Elements.{All-map, All-filter}
+use Rattle.std.proofs.lemmas.List.Elements.{All-map}
 use Rattle.meaning.specs.Text.{Text}
 use Rattle.meaning.specs.Reduce.{distinct}
 use Rattle.cell_core.specs.declared.cell.Label.{Label}
@@ -13,8 +13,8 @@ use Rattle.column_core.specs.Moves.{IsPlaceOf}
 use Rattle.multi_index.specs.Axes.{HaveLevels, tuples_at}
 use Rattle.row_keys.specs.Keys.{same_tuple, place_among, codes_of, first_rows}
 use Rattle.std.proofs.lemmas.List.FromFn.{length-map-range_with_len}
-use Rattle.row_keys.proofs.KeyLaws.{position_in, all_known, any_at}
-use Rattle.row_keys.proofs.RecodeLaws.{All-distinct, firsts_inside, first_keys}
+use Rattle.row_keys.proofs.KeyLaws.{position_in, all_known}
+use Rattle.row_keys.proofs.RecodeLaws.{firsts_inside, first_keys}
 use Rattle.label_align.specs.Tuples.{tuple_seen, tuple_less}
 use Rattle.label_align.proofs.OrderLaws.{row_agrees}
 use Rattle.label_align.proofs.SameLaws.{tuple_decides, tuple_laws}
@@ -23,10 +23,8 @@ use Rattle.factorize.specs.Keys.{seen_rules}
 use Rattle.factorize.specs.Numbers.{first_row, number_less, row_holds_na, kept_numbers, places_of, recoded}
 use Rattle.group_meaning.specs.Grouping.{AreGroups}
 use Rattle.group_meaning.proofs.ListLaws.{map_map, map_on}
-use Rattle.sorting.specs.Sorting.{in_order}
-use Rattle.align_meaning.proofs.OrderLaws.{all_in_order}
 use Rattle.cell_core.proofs.LabelLaws.{label_total}
-use Rattle.factorize.proofs.LawOfGroups.{are_groups}
+use Rattle.factorize.proofs.LawOfGroups.{IsThere, keys_there, are_groups}
 use Rattle.factorize.proofs.LabelLaws.{labels_there}
 use Rattle.factorize.proofs.PlaceLaws.{place_inside}
 use Rattle.factorize.proofs.NumberLaws as law
@@ -127,19 +125,8 @@ module _ (texts : List Text) (keys : List (List Label)) (sorted dropna : Bool) w
   abbrev group_tuples : List (List Label)
   group_tuples = group_keys (seen_rules texts) sorted dropna keys
 
-  abbrev IsThere : List Label → Type 0
-  IsThere key = list_any (same_tuple key) keys ≡ true
-
-  all_there : All IsThere (distinct same_tuple keys)
-  all_there = All-distinct IsThere same_tuple keys (λ k d lt. any_at (same_tuple (slice_index_or keys k d)) keys k d lt (tuple_laws.refl (slice_index_or keys k d)))
-
-  groups_there : All IsThere group_tuples
-  groups_there =
-      All-filter (is_kept dropna (seen_rules texts).holds_na) IsThere (ordered_if sorted (tuple_less texts) (distinct same_tuple keys))
-      (elim sorted as (λ b. All IsThere (cond b (in_order (tuple_less texts) (distinct same_tuple keys)) (distinct same_tuple keys))) [
-        | true ↦ all_in_order IsThere (tuple_less texts) (distinct same_tuple keys) all_there
-        | false ↦ all_there
-      ])
+  groups_there : All (IsThere same_tuple keys) group_tuples
+  groups_there = keys_there (seen_rules texts) tuple_laws sorted dropna keys
 
   -- each group's first row is a row, and has the group's tuple
   pub rows_inside : All (λ row. row < length keys) (map (place_among same_tuple keys) group_tuples)
@@ -148,12 +135,13 @@ module _ (texts : List Text) (keys : List (List Label)) (sorted dropna : Bool) w
   pub tuples_there : tuples_at keys (map (place_among same_tuple keys) group_tuples) ≡ group_tuples
   tuples_there =
       map_map (λ row. slice_index_or keys row []) (place_among same_tuple keys) group_tuples
-      ∙ map_on IsThere (λ key. slice_index_or keys (place_among same_tuple keys key) []) (λ key. key)
+      ∙ map_on (IsThere same_tuple keys) (λ key. slice_index_or keys (place_among same_tuple keys key) []) (λ key. key)
       (λ key here. sym ((tuple_decides key (slice_index_or keys (place_among same_tuple keys key) [])).0 (passes_at_first (same_tuple key) keys [] (position_in (same_tuple key) keys here)))) group_tuples groups_there
       ∙ map-id group_tuples
 
-  pub law_of : (tuples : List (List Label)) (codes : List (Option ℕ)) → tuples ≡ group_tuples → codes ≡ group_codes (seen_rules texts) sorted dropna keys → AreGroups (seen_rules texts) sorted dropna keys tuples codes
-  law_of tuples codes keyed coded =
-      subst (λ ts. AreGroups (seen_rules texts) sorted dropna keys ts codes) (sym keyed)
+  pub law_of : (firsts : List ℕ) (codes : List (Option ℕ)) → firsts ≡ map (place_among same_tuple keys) group_tuples → codes ≡ group_codes (seen_rules texts) sorted dropna keys
+      → AreGroups (seen_rules texts) sorted dropna keys (tuples_at keys firsts) codes
+  law_of firsts codes first coded =
+      subst (λ ts. AreGroups (seen_rules texts) sorted dropna keys ts codes) (sym (ap (tuples_at keys) first ∙ tuples_there))
       (subst (λ cs. AreGroups (seen_rules texts) sorted dropna keys group_tuples cs) (sym coded)
       (are_groups (seen_rules texts) tuple_laws (ranks_by (lists_total label_total) (tuple_seen texts)) (λ a b e. ap (λ key. list_any is_na (tuple_seen texts key)) ((tuple_decides a b).0 e)) sorted dropna keys))

@@ -3,7 +3,7 @@ use Rattle.std.proofs.Common.{◌≡◌, ◌∙◌, ◌+◌, ◌<◌, ◌≤◌,
 use Rattle.std.specs.List.{list_any, position_or_len}
 use Rattle.std.specs.Cmp.{IsEquivalence, IsStrictWeakOrder}
 use Rattle.std.proofs.lemmas.Bool.{false≢true, true≢false, not-true, not-false, ltb-true, lt-ltb, eqb-true, eq-eqb, cases_lt}
-use Rattle.std.proofs.lemmas.List.{get_or-map}
+use Rattle.std.proofs.lemmas.List.{length-map, get_or-map}
 use Rattle.std.proofs.lemmas.List.Elements.{All-nil, All-cons, All-head, All-tail, All-filter, filter_passes}
 use Rattle.std.proofs.lemmas.List.Sums.{passes_at_first, position_or_len_is}
 use Rattle.meaning.specs.Reduce.{distinct}
@@ -11,8 +11,8 @@ use Rattle.sorting.specs.Sorting.{put_in, in_order}
 use Rattle.align_meaning.proofs.OrderLaws.{all_put_in, all_in_order}
 use Rattle.pick_meaning.specs.Rows.{rows_where}
 use Rattle.pick_meaning.proofs.RowLaws.{rows_where-map}
-use Rattle.row_keys.proofs.KeyLaws.{position_in, all_known}
-use Rattle.row_keys.proofs.RecodeLaws.{Apart, apart_distinct, apart_at}
+use Rattle.row_keys.proofs.KeyLaws.{position_in, all_known, any_at}
+use Rattle.row_keys.proofs.RecodeLaws.{Apart, All-distinct, apart_distinct, apart_at}
 use Rattle.group_meaning.specs.Keys.{KeyRules, is_kept, ordered_if, group_keys, group_of, group_codes}
 use Rattle.group_meaning.specs.Rows.{is_in, rows_of_group}
 use Rattle.group_meaning.specs.Grouping.{HasGroup, AreGroups}
@@ -159,6 +159,21 @@ module _ {K : Type 0} (rules : KeyRules K) (laws : IsEquivalence rules.same) (we
   rows_of : (group : ℕ) (d : K) → group < length keys → rows_of_group group codes ≡ rows_where (rules.same (slice_index_or keys group d)) 0 rows
   rows_of group d lt = rows_where-map (λ k. Unit {0}) (is_in group) (rules.same (slice_index_or keys group d)) (group_of rules.same keys) (λ k _. told rules.same laws keys keys_apart group d k lt) 0 rows (λ k d' below. tt)
 
+-- a key that a row has
+abbrev pub IsThere : {K : Type 0} → (K → K → Bool) → List K → K → Type 0
+IsThere same rows key = list_any (same key) rows ≡ true
+
+pub keys_there : {K : Type 0} (rules : KeyRules K) → IsEquivalence rules.same → (sorted dropna : Bool) (rows : List K) → All (IsThere rules.same rows) (group_keys rules sorted dropna rows)
+keys_there {K} rules laws sorted dropna rows =
+    let there : K → Type 0 = IsThere rules.same rows in
+    let keys = distinct rules.same rows in
+    let all : All there keys = All-distinct there rules.same rows (λ k d lt. any_at (rules.same (slice_index_or rows k d)) rows k d lt (laws.refl (slice_index_or rows k d))) in
+    All-filter (is_kept dropna rules.holds_na) there (ordered_if sorted rules.less keys)
+    (elim sorted as (λ b. All there (cond b (in_order rules.less keys) keys)) [
+      | true ↦ all_in_order there rules.less keys all
+      | false ↦ all
+    ])
+
 -- a list in which no two elements stand the wrong way
 module _ {X : Type 0} (wrong : X → X → Bool) where
   abbrev pub Rises : List X → Type 0
@@ -238,9 +253,11 @@ module _ {K : Type 0} (rules : KeyRules K) (laws : IsEquivalence rules.same) (we
 pub are_groups : {K : Type 0} (rules : KeyRules K) (laws : IsEquivalence rules.same) (weak : IsStrictWeakOrder rules.less) (respects : (a b : K) → rules.same a b ≡ true → rules.holds_na a ≡ rules.holds_na b) (sorted dropna : Bool) (rows : List K)
     → AreGroups rules sorted dropna rows (group_keys rules sorted dropna rows) (group_codes rules sorted dropna rows)
 are_groups {K} rules laws weak respects sorted dropna rows = record {
+  each_row = length-map rows (group_of rules.same (group_keys rules sorted dropna rows));
   in_group = λ row d lt keeps. in_group rules laws weak respects sorted dropna rows row d lt keeps;
   in_none = λ row d lt leaves. in_none rules laws weak respects sorted dropna rows row d lt leaves;
   rows_of = λ group d lt. rows_of rules laws weak respects sorted dropna rows group d lt;
+  has_row = λ group d lt. keys_there rules laws sorted dropna rows group d lt;
   in_order = λ is. elim sorted as (λ b. b ≡ true → (i j : ℕ) (k : K) → i < j → j < length (group_keys rules b dropna rows) → rules.less (slice_index_or (group_keys rules b dropna rows) j k) (slice_index_or (group_keys rules b dropna rows) i k) ≡ false) [
     | true ↦ λ e i j k lt inside. rises_at rules.less (group_keys rules true dropna rows) (sorted_rise rules laws weak dropna rows) i j k lt inside
     | false ↦ λ e. absurd (false≢true e)

@@ -1,7 +1,9 @@
 // The groups of rows by their keys.
 ghost use Rattle.std.specs.Prelude.{◌≡◌, map, length, IfOk};
+ghost use Rattle.multi_index.specs.Axes.{tuples_at};
 ghost use Rattle.row_keys.specs.Keys.{place_among, same_tuple};
 ghost use Rattle.group_meaning.specs.Keys.{group_keys, group_codes};
+ghost use Rattle.group_meaning.specs.Grouping.{AreGroups};
 ghost use Rattle.factorize.specs.Keys.{seen_rules};
 
 use crate::levels::KeyLevels;
@@ -38,6 +40,9 @@ pub fn group_by_keys<R: KeyLevels>(
         ≡ group_codes (seen_rules dict.now) sorted dropna (R.keys rows.now)) }
     ensures firsts { let keys = group_keys (seen_rules dict.now) sorted dropna (R.keys rows.now) in
         IfOk result (λ g. g.firsts ≡ map (place_among same_tuple (R.keys rows.now)) keys) }
+    ensures law { let keys = R.keys rows.now in
+        IfOk result (λ g. AreGroups (seen_rules dict.now) sorted dropna keys
+        (tuples_at keys g.firsts) g.groups.codes) }
 {
     let levels = rows.levels();
     let numbers = numbered(alloc, rows)?;

@@ -15,8 +15,8 @@ use frame_store::{Blocks, OpFault};
 use multi_index::Axis;
 use std::alloc::Global;
 
-// The cell that a label is.
-fn cell_of(label: Label) -> Cell
+/// The cell that a label is. Takes no memory.
+pub fn cell_of(label: Label) -> Cell
     ensures { result ≡ levels.cell_of label }
 {
     match label {

@@ -15,7 +15,8 @@
 //! (`levels`), and become columns again (`level_columns`, `resetting`); `under` makes the table under another axis. The
 //! text of a whole table, which `to_csv` answers, is made by `frame_format` (`csv`).
 //!
-//! Calls behind `groupby` are in the crate `group_forms`, which takes some parts from here.
+//! Calls behind `groupby` are in the crate `group_forms`, and joins of frames in `merge_forms`, which take some parts
+//! from here.
 //!
 //! ```text
 //! let mut args = NamedList::new(alloc);
@@ -56,5 +57,6 @@ mod under;
 pub use binding::{exists, no_attribute};
 pub use calling::method;
 pub use indexing::row_tuple;
-pub use named_columns::{named_places, places_besides};
+pub use level_columns::cell_of;
+pub use named_columns::{named_places, places_besides, scalars_of};
 pub use under::named_axis;

@@ -26,8 +26,8 @@ use selections::{column_place, column_places, columns_of, places_below};
 use signatures::Bound;
 use std::alloc::Global;
 
-// The scalars among the parts of a list.
-fn scalars_of(alloc: Global, items: &[Item]) -> Result<Cells, NoMemory>
+/// The scalars among the parts of a list, in their order. `NoMemory` is the only refusal.
+pub fn scalars_of(alloc: Global, items: &[Item]) -> Result<Cells, NoMemory>
     ensures { IfOk result (λ cells. (texts : List OneText)
         → cells_value texts cells ≡ scalars texts items.now) }
 {

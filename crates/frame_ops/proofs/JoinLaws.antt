@@ -1,10 +1,10 @@
 -- Rows that are joined, and the sides of two tables on them.
-use Rattle.std.proofs.Common.{◌≡◌, ◌∙◌, ◌<◌, ◌≢◌, ◌+◌, ◌&&◌, ◌++◌, ℕ, suc, Bool, true, false, List, [], ◌∷◌, length, map, take, refl, ap, sym, subst, arith, All, Option, Some, None, Result, Ok, Err, slice_index_or, if◌then◌else◌, nat_lt, below_more, get_or-set_other, get_or-set_same}
+use Rattle.std.proofs.Common.{◌≡◌, ◌∙◌, ◌<◌, ◌≢◌, ◌+◌, ◌&&◌, ℕ, suc, Bool, true, false, List, [], ◌∷◌, length, map, refl, ap, sym, subst, arith, All, Option, Some, None, Result, Ok, Err, slice_index_or, if◌then◌else◌, nat_lt, below_more, get_or-set_other, get_or-set_same}
 use Rattle.std.specs.Prelude.{slice_set}
 use Rattle.std.specs.List.{list_all}
 use Rattle.std.proofs.Math.ListN.{get_or-map}
-use Rattle.std.proofs.lemmas.List.{length-map, map-append, take_more}
-use Rattle.std.proofs.lemmas.List.Elements.{All-map, All-push}
+use Rattle.std.proofs.lemmas.List.{length-map}
+use Rattle.std.proofs.lemmas.List.Elements.{All-map}
 use Rattle.cell_core.specs.declared.cell.Cell.{Cell}
 use Rattle.cell_core.specs.declared.cell.Cell.TheVariants.{Na}
 use Rattle.cell_core.specs.declared.cell.Label.{Label}
@@ -15,7 +15,6 @@ use Rattle.meaning.specs.Cell.{CellValue, na_cell, datum}
 use Rattle.meaning.specs.Column.{gap_cell, taken}
 use Rattle.meaning.specs.Symbol.{Binary}
 use Rattle.column_core.specs.Blocks.{CellBlock}
-use Rattle.column_core.specs.Columns.{CellColumn}
 use Rattle.column_core.specs.Moves.{IsPlaceOf}
 use Rattle.index_core.proofs.RangeLaws.{length-range_labels}
 use Rattle.index_core.specs.Ranges.{range_labels}
@@ -32,11 +31,11 @@ use Rattle.label_align.specs.Answers.{AlignsBy}
 use Rattle.label_align.specs.Joined.{lists_seen}
 use Rattle.label_align.specs.Tuples.{tuple_less}
 use Rattle.table_meaning.specs.Settled.{IsSettled}
-use Rattle.table_meaning.specs.Table.{ColumnOf, NumberedTable, heading_value, tuple_value, no_column}
+use Rattle.table_meaning.specs.Table.{ColumnOf, NumberedTable, heading_value, tuple_value}
 use Rattle.table_meaning.specs.Valid.{IsWhole}
 use Rattle.form_meaning.specs.Finish.{value_of_column}
 use Rattle.form_meaning.specs.Infix.{same_tuple, tuple_before, common_name, common_names, joined_rows, on_rows, meets, beside}
-use Rattle.frame_store.specs.Parts.{HeadingList, HaveRows, IsSingle, block_column, table_column, table_with, headings_of}
+use Rattle.frame_store.specs.Parts.{HeadingList, HaveRows, block_column, table_with, headings_of}
 use Rattle.frame_store.specs.Shown.{labels_value, headings_value, columns_value}
 use Rattle.form_parts.specs.Faults.{align_refusal}
 use Rattle.form_parts.specs.Makes.{MakesBy}
@@ -84,8 +83,8 @@ is_joined texts x y rows h = record {
   right = record { count_is = h.right_count; places = h.right };
 }
 
-pub joined_given : (texts : List Text) (levels m n : ℕ) (rows : Joined) → AreInside (IsKept texts levels) m n (lists_seen rows) → IsSettled labels_value texts rows.tuples
-joined_given texts levels m n rows h = settled_tuples texts rows.tuples (λ k d lt. (h.keyed k d lt).1)
+pub joined_given : (texts : List Text) (levels m n : ℕ) (rows : Joined) → AreInside (IsKept texts levels) m n (lists_seen rows) → IsSettled labels_value texts rows.axis.tuples
+joined_given texts levels m n rows h = settled_tuples texts rows.axis.tuples (λ k d lt. (h.keyed k d lt).1)
 
 -- the names of levels, one more of them
 pub one_named : (P : ℕ → Option Label → Type 0) (names names' : List (Option Label)) (level : ℕ) (name : Option Label) → names' ≡ slice_set names level name → level < length names

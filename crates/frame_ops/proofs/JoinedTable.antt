@@ -1,5 +1,5 @@
 -- The table of two tables whose rows are joined.
-use Rattle.std.proofs.Common.{◌≡◌, ◌∙◌, ℕ, Bool, true, false, List, length, map, ap, sym, subst, Option, Result, Ok, Err, if◌then◌else◌, All}
+use Rattle.std.proofs.Common.{◌≡◌, ◌∙◌, ◌≤◌, ◌^◌, ℕ, Bool, true, false, List, length, map, ap, sym, subst, Option, Result, Ok, Err, if◌then◌else◌, All}
 use Rattle.std.specs.Prelude.{IfOk}
 use Rattle.std.specs.List.{list_all}
 use Rattle.std.proofs.lemmas.List.{length-map}
@@ -11,7 +11,7 @@ use Rattle.meaning.specs.Fault.{FaultValue, wrong_kind, limit, then_value}
 use Rattle.meaning.specs.Symbol.{Binary}
 use Rattle.column_core.specs.Blocks.{CellBlock}
 use Rattle.column_core.specs.Moves.{IsPlaceOf}
-use Rattle.multi_index.specs.Axes.{AxisValue}
+use Rattle.multi_index.specs.Axes.{AxisValue, HaveLevels}
 use Rattle.label_align.specs.declared.joined.Joined.{Joined}
 use Rattle.table_meaning.specs.Settled.{IsSettled}
 use Rattle.table_meaning.specs.Table.{ColumnOf, NumberedTable, Table, table_value, tuple_value, heading_value}
@@ -28,7 +28,7 @@ use Rattle.form_parts.specs.Makes.{MakesBy, blocks_value, AreColumns}
 use Rattle.form_parts.proofs.TableMade.{made_is_meant, made_is_settled, refused_on}
 use Rattle.frame_ops.specs.declared.naming.Naming.{Naming}
 use Rattle.frame_ops.specs.declared.other.Other.TheVariants.{Beside}
-use Rattle.frame_ops.specs.Joining.{joined_value, side_on, IsJoined}
+use Rattle.frame_ops.specs.Joining.{joined_value, side_on, AreSideRows, IsJoined}
 use Rattle.frame_ops.specs.Namings.{headings_by, named_by, IsNaming, IsSettledNaming}
 use Rattle.frame_ops.specs.Pairs.{all_met, kinds_meet, meetings_value, columns_meant, columns_for, IsOpposite}
 use Rattle.frame_ops.proofs.JoinLaws.{on_rows_seen, on_rows_given, kinds_on, length-beside, rows_numbered}
@@ -54,17 +54,17 @@ module _ (op : Binary) (texts : List Text) (a b : NumberedTable) (rows : Joined)
   sides_met : meetings_value texts (all_met left (Beside right)) ≡ met_columns
   sides_met = beside_meetings texts right left.columns sides_many ∙ (λ i. beside (on_rows_seen texts rows.left a.columns i) (on_rows_seen texts rows.right b.columns i))
 
-  rows_of_left : length rows.left ≡ length rows.tuples → length left.labels ≡ length rows.tuples
+  rows_of_left : length rows.left ≡ length rows.axis.tuples → length left.labels ≡ length rows.axis.tuples
   rows_of_left count = rows_numbered (length rows.left) ∙ count
 
-  pub sides_opposite : length rows.left ≡ length rows.tuples → length rows.right ≡ length rows.tuples → IsOpposite left (Beside right)
+  pub sides_opposite : length rows.left ≡ length rows.axis.tuples → length rows.right ≡ length rows.axis.tuples → IsOpposite left (Beside right)
   sides_opposite count count' = (sides_many, rows_numbered (length rows.right) ∙ count' ∙ sym (rows_of_left count))
 
-  pub sides_are_meant : length rows.left ≡ length rows.tuples → columns_for op texts left (Beside right) ≡ columns_meant op (length rows.tuples) true met_columns
+  pub sides_are_meant : length rows.left ≡ length rows.axis.tuples → columns_for op texts left (Beside right) ≡ columns_meant op (length rows.axis.tuples) true met_columns
   sides_are_meant count = λ i. columns_meant op (rows_of_left count i) true (sides_met i)
 
   -- too many cells
-  pub sides_beyond : list_all (kinds_meet op) (all_met a (Beside b)) ≡ true → within_limits (length rows.tuples) (length a.columns) ≡ false → columns_meant op (length rows.tuples) true met_columns ≡ Err limit
+  pub sides_beyond : list_all (kinds_meet op) (all_met a (Beside b)) ≡ true → within_limits (length rows.axis.tuples) (length a.columns) ≡ false → columns_meant op (length rows.axis.tuples) true met_columns ≡ Err limit
   sides_beyond kinds beyond =
       let all : list_all (meets op) met_columns ≡ true =
       kinds_on op rows.left rows.right (columns_value texts a.columns) (columns_value texts b.columns) ∙ sym (ap (list_all (meets op)) (beside_meetings texts b a.columns columns)) ∙ kinds_seen op texts (all_met a (Beside b)) ∙ kinds in
@@ -72,20 +72,20 @@ module _ (op : Binary) (texts : List Text) (a b : NumberedTable) (rows : Joined)
       length-beside (on_rows na_cell rows.left (columns_value texts a.columns)) (on_rows na_cell rows.right (columns_value texts b.columns))
       (length-map (columns_value texts b.columns) _ ∙ length-map b.columns _ ∙ columns ∙ sym (length-map a.columns _) ∙ sym (length-map (columns_value texts a.columns) _))
       ∙ length-map (columns_value texts a.columns) _ ∙ length-map a.columns _ in
-      (λ i. if all i then (if within_limits (length rows.tuples) (many i) then try_all (met op) met_columns else Err limit) else Err wrong_kind)
+      (λ i. if all i then (if within_limits (length rows.axis.tuples) (many i) then try_all (met op) met_columns else Err limit) else Err wrong_kind)
       ∙ ap (λ (w : Bool). if w then try_all (met op) met_columns else Err limit) beyond
 
   -- the same of tables that are the sides
-  module _ (l r : NumberedTable) (is : l ≡ left) (is' : r ≡ right) (count : length rows.left ≡ length rows.tuples) where
-    pub opposite_of : length rows.right ≡ length rows.tuples → IsOpposite l (Beside r)
+  module _ (l r : NumberedTable) (is : l ≡ left) (is' : r ≡ right) (count : length rows.left ≡ length rows.axis.tuples) where
+    pub opposite_of : length rows.right ≡ length rows.axis.tuples → IsOpposite l (Beside r)
     opposite_of count' = subst (λ x. IsOpposite x (Beside r)) (sym is) (subst (λ y. IsOpposite left (Beside y)) (sym is') (sides_opposite count count'))
 
-    pub meant_of : columns_for op texts l (Beside r) ≡ columns_meant op (length rows.tuples) true met_columns
+    pub meant_of : columns_for op texts l (Beside r) ≡ columns_meant op (length rows.axis.tuples) true met_columns
     meant_of = (λ i. columns_for op texts (is i) (Beside (is' i))) ∙ sides_are_meant count
 
-    pub columns_of : (new : List Text) (result : Result (List CellBlock) OpFault) → IfOk result (AreColumns new (length l.labels) (length l.columns)) → IfOk result (AreColumns new (length rows.tuples) (length a.columns))
+    pub columns_of : (new : List Text) (result : Result (List CellBlock) OpFault) → IfOk result (AreColumns new (length l.labels) (length l.columns)) → IfOk result (AreColumns new (length rows.axis.tuples) (length a.columns))
     columns_of new result made =
-        subst (λ n. IfOk result (AreColumns new (length rows.tuples) n)) (ap (λ (x : NumberedTable). length x.columns) is ∙ length-map a.columns _)
+        subst (λ n. IfOk result (AreColumns new (length rows.axis.tuples) n)) (ap (λ (x : NumberedTable). length x.columns) is ∙ length-map a.columns _)
         (subst (λ n. IfOk result (AreColumns new n (length l.columns))) (ap (λ (x : NumberedTable). length x.labels) is ∙ rows_of_left count) made)
 
 -- the texts of a side were given
@@ -110,14 +110,14 @@ module _ (old new : List Text) (a b : NumberedTable) (naming : Naming) (rows : J
   u = with_joined v w t (joined_value old rows)
 
   abbrev met_meant : Binary → Result (List (ColumnOf CellValue)) FaultValue
-  met_meant op = columns_meant op (length rows.tuples) true (joined_columns v w (joined_value old rows))
+  met_meant op = columns_meant op (length rows.axis.tuples) true (joined_columns v w (joined_value old rows))
 
   abbrev meant : Binary → Result Entry FaultValue
   meant op = then_value (joined_rows v.labels w.labels) (joined_infix op v w t)
 
   columns_as : (op : Binary) → joined_rows v.labels w.labels ≡ Ok (joined_value old rows) → then_value (met_meant op) (λ columns. Ok (value.table (with_columns u columns))) ≡ meant op
   columns_as op is =
-      table_meant op u (length rows.tuples) true (joined_columns v w (joined_value old rows)) (length-map rows.tuples (tuple_value old))
+      table_meant op u (length rows.axis.tuples) true (joined_columns v w (joined_value old rows)) (length-map rows.axis.tuples (tuple_value old))
       ∙ levels_agree op u (joined_columns v w (joined_value old rows))
       ∙ sym (ap (λ (r : Result _ FaultValue). then_value r (joined_infix op v w t)) is)
 
@@ -127,7 +127,7 @@ module _ (old new : List Text) (a b : NumberedTable) (naming : Naming) (rows : J
   joined_refused op made fault is was makes =
       subst (Makes new (Err fault)) (columns_as op is) (refused_on blocks_value new (met_meant op) (λ columns. Ok (value.table (with_columns u columns))) made fault was makes)
 
-  module _ (tuples : axis.tuples ≡ rows.tuples) (same : headings ≡ headings_by a naming) where
+  module _ (tuples : axis.tuples ≡ rows.axis.tuples) (same : headings ≡ headings_by a naming) where
     framed_meant : headings_value old axis.names ≡ common_names v.level_names w.level_names → u ≡ table_value old framed
     framed_meant names = λ i.
         record {
@@ -139,7 +139,7 @@ module _ (old new : List Text) (a b : NumberedTable) (naming : Naming) (rows : J
           columns = columns_value old a.columns;
         }
 
-    pub framed_settled : IsSettled table_value old a → IsSettledNaming old naming → IsSettled labels_value old rows.tuples → IsSettled headings_value old axis.names → IsSettled table_value old framed
+    pub framed_settled : IsSettled table_value old a → IsSettledNaming old naming → IsSettled labels_value old rows.axis.tuples → IsSettled headings_value old axis.names → IsSettled table_value old framed
     framed_settled settled name given names =
         let named : IsSettled table_value old (named_by a naming) = named_settled old a naming settled name in
         table_settled old framed
@@ -150,9 +150,9 @@ module _ (old new : List Text) (a b : NumberedTable) (naming : Naming) (rows : J
         (columns_part old a settled)
 
     module _ (blocks : List CellBlock) (made : NumberedTable) (is : made ≡ table_with a.shape axis headings (map block_column blocks)) where
-      pub joined_is_settled : IsLonger old new → IsSettled table_value old framed → AreColumns new (length rows.tuples) (length a.columns) blocks → IsSettled table_value new made
+      pub joined_is_settled : IsLonger old new → IsSettled table_value old framed → AreColumns new (length rows.axis.tuples) (length a.columns) blocks → IsSettled table_value new made
       joined_is_settled longer settled columns =
-          subst (IsSettled table_value new) (sym is) (made_is_settled old new framed (headings_of framed) blocks (length rows.tuples) (length a.columns) longer settled columns)
+          subst (IsSettled table_value new) (sym is) (made_is_settled old new framed (headings_of framed) blocks (length rows.axis.tuples) (length a.columns) longer settled columns)
 
       pub joined_is_meant : (op : Binary) → joined_rows v.labels w.labels ≡ Ok (joined_value old rows) → headings_value old axis.names ≡ common_names v.level_names w.level_names → IsLonger old new → IsSettled table_value old framed
           → met_meant op ≡ Ok (blocks_value new blocks) → meant op ≡ Ok (value.table (table_value new made))
@@ -163,7 +163,7 @@ module _ (old new : List Text) (a b : NumberedTable) (naming : Naming) (rows : J
           ∙ ap (λ (x : NumberedTable). Ok (value.table (table_value new x))) (sym is)
 
     -- the table may be made
-    pub joined_is_whole : (texts : List Text) (blocks : List CellBlock) → IsWhole a → IsNaming a naming → AreColumns texts (length rows.tuples) (length a.columns) blocks → IsWhole (table_with a.shape axis headings (map block_column blocks))
+    pub joined_is_whole : (texts : List Text) (blocks : List CellBlock) → IsWhole a → IsNaming a naming → AreColumns texts (length rows.axis.tuples) (length a.columns) blocks → IsWhole (table_with a.shape axis headings (map block_column blocks))
     joined_is_whole texts blocks whole is columns =
         record {
           headed = ap (λ (h : HeadingList). length h.labels) same ∙ counted_by a naming whole is ∙ whole.headed ∙ sym columns.count ∙ sym (length-map blocks block_column);
@@ -187,3 +187,19 @@ axes_levels x y a b e f same = ap (λ (z : AxisValue). length z.names) e ∙ sam
 
 pub axes_inside : (x y : AxisValue) (a b : NumberedTable) (rows : Joined) → x ≡ axis_of a → y ≡ axis_of b → IsJoined x y rows → IsJoined (axis_of a) (axis_of b) rows
 axes_inside x y a b rows e f inside = subst (λ (z : AxisValue). IsJoined (axis_of a) z rows) f (subst (λ (z : AxisValue). IsJoined z y rows) e inside)
+
+-- the same rows on an axis with other names
+module _ (rows : Joined) (axis : AxisValue) (same : axis.tuples ≡ rows.axis.tuples) where
+  abbrev pub on_axis : Joined
+  on_axis = record { axis = axis; left = rows.left; right = rows.right }
+
+  pub still_seen : (texts : List Text) → joined_value texts rows ≡ joined_value texts on_axis
+  still_seen texts = λ i. record { keys = labels_value texts (sym same i); left = rows.left; right = rows.right }
+
+  pub still_inside : (x y : AxisValue) → IsJoined x y rows → IsJoined x y on_axis
+  still_inside x y inside = record {
+    few = subst (λ (tuples : List (List Label)). length tuples ≤ 2 ^ 26) (sym same) inside.few;
+    levels = subst (HaveLevels (length x.names)) (sym same) inside.levels;
+    left = subst (λ (tuples : List (List Label)). AreSideRows (length tuples) x rows.left) (sym same) inside.left;
+    right = subst (λ (tuples : List (List Label)). AreSideRows (length tuples) y rows.right) (sym same) inside.right;
+  }

@@ -14,7 +14,7 @@ use Rattle.frame_store.specs.Shown.{labels_value}
 
 -- the joined rows with their texts
 abbrev pub joined_value : List Text → Joined → meant.Joined
-joined_value texts rows = record { keys = labels_value texts rows.tuples; left = rows.left; right = rows.right }
+joined_value texts rows = record { keys = labels_value texts rows.axis.tuples; left = rows.left; right = rows.right }
 
 -- a row of a side for each joined row, if it has one there
 pub record AreSideRows (count : ℕ) (side : AxisValue) (rows : List (Option ℕ)) : Type 0 where
@@ -23,10 +23,10 @@ pub record AreSideRows (count : ℕ) (side : AxisValue) (rows : List (Option ℕ
 
 -- joined rows of two axes, no more than a table may have
 pub record IsJoined (a b : AxisValue) (rows : Joined) : Type 0 where
-  pub few : length rows.tuples ≤ 2 ^ 26
-  pub levels : HaveLevels (length a.names) rows.tuples
-  pub left : AreSideRows (length rows.tuples) a rows.left
-  pub right : AreSideRows (length rows.tuples) b rows.right
+  pub few : length rows.axis.tuples ≤ 2 ^ 26
+  pub levels : HaveLevels (length a.names) rows.axis.tuples
+  pub left : AreSideRows (length rows.axis.tuples) a rows.left
+  pub right : AreSideRows (length rows.axis.tuples) b rows.right
 
 -- tuples of which none stands twice
 abbrev pub AreApart : List (List Label) → Type 0

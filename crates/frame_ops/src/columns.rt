@@ -3,7 +3,7 @@ ghost use Rattle.std.specs.Prelude.{◌≡◌, ◌<◌, All, length, true, IfOk}
 ghost use Rattle.std.specs.List.{list_all};
 ghost use Rattle.meaning.specs.Cell.{AreGiven, IsLonger};
 ghost use Rattle.nullable_array.specs.Answers.{Answers};
-ghost use Rattle.nullable_array.specs.Tasks.{operator_of};
+ghost use Rattle.column_operators.specs.Tasks.{operator_of};
 ghost use Rattle.form_meaning.specs.Finish.{try_all};
 ghost use Rattle.form_meaning.specs.Infix.{met};
 ghost use Rattle.frame_store.specs.Parts.{IsSingle, block_column};
@@ -14,9 +14,10 @@ use crate::kinds::{all_meet, levels_fit};
 use crate::other::Other;
 use cell_core::{Code, Grid, Reason, TextDict};
 use column_core::{Block, Column};
+use column_operators::{Binary, binary, with_scalar};
 use form_parts::{block_of, within_limits};
 use frame_store::{Blocks, ObjRef, OpFault};
-use nullable_array::{ArrayFault, Binary, binary, with_scalar};
+use nullable_array::ArrayFault;
 use std::alloc::Global;
 
 // What the operator makes of the column at a place and what it meets there.

@@ -1,6 +1,6 @@
 // The forms: an operator on one or two values of an expression.
 ghost use Rattle.meaning.specs.Cell.{IsLonger};
-ghost use Rattle.nullable_array.specs.Tasks.{operator_of};
+ghost use Rattle.column_operators.specs.Tasks.{operator_of};
 ghost use Rattle.form_meaning.specs.Infix.{infix_result, sign_result};
 ghost use Rattle.frame_store.specs.Arguments.{IsLive};
 ghost use Rattle.frame_store.specs.Objects.{tables};
@@ -9,9 +9,9 @@ ghost use Rattle.frame_store.specs.World.{world, entry_in, IsSettledWorld, IsKno
 
 use crate::tables::{scalar_infix, table_infix};
 use cell_core::{Cell, Code, TextDict};
+use column_operators::Binary;
 use form_parts::placed;
 use frame_store::{OpFault, Store, Table, Value};
-use nullable_array::Binary;
 use std::alloc::Global;
 
 // The table that an operator makes of two values.

@@ -4,8 +4,7 @@ ghost use Rattle.std.specs.List.{list_all};
 ghost use Rattle.meaning.specs.Cell.{IsLonger};
 ghost use Rattle.meaning.specs.Fault.{then_value};
 ghost use Rattle.column_core.specs.Moves.{IsPlaceOf};
-ghost use Rattle.multi_index.specs.Axes.{HaveLevels};
-ghost use Rattle.nullable_array.specs.Tasks.{operator_of};
+ghost use Rattle.column_operators.specs.Tasks.{operator_of};
 ghost use Rattle.table_meaning.specs.Settled.{IsSettled};
 ghost use Rattle.table_meaning.specs.Table.{table_value};
 ghost use Rattle.table_meaning.specs.Valid.{IsWhole};
@@ -23,12 +22,12 @@ ghost use Rattle.frame_ops.specs.Pairs.{all_met, kinds_meet, columns_meant};
 use crate::columns::infix_columns;
 use crate::naming::{Naming, headings_by};
 use crate::other::Other;
-use cell_core::{Code, Gaps, Grid, NoMemory, TextDict, Tuples};
+use cell_core::{Code, Gaps, Grid, NoMemory, TextDict};
+use column_operators::Binary;
 use form_parts::{align_refusal, columns_on, common_name, headings_of, within_limits};
 use frame_store::{Blocks, ObjRef, OpFault, Table};
 use label_align::{Joined, outer};
 use multi_index::Axis;
-use nullable_array::Binary;
 use std::alloc::Global;
 
 /// The rows of two axes by the labels that either has. `Limit` where they are too many.
@@ -43,10 +42,11 @@ pub(crate) fn joined_rows(
     requires given_b { IsSettled labels_value dict.now b.now.tuples }
     ensures rows { MakesBy joined_value dict.now result (meant.joined_rows
         (labels_value dict.now a.now.tuples) (labels_value dict.now b.now.tuples)) }
-    ensures given { IfOk result (λ rows. IsSettled labels_value dict.now rows.tuples) }
+    ensures given { IfOk result (λ rows. IsSettled labels_value dict.now rows.axis.tuples) }
     ensures inside { IfOk result (IsJoined a.now b.now) }
+    ensures names { IfOk result (λ rows. length rows.axis.names ≡ length a.now.names) }
     ensures apart { IfOk result (λ rows. AreApart a.now.tuples → AreApart b.now.tuples
-        → AreApart rows.tuples) }
+        → AreApart rows.axis.tuples) }
 {
     // Equal texts have equal numbers: `TextDict::len` says so. Each row has a label for each level: `Axis::levels` does.
     let _ = (dict.len(), a.levels(), b.levels());
@@ -56,28 +56,20 @@ pub(crate) fn joined_rows(
     }
 }
 
-// The axis of joined rows: a level's name stays where both sides have it.
-fn joined_axis(
-    alloc: Global,
-    dict: &TextDict,
-    a: &Axis,
-    b: &Axis,
-    tuples: &Tuples,
-) -> Result<Axis, NoMemory>
+// Names the levels of joined rows: a level's name stays where both sides have it.
+fn name_levels(dict: &TextDict, a: &Axis, b: &Axis, axis: &mut Axis)
     requires levels { length a.now.names ≡ length b.now.names }
-    requires alike { HaveLevels (length a.now.names) tuples.now }
+    requires count { length axis.old.names ≡ length a.now.names }
     requires given_a { IsSettled headings_value dict.now a.now.names }
     requires given_b { IsSettled headings_value dict.now b.now.names }
-    ensures tuples { IfOk result (λ axis. axis.tuples ≡ tuples.now) }
-    ensures names { IfOk result (λ axis. headings_value dict.now axis.names ≡ common_names
-        (headings_value dict.now a.now.names) (headings_value dict.now b.now.names)) }
-    ensures given { IfOk result (λ axis. IsSettled headings_value dict.now axis.names) }
+    ensures tuples { axis.new.tuples ≡ axis.old.tuples }
+    ensures names { headings_value dict.now axis.new.names ≡ common_names
+        (headings_value dict.now a.now.names) (headings_value dict.now b.now.names) }
+    ensures given { IsSettled headings_value dict.now axis.new.names }
 {
-    let mut axis = Axis::from_tuples(alloc, dict, tuples, a.levels())?;
     for level in 0..a.levels() {
         axis.set_name(level, common_name(dict, a.name(level), b.name(level)));
     }
-    Ok(axis)
 }
 
 // A side on joined rows, which are numbered.
@@ -109,12 +101,12 @@ fn joined_columns(
     requires inside { IsJoined (axis_of a.now) (axis_of b.now) rows.now }
     ensures longer { IsLonger dict.old dict.new }
     ensures columns { IfOk result (AreColumns dict.new
-        (length rows.now.tuples) (length a.now.columns)) }
+        (length rows.now.axis.tuples) (length a.now.columns)) }
     ensures made { MakesBy blocks_value dict.new result
-        (columns_meant (operator_of op) (length rows.now.tuples) true (meant.joined_columns
+        (columns_meant (operator_of op) (length rows.now.axis.tuples) true (meant.joined_columns
         (table_value dict.old a.now) (table_value dict.old b.now) (joined_value dict.old rows.now))) }
 {
-    if !within_limits(rows.tuples.len(), a.columns()) {
+    if !within_limits(rows.axis.len(), a.columns()) {
         return Err(OpFault::Refused(Code::Limit));
     }
     let left = side_on(alloc, a, &rows.left)?;
@@ -148,9 +140,9 @@ pub(crate) fn joined_infix(
         (meant.joined_infix (operator_of op) (table_value dict.old a.now)
         (table_value dict.old b.now) (table_value dict.old (named_by a.now naming)))) }
 {
-    let rows = joined_rows(alloc, dict, a.axis(), b.axis())?;
-    let axis = joined_axis(alloc, dict, a.axis(), b.axis(), &rows.tuples)?;
+    let mut rows = joined_rows(alloc, dict, a.axis(), b.axis())?;
+    name_levels(dict, a.axis(), b.axis(), &mut rows.axis);
     let blocks = joined_columns(alloc, dict, op, a, b, &rows)?;
     let headings = headings_by(alloc, a, naming)?;
-    Ok(Table::new(a.shape(), axis, headings, blocks))
+    Ok(Table::new(a.shape(), rows.axis, headings, blocks))
 }

@@ -3,7 +3,7 @@ ghost use Rattle.std.specs.Prelude.{◌≡◌, ◌<◌, ◌≤◌, length, is_so
 ghost use Rattle.std.specs.List.{list_all};
 ghost use Rattle.meaning.specs.Text.{Text};
 ghost use Rattle.meaning.specs.Operator.{operator_kind};
-ghost use Rattle.nullable_array.specs.Tasks.{operator_of};
+ghost use Rattle.column_operators.specs.Tasks.{operator_of};
 ghost use Rattle.pick_meaning.specs.Rows.{are_some};
 ghost use Rattle.table_meaning.specs.Table.{column_at};
 ghost use Rattle.form_meaning.specs.Finish as finish;
@@ -14,8 +14,8 @@ ghost use Rattle.frame_ops.specs.Pairs.{kind_beside, met_at, all_met, kinds_meet
 
 use crate::other::Other;
 use cell_core::{Cell, Grid, Kind};
+use column_operators::Binary;
 use frame_store::ObjRef;
-use nullable_array::Binary;
 
 // Whether the operator takes two columns of a kind.
 fn takes_kind(op: Binary, kind: Kind) -> bool

@@ -4,7 +4,7 @@ ghost use Rattle.cell_core.specs.declared.grid.Shape.TheVariants.{Series as one_
 ghost use Rattle.meaning.specs.Cell.{IsGiven, IsLonger, datum};
 ghost use Rattle.meaning.specs.Fault.{then_value};
 ghost use Rattle.multi_index.specs.Axes.{HaveLevels};
-ghost use Rattle.nullable_array.specs.Tasks.{operator_of};
+ghost use Rattle.column_operators.specs.Tasks.{operator_of};
 ghost use Rattle.table_meaning.specs.Table.{table_value};
 ghost use Rattle.table_meaning.specs.Value as value;
 ghost use Rattle.form_meaning.specs.Finish.{with_columns};
@@ -24,9 +24,9 @@ use crate::other::Other;
 use crate::spreading::{labels_fit, spread_frame};
 use crate::widening::{joined_labels, widened};
 use cell_core::{Cell, Code, Grid, Reason, Shape, TextDict};
+use column_operators::Binary;
 use form_parts::{common_name, same_rows, table_under};
 use frame_store::{ObjRef, OpFault, Table};
-use nullable_array::Binary;
 use std::alloc::Global;
 
 // The table of what the operator makes of each column and what it meets.
@@ -222,8 +222,8 @@ fn wide_infix(
         (table_value dict.old a.now) (table_value dict.old b.now)) }
 {
     let joined = joined_labels(alloc, dict, a, b)?;
-    let left = widened(alloc, a, b, &joined.tuples, &joined.left, &joined.right)?;
-    let right = widened(alloc, b, a, &joined.tuples, &joined.right, &joined.left)?;
+    let left = widened(alloc, a, b, &joined.axis, &joined.left, &joined.right)?;
+    let right = widened(alloc, b, a, &joined.axis, &joined.right, &joined.left)?;
     let on = left.read();
     unequal_columns(alloc, dict, op, &on, right.read())
 }

@@ -3,7 +3,6 @@ ghost use Rattle.std.specs.Prelude.{◌≡◌, ◌∷◌, [], length, map, All, 
 ghost use Rattle.cell_core.specs.declared.cell.Cell.TheVariants.{Na};
 ghost use Rattle.cell_core.specs.declared.grid.Shape.TheVariants.{Frame as columns};
 ghost use Rattle.column_core.specs.Moves.{IsPlaceOf};
-ghost use Rattle.multi_index.specs.Axes.{HaveLevels};
 ghost use Rattle.table_meaning.specs.Settled.{IsSettled};
 ghost use Rattle.table_meaning.specs.Table.{table_value};
 ghost use Rattle.table_meaning.specs.Valid.{IsWhole};
@@ -69,12 +68,13 @@ pub(crate) fn joined_labels(
     requires frame_b { b.now.shape ≡ columns }
     ensures columns { MakesBy joined_value dict.now result (meant.joined_rows
         (column_labels (table_value dict.now a.now)) (column_labels (table_value dict.now b.now))) }
-    ensures given { IfOk result (λ joined. IsSettled labels_value dict.now joined.tuples) }
-    ensures keys { IfOk result (λ joined. AreColumnKeys joined.tuples) }
+    ensures given { IfOk result (λ joined. IsSettled labels_value dict.now joined.axis.tuples) }
+    ensures keys { IfOk result (λ joined. AreColumnKeys joined.axis.tuples) }
+    ensures level { IfOk result (λ joined. length joined.axis.names ≡ 1) }
     ensures left { IfOk result (λ joined.
-        AreSideRows (length joined.tuples) (labels_axis a.now) joined.left) }
+        AreSideRows (length joined.axis.tuples) (labels_axis a.now) joined.left) }
     ensures right { IfOk result (λ joined.
-        AreSideRows (length joined.tuples) (labels_axis b.now) joined.right) }
+        AreSideRows (length joined.axis.tuples) (labels_axis b.now) joined.right) }
 {
     let left = labels_axis(alloc, dict, a)?;
     let right = labels_axis(alloc, dict, b)?;
@@ -82,13 +82,13 @@ pub(crate) fn joined_labels(
 }
 
 // The headings of joined labels.
-fn headings_of_keys(alloc: Global, name: Option<Label>, keys: &Tuples) -> Result<Headings, NoMemory>
-    requires { HaveLevels 1 keys.now }
-    ensures { IfOk result (λ headings. headings ≡ headings_of_keys name keys.now) }
+fn headings_of_keys(alloc: Global, name: Option<Label>, keys: &Axis) -> Result<Headings, NoMemory>
+    requires { length keys.now.names ≡ 1 }
+    ensures { IfOk result (λ headings. headings ≡ headings_of_keys name keys.now.tuples) }
 {
     let mut headings = Headings::new(alloc, name);
     for place in 0..keys.len() {
-        headings.push(Some(keys.at(place).at(0)))?;
+        headings.push(Some(keys.label(place, 0)))?;
     }
     Ok(headings)
 }
@@ -144,18 +144,20 @@ pub(crate) fn widened(
     alloc: Global,
     own: &ObjRef<'_>,
     other: &ObjRef<'_>,
-    keys: &Tuples,
+    keys: &Axis,
     places: &Gaps,
     opposites: &Gaps,
 ) -> Result<Table, NoMemory>
     requires whole { IsWhole own.now }
     requires frame { own.now.shape ≡ columns }
-    requires keys { AreColumnKeys keys.now }
-    requires places { AreSideRows (length keys.now) (labels_axis own.now) places.now }
-    requires opposites { AreSideRows (length keys.now) (labels_axis other.now) opposites.now }
+    requires keys { AreColumnKeys keys.now.tuples }
+    requires level { length keys.now.names ≡ 1 }
+    requires places { AreSideRows (length keys.now.tuples) (labels_axis own.now) places.now }
+    requires opposites { AreSideRows (length keys.now.tuples)
+        (labels_axis other.now) opposites.now }
     requires other { IsWhole other.now }
     ensures { IfOk result (λ made. made
-        ≡ widened own.now other.now keys.now places.now opposites.now) }
+        ≡ widened own.now other.now keys.now.tuples places.now opposites.now) }
 {
     let headings = headings_of_keys(alloc, own.columns_name(), keys)?;
     let blocks = columns_or_missing(alloc, own, other, places, opposites)?;

@@ -22,7 +22,7 @@ fn numbers(alloc: Global, values: &[Option<i64>]) -> Result<Column, NoMemory>
     Ok(column)
 }
 
-fn assert_cells(rt: &impl Abort, found: ColRef<'_>, wanted: &[Option<i64>]) {
+pub(crate) fn assert_cells(rt: &impl Abort, found: ColRef<'_>, wanted: &[Option<i64>]) {
     assert_eq!(rt; found.len(), wanted.len());
     for (row, value) in wanted.iter().enumerate() {
         assert_eq!(rt; found.cell(row), cell_of_number(*value), "at row {row}");
@@ -41,7 +41,10 @@ fn have_rows(columns: &[ColRef<'_>], rows: usize) -> bool
 }
 
 // The columns of these numbers.
-fn columns_of(alloc: Global, values: &[&[Option<i64>]]) -> Result<Vec<Column>, NoMemory> {
+pub(crate) fn columns_of(
+    alloc: Global,
+    values: &[&[Option<i64>]],
+) -> Result<Vec<Column>, NoMemory> {
     let mut columns = Vec::new(alloc);
     for column in values {
         columns.push(numbers(alloc, column)?)?;

@@ -1,5 +1,7 @@
-//! Tests of groups, which no script reaches yet.
+//! Tests of groups, joins and concatenations, with values from pandas.
 #![tactic(auto)]
 
 #[cfg(test)]
 mod groups;
+#[cfg(test)]
+mod joins;

@@ -1,5 +1,6 @@
 pub mod SameLaws
 mod Example
+pub mod AxisLaws
 pub mod EntryLaws
 pub mod JoinedLaws
 pub mod OrderLaws

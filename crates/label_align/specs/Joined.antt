@@ -16,4 +16,4 @@ abbrev pub entries_seen : Entries → Lists ℕ
 entries_seen entries = record { keys = entries.rows.items; left = entries.left; right = entries.right }
 
 abbrev pub lists_seen : Joined → Lists (List Label)
-lists_seen joined = record { keys = joined.tuples; left = joined.left; right = joined.right }
+lists_seen joined = record { keys = joined.axis.tuples; left = joined.left; right = joined.right }

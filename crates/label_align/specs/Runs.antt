@@ -1,9 +1,9 @@
 -- Rows in order, cut into runs of rows that carry one key.
-use Rattle.std.specs.Prelude.{◌≡◌, ℕ, ◌+◌, ◌-◌, ◌*◌, Bool, true, not, nat_lt, if◌then◌else◌, List, [], ◌∷◌, ◌++◌, map, take, drop, max, slice_index_or, All}
+use Rattle.std.specs.Prelude.{ℕ, ◌+◌, ◌-◌, ◌*◌, Bool, true, not, nat_lt, if◌then◌else◌, List, [], ◌∷◌, ◌++◌, map, take, drop, max, slice_index_or, All}
 use Rattle.std.specs.List.{sum_by}
 use Rattle.cell_core.specs.declared.cell.Label.{Label}
 use Rattle.cell_core.specs.Texts.{IsGivenLabel}
-use Rattle.align_meaning.specs.Joins.{Entry, entry, entries_of}
+use Rattle.align_meaning.specs.Joins.{Entry, entries_of}
 use Rattle.row_keys.specs.Keys.{same_tuple, label_in}
 use Rattle.label_align.specs.declared.runs.Run.{Run}
 

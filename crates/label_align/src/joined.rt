@@ -5,14 +5,15 @@ ghost use Rattle.label_align.specs.Joined.{HasMore, entries_seen};
 ghost use Rattle.label_align.specs.Runs.{run_entries, total};
 
 use crate::runs::Run;
-use cell_core::{Gaps, NoMemory, Tuples};
+use cell_core::{Gaps, NoMemory};
+use multi_index::Axis;
 use std::alloc::Global;
 
-/// The rows of an outer join: for each its tuple, and the row of either side that it comes from, if there is one.
+/// The rows of an outer join: their axis, and for each the row of either side that it comes from, if there is one.
 #[derive(Drop)]
 pub struct Joined {
-    /// The tuple of each row.
-    pub tuples: Tuples,
+    /// The tuple of each row, on levels without names.
+    pub axis: Axis,
     /// The row of the left side.
     pub left: Gaps,
     /// The row of the right side.

@@ -1,5 +1,5 @@
 // The outer join of two axes.
-ghost use Rattle.std.specs.Prelude.{◌≡◌, ◌≤◌, ◌++◌, IfOk, length};
+ghost use Rattle.std.specs.Prelude.{◌≡◌, ◌≤◌, ◌++◌, IfOk, None, length, replicate};
 ghost use Rattle.multi_index.specs.Axes.{HaveLevels};
 ghost use Rattle.align_meaning.specs.Joins as meant;
 ghost use Rattle.align_meaning.specs.OuterJoin.{IsOuterJoin};
@@ -9,19 +9,21 @@ ghost use Rattle.label_align.specs.Joined.{lists_seen};
 ghost use Rattle.label_align.specs.Answers.{AlignsBy};
 ghost use Rattle.label_align.specs.Runs.{AreGivenTuples};
 
+use crate::axes::axis_of_rows;
 use crate::both::{BothSides, rows_in_order};
 use crate::fault::AlignFault;
 use crate::joined::{Entries, Joined, entries_of_runs};
 use crate::runs::{are_few, runs_of};
 use cell_core::TextDict;
 use multi_index::Axis;
-use row_keys::tuples_at;
 use std::alloc::Global;
 
 // How many levels both axes have.
 fn levels_of_both(a: &Axis, b: &Axis) -> usize
     requires { length a.now.names ≡ length b.now.names }
+    ensures count { result ≡ length a.now.names }
     ensures some { 1 ≤ result }
+    ensures few { result ≤ 4 }
     ensures alike { HaveLevels result (a.now.tuples ++ b.now.tuples) }
 {
     a.levels().max(b.levels())
@@ -45,6 +47,7 @@ pub fn outer(alloc: Global, dict: &TextDict, a: &Axis, b: &Axis) -> Result<Joine
         (meant.outer same_tuple (tuple_less dict.now) a.now.tuples b.now.tuples) }
     ensures law { IfOk result (λ joined.
         IsOuterJoin same_tuple (tuple_less dict.now) a.now.tuples b.now.tuples (lists_seen joined)) }
+    ensures names { IfOk result (λ joined. joined.axis.names ≡ replicate (length a.now.names) None) }
 {
     // Equal texts have equal numbers: `TextDict::len` says so.
     let _ = dict.len();
@@ -59,10 +62,6 @@ pub fn outer(alloc: Global, dict: &TextDict, a: &Axis, b: &Axis) -> Result<Joine
         return Err(AlignFault::TooLarge);
     }
     let Entries { rows, left, right } = entries_of_runs(alloc, a.len(), &runs, &rows)?;
-    let tuples = tuples_at(alloc, a, b, &rows)?;
-    Ok(Joined {
-        tuples,
-        left,
-        right,
-    })
+    let axis = axis_of_rows(alloc, dict, &both, &rows)?;
+    Ok(Joined { axis, left, right })
 }

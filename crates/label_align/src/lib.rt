@@ -11,6 +11,7 @@
 //! ```
 #![tactic(auto)]
 
+mod axes;
 mod both;
 mod fault;
 mod joined;

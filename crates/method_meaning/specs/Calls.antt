@@ -5,10 +5,12 @@ use Rattle.meaning.specs.Fault.{FaultValue, no_attribute, not_built}
 use Rattle.table_meaning.specs.Table.{Table}
 use Rattle.table_meaning.specs.Value.{Entry, cell, table, Given, NamedGiven}
 use Rattle.form_meaning.specs.declared.Method.{Method}
+use Rattle.form_meaning.specs.declared.Method.TheVariants.{Merge}
 use Rattle.form_meaning.specs.Signature.{parameters_of, method_named}
 use Rattle.form_meaning.specs.Binding.{bound_of, on_bound}
 use Rattle.method_meaning.specs.Groups.{grouped_result}
 use Rattle.method_meaning.specs.Methods.{answer_for, is_built}
+use Rattle.method_meaning.specs.Merge.{merge_result}
 
 -- whether a value has a method of the name
 abbrev pub has_method : Entry → Text → Bool
@@ -19,7 +21,7 @@ abbrev pub called : Option Method → Text → List NamedGiven → Table → Res
 called None name gs t = Err (no_attribute name)
 called (Some m) name gs t = if is_built m then on_bound (bound_of (parameters_of m) gs) (λ given. answer_for m given t) else Err not_built
 
--- a method of a value; a scalar has none
+-- a method of a value, but for `merge`, which stands below; a scalar has none
 abbrev pub method_result : Entry → Text → List NamedGiven → Result Entry FaultValue
 method_result (cell c) name gs = Err (no_attribute name)
 method_result (table t) name gs = called (method_named t.shape name) name gs t
@@ -38,3 +40,20 @@ abbrev pub chain_result : Entry → ChainValue → List NamedGiven → Result En
 chain_result v (plain name) gs = method_result v name gs
 chain_result v (grouped by brackets name) gs = grouped_result v by brackets name gs
 chain_result v (through name) gs = not_built_if (has_method v name) name
+
+-- `merge`, the method that takes a second table
+abbrev pub is_merge : Option Method → Bool
+is_merge (Some Merge) = true
+is_merge m = false
+
+abbrev pub merge_call : Table → List NamedGiven → Result Entry FaultValue
+merge_call t gs = on_bound (bound_of (parameters_of Merge) gs) (merge_result t)
+
+abbrev pub plain_result : Entry → Text → List NamedGiven → Result Entry FaultValue
+plain_result (cell c) name gs = method_result (cell c) name gs
+plain_result (table t) name gs = if is_merge (method_named t.shape name) then merge_call t gs else method_result (table t) name gs
+
+-- any call behind a value
+abbrev pub call_result : Entry → ChainValue → List NamedGiven → Result Entry FaultValue
+call_result v (plain name) gs = plain_result v name gs
+call_result v chain gs = chain_result v chain gs

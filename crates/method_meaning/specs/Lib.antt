@@ -1,8 +1,12 @@
+pub mod Texts
 pub mod Rows
 pub mod Levels
 pub mod Reindex
 pub mod Section
 pub mod Methods
 pub mod Groups
+pub mod Merge
+pub mod Concat
 pub mod Calls
 pub mod Readers
+pub mod Functions

@@ -3,7 +3,7 @@ use Rattle.std.specs.Prelude.{ℤ, pos, nat_lt, Bool, true, false, not, ◌||◌
 use Rattle.std.specs.Int.{int_wrap, w64}
 use Rattle.std.specs.List.{list_any, list_all}
 use Rattle.cell_core.specs.declared.cell.Kind.{Kind}
-use Rattle.cell_core.specs.declared.cell.Kind.TheVariants.{Int64, Boolean, Text as string}
+use Rattle.cell_core.specs.declared.cell.Kind.TheVariants.{Int64, Boolean}
 use Rattle.cell_core.specs.declared.grid.Shape.{Shape}
 use Rattle.cell_core.specs.declared.grid.Shape.TheVariants.{Series, Frame}
 use Rattle.meaning.specs.Cell.{CellValue, na_cell, int_cell, truth_cell, text_cell, LabelValue, int, holds}

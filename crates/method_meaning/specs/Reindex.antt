@@ -1,7 +1,7 @@
 -- `reindex`: the rows, or the columns, of the labels in a list.
 use Rattle.std.specs.Prelude.{ℕ, List, map, length, replicate, Option, Some, None, Result, Err}
 use Rattle.cell_core.specs.declared.cell.Kind.TheVariants.{Int64}
-use Rattle.meaning.specs.Cell.{CellValue, na_cell, LabelValue}
+use Rattle.meaning.specs.Cell.{na_cell, LabelValue}
 use Rattle.meaning.specs.Fault.{FaultValue, wrong_kind, then_value}
 use Rattle.align_meaning.specs.Faults.{met_rows}
 use Rattle.align_meaning.specs.Targets.{reindexed}

@@ -1,12 +1,11 @@
 -- Methods that answer some rows of a table, or all of them in another order, and `drop`, which answers some columns.
-use Rattle.std.specs.Prelude.{ℕ, ℤ, pos, neg_ℤ, Bool, true, false, not, List, [], ◌∷◌, map, length, filter, slice_index_or, nat_eq, Some, None, Result, Ok, if◌then◌else◌}
+use Rattle.std.specs.Prelude.{ℕ, ℤ, pos, neg_ℤ, Bool, not, List, [], ◌∷◌, map, length, filter, slice_index_or, nat_eq, Some, None, Result, Ok, if◌then◌else◌}
 use Rattle.std.specs.List.{list_any, list_all, range_with_len}
 use Rattle.std.specs.Ordering.{is_lt, int_eq}
 use Rattle.std.specs.Cmp.Lexicographic.{pointwise, slice_cmp}
-use Rattle.std.specs.declared.cmp.Ordering.{Ordering}
 use Rattle.cell_core.specs.declared.cell.Kind.TheVariants.{Boolean}
 use Rattle.cell_core.specs.declared.grid.Shape.TheVariants.{Series}
-use Rattle.meaning.specs.Cell.{CellValue, na_cell, truth_cell, LabelValue, na, label_cmp}
+use Rattle.meaning.specs.Cell.{CellValue, na_cell, truth_cell, LabelValue}
 use Rattle.meaning.specs.Operator.{cell_label}
 use Rattle.meaning.specs.Reduce.{is_present, same_cell}
 use Rattle.meaning.specs.Fault.{FaultValue, then_value}

@@ -1,7 +1,5 @@
 pub mod ColumnAnswers
-pub mod Laws
 pub mod TextRows
-pub mod Scalars
 pub mod CastLaws
 pub mod SpaceLaws
 pub mod FoldLaws
@@ -10,5 +8,4 @@ pub mod DistinctLaws
 pub mod TruthLaws
 pub mod MarkLaws
 pub mod PlaceLaws
-pub mod QuotientLaws
 pub mod PairRows

@@ -1,5 +1,6 @@
 -- Laws of the texts of rows.
-use Rattle.std.proofs.Common.{◌≡◌, ℕ, ◌+◌, ◌<◌, ◌≤◌, List, [], ◌++◌, length, take, slice_set, refl, sym, ap, subst, ◌∙◌, arith, append_assoc, append-nil, Bool, Option, Some, None, option_map, is_some, unwrap_or, inl, inr}
+use Rattle.std.proofs.Common.{◌≡◌, ℕ, ◌+◌, ◌<◌, ◌≤◌, List, [], ◌++◌, length, take, slice_set, slice_index_or, refl, sym, ap, subst, ◌∙◌, arith, append_assoc, append-nil, Bool, Option, Some, None, option_map, is_some, unwrap_or, inl, inr}
+use Rattle.std.proofs.Math.ListN.{get_or-append}
 use Rattle.std.proofs.lemmas.Bool.{cases_eq}
 use Rattle.std.proofs.lemmas.List.{length-append, take_at}
 use Rattle.cell_core.specs.declared.cell.TextId.{TextId}
@@ -11,7 +12,6 @@ use Rattle.meaning.specs.Column.{tabulate}
 use Rattle.column_core.specs.Columns.{CellColumn, text_cell, text_value, column_value, column_with}
 use Rattle.column_core.proofs.ColumnLaws.{given-tabulate}
 use Rattle.column_core.proofs.CellRows.{map-map, range-same}
-use Rattle.nullable_array.specs.Joins.{text_stays}
 use Rattle.column_core.specs.Rows.{IsTextRow, AreTexts}
 use Rattle.column_core.proofs.RowsMade.{option-set_same, option-set_other}
 
@@ -25,7 +25,10 @@ longer_trans a b c (m, e) (n, f) = (m ++ n, f ∙ ap (λ l. l ++ n) e ∙ append
 longer_length : (a b : List (List ℕ)) → IsLonger a b → length a ≤ length b
 longer_length a b (m, e) = omega (arith, ap length e, length-append a m)
 
--- a row's text stays in a longer dictionary
+-- a given text stays in a longer dictionary, and so does a row's
+pub text_stays : (earlier later : List (List ℕ)) (id : TextId) → IsLonger earlier later → id.0 < length earlier → text_of later id ≡ text_of earlier id
+text_stays earlier later id (more, e) given = ap (λ (l : List (List ℕ)). slice_index_or l id.0 []) e ∙ get_or-append earlier more [] id.0 given
+
 row_stays : (earlier later : List (List ℕ)) (text : Option (List ℕ)) (id : Option TextId) → IsLonger earlier later → IsTextRow earlier text id → IsTextRow later text id
 row_stays earlier later text None l r = r
 row_stays earlier later text (Some id) l r = (ap Some (text_stays earlier later id l r.1) ∙ r.0, omega (arith, longer_length earlier later l, r.1))

@@ -1,10 +1,6 @@
 pub mod Answers
-pub mod Tasks
-pub mod Operations
-pub mod Joins
 pub mod Casts
 pub mod Folds
 pub mod Distincts
 pub mod Pairs
 pub mod Marks
-pub mod Quotients

@@ -10,8 +10,8 @@ ghost use Rattle.nullable_array.specs.Folds.{running_row, running_step, one_of_t
 ghost use Rattle.nullable_array.specs.Answers.{Answers};
 
 use crate::folds::{Fold, Greatest, Least, next, one_if, sum};
-use crate::operators::ByNumber;
 use crate::ops::{ArrayFault, Cumulation};
+use crate::orders::ByNumber;
 use cell_core::NoMemory;
 use column_core::{Borrowed, ColRef, Column, Lane, Owned, Source, Value};
 use std::alloc::Global;

@@ -10,7 +10,7 @@ ghost use Rattle.nullable_array.specs.Distincts.{present_values, truths_of, AreM
 ghost use Rattle.nullable_array.specs.Folds.{step_row};
 
 use crate::folds::{AllTrue, AnyTrue, Greatest, Least, fold_rows, fold_until};
-use crate::operators::ByNumber;
+use crate::orders::ByNumber;
 use cell_core::NoMemory;
 use column_core::{Borrowed, ColRef, Source};
 use indexmap::IndexSet;

@@ -2,7 +2,7 @@
 ghost use Rattle.std.specs.Prelude.{◌≡◌, ℕ, Bool, true, false, not, ◌||◌, ◌&&◌, ℤ, pos, Option};
 ghost use Rattle.nullable_array.specs.Folds.{step_row, folded, sum_step, one_of_truth, is_not_zero, least_step, greatest_step};
 
-use crate::operators::Order;
+use crate::orders::Order;
 use column_core::Source;
 use std::cmp::Ordering;
 

@@ -1,18 +1,15 @@
 // The one loop over values and flags that lie side by side, for the operations that refuse no row.
-ghost use Rattle.std.specs.Prelude.{◌≡◌, ◌<◌, ◌≤◌, ◌&&◌, ◌||◌, ◌+ℤ◌, ◌-ℤ◌, ◌*ℤ◌, ℕ, Bool, true, false, length, slice_get, slice_index_or, unwrap_or, is_some, Option, Some, IfOk, OnOk};
+ghost use Rattle.std.specs.Prelude.{◌≡◌, ◌<◌, ◌≤◌, ℕ, Bool, false, length, slice_get, slice_index_or, Option, Some, IfOk, OnOk};
 ghost use Rattle.std.proofs.Common.{refl};
-ghost use Rattle.std.specs.Int.{int_wrap, w64};
 ghost use Rattle.column_core.specs.Rows.{flagged, AreWritten};
-ghost use Rattle.nullable_array.specs.Tasks.{passes};
-ghost use Rattle.nullable_array.specs.Pairs.{and_flag, or_flag, xor_value, AreFlagged, AreValued, flagged_at, flagged_value, number_pair, compare_pair, and_pair, or_pair, xor_pair};
+ghost use Rattle.nullable_array.specs.Pairs.{AreFlagged, AreValued, flagged_at};
 
-use crate::operators::{Both, Compare, Difference, Either, OneOf, Order, Product, Sum, is_in};
 use cell_core::NoMemory;
 use column_core::{Dense, Nothing, Owned, RowOp, Source};
 use std::alloc::Global;
 
 /// An operation that refuses no row, told by flags: where a flag is false, its value may be any.
-pub(crate) trait PairOp<X, Y, U>: RowOp<X, Y, U> {
+pub trait PairOp<X, Y, U>: RowOp<X, Y, U> {
     ghost flag_of: { Self → X → Bool → Y → Bool → Bool };
 
     ghost value_of: { Self → X → Bool → Y → Bool → U };
@@ -28,151 +25,8 @@ pub(crate) trait PairOp<X, Y, U>: RowOp<X, Y, U> {
     ghost row_is: { (s : Self) (x : X) (p : Bool) (y : Y) (q : Bool) → Self.row_of s (flagged p x) (flagged q y) ≡ Some (flagged (flag_of s x p y q) (value_of s x p y q)) };
 }
 
-impl PairOp<i64, i64, i64> for Sum {
-    ghost flag_of = { λ _ _ p _ q. p && q };
-
-    ghost value_of = { λ _ x _ y _. int_wrap w64 (x +ℤ y) };
-
-    #[inline(always)]
-    fn flag(&self, _: i64, p: bool, _: i64, q: bool) -> bool {
-        p & q
-    }
-
-    #[inline(always)]
-    #[tactic(auto, using(std::proofs::lemmas::Int::wraps))]
-    fn value(&self, x: i64, _: bool, y: i64, _: bool) -> i64
-        ensures { result ≡ int_wrap w64 (x +ℤ y) }
-    {
-        x.wrapping_add(y)
-    }
-
-    ghost row_is = { λ _. number_pair (λ x y. x +ℤ y) };
-}
-
-impl PairOp<i64, i64, i64> for Difference {
-    ghost flag_of = { λ _ _ p _ q. p && q };
-
-    ghost value_of = { λ _ x _ y _. int_wrap w64 (x -ℤ y) };
-
-    #[inline(always)]
-    fn flag(&self, _: i64, p: bool, _: i64, q: bool) -> bool {
-        p & q
-    }
-
-    #[inline(always)]
-    #[tactic(auto, using(std::proofs::lemmas::Int::wraps))]
-    fn value(&self, x: i64, _: bool, y: i64, _: bool) -> i64
-        ensures { result ≡ int_wrap w64 (x -ℤ y) }
-    {
-        x.wrapping_sub(y)
-    }
-
-    ghost row_is = { λ _. number_pair (λ x y. x -ℤ y) };
-}
-
-impl PairOp<i64, i64, i64> for Product {
-    ghost flag_of = { λ _ _ p _ q. p && q };
-
-    ghost value_of = { λ _ x _ y _. int_wrap w64 (x *ℤ y) };
-
-    #[inline(always)]
-    fn flag(&self, _: i64, p: bool, _: i64, q: bool) -> bool {
-        p & q
-    }
-
-    #[inline(always)]
-    #[tactic(auto, using(std::proofs::lemmas::Int::wraps))]
-    fn value(&self, x: i64, _: bool, y: i64, _: bool) -> i64
-        ensures { result ≡ int_wrap w64 (x *ℤ y) }
-    {
-        x.wrapping_mul(y)
-    }
-
-    ghost row_is = { λ _. number_pair (λ x y. x *ℤ y) };
-}
-
-impl<T: Drop, K: Order<T>> PairOp<T, T, bool> for Compare<K> {
-    ghost flag_of = { λ _ _ p _ q. p && q };
-
-    ghost value_of = { λ s x _ y _. passes s.relation (K.cmp s.order x y) };
-
-    #[inline(always)]
-    fn flag(&self, _: T, p: bool, _: T, q: bool) -> bool {
-        p & q
-    }
-
-    #[inline(always)]
-    fn value(&self, x: T, _: bool, y: T, _: bool) -> bool
-        ensures { result ≡ passes self.now.relation (K.cmp self.now.order x y) }
-    {
-        is_in(self.relation, self.order.order(x, y))
-    }
-
-    ghost row_is = { λ s. compare_pair s.relation (K.cmp s.order) };
-}
-
-impl PairOp<bool, bool, bool> for Both {
-    ghost flag_of = { λ _. and_flag };
-
-    ghost value_of = { λ _ x _ y _. x && y };
-
-    #[inline(always)]
-    fn flag(&self, x: bool, p: bool, y: bool, q: bool) -> bool
-        ensures { result ≡ and_flag x p y q }
-    {
-        (p & q) | (p & !x) | (q & !y)
-    }
-
-    #[inline(always)]
-    fn value(&self, x: bool, _: bool, y: bool, _: bool) -> bool {
-        x & y
-    }
-
-    ghost row_is = { λ _. and_pair };
-}
-
-impl PairOp<bool, bool, bool> for Either {
-    ghost flag_of = { λ _. or_flag };
-
-    ghost value_of = { λ _ x _ y _. x || y };
-
-    #[inline(always)]
-    fn flag(&self, x: bool, p: bool, y: bool, q: bool) -> bool
-        ensures { result ≡ or_flag x p y q }
-    {
-        (p & q) | (p & x) | (q & y)
-    }
-
-    #[inline(always)]
-    fn value(&self, x: bool, _: bool, y: bool, _: bool) -> bool {
-        x | y
-    }
-
-    ghost row_is = { λ _. or_pair };
-}
-
-impl PairOp<bool, bool, bool> for OneOf {
-    ghost flag_of = { λ _ _ p _ q. p && q };
-
-    ghost value_of = { λ _ x _ y _. xor_value x y };
-
-    #[inline(always)]
-    fn flag(&self, _: bool, p: bool, _: bool, q: bool) -> bool {
-        p & q
-    }
-
-    #[inline(always)]
-    fn value(&self, x: bool, _: bool, y: bool, _: bool) -> bool
-        ensures { result ≡ xor_value x y }
-    {
-        x ^ y
-    }
-
-    ghost row_is = { λ _. xor_pair };
-}
-
 /// Rows whose flags and values are read each by itself: where a flag is false, its value may be any.
-pub(crate) trait Side<T>: Source<T> + Drop {
+pub trait Side<T>: Source<T> + Drop {
     ghost flag_at: { Self → ℕ → Bool };
 
     ghost value_at: { Self → ℕ → Option T };
@@ -212,52 +66,6 @@ impl<T: Copy> Side<T> for Dense<'_, T> {
     }
 
     ghost row_at = { λ s row. flagged_at s.values.now s.present.now row };
-}
-
-/// The same value, or none, in each of so many rows. What stands for none may be any.
-#[derive(Drop)]
-pub(crate) struct Constant<T> {
-    pub(crate) value: Option<T>,
-    pub(crate) blank: T,
-    pub(crate) count: usize,
-}
-
-impl<T: Copy> Source<T> for Constant<T> {
-    ghost count_of = { λ s. s.count };
-
-    ghost row_of = { λ s _. s.value };
-
-    #[inline(always)]
-    fn count(&self) -> usize {
-        self.count
-    }
-
-    #[inline(always)]
-    fn get(&self, _row: usize) -> Option<T> {
-        self.value
-    }
-}
-
-impl<T: Copy> Side<T> for Constant<T> {
-    ghost flag_at = { λ s _. is_some s.value };
-
-    ghost value_at = { λ s _. Some (unwrap_or s.value s.blank) };
-
-    #[inline(always)]
-    fn flag(&self, _row: usize) -> bool
-        ensures { result ≡ is_some self.now.value }
-    {
-        self.value.is_some()
-    }
-
-    #[inline(always)]
-    fn value(&self, _row: usize) -> T
-        ensures { Some (unwrap_or self.now.value self.now.blank) ≡ Some result }
-    {
-        self.value.unwrap_or(self.blank)
-    }
-
-    ghost row_at = { λ s _. flagged_value s.value s.blank };
 }
 
 impl Side<()> for Nothing {
@@ -324,14 +132,12 @@ fn row_values<X: Copy, Y: Copy, U: Copy + Drop, O: PairOp<X, Y, U>, A: Side<X>, 
 
 /// The operation at each row: first the flags and then the values, so that either loop goes over a few slices.
 #[inline(always)]
-pub(crate) fn by_sides<
-    X: Copy,
-    Y: Copy,
-    U: Copy + Drop,
-    O: PairOp<X, Y, U>,
-    A: Side<X>,
-    B: Side<Y>,
->(alloc: Global, op: &O, a: A, b: B) -> Result<Owned<U>, NoMemory>
+pub fn by_sides<X: Copy, Y: Copy, U: Copy + Drop, O: PairOp<X, Y, U>, A: Side<X>, B: Side<Y>>(
+    alloc: Global,
+    op: &O,
+    a: A,
+    b: B,
+) -> Result<Owned<U>, NoMemory>
     requires { A.count_of a ≡ B.count_of b }
     ensures count { IfOk result (λ made. length made.values.items ≡ A.count_of a) }
     ensures rows { IfOk result (λ made. AreWritten

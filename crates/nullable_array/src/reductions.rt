@@ -9,8 +9,8 @@ ghost use Rattle.nullable_array.specs.Folds.{reduction_of, reduced_kind};
 ghost use Rattle.nullable_array.specs.Answers.{AnswersCell};
 
 use crate::folds::{AllTrue, AnyTrue, Greatest, HowMany, Least, Total, fold_rows, fold_until};
-use crate::operators::{ByNumber, ByText, ByTruth};
 use crate::ops::{ArrayFault, Reduction};
+use crate::orders::{ByNumber, ByText, ByTruth};
 use cell_core::{Cell, TextDict, TextId};
 use column_core::{Borrowed, ColRef, Lane, Source, cell_of_number, cell_of_text, cell_of_truth};
 

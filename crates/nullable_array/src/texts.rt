@@ -1,12 +1,11 @@
 // The loop that makes a column of texts, which go into the dictionary.
-ghost use Rattle.std.specs.Prelude.{◌≡◌, ◌<◌, ◌++◌, ℕ, [], List, length, Option, Some, option_map, IfOk, string_bytes};
+ghost use Rattle.std.specs.Prelude.{◌≡◌, ◌<◌, ℕ, [], List, length, Option, Some, option_map, IfOk, string_bytes};
 ghost use Rattle.std.specs.Fmt.{signed_decimal};
 ghost use Rattle.cell_core.specs.declared.cell.Kind.TheVariants.{Text as string};
-ghost use Rattle.meaning.specs.Cell.{text_of, IsGiven, AreGiven, IsLonger};
+ghost use Rattle.meaning.specs.Cell.{AreGiven, IsLonger};
 ghost use Rattle.meaning.specs.Column.{tabulate};
 ghost use Rattle.meaning.specs.Cast.{truth_text};
-ghost use Rattle.column_core.specs.Columns.{text_cell, text_value, column_value};
-ghost use Rattle.nullable_array.specs.Operations.{both};
+ghost use Rattle.column_core.specs.Columns.{text_value, column_value};
 ghost use Rattle.column_core.specs.Rows.{text_if, IsTextRow, AreTexts};
 
 use cell_core::{NoMemory, TextDict, TextId};
@@ -15,7 +14,7 @@ use itoa::Buffer;
 use std::alloc::{AllocError, Global};
 
 /// A text that is made of the values of a row, or none.
-pub(crate) trait TextOp<X, Y> {
+pub trait TextOp<X, Y> {
     ghost given: { Self → List (List ℕ) → Option X → Option Y → Type 0 };
 
     ghost written: { Self → List (List ℕ) → Option X → Option Y → Option (List ℕ) };
@@ -32,41 +31,6 @@ pub(crate) trait TextOp<X, Y> {
         ensures { IfOk result (λ some. text_if some (string_bytes text.new) ≡ written self.now dict.now x y) };
 
     ghost stays: { (s : Self) (earlier later : List (List ℕ)) (x : Option X) (y : Option Y) → IsLonger earlier later → given s earlier x y → written s later x y ≡ written s earlier x y };
-}
-
-/// Two texts, one after the other.
-#[derive(Drop)]
-pub(crate) struct Join;
-
-impl TextOp<TextId, TextId> for Join {
-    ghost use Rattle.nullable_array.specs.Joins.{join_stays};
-
-    ghost given = { λ _ texts x y. IsGiven texts (text_cell x) × IsGiven texts (text_cell y) };
-
-    ghost written = { λ _ texts. both (λ a b. text_of texts a ++ text_of texts b) };
-
-    fn write(
-        &self,
-        dict: &TextDict,
-        x: Option<TextId>,
-        y: Option<TextId>,
-        text: &mut String,
-    ) -> Result<bool, AllocError>
-        requires { string_bytes text.old ≡ [] }
-        ensures { IfOk result (λ some. text_if some (string_bytes text.new)
-            ≡ both (λ a b. text_of dict.now a ++ text_of dict.now b) x y) }
-    {
-        match (x, y) {
-            (Some(x), Some(y)) => {
-                text.push_str(dict.text(x))?;
-                text.push_str(dict.text(y))?;
-                Ok(true)
-            }
-            _ => Ok(false),
-        }
-    }
-
-    ghost stays = { λ _ earlier later x y longer given. join_stays earlier later x y longer given.0 given.1 };
 }
 
 /// A whole number in decimal.
@@ -186,7 +150,7 @@ fn fill_texts<X, Y, O: TextOp<X, Y>, A: Source<X>, B: Source<Y>>(
 }
 
 /// The column of each row's text. `NoMemory` leaves each number given with its text.
-pub(crate) fn text_column<X, Y, O: TextOp<X, Y>, A: Source<X>, B: Source<Y>>(
+pub fn text_column<X, Y, O: TextOp<X, Y>, A: Source<X>, B: Source<Y>>(
     alloc: Global,
     dict: &mut TextDict,
     op: &O,

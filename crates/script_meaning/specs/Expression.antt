@@ -1,7 +1,7 @@
 -- What an expression gives in a state and with files, or its first fault. The order of evaluation is the nesting of `then_read`.
 use Rattle.std.specs.Prelude.{Bool, true, false, List, [], ◌∷◌, is_some, Option, Some, None, Result, Ok, Err, codes, if◌then◌else◌}
 use Rattle.meaning.specs.Text.{Text}
-use Rattle.meaning.specs.Cell.{CellValue, na_cell, int_cell, truth_cell, text_cell, LabelValue}
+use Rattle.meaning.specs.Cell.{CellValue, na_cell, int_cell, truth_cell, text_cell}
 use Rattle.meaning.specs.Operator.{cell_label}
 use Rattle.meaning.specs.Fault.{FaultValue, no_name, no_attribute, not_built}
 use Rattle.language_meaning.specs.Tree as tree
@@ -12,9 +12,9 @@ use Rattle.form_meaning.specs.Signature.{function_named}
 use Rattle.form_meaning.specs.Infix.{infix_result, sign_result}
 use Rattle.form_meaning.specs.Select.{length_result}
 use Rattle.select_meaning.specs.Select.{Way, plain, through, select_result}
-use Rattle.form_meaning.specs.Functions.{make_result}
 use Rattle.method_meaning.specs.Calls as calls
-use Rattle.method_meaning.specs.Calls.{has_method, chain_result}
+use Rattle.method_meaning.specs.Calls.{has_method, call_result}
+use Rattle.method_meaning.specs.Functions.{function_result}
 use Rattle.method_meaning.specs.Readers.{reads_file, file_name_of, read_result}
 use Rattle.script_meaning.specs.State.{State}
 use Rattle.script_meaning.specs.Reading.{Files, Reads, at_once, gives, then_read, of_file}
@@ -49,7 +49,7 @@ abbrev pub made : Files → Text → List NamedGiven → Reads Entry
 made files f gs =
     if reads_file (function_named f)
     then then_read (at_once (file_name_of ReadCsv gs)) (λ name. of_file files name (λ bytes. read_result bytes gs))
-    else at_once (make_result f gs)
+    else at_once (function_result None f gs)
 
 abbrev mutual
   pub value_of : Files → State → Expr → Reads Entry
@@ -66,16 +66,16 @@ abbrev mutual
   pub stepped : Files → State → Entry → Step → Reads Entry
   stepped files s v (tree.item a) = then_read (given_of files s a) (λ g. at_once (select_result v plain (key_given g) None))
   stepped files s v (tree.access by first second) = then_read (sub_of files s first) (λ g. then_read (second_of files s second) (λ h. at_once (select_result v (through by) g h)))
-  stepped files s v (tree.method n args) = where_named (has_method v n) n (then_read (named_of files s args) (λ gs. at_once (chain_result v (calls.plain n) gs)))
+  stepped files s v (tree.method n args) = where_named (has_method v n) n (then_read (named_of files s args) (λ gs. at_once (call_result v (calls.plain n) gs)))
   stepped files s v (tree.group args by n more) =
       where_named (has_method v (codes "groupby")) (codes "groupby")
-      (then_read (named_of files s args) (λ g. then_read (brackets_of files s by) (λ h. then_read (named_of files s more) (λ gs. at_once (chain_result v (calls.grouped g h n) gs)))))
+      (then_read (named_of files s args) (λ g. then_read (brackets_of files s by) (λ h. then_read (named_of files s more) (λ gs. at_once (call_result v (calls.grouped g h n) gs)))))
   stepped files s v (tree.rolling args n more) =
       where_named (has_method v (codes "rolling")) (codes "rolling")
-      (then_read (named_of files s args) (λ g. then_read (named_of files s more) (λ gs. at_once (chain_result v (calls.through (codes "rolling")) gs))))
+      (then_read (named_of files s args) (λ g. then_read (named_of files s more) (λ gs. at_once (call_result v (calls.through (codes "rolling")) gs))))
   stepped files s v (tree.expanding args n more) =
       where_named (has_method v (codes "expanding")) (codes "expanding")
-      (then_read (named_of files s args) (λ g. then_read (named_of files s more) (λ gs. at_once (chain_result v (calls.through (codes "expanding")) gs))))
+      (then_read (named_of files s args) (λ g. then_read (named_of files s more) (λ gs. at_once (call_result v (calls.through (codes "expanding")) gs))))
 
   pub sub_of : Files → State → Sub → Reads GivenSub
   sub_of files s (tree.key a) = then_read (given_of files s a) (λ g. gives (key_given g))

@@ -1,5 +1,5 @@
 -- What is read of files on the way to an answer.
-use Rattle.std.specs.Prelude.{ℕ, ◌+◌, Bool, List, [], ◌∷◌, Option, Some, None, Result, Ok, Err, if◌then◌else◌}
+use Rattle.std.specs.Prelude.{ℕ, ◌+◌, List, [], ◌∷◌, Option, Some, None, Result, Ok, Err, if◌then◌else◌}
 use Rattle.std.specs.FinMap.{get}
 use Rattle.meaning.specs.Text.{Text, same_text, Contents}
 use Rattle.meaning.specs.Fault.{FaultValue, no_file}

@@ -1,14 +1,13 @@
 -- What a statement does.
-use Rattle.std.specs.Prelude.{Bool, true, false, [], ◌++◌, codes, Option, Some, None, Result, Ok, Err}
-use Rattle.std.specs.Fmt.{signed_decimal}
+use Rattle.std.specs.Prelude.{Bool, true, false, [], ◌++◌, Option, Some, None, Result, Ok, Err}
 use Rattle.meaning.specs.Text.{Text}
-use Rattle.meaning.specs.Cell.{CellValue, na_cell, int_cell, truth_cell, text_cell}
 use Rattle.meaning.specs.Fault.{FaultValue}
 use Rattle.language_meaning.specs.Tree as tree
 use Rattle.table_meaning.specs.Table.{Table}
 use Rattle.table_meaning.specs.Value.{Entry, Given, cell, table}
 use Rattle.select_meaning.specs.Set.{assign_result, removal_result}
 use Rattle.format_meaning.specs.Print.{table_text_of}
+pub use Rattle.method_meaning.specs.Texts.{cell_text}
 use Rattle.script_meaning.specs.Reading.{Files, Reading, Reads, at_once, then_or}
 use Rattle.script_meaning.specs.State.{State, with_new, with_object, with_table, without_name}
 use Rattle.script_meaning.specs.Expression.{Target, named_by, value_of_name, value_of, given_of, target_of}
@@ -39,13 +38,6 @@ is_chained (Some n) = false
 abbrev pub set_answer : State → Option Text → Result Table FaultValue → Answer
 set_answer s on (Ok t) = done (with_set s on t) [] (is_chained on)
 set_answer s on (Err fault) = refused fault (is_chained on)
-
-abbrev pub cell_text : CellValue → Text
-cell_text na_cell = codes "<NA>"
-cell_text (int_cell z) = signed_decimal z
-cell_text (truth_cell true) = codes "True"
-cell_text (truth_cell false) = codes "False"
-cell_text (text_cell t) = t
 
 -- how a value is printed
 abbrev pub entry_text : Entry → Text

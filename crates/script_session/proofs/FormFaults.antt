@@ -270,7 +270,3 @@ read_result_fault bytes gs = on_bound_fault _ _ (csv_result_fault bytes)
 pub make_with_fault : (file : Option (List ℕ)) (name : Text) (gs : List NamedGiven) → HasFormFault (make_with file name gs)
 make_with_fault None name gs = make_result_fault name gs
 make_with_fault (Some bytes) name gs = if_fault (reads_file (function_named name)) (read_result bytes gs) (make_result name gs) (read_result_fault bytes gs) (make_result_fault name gs)
-
--- what a function that reads a file makes of the bytes is what is read
-pub reads_made : (bytes : List ℕ) (name : Text) (gs : List NamedGiven) → reads_file (function_named name) ≡ true → make_with (Some bytes) name gs ≡ read_result bytes gs
-reads_made bytes name gs reads = ap (λ b. if b then read_result bytes gs else make_result name gs) reads

@@ -11,6 +11,9 @@ pub mod SelectFaults
 pub mod SetFaults
 pub mod GroupFaults
 pub mod MethodFaults
+pub mod MergeFaults
+pub mod ConcatFaults
+pub mod CallFaults
 pub mod Rides
 pub mod Fetching
 pub mod Parts

@@ -165,7 +165,7 @@ called_fault : (m : Option Method) (name : Text) (gs : List NamedGiven) (t : Tab
 called_fault None name gs t = tt
 called_fault (Some m) name gs t = search (if_fault, on_bound_fault, answer_for_fault)
 
-method_result_fault : (v : Entry) (name : Text) (gs : List NamedGiven) → HasFormFault (method_result v name gs)
+pub method_result_fault : (v : Entry) (name : Text) (gs : List NamedGiven) → HasFormFault (method_result v name gs)
 method_result_fault (cell c) name gs = tt
 method_result_fault (table t) name gs = called_fault _ name gs t
 

@@ -1,16 +1,16 @@
 -- The tables of live objects stay valid.
 use Rattle.std.proofs.Common.{◌≡◌, ℕ, Bool, true, false, nat_eq, List, Option, Some, None, refl, sym, ap, subst, IsSome}
-use Rattle.std.specs.Prelude.{if◌then◌else◌, option_map, ⊤, Result, Ok, Err, IfOk, IfSome}
+use Rattle.std.specs.Prelude.{if◌then◌else◌, option_map, ⊤, Result, Ok, Err, IfOk, IfSome, List, [], ◌∷◌, All}
 use Rattle.meaning.specs.Cell.{IsLonger}
 use Rattle.meaning.specs.Text.{Text}
 use Rattle.meaning.specs.Fault.{FaultValue}
 use Rattle.table_meaning.specs.Settled.{IsSettled}
 use Rattle.table_meaning.specs.Table.{NumberedTable, Table, table_value}
 use Rattle.table_meaning.specs.Valid.{IsValid}
-use Rattle.table_meaning.specs.Value.{Entry, scalar_in}
-use Rattle.table_laws.specs.Validity.{IsHeldCell, IsValidObject, IsValidEntry, IsValidGiven, AreValid}
+use Rattle.table_meaning.specs.Value.{Entry, scalar_in, NamedGiven}
+use Rattle.table_laws.specs.Validity.{IsHeldCell, IsValidObject, IsValidEntry, IsValidGiven, AreValid, IsValidArgument, AreValidArguments}
 use Rattle.frame_store.specs.Objects.{Tables, table_or, with_object}
-use Rattle.frame_store.specs.Arguments.{argument_of, IsLive, IsLiveArgument}
+use Rattle.frame_store.specs.Arguments.{argument_of, IsLive, IsLiveArgument, item_of, items_of, named_of, arguments_of, IsLiveItem, AreLiveItems, AreLive}
 use Rattle.frame_store.specs.declared.arguments.Argument.{Argument, Nothing, One, Row, Many, Table'}
 use Rattle.frame_store.specs.Shown.{Shown, shown, with_shown, table_in, FormAnswers, Changes}
 use Rattle.frame_store.specs.declared.arguments.Value.{Value}
@@ -18,8 +18,13 @@ use Rattle.frame_store.specs.declared.arguments.Value.TheVariants.{Object, Scala
 use Rattle.frame_store.specs.declared.fault.OpFault.{OpFault}
 use Rattle.frame_store.specs.declared.fault.OpFault.TheVariants.{Refused, NoMemory}
 use Rattle.frame_store.proofs.Settling.{seen_later}
-use Rattle.frame_store.specs.World.{World, objects_of, entry_in, Forms, Sets}
+use Rattle.frame_store.specs.World.{World, objects_of, entry_in, Forms, Sets, arguments_in, AreKnownArguments}
 use Rattle.script_session.specs.Bindings.{Bindings, is_named, released, AreNamed, KeepNamed}
+use Rattle.std.proofs.lemmas.List.Elements.{All-nil, All-cons}
+use Rattle.method_meaning.specs.Concat.{tables_of}
+use Rattle.table_laws.proofs.ArgumentLaws.{more_valid}
+use Rattle.frame_store.specs.declared.arguments.Item.{Item, One as OneItem, Row' as RowItem'}
+use Rattle.frame_store.specs.declared.arguments.Named.{Named}
 
 -- the same by cases
 abbrev Each : Shown → Type 0
@@ -52,6 +57,30 @@ argument_valid w (One (Scalar c)) valid live held = held
 argument_valid w (Row l) valid live held = tt
 argument_valid w (Many l) valid live held = tt
 argument_valid w (Table' shape row) valid live held = tt
+
+-- the tables in live arguments are valid
+item_valid : (w : World) (item : Item) → AreValid (objects_of w) → IsLiveItem w.tables item → IsValidArgument (item_of w.tables w.texts item)
+item_valid w (OneItem v) valid live = object_valid w v valid live
+item_valid w (RowItem' shape row) valid live = tt
+
+items_valid : (w : World) (items : List Item) → AreValid (objects_of w) → AreLiveItems w.tables items → All IsValid (tables_of (items_of w.tables w.texts items))
+items_valid w [] valid live = All-nil IsValid
+items_valid w (item ∷ rest) valid live = more_valid (item_of w.tables w.texts item) (items_of w.tables w.texts rest) (item_valid w item valid live.0) (items_valid w rest valid live.1)
+
+tables_valid : (w : World) (a : Argument) → AreValid (objects_of w) → IsLiveArgument w.tables a → IsValidArgument (argument_of w.tables w.texts a)
+tables_valid w Nothing valid live = tt
+tables_valid w (One v) valid live = object_valid w v valid live
+tables_valid w (Row l) valid live = tt
+tables_valid w (Many l) valid live = items_valid w l.items.items valid live
+tables_valid w (Table' shape row) valid live = tt
+
+live_valid : (w : World) (args : List Named) → AreValid (objects_of w) → AreLive w.tables args → AreValidArguments (arguments_in w args)
+live_valid w [] valid live = All-nil (λ (g : NamedGiven). IsValidArgument g.value)
+live_valid w (g ∷ rest) valid live =
+    All-cons (λ (g : NamedGiven). IsValidArgument g.value) (named_of w.tables w.texts g) (arguments_of w.tables w.texts rest) (tables_valid w g.value valid live.0) (live_valid w rest valid live.1)
+
+pub arguments_valid : (w : World) (args : List Named) → AreValid (objects_of w) → AreKnownArguments w args → AreValidArguments (arguments_in w args)
+arguments_valid w args valid known = live_valid w args valid known.live
 
 some_valid : (o : Option Table) → IsValid (table_in o) → IfSome o IsValid
 some_valid None h = tt

@@ -3,7 +3,7 @@ use Rattle.std.specs.Prelude.{List, Option, codes}
 use Rattle.meaning.specs.Text.{Text}
 use Rattle.table_meaning.specs.Value.{Entry, Given, NamedGiven}
 use Rattle.language_meaning.specs.Tree.{named_args}
-use Rattle.method_meaning.specs.Calls.{has_method, ChainValue, grouped, through, chain_result}
+use Rattle.method_meaning.specs.Calls.{has_method, ChainValue, grouped, through, call_result}
 use Rattle.script_meaning.specs.Reading.{Files, Reads, at_once, then_read}
 use Rattle.script_meaning.specs.State.{State}
 use Rattle.script_meaning.specs.Expression.{where_named, named_of, brackets_of}
@@ -36,7 +36,7 @@ chain_meant Expanding args by name = through (codes "expanding")
 
 -- what follows the arguments of the link, and what follows the brackets
 abbrev pub after_brackets : Files → State → Entry → Linked → List NamedGiven → Option Given → Reads Entry
-after_brackets files s v call g h = then_read (named_of files s (named_args (named_parts_of call.more.now))) (λ gs. at_once (chain_result v (chain_meant call.link g h call.name.now) gs))
+after_brackets files s v call g h = then_read (named_of files s (named_args (named_parts_of call.more.now))) (λ gs. at_once (call_result v (chain_meant call.link g h call.name.now) gs))
 
 abbrev pub after_link : Files → State → Entry → Linked → List NamedGiven → Reads Entry
 after_link files s v call g = then_read (brackets_of files s (optional_arg call.by.now)) (after_brackets files s v call g)

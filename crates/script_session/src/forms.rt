@@ -10,15 +10,15 @@ ghost use Rattle.form_meaning.specs.Infix.{infix_result, sign_result};
 ghost use Rattle.form_meaning.specs.Select.{length_result};
 ghost use Rattle.select_meaning.specs.Select.{select_result};
 ghost use Rattle.select_meaning.specs.Set.{assign_result, removal_result};
-ghost use Rattle.method_meaning.specs.Calls.{chain_result, has_method};
-ghost use Rattle.method_meaning.specs.Readers.{make_with};
+ghost use Rattle.method_meaning.specs.Calls.{call_result, has_method};
+ghost use Rattle.method_meaning.specs.Functions.{function_result};
 ghost use Rattle.table_laws.specs.Validity.{IsHeldCell};
 ghost use Rattle.frame_store.specs.Objects.{tables};
 ghost use Rattle.frame_store.specs.Arguments.{entry_of, argument_of, IsLive};
 ghost use Rattle.frame_methods.specs.Calls.{chain_in, IsKnownChain};
 ghost use Rattle.selections.specs.Selected.{way_of};
 ghost use Rattle.settings.specs.Assigned.{new_value, moved_object, IsLiveNew, IsOther};
-ghost use Rattle.nullable_array.specs.Tasks.{operator_of};
+ghost use Rattle.column_operators.specs.Tasks.{operator_of};
 ghost use Rattle.script_tokens.specs.View.{binary_of};
 ghost use Rattle.script_tree.specs.View.{literal_of, unary_of};
 ghost use Rattle.script_meaning.specs.Expression.{cell_of, is_minus};
@@ -31,11 +31,11 @@ use crate::literal::cell_of;
 use crate::names::find;
 use crate::work::Work;
 use cell_core::{Cell, Code, Grid, Label, TextDict, Words};
+use column_operators::Binary as Operator;
 use constructors::function_exists;
 use form_parts::label_of;
 use frame_methods::exists;
 use frame_store::{Argument, Chain, NamedList, ObjId, OpFault, Selector, Store, Subscript, Value};
-use nullable_array::Binary as Operator;
 use script_tokens::Binary;
 use script_tree::{Literal, Unary};
 use settings::NewValue;
@@ -134,13 +134,13 @@ impl Work {
     ) -> Result<Value, OpFault>
         requires { AreKnownArguments (world_of self.old) args.now.items.items }
         ensures names { names_in self.new ≡ names_in self.old }
-        ensures answers { Forms result (make_with (option_map (λ bytes. bytes.now) file.entry)
+        ensures answers { Forms result (function_result (option_map (λ bytes. bytes.now) file.entry)
             function.now (arguments_in (world_of self.old) args.now.items.items))
             (world_of self.old) (world_of self.new) }
     {
         self.temps.reserve(1)?;
         let name = function.as_str();
-        let made = file_readers::make(
+        let made = concat_forms::make(
             self.alloc,
             &mut self.store,
             &mut self.dict,
@@ -163,7 +163,7 @@ impl Work {
         requires before { IsKnownChain (world_of self.old) chain.now }
         requires arguments { AreKnownArguments (world_of self.old) args.now.items.items }
         ensures names { names_in self.new ≡ names_in self.old }
-        ensures answers { Forms result (chain_result (entry_in (world_of self.old) on)
+        ensures answers { Forms result (call_result (entry_in (world_of self.old) on)
             (chain_in (world_of self.old) chain.now)
             (arguments_in (world_of self.old) args.now.items.items))
             (world_of self.old) (world_of self.new) }
@@ -315,12 +315,13 @@ fn chain_call(
     requires before { IsKnownChain (world store.old dict.old) chain.now }
     requires arguments { AreKnownArguments (world store.old dict.old) args.now.items.items }
     ensures { let w = world store.old dict.old in
-        Forms result (chain_result (entry_in w on) (chain_in w chain.now)
+        Forms result (call_result (entry_in w on) (chain_in w chain.now)
         (arguments_in w args.now.items.items)) w (world store.new dict.new) }
 {
     match chain {
+        Chain::Plain(_) => merge_forms::method(alloc, store, dict, on, chain, args),
         Chain::Group(_, _, _) => group_forms::method(alloc, store, dict, on, chain, args),
-        Chain::Plain(_) | Chain::Rolling(_, _) | Chain::Expanding(_, _) => {
+        Chain::Rolling(_, _) | Chain::Expanding(_, _) => {
             frame_methods::method(alloc, store, dict, on, chain, args)
         }
     }

@@ -1,5 +1,5 @@
 // A script that was read.
-ghost use Rattle.std.specs.Prelude.{◌≡◌, ◌<◌, [], ◌∷◌, ◌++◌, length, slice_get, Some, OnOk};
+ghost use Rattle.std.specs.Prelude.{◌≡◌, ◌<◌, [], ◌∷◌, ◌++◌, length, slice_get, Some, OnOk, OnErr};
 ghost use Rattle.script_tree.specs.View.{statement_of};
 
 use crate::tree::Statement;
@@ -39,10 +39,11 @@ impl Script {
         }
     }
 
-    /// Appends a statement. The caller gives the script up where memory is refused.
+    /// Appends a statement. `NoMemory` leaves the script as it was.
     pub fn push(&mut self, statement: Statement) -> Result<(), NoMemory>
-        ensures { OnOk result (statements_of self.new
+        ensures ok { OnOk result (statements_of self.new
             ≡ statements_of self.old ++ statement_of statement ∷ []) }
+        ensures err { OnErr result (statements_of self.new ≡ statements_of self.old) }
     {
         self.statements.push(statement)?;
         Ok(())

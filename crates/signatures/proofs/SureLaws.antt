@@ -3,7 +3,7 @@ use Rattle.std.proofs.Common.{◌≡◌, ◌∙◌, refl, ap, sym, subst, Bool, 
 use Rattle.std.specs.Prelude.{IsSome, is_some}
 use Rattle.std.specs.Option.{option_map}
 use Rattle.meaning.specs.Cell.{na_cell, int_cell, truth_cell, text_cell}
-use Rattle.table_meaning.specs.Value.{Given, cell, table, nothing, one, row, many, entries, scalar_in, list_in, dict_in}
+use Rattle.table_meaning.specs.Value.{Given, cell, table, nothing, one, row, many, entries, scalar_in, object_in, list_in, dict_in}
 use Rattle.form_meaning.specs.declared.Form.{Form}
 use Rattle.form_meaning.specs.declared.Form.TheVariants as form
 use Rattle.form_meaning.specs.declared.Parameter.{Parameter}
@@ -92,6 +92,14 @@ text_taken p (row parts) taken refused = cc
 text_taken p (many parts) taken refused = cc
 text_taken p (entries pairs) taken refused = cc
 
+frame_taken : (p : Parameter) (g : Given) → takes (of_form p form.Frame) g ≡ true → takes (of_form p form.Frame) nothing ≡ false → IsSome (object_in g)
+frame_taken p nothing taken refused = cc
+frame_taken p (one (cell c)) taken refused = cc
+frame_taken p (one (table t)) taken refused = refl
+frame_taken p (row parts) taken refused = cc
+frame_taken p (many parts) taken refused = cc
+frame_taken p (entries pairs) taken refused = cc
+
 list_taken : (p : Parameter) (g : Given) → takes (of_form p form.Scalars) g ≡ true → takes (of_form p form.Scalars) nothing ≡ false → IsSome (list_in g)
 list_taken p nothing taken refused = cc
 list_taken p (one (cell c)) taken refused = cc
@@ -123,6 +131,9 @@ truth_sure o g is fills = let t = sure_at o form.Truth g is fills in truth_taken
 
 pub text_sure : Sure form.Text text_in
 text_sure o g is fills = let t = sure_at o form.Text g is fills in text_taken t.parameter g t.taken t.refused
+
+pub frame_sure : Sure form.Frame object_in
+frame_sure o g is fills = let t = sure_at o form.Frame g is fills in frame_taken t.parameter g t.taken t.refused
 
 pub list_sure : Sure form.Scalars list_in
 list_sure o g is fills = let t = sure_at o form.Scalars g is fills in list_taken t.parameter g t.taken t.refused

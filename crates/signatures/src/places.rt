@@ -3,12 +3,12 @@ ghost use Rattle.std.specs.Prelude.{◌≡◌, List, slice_get, is_some, Some};
 ghost use Rattle.std.specs.Option.{option_map};
 ghost use Rattle.meaning.specs.Text.{Text};
 ghost use Rattle.meaning.specs.Cell.{datum};
-ghost use Rattle.table_meaning.specs.Value.{scalar_in, list_in, dict_in};
+ghost use Rattle.table_meaning.specs.Value.{scalar_in, object_in, list_in, dict_in};
 ghost use Rattle.form_meaning.specs.Binding as plain;
 ghost use Rattle.form_meaning.specs.Make.{kind_given};
 ghost use Rattle.form_meaning.specs.declared.Form.TheVariants as form;
 ghost use Rattle.frame_store.specs.Objects.{Tables};
-ghost use Rattle.frame_store.specs.Arguments.{argument_of, items_of, entries_of, arguments_of, AreLiveItems, AreLivePairs, AreLive};
+ghost use Rattle.frame_store.specs.Arguments.{argument_of, items_of, entries_of, arguments_of, object_value, AreLiveItems, AreLivePairs, AreLive, IsLiveObject};
 ghost use Rattle.frame_store.specs.Readers.{Agrees, AgreesSeen, IsLiveWith, lent_argument, IsLiveLent, AreLiveLentItems, AreLiveLentPairs};
 ghost use Rattle.signatures.specs.Found.{found_value, IsFoundLive, StandsNoText};
 ghost use Rattle.signatures.specs.Bound.{Tells, stands_at, form_at};
@@ -18,7 +18,7 @@ use crate::bound::Bound;
 use crate::table::{default_text, kind_named};
 use cell_core::{Cell, Kind, Label, TextDict};
 use form_meaning::{Omitted, Parameter};
-use frame_store::{Argument, Item, Named};
+use frame_store::{Argument, Item, Named, ObjId};
 
 // The argument at a place, or what stands there where none is given.
 #[derive(Clone, Copy)]
@@ -234,7 +234,9 @@ impl<'a> Bound<'a> {
         self.truth_or_none(place).unwrap()
     }
 
-    fn text_or_none<'d>(&self, dict: &'d TextDict, place: usize) -> Option<&'d str>
+    /// The text that stands at a place; `None` where something else than a text stands there. Takes no
+    /// memory.
+    pub fn text_or_none<'d>(&self, dict: &'d TextDict, place: usize) -> Option<&'d str>
         ensures value { (live : Tables) → option_map (λ t. t.now) result
             ≡ plain.text_in (stands_at live dict.now self.now place) }
         ensures there { (live : Tables) (texts : List Text)
@@ -244,6 +246,15 @@ impl<'a> Bound<'a> {
             Found::Given(argument) => text_of(dict, argument.scalar()),
             Found::StandIn(omitted) => text_for(omitted),
         }
+    }
+
+    /// The text that stands at a place, where the parameter always has one. Takes no memory.
+    pub fn text<'d>(&self, dict: &'d TextDict, place: usize) -> &'d str
+        requires { form_at self.now place ≡ Some form.Text }
+        ensures { (live : Tables)
+            → Some result.now ≡ plain.text_in (stands_at live dict.now self.now place) }
+    {
+        self.text_or_none(dict, place).unwrap()
     }
 
     /// The kind whose name stands at a place; `None` where something else than a text stands there.
@@ -290,6 +301,28 @@ impl<'a> Bound<'a> {
             → AreLiveItems live result.now }
     {
         self.list_or_none(place).unwrap()
+    }
+
+    fn object_or_none(&self, place: usize) -> Option<ObjId>
+        ensures table { Tells self.now place object_in
+            (λ live texts. option_map (object_value live texts) result) }
+        ensures live { IsLiveWith AreLive self.now.args.now IsLiveObject result }
+    {
+        match found_at(self.parameters, self.args, place) {
+            Found::Given(argument) => argument.object(),
+            Found::StandIn(_) => None,
+        }
+    }
+
+    /// The frame that stands at a place, where the parameter always has one. Takes no memory.
+    pub fn frame(&self, place: usize) -> ObjId
+        requires { form_at self.now place ≡ Some form.Frame }
+        ensures table { Tells self.now place object_in
+            (λ live texts. Some (object_value live texts result)) }
+        ensures live { (live : Tables) → AreLive live self.now.args.now
+            → IsLiveObject live result }
+    {
+        self.object_or_none(place).unwrap()
     }
 
     /// The pairs of the dict that stands at a place, in their order, also where a key stands twice; `None`

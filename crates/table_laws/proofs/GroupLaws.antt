@@ -1,14 +1,14 @@
 -- Calls behind `groupby` make valid tables of valid ones.
-use Rattle.std.proofs.Common.{◌≡◌, ◌∙◌, ap, refl, sym, subst, ℕ, suc, ◌+◌, ◌<◌, ◌≤◌, pos, List, [], ◌∷◌, ◌++◌, length, map, take, arith}
-use Rattle.std.specs.Prelude.{Bool, true, false, ◌&&◌, cond, nat_eq, nat_lt, slice_index_or, filter, if◌then◌else◌, codes, Option, Some, None, IsSome, IfSome, Result, Ok, Err, IfOk, All}
+use Rattle.std.proofs.Common.{◌≡◌, ◌∙◌, refl, sym, subst, ℕ, ◌+◌, ◌<◌, ◌≤◌, pos, List, [], ◌∷◌, ◌++◌, length, map, take, arith}
+use Rattle.std.specs.Prelude.{Bool, true, false, ◌&&◌, nat_eq, nat_lt, slice_index_or, if◌then◌else◌, codes, Option, Some, None, IsSome, Result, Ok, Err, IfOk, All}
 use Rattle.std.specs.List.{range_with_len}
 use Rattle.std.proofs.lemmas.Bool.Decides.{nat_tests}
 use Rattle.std.proofs.lemmas.List.{length-map, length-append}
 use Rattle.std.proofs.lemmas.List.Elements.{All-nil, All-cons, All-head, All-tail, All-filter, All-append}
 use Rattle.cell_core.specs.declared.grid.Shape.{Shape}
 use Rattle.cell_core.specs.declared.grid.Shape.TheVariants.{Series, Frame}
-use Rattle.meaning.specs.Text.{Text, same_text}
-use Rattle.meaning.specs.Cell.{CellValue, na_cell, LabelValue, text, Kind, Int64, Boolean}
+use Rattle.meaning.specs.Text.{Text}
+use Rattle.meaning.specs.Cell.{CellValue, na_cell, LabelValue, Kind, Int64}
 use Rattle.meaning.specs.Column.{ColumnValue, ColumnFault, kind_mismatch, gap_cell}
 use Rattle.meaning.specs.Operator.{cell_label}
 use Rattle.meaning.specs.Reduce as reduction
@@ -22,19 +22,18 @@ use Rattle.table_meaning.specs.Value.{Entry, cell, table, Given, GivenList, Name
 use Rattle.form_meaning.specs.declared.Method.TheVariants.{Groupby}
 use Rattle.form_meaning.specs.Signature.{parameters_of}
 use Rattle.form_meaning.specs.Binding.{Bound, not_taken, not_listed, bound, bound_of, each, is_scalar, truth_in}
-use Rattle.form_meaning.specs.Finish.{first_repeated, finished, default_labels, value_of_column, column_of_value, made_column}
+use Rattle.form_meaning.specs.Finish.{finished, default_labels, value_of_column, column_of_value, made_column}
 use Rattle.form_meaning.specs.Select.{heading_at, columns_frame, column_place, column_places, labels_of}
 use Rattle.select_meaning.specs.Select.{as_series, shown_as}
-use Rattle.sorting.specs.Sorting.{in_order}
 use Rattle.align_meaning.proofs.OrderLaws.{all_in_order}
-use Rattle.group_meaning.specs.Keys.{KeyRules, tuple_rules, is_kept, ordered_if, group_keys, group_codes}
-use Rattle.group_meaning.specs.Rows.{GroupsValue, cells_at, cells_of_group, rows_of_group}
+use Rattle.group_meaning.specs.Keys.{KeyRules, tuple_rules, is_kept, ordered_if, group_keys}
+use Rattle.group_meaning.specs.Rows.{GroupsValue, cells_of_group, rows_of_group}
 use Rattle.group_meaning.specs.Reductions as groups
 use Rattle.group_meaning.specs.Reductions.{GroupReduction, earlier, later, count_cell, group_cell, group_takes, group_kind, reduced_cells, column_if_taken, reduce_groups, transform_groups, of_group, cells_up_to, running_cell, cumsum_groups, group_sizes, count_before, group_places}
-use Rattle.method_meaning.specs.Rows.{all_places, cells_by_row, labels_in, places_besides}
+use Rattle.method_meaning.specs.Rows.{all_places, cells_by_row, labels_in}
 use Rattle.method_meaning.specs.Groups.{Grouping, Values, GroupCall, reduced, size, transformed, cumsum, cumcount, row_keys, keys_of, groups_of, each_of, under_keys, key_column, beside_keys, grouped_rows, same_rows, size_heading, headings_of, group_answer, of_bound, as_keys, keys_in, grouping_in, grouping_of, values_named, values_in, group_call_of, grouped_frame, grouped_of, grouped_result}
 use Rattle.table_laws.specs.Validity.{IsValidObject, IsValidEntry}
-use Rattle.table_laws.proofs.ListLaws.{both_true, all_made, all_mapped, all_tabulated, length_tabulate, at_or, then_keeps, try_keeps, on_keeps}
+use Rattle.table_laws.proofs.ListLaws.{all_made, all_mapped, all_tabulated, length_tabulate, at_or, then_keeps, try_keeps, on_keeps}
 use Rattle.table_laws.proofs.CellLaws.{Held, wrap_fits, fold_keeps, unless_held, reduction_held, cumulation_held}
 use Rattle.table_laws.proofs.ColumnLaws.{IsColumn}
 use Rattle.table_laws.proofs.TableLaws.{IsShaped, shaped, limited_keeps, column_of_table, series_heading, frame_headings}
@@ -155,7 +154,7 @@ pub record IsBody (t : Table) : Type 0 where
   pub columns : All (IsColumn (length t.labels)) t.columns
   pub frame : t.shape ≡ Frame
 
-abbrev AreLabels : List (Option LabelValue) → Type 0
+abbrev pub AreLabels : List (Option LabelValue) → Type 0
 AreLabels hs = All IsSome hs
 
 one_heading : (hs : List (Option LabelValue)) → length hs ≡ 1 → (h : Option LabelValue) × (hs ≡ h ∷ [])
@@ -163,7 +162,7 @@ one_heading [] e = absurd (Prim.omega arith)
 one_heading (h ∷ []) e = (h, refl)
 one_heading (h ∷ h' ∷ hs) e = absurd (Prim.omega arith)
 
-frame_keeps : (t : Table) → IsBody t → AreLabels t.headings → IfOk (finished t) IsValidEntry
+pub frame_keeps : (t : Table) → IsBody t → AreLabels t.headings → IfOk (finished t) IsValidEntry
 frame_keeps t b some = finished_keeps t (λ none. record {
   some = b.some;
   few = b.few;
@@ -304,7 +303,7 @@ of_bound_keeps P read not_taken h = tt
 of_bound_keeps P read not_listed h = tt
 of_bound_keeps P read (bound gs) h = h gs
 
-places_found : (t : Table) → IsShaped t → (ls : List LabelValue) → IfOk (column_places t ls) (AreBelow t)
+pub places_found : (t : Table) → IsShaped t → (ls : List LabelValue) → IfOk (column_places t ls) (AreBelow t)
 places_found t s ls = by (column_places t ls) (try_keeps (λ l. Unit {0}) (λ place. place < length t.columns) (column_place t) (λ l _. inside (column_place t l) (column_place_found t l)) ls (λ k d lt. tt))
   where
     inside : (r : Result ℕ FaultValue) → IfOk r (λ place. place < length t.headings) → IfOk r (λ place. place < length t.columns)

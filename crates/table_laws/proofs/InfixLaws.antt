@@ -17,7 +17,7 @@ use Rattle.align_meaning.proofs.InsideLaws.{IsRowOf, AreInside, joined_inside}
 use Rattle.table_meaning.specs.Table.{ColumnOf, Table, column_at}
 use Rattle.table_meaning.specs.Valid.{IsValid, within_limits}
 use Rattle.table_meaning.specs.Value.{Entry, cell, table}
-use Rattle.form_meaning.specs.Finish.{same_heading, first_repeated, unless_repeated, limited_table, try_all, with_columns, column_labels}
+use Rattle.form_meaning.specs.Finish.{same_heading, first_repeated, unless_repeated, try_all, with_columns, column_labels}
 use Rattle.form_meaning.specs.Infix.{Meeting, swapped, meets, met, infix_table, with_scalar, beside, across, turned, scalar_infix, on_levels, same_tuple, same_tuples, tuple_before, same_headings, are_headings, same_count, has_one, common_name, common_names, first_heading, compares, Joined, joined_rows, on_rows, with_joined, joined_infix, unequal_infix, rows_infix, series_infix, on_columns, common_infix, unequal_columns, wide_infix, joined_frames, frame_infix, across_series, takes_each, labels_fit, spread_series, spread_frame, joined_turned, across_unequal, across_infix, table_infix, infix_result, is_truth_column, inverted_column, inverted, sign_result}
 use Rattle.table_laws.specs.Validity.{IsValidObject, IsValidEntry}
 use Rattle.table_laws.proofs.ListLaws.{both_true, all_made, all_mapped, at_or, then_keeps, try_keeps}
@@ -118,7 +118,7 @@ beside_meetings a b t s r rows count rows' count' = record {
 }
 
 -- columns on other rows
-gap_held : (kind : Kind) (cells : List CellValue) (gap : Option ℕ) → All (Held kind) cells → Held kind (gap_cell na_cell cells gap)
+pub gap_held : (kind : Kind) (cells : List CellValue) (gap : Option ℕ) → All (Held kind) cells → Held kind (gap_cell na_cell cells gap)
 gap_held kind cells None h = na_held kind
 gap_held kind cells (Some place) h = at_or (Held kind) cells place na_cell (na_held kind) h
 

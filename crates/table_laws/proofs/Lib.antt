@@ -16,4 +16,8 @@ pub mod SectionLaws
 pub mod MethodLaws
 pub mod MakeLaws
 pub mod CsvLaws
+pub mod ArgumentLaws
+pub mod MergeLaws
+pub mod ConcatLaws
+pub mod CallLaws
 pub mod StatementLaws

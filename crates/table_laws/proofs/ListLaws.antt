@@ -56,12 +56,16 @@ pub then_keeps : {A B : Type 0} (P : A → Type 0) (Q : B → Type 0) (r : Resul
 then_keeps P Q (Ok a) go h so = so a h
 then_keeps P Q (Err fault) go h so = tt
 
--- what is made of each of them, where all are
 -- what follows where something is given
+pub on_some_keeps : {A B : Type 0} (P : A → Type 0) (Q : B → Type 0) (o : Option A) (go : A → Result B FaultValue) → IfSome o P → ((a : A) → P a → IfOk (go a) Q) → IfOk (on o go) Q
+on_some_keeps P Q None go h so = tt
+on_some_keeps P Q (Some a) go h so = so a h
+
 pub on_keeps : {A B : Type 0} (P : B → Type 0) (o : Option A) (go : A → Result B FaultValue) → ((a : A) → IfOk (go a) P) → IfOk (on o go) P
 on_keeps P None go h = tt
 on_keeps P (Some a) go h = h a
 
+-- what is made of each of them, where all are
 pub try_keeps : {A B : Type 0} (P : A → Type 0) (Q : B → Type 0) (f : A → Result B FaultValue) → ((a : A) → P a → IfOk (f a) Q) → (xs : List A) → All P xs
     → IfOk (try_all f xs) (λ ys. (length ys ≡ length xs) × All Q ys)
 try_keeps P Q f so [] h = (refl, All-nil Q)

@@ -23,7 +23,7 @@ use Rattle.form_meaning.specs.Signature.{method_named, parameters_of, either, se
 use Rattle.form_meaning.specs.Binding.{Bound, not_taken, not_listed, bound, bound_of, on_bound, whole_in, truth_in}
 use Rattle.form_meaning.specs.Finish.{first_repeated, limited, finished, try_all, with_columns, same_kind, across_columns}
 use Rattle.form_meaning.specs.Select.{cells_of}
-use Rattle.form_meaning.specs.Make.{on, kind_given, pairs_in}
+use Rattle.form_meaning.specs.Make.{kind_given, pairs_in}
 use Rattle.format_meaning.specs.CsvWrite.{csv_text_of}
 use Rattle.method_meaning.specs.Methods.{each_column, mapped, missing_mark, present_mark, filled_column, is_in, shifted_column, cast_as, cumulated, Summary, reduced, distinct, made_cell, summary_cell, summary_kind, kind_for, summary_as, summary_of, summary, renamed_series, is_scalar_pair, renamed_heading, renamed_frame, as_frame, reset_index_result, csv_answer, answer_for, is_built}
 use Rattle.method_meaning.specs.Calls.{has_method, called, method_result, ChainValue, plain, grouped, through, not_built_if, chain_result}
@@ -39,7 +39,6 @@ use Rattle.table_laws.proofs.GroupLaws.{grouped_result_keeps}
 use Rattle.table_laws.proofs.LevelLaws.{rename_axis_keeps, set_index_keeps, renumbered_keeps, levels_reset_keeps, droplevel_keeps, swaplevel_keeps}
 use Rattle.table_laws.proofs.ReindexLaws.{reindex_keeps}
 use Rattle.table_laws.proofs.SectionLaws.{xs_keeps}
-use Rattle.method_meaning.specs.Levels.{renumbered, levels_reset}
 use Rattle.method_meaning.specs.Rows.{all_places}
 
 -- each column by itself
@@ -183,13 +182,14 @@ csv_keeps index t = by (index || nat_lt 0 (length t.columns))
     by false = tt
 
 -- the shapes that have a method
-abbrev suits : Method → Shape → Bool
+abbrev pub suits : Method → Shape → Bool
 suits method.RenameSeries Frame = false
 suits method.RenameFrame Series = false
 suits method.ToFrame Frame = false
 suits method.DropColumns Series = false
 suits method.SetIndex Series = false
 suits method.ReindexFrame Series = false
+suits method.Merge Series = false
 suits m s = true
 
 series_of : (t : Table) (m : Method) → suits m Frame ≡ false → suits m t.shape ≡ true → t.shape ≡ Series
@@ -199,7 +199,7 @@ series_of t m never fit = by t.shape fit
     by Series e = refl
     by Frame e = Prim.cc
 
-frame_of : (t : Table) (m : Method) → suits m Series ≡ false → suits m t.shape ≡ true → t.shape ≡ Frame
+pub frame_of : (t : Table) (m : Method) → suits m Series ≡ false → suits m t.shape ≡ true → t.shape ≡ Frame
 frame_of t m never fit = by t.shape fit
   where
     by : (s : Shape) → suits m s ≡ true → s ≡ Frame
@@ -249,7 +249,7 @@ answer_keeps m gs t s fit = tt
 
 -- the method that a name means is one of the shape
 
-abbrev Suits : Shape → Option Method → Type 0
+abbrev pub Suits : Shape → Option Method → Type 0
 Suits s o = IfSome o (λ m. suits m s ≡ true)
 
 suits_if : (s : Shape) (b : Bool) (x y : Option Method) → Suits s x → Suits s y → Suits s (if b then x else y)
@@ -268,7 +268,7 @@ frame_suits : (s : Shape) (m : Method) → suits m Frame ≡ true → Suits s (f
 frame_suits Series m h = tt
 frame_suits Frame m h = h
 
-method_named_suits : (s : Shape) (t : Text) → Suits s (method_named s t)
+pub method_named_suits : (s : Shape) (t : Text) → Suits s (method_named s t)
 method_named_suits s t =
     (suits_if s (same_text t (codes "copy")) (Some method.Copy) _ refl
     (suits_if s (same_text t (codes "head")) (Some method.Head) _ refl
@@ -328,7 +328,7 @@ called_keeps (Some m) name gs t s fit = by (is_built m)
     by true = on_bound_keeps (bound_of (parameters_of m) gs) (λ given. answer_for m given t) (λ given. answer_keeps m given t s fit)
     by false = tt
 
-method_result_keeps : (v : Entry) (name : Text) (gs : List NamedGiven) → IsValidObject v → IfOk (method_result v name gs) IsValidEntry
+pub method_result_keeps : (v : Entry) (name : Text) (gs : List NamedGiven) → IsValidObject v → IfOk (method_result v name gs) IsValidEntry
 method_result_keeps (cell c) name gs h = tt
 method_result_keeps (table t) name gs h = called_keeps (method_named t.shape name) name gs t (shaped t h) (method_named_suits t.shape name)
 

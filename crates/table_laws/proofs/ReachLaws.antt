@@ -23,14 +23,13 @@ use Rattle.form_meaning.specs.Select.{column_place, column_places, labels_of}
 use Rattle.pick_meaning.specs.Faults.{PickFault, then_pick}
 use Rattle.pick_meaning.specs.Keys.{LabelKey, all_rows, one_key, each_key, between, PlaceKey, one_place, each_place, place_slice, Pick, has_one, key_pick, listed_pick, sliced_pick, single_pick, picked_by_label, picked_by_place}
 use Rattle.pick_meaning.specs.Labels.{rows_of_key, rows_of_keys}
-use Rattle.pick_meaning.specs.Leading.{leads, leading_cmp}
+use Rattle.pick_meaning.specs.Leading.{leads}
 use Rattle.pick_meaning.specs.Masks.{masked_rows}
 use Rattle.pick_meaning.specs.Positions.{row_at, rows_at, position_slice}
 use Rattle.pick_meaning.specs.Rows as pick_rows
-use Rattle.pick_meaning.specs.Slices.{label_slice}
 use Rattle.pick_meaning.proofs.InsideLaws.{ok_same, went_on, mask_inside}
 use Rattle.pick_meaning.proofs.KeyLaws.{picked_inside, placed_inside}
-use Rattle.select_meaning.specs.Keys.{found_pick, found_labels, label_key, label_pick, place_key, place_pick, is_mask, marks_of, mask_pick, loc_rows, loc_columns, whole_key, once, at_rows, iat_pick, rows_by, columns_by, joined_key, rows_by_two, all_columns, only_column, Reach, reach_of, reach_by, may_stand_alone}
+use Rattle.select_meaning.specs.Keys.{found_pick, found_labels, label_key, label_pick, place_key, place_pick, is_mask, marks_of, mask_pick, loc_rows, loc_columns, whole_key, once, at_rows, iat_pick, rows_by, columns_by, joined_key, rows_by_two, all_columns, only_column, reach_of, reach_by, may_stand_alone}
 use Rattle.select_meaning.specs.Select.{column_reach, columns_reach, frame_reach, item_reach, is_truth_list, Way, plain, through, way_reach, select_result}
 use Rattle.table_laws.specs.Validity.{IsValidObject, IsValidEntry}
 use Rattle.table_laws.proofs.ListLaws.{both_true, length_tabulate, then_keeps, try_keeps}

@@ -5,21 +5,21 @@ use Rattle.std.proofs.lemmas.Bool.{eqb-true}
 use Rattle.std.proofs.lemmas.List.{length-map}
 use Rattle.std.proofs.lemmas.List.Elements.{All-nil, All-cons}
 use Rattle.cell_core.specs.declared.grid.Shape.TheVariants.{Frame}
-use Rattle.meaning.specs.Cell.{CellValue, na_cell, LabelValue, Int64}
+use Rattle.meaning.specs.Cell.{na_cell, LabelValue, Int64}
 use Rattle.meaning.specs.Fault.{wrong_kind}
 use Rattle.meaning.specs.Operator.{cell_label}
 use Rattle.align_meaning.specs.Faults.{AlignRefusal, met_rows}
 use Rattle.align_meaning.specs.Targets.{reindexed}
 use Rattle.align_meaning.proofs.FoundLaws.{reindexed_count, reindexed_below}
-use Rattle.table_meaning.specs.Table.{ColumnOf, Table}
+use Rattle.table_meaning.specs.Table.{Table}
 use Rattle.table_meaning.specs.Value.{Given, GivenList, cell, table, nothing, one, row, many, entries, no_given, more_given}
 use Rattle.form_meaning.specs.Binding.{each, is_scalar, count_of, is_tuple_of}
 use Rattle.form_meaning.specs.Finish.{first_repeated, column_labels}
-use Rattle.form_meaning.specs.Infix.{same_tuple, on_rows}
+use Rattle.form_meaning.specs.Infix.{same_tuple}
 use Rattle.form_meaning.specs.Select.{labels_of}
 use Rattle.select_meaning.specs.Keys.{whole_item, whole_items}
 use Rattle.select_meaning.specs.Select.{row_name}
-use Rattle.method_meaning.specs.Reindex.{rows_at, rows_reindexed, column_or_missing, columns_at, columns_reindexed, reindex_rows, reindex_columns, reindex_result}
+use Rattle.method_meaning.specs.Reindex.{rows_at, rows_reindexed, column_or_missing, columns_at, columns_reindexed, reindex_result}
 use Rattle.table_laws.specs.Validity.{IsValidEntry}
 use Rattle.table_laws.proofs.ListLaws.{both_true, all_made, then_keeps}
 use Rattle.table_laws.proofs.CellLaws.{na_held}

@@ -1,6 +1,6 @@
 -- `xs` makes valid tables of valid ones.
-use Rattle.std.proofs.Common.{◌≡◌, refl, ℕ, ◌<◌, ◌≤◌, List, [], ◌∷◌, length}
-use Rattle.std.specs.Prelude.{Option, Result, Ok, IfOk, All}
+use Rattle.std.proofs.Common.{ℕ, ◌<◌, ◌≤◌, List, [], ◌∷◌, length}
+use Rattle.std.specs.Prelude.{Option, IfOk, All}
 use Rattle.meaning.specs.Cell.{CellValue, LabelValue}
 use Rattle.meaning.specs.Operator.{cell_label}
 use Rattle.pick_meaning.specs.Labels.{unless_none}

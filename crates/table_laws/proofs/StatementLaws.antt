@@ -1,34 +1,37 @@
 -- A statement leaves a valid state of a valid one.
 use Rattle.std.proofs.Common.{ℕ, List}
-use Rattle.std.specs.Prelude.{Bool, true, false, ◌||◌, if◌then◌else◌, codes, is_some, Option, Some, None, IfSome, Result, Ok, Err, IfOk}
+use Rattle.std.specs.Prelude.{Bool, true, false, ◌||◌, if◌then◌else◌, codes, is_some, Option, Some, None, IfSome, Result, Ok, Err, IfOk, All}
+use Rattle.std.proofs.lemmas.List.Elements.{All-nil, All-cons}
 use Rattle.std.specs.FinMap.{get}
 use Rattle.meaning.specs.Text.{Text, same_text, Contents}
 use Rattle.meaning.specs.Fault.{FaultValue}
 use Rattle.language_meaning.specs.Tree as tree
-use Rattle.language_meaning.specs.Tree.{Expr, Step, Sub, OptionalSub, OptionalArg, OptionalExpr, Arg, ArgList, Args, ArgPairs, Form}
+use Rattle.language_meaning.specs.Tree.{Expr, Step, Arg, ArgList, Args, Form}
 use Rattle.table_meaning.specs.Table.{Table}
 use Rattle.table_meaning.specs.Valid.{IsValid}
 use Rattle.table_meaning.specs.Value.{Entry, cell, table, NamedGiven, key_given}
 use Rattle.form_meaning.specs.declared.Function.TheVariants.{ReadCsv}
 use Rattle.form_meaning.specs.Signature.{function_named}
 use Rattle.select_meaning.specs.Select.{plain, through}
-use Rattle.form_meaning.specs.Functions.{make_result}
 use Rattle.select_meaning.specs.Set.{removal_result}
 use Rattle.method_meaning.specs.Calls as calls
 use Rattle.method_meaning.specs.Calls.{has_method, chain_result}
+use Rattle.method_meaning.specs.Concat.{tables_of}
+use Rattle.method_meaning.specs.Functions.{function_result}
 use Rattle.method_meaning.specs.Readers.{reads_file, file_name_of, read_result}
 use Rattle.script_meaning.specs.State.{State, with_new, without_name}
 use Rattle.script_meaning.specs.Reading.{Files, Reading, Reads, at_once, goes_on, then_read, of_bytes, of_path, of_file, path_of_name}
-use Rattle.script_meaning.specs.Expression.{named_by, value_of_name, is_minus, where_named, made, value_of, stepped, sub_of, second_of, brackets_of, bound_of, given_of, parts_of, pairs_of, named_of, target_of}
+use Rattle.script_meaning.specs.Expression.{named_by, value_of_name, is_minus, where_named, made, value_of, stepped, sub_of, second_of, brackets_of, given_of, part_of, parts_of, pairs_of, named_of, target_of}
 use Rattle.script_meaning.specs.Statement.{Answer, refused, then_answer, with_value, set_answer, assigned, statement_result}
-use Rattle.table_laws.specs.Validity.{IsValidObject, IsValidEntry, IsValidGiven, IsValidState, LeavesValid, HasHeldLiterals, IsHeldArgument, IsHeldForm}
+use Rattle.table_laws.specs.Validity.{IsValidObject, IsValidEntry, IsValidGiven, IsValidArgument, AreValidArguments, IsValidState, LeavesValid, HasHeldLiterals, IsHeldArgument, IsHeldForm}
 use Rattle.table_laws.proofs.InfixLaws.{infix_result_keeps, sign_result_keeps}
 use Rattle.table_laws.proofs.SelectLaws.{length_result_keeps}
 use Rattle.table_laws.proofs.ReachLaws.{select_result_keeps}
 use Rattle.table_laws.proofs.SetLaws.{assign_result_keeps, removal_result_keeps}
 use Rattle.table_laws.proofs.MethodLaws.{chain_result_keeps}
-use Rattle.table_laws.proofs.MakeLaws.{make_result_keeps}
 use Rattle.table_laws.proofs.CsvLaws.{read_result_keeps}
+use Rattle.table_laws.proofs.ArgumentLaws.{more_valid}
+use Rattle.table_laws.proofs.CallLaws.{call_result_keeps, function_result_keeps}
 
 abbrev Any : {A : Type 0} → A → Type 0
 Any a = Unit {0}
@@ -66,12 +69,12 @@ path_keeps : (held : Contents) (name : Text) (path : Option Text) (gs : List Nam
 path_keeps held name None gs = tt
 path_keeps held name (Some path) gs = bytes_keep name (get held path) gs
 
-made_keeps : (files : Files) (f : Text) (gs : List NamedGiven) → IfOk (made files f gs).answer IsValidEntry
-made_keeps files f gs = by (reads_file (function_named f))
+made_keeps : (files : Files) (f : Text) (gs : List NamedGiven) → AreValidArguments gs → IfOk (made files f gs).answer IsValidEntry
+made_keeps files f gs h = by (reads_file (function_named f))
   where
-    by : (b : Bool) → IfOk (if b then then_read (at_once (file_name_of ReadCsv gs)) (λ name. of_file files name (λ bytes. read_result bytes gs)) else at_once (make_result f gs)).answer IsValidEntry
+    by : (b : Bool) → IfOk (if b then then_read (at_once (file_name_of ReadCsv gs)) (λ name. of_file files name (λ bytes. read_result bytes gs)) else at_once (function_result None f gs)).answer IsValidEntry
     by true = after_any IsValidEntry (at_once (file_name_of ReadCsv gs)) (λ name. of_file files name (λ bytes. read_result bytes gs)) (λ name. path_keeps files.held name (path_of_name files.paths name) gs)
-    by false = make_result_keeps f gs
+    by false = function_result_keeps None f gs h
 
 -- expressions
 
@@ -79,41 +82,101 @@ name_keeps : (n : Text) (o : Option Entry) → IfSome o IsValidEntry → IfOk (v
 name_keeps n None h = tt
 name_keeps n (Some v) h = h
 
-module _ (files : Files) (s : State) where
-  step_keeps : (v : Entry) (step : Step) → IsValidObject v → IfOk (stepped files s v step).answer IsValidEntry
-  step_keeps v (tree.item a) h = after_any IsValidEntry (given_of files s a) _ (λ g. select_result_keeps v plain (key_given g) None h)
-  step_keeps v (tree.access by first second) h =
-      after_any IsValidEntry (sub_of files s first) _ (λ g. after_any IsValidEntry (second_of files s second) _ (λ k. select_result_keeps v (through by) g k h))
-  step_keeps v (tree.method n args) h = named_keeps (has_method v n) n _ (after_any IsValidEntry (named_of files s args) _ (λ gs. chain_result_keeps v (calls.plain n) gs h))
-  step_keeps v (tree.group args by n more) h =
-      named_keeps (has_method v (codes "groupby")) (codes "groupby") _
-      (after_any IsValidEntry (named_of files s args) _ (λ g. after_any IsValidEntry (brackets_of files s by) _ (λ k. after_any IsValidEntry (named_of files s more) _ (λ gs. chain_result_keeps v (calls.grouped g k n) gs h))))
-  step_keeps v (tree.rolling args n more) h =
-      named_keeps (has_method v (codes "rolling")) (codes "rolling") _
-      (after_any IsValidEntry (named_of files s args) _ (λ g. after_any IsValidEntry (named_of files s more) _ (λ gs. chain_result_keeps v (calls.through (codes "rolling")) gs h)))
-  step_keeps v (tree.expanding args n more) h =
-      named_keeps (has_method v (codes "expanding")) (codes "expanding") _
-      (after_any IsValidEntry (named_of files s args) _ (λ g. after_any IsValidEntry (named_of files s more) _ (λ gs. chain_result_keeps v (calls.through (codes "expanding")) gs h)))
+-- the value of an expression: a table is valid, and a column can hold a scalar where it can hold the literals
+record IsValueOf (x : Expr) (v : Entry) : Type 0 where
+  valid : IsValidObject v
+  held : HasHeldLiterals x → IsValidEntry v
 
-  -- what an expression gives in a valid state
-  pub value_of_keeps : IsValidState s → (x : Expr) → HasHeldLiterals x → IfOk (value_of files s x).answer IsValidEntry
-  value_of_keeps valid (tree.name n) h = name_keeps n (s.value n) (valid n)
-  value_of_keeps valid (tree.literal v) h = h
-  value_of_keeps valid (tree.unary o x) h = read_keeps IsValidEntry IsValidEntry (value_of files s x) _ (value_of_keeps valid x h) (λ v k. sign_result_keeps (is_minus o) v (object v k))
-  value_of_keeps valid (tree.binary o x y) h =
-      read_keeps IsValidEntry IsValidEntry (value_of files s x) _ (value_of_keeps valid x h.0)
-      (λ v k. read_keeps IsValidEntry IsValidEntry (value_of files s y) _ (value_of_keeps valid y h.1) (λ w l. infix_result_keeps o v w (object v k) (object w l)))
-  value_of_keeps valid (tree.after x step) h = read_keeps IsValidEntry IsValidEntry (value_of files s x) _ (value_of_keeps valid x h) (λ v k. step_keeps v step (object v k))
-  value_of_keeps valid (tree.len x) h = after_any IsValidEntry (value_of files s x) _ (λ v. length_result_keeps v)
-  value_of_keeps valid (tree.make f args) h = named_keeps (is_some (function_named f)) f _ (after_any IsValidEntry (named_of files s args) _ (λ gs. made_keeps files f gs))
-  value_of_keeps valid (tree.paren x) h = value_of_keeps valid x h
+abbrev Gives : Expr → Reads Entry → Type 0
+Gives x r = IfOk r.answer (IsValueOf x)
 
-  given_keeps : IsValidState s → (a : Arg) → IsHeldArgument a → IfOk (given_of files s a).answer IsValidGiven
-  given_keeps valid (tree.expr x) h = read_keeps IsValidEntry IsValidGiven (value_of files s x) _ (value_of_keeps valid x h) (λ v k. k)
-  given_keeps valid (tree.many parts) h = after_any IsValidGiven (parts_of files s parts) _ (λ parts. tt)
-  given_keeps valid (tree.row parts) h = after_any IsValidGiven (parts_of files s parts) _ (λ parts. tt)
-  given_keeps valid (tree.table pairs) h = after_any IsValidGiven (pairs_of files s pairs) _ (λ pairs. tt)
-  given_keeps valid tree.nothing h = tt
+gives_valid : (x : Expr) (r : Reads Entry) → IfOk r.answer IsValidEntry → Gives x r
+gives_valid x r h = by r.answer h
+  where
+    by : (o : Result Entry FaultValue) → IfOk o IsValidEntry → IfOk o (IsValueOf x)
+    by (Ok v) h = record { valid = object v h; held = λ _. h }
+    by (Err fault) h = tt
+
+module _ (files : Files) (s : State) (valid : IsValidState s) where
+  mutual
+    value_valid : (x : Expr) → Gives x (value_of files s x)
+    value_valid (tree.name n) = gives_valid (tree.name n) (at_once (value_of_name n (s.value n))) (name_keeps n (s.value n) (valid n))
+    value_valid (tree.literal v) = record { valid = tt; held = λ h. h }
+    value_valid (tree.unary o x) =
+        gives_valid (tree.unary o x) (value_of files s (tree.unary o x)) (read_keeps (IsValueOf x) IsValidEntry (value_of files s x) _ (value_valid x) (λ v k. sign_result_keeps (is_minus o) v k.valid))
+    value_valid (tree.binary o x y) =
+        gives_valid (tree.binary o x y) (value_of files s (tree.binary o x y))
+        (read_keeps (IsValueOf x) IsValidEntry (value_of files s x) _ (value_valid x)
+        (λ v k. read_keeps (IsValueOf y) IsValidEntry (value_of files s y) _ (value_valid y) (λ w l. infix_result_keeps o v w k.valid l.valid)))
+    value_valid (tree.after x step) =
+        gives_valid (tree.after x step) (value_of files s (tree.after x step)) (read_keeps (IsValueOf x) IsValidEntry (value_of files s x) _ (value_valid x) (λ v k. step_keeps v step k.valid))
+    value_valid (tree.len x) = gives_valid (tree.len x) (value_of files s (tree.len x)) (after_any IsValidEntry (value_of files s x) _ (λ v. length_result_keeps v))
+    value_valid (tree.make f args) =
+        gives_valid (tree.make f args) (value_of files s (tree.make f args))
+        (named_keeps (is_some (function_named f)) f _ (read_keeps AreValidArguments IsValidEntry (named_of files s args) _ (arguments_valid args) (λ gs k. made_keeps files f gs k)))
+    value_valid (tree.paren x) = parens (value_of files s x).answer (value_valid x)
+      where
+        parens : (o : Result Entry FaultValue) → IfOk o (IsValueOf x) → IfOk o (IsValueOf (tree.paren x))
+        parens (Ok v) h = record { valid = h.valid; held = h.held }
+        parens (Err fault) h = tt
+
+    step_keeps : (v : Entry) (step : Step) → IsValidObject v → IfOk (stepped files s v step).answer IsValidEntry
+    step_keeps v (tree.item a) h = after_any IsValidEntry (given_of files s a) _ (λ g. select_result_keeps v plain (key_given g) None h)
+    step_keeps v (tree.access by first second) h =
+        after_any IsValidEntry (sub_of files s first) _ (λ g. after_any IsValidEntry (second_of files s second) _ (λ k. select_result_keeps v (through by) g k h))
+    step_keeps v (tree.method n args) h =
+        named_keeps (has_method v n) n _ (read_keeps AreValidArguments IsValidEntry (named_of files s args) _ (arguments_valid args) (λ gs k. call_result_keeps v (calls.plain n) gs h k))
+    step_keeps v (tree.group args by n more) h =
+        named_keeps (has_method v (codes "groupby")) (codes "groupby") _
+        (after_any IsValidEntry (named_of files s args) _ (λ g. after_any IsValidEntry (brackets_of files s by) _ (λ k. after_any IsValidEntry (named_of files s more) _ (λ gs. chain_result_keeps v (calls.grouped g k n) gs h))))
+    step_keeps v (tree.rolling args n more) h =
+        named_keeps (has_method v (codes "rolling")) (codes "rolling") _
+        (after_any IsValidEntry (named_of files s args) _ (λ g. after_any IsValidEntry (named_of files s more) _ (λ gs. chain_result_keeps v (calls.through (codes "rolling")) gs h)))
+    step_keeps v (tree.expanding args n more) h =
+        named_keeps (has_method v (codes "expanding")) (codes "expanding") _
+        (after_any IsValidEntry (named_of files s args) _ (λ g. after_any IsValidEntry (named_of files s more) _ (λ gs. chain_result_keeps v (calls.through (codes "expanding")) gs h)))
+
+    argument_valid : (a : Arg) → IfOk (given_of files s a).answer IsValidArgument
+    argument_valid (tree.expr x) = read_keeps (IsValueOf x) IsValidArgument (value_of files s x) _ (value_valid x) (λ v k. k.valid)
+    argument_valid (tree.many parts) = read_keeps (λ gs. All IsValid (tables_of gs)) IsValidArgument (parts_of files s parts) _ (parts_valid parts) (λ gs k. k)
+    argument_valid (tree.row parts) = after_any IsValidArgument (parts_of files s parts) _ (λ gs. tt)
+    argument_valid (tree.table pairs) = after_any IsValidArgument (pairs_of files s pairs) _ (λ pairs. tt)
+    argument_valid tree.nothing = tt
+
+    part_valid : (a : Arg) → IfOk (part_of files s a).answer IsValidArgument
+    part_valid (tree.expr x) = read_keeps (IsValueOf x) IsValidArgument (value_of files s x) _ (value_valid x) (λ v k. k.valid)
+    part_valid (tree.row parts) = after_any IsValidArgument (parts_of files s parts) _ (λ gs. tt)
+    part_valid (tree.many parts) = tt
+    part_valid (tree.table pairs) = tt
+    part_valid tree.nothing = tt
+
+    parts_valid : (parts : ArgList) → IfOk (parts_of files s parts).answer (λ gs. All IsValid (tables_of gs))
+    parts_valid tree.no_args = All-nil IsValid
+    parts_valid (tree.more_args a rest) =
+        read_keeps IsValidArgument (λ gs. All IsValid (tables_of gs)) (part_of files s a) _ (part_valid a)
+        (λ g h. read_keeps (λ gs. All IsValid (tables_of gs)) (λ gs. All IsValid (tables_of gs)) (parts_of files s rest) _ (parts_valid rest) (λ gs k. more_valid g gs h k))
+
+    arguments_valid : (args : Args) → IfOk (named_of files s args).answer AreValidArguments
+    arguments_valid tree.no_named = All-nil (λ (g : NamedGiven). IsValidArgument g.value)
+    arguments_valid (tree.more_named n a rest) =
+        read_keeps IsValidArgument AreValidArguments (given_of files s a) _ (argument_valid a)
+        (λ g h. read_keeps AreValidArguments AreValidArguments (named_of files s rest) _ (arguments_valid rest)
+        (λ gs k. All-cons (λ (g : NamedGiven). IsValidArgument g.value) record { name = n; value = g } gs h k))
+
+-- what an expression gives in a valid state
+pub value_of_keeps : (files : Files) (s : State) → IsValidState s → (x : Expr) → HasHeldLiterals x → IfOk (value_of files s x).answer IsValidEntry
+value_of_keeps files s valid x h = by (value_of files s x).answer (value_valid files s valid x)
+  where
+    by : (o : Result Entry FaultValue) → IfOk o (IsValueOf x) → IfOk o IsValidEntry
+    by (Ok v) k = k.held h
+    by (Err fault) k = tt
+
+given_keeps : (files : Files) (s : State) → IsValidState s → (a : Arg) → IsHeldArgument a → IfOk (given_of files s a).answer IsValidGiven
+given_keeps files s valid (tree.expr x) h = read_keeps IsValidEntry IsValidGiven (value_of files s x) _ (value_of_keeps files s valid x h) (λ v k. k)
+given_keeps files s valid (tree.many parts) h = after_any IsValidGiven (parts_of files s parts) _ (λ parts. tt)
+given_keeps files s valid (tree.row parts) h = after_any IsValidGiven (parts_of files s parts) _ (λ parts. tt)
+given_keeps files s valid (tree.table pairs) h = after_any IsValidGiven (pairs_of files s pairs) _ (λ pairs. tt)
+given_keeps files s valid tree.nothing h = tt
 
 -- states
 

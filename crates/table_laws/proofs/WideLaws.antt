@@ -1,6 +1,6 @@
 -- Frames under joined labels of columns are valid.
 use Rattle.std.proofs.Common.{◌≡◌, ◌≢◌, ◌∙◌, ◌<◌, refl, ap, sym, subst, ℕ, zero, suc, pos, List, [], ◌∷◌, length, map, arith}
-use Rattle.std.specs.Prelude.{Bool, true, false, ◌&&◌, replicate, slice_index_or, unwrap_or, Option, Some, None, IsSome, Result, Ok, Err, All, AllPairs}
+use Rattle.std.specs.Prelude.{◌&&◌, replicate, slice_index_or, unwrap_or, Option, Some, None, IsSome, All, AllPairs}
 use Rattle.std.specs.Bool.{Decides}
 use Rattle.std.proofs.lemmas.Bool.Decides.{Decides-and, Decides-like}
 use Rattle.std.proofs.lemmas.List.{length-map}
@@ -9,8 +9,7 @@ use Rattle.cell_core.specs.declared.cell.Kind.{Kind}
 use Rattle.cell_core.specs.declared.cell.Kind.TheVariants.{Int64}
 use Rattle.cell_core.specs.declared.grid.Shape.TheVariants.{Series, Frame}
 use Rattle.meaning.specs.Cell.{CellValue, LabelValue, int, na_cell}
-use Rattle.align_meaning.specs.Joins.{Lists}
-use Rattle.align_meaning.proofs.InsideLaws.{IsRowOf, AreInside}
+use Rattle.align_meaning.proofs.InsideLaws.{IsRowOf}
 use Rattle.table_meaning.specs.Table.{ColumnOf, Table, column_at}
 use Rattle.form_meaning.specs.Binding.{same_label}
 use Rattle.form_meaning.specs.Finish.{first_repeated, column_of_value, column_labels}

@@ -1,5 +1,5 @@
 -- Values, states and answers of which each table is valid.
-use Rattle.std.specs.Prelude.{◌≡◌, ℕ, true, Option, Some, IfSome}
+use Rattle.std.specs.Prelude.{◌≡◌, ℕ, true, List, Option, Some, IfSome, All}
 use Rattle.meaning.specs.Text.{Text}
 use Rattle.meaning.specs.Cell.{CellValue, Int64, holds}
 use Rattle.meaning.specs.Operator.{scalar_kind}
@@ -7,7 +7,8 @@ use Rattle.language_meaning.specs.Tree as tree
 use Rattle.language_meaning.specs.Tree.{Expr, Arg, Form}
 use Rattle.table_meaning.specs.Table.{Table}
 use Rattle.table_meaning.specs.Valid.{IsValid}
-use Rattle.table_meaning.specs.Value.{Entry, cell, table, Given, nothing, one, row, many, entries}
+use Rattle.table_meaning.specs.Value.{Entry, cell, table, Given, NamedGiven, nothing, one, row, many, entries}
+use Rattle.method_meaning.specs.Concat.{tables_of}
 use Rattle.script_meaning.specs.Expression.{cell_of}
 use Rattle.script_meaning.specs.State.{State}
 use Rattle.script_meaning.specs.Statement.{Answer, done, refused}
@@ -33,6 +34,17 @@ IsValidGiven nothing = Unit {0}
 IsValidGiven (row parts) = Unit {0}
 IsValidGiven (many parts) = Unit {0}
 IsValidGiven (entries pairs) = Unit {0}
+
+-- the table that an argument is, and those in a list, are valid; no call looks for one elsewhere
+abbrev pub IsValidArgument : Given → Type 0
+IsValidArgument (one v) = IsValidObject v
+IsValidArgument (many parts) = All IsValid (tables_of parts)
+IsValidArgument nothing = Unit {0}
+IsValidArgument (row parts) = Unit {0}
+IsValidArgument (entries pairs) = Unit {0}
+
+abbrev pub AreValidArguments : List NamedGiven → Type 0
+AreValidArguments gs = All (λ g. IsValidArgument g.value) gs
 
 -- each table is valid, of objects by number
 abbrev pub AreValid : (ℕ → Option Table) → Type 0

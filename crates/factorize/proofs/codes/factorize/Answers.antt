@@ -1,9 +1,10 @@
 use Rattle.std.proofs.Common.{◌∙◌, ◌<◌, ap, sym, subst, map, length, All}
 use Rattle.multi_index.specs.Axes.{tuples_at}
 use Rattle.row_keys.specs.Keys.{same_tuple, place_among}
-use Rattle.group_meaning.specs.Keys.{group_keys, group_codes}
+use Rattle.group_meaning.specs.Keys.{group_keys}
+use Rattle.group_meaning.specs.Grouping.{AreGroups}
 use Rattle.factorize.specs.Keys.{seen_rules}
-use Rattle.factorize.proofs.GroupLaws.{rows_inside, tuples_there, law_of}
+use Rattle.factorize.proofs.GroupLaws.{rows_inside, tuples_there}
 use Rattle.factorize.proofs.codes.factorize.Goals as goal
 
 pub tuples_of-requires : goal.tuples_of-requires
@@ -18,7 +19,5 @@ returns-clause-keys c =
 
 pub returns-clause-law : goal.returns-clause-law
 returns-clause-law c =
-    let firsts = c.in_ok-groups.ensures.firsts ∙ ap (λ keys. map (place_among same_tuple keys) (group_keys (seen_rules c.args.dict.now) c.args.sorted c.args.dropna keys)) c.of.ensures in
-    law_of c.args.dict.now c.args.keys.now c.args.sorted c.args.dropna c.in_ok-distinct.distinct c.in_ok-groups.field-0.groups.codes
-    (c.in_ok-distinct.ensures ∙ ap (tuples_at c.args.keys.now) firsts ∙ tuples_there c.args.dict.now c.args.keys.now c.args.sorted c.args.dropna)
-    (c.in_ok-groups.ensures.codes ∙ ap (group_codes (seen_rules c.args.dict.now) c.args.sorted c.args.dropna) c.of.ensures)
+    subst (λ tuples. AreGroups (seen_rules c.args.dict.now) c.args.sorted c.args.dropna c.args.keys.now tuples c.in_ok-groups.field-0.groups.codes) (sym c.in_ok-distinct.ensures)
+    (subst (λ keys. AreGroups (seen_rules c.args.dict.now) c.args.sorted c.args.dropna keys (tuples_at keys c.in_ok-groups.field-0.firsts) c.in_ok-groups.field-0.groups.codes) c.of.ensures c.in_ok-groups.ensures.law)

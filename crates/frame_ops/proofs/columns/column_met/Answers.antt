@@ -1,6 +1,6 @@
 use Rattle.std.proofs.Common.{◌≡◌, refl, subst, sym, true, []}
 use Rattle.nullable_array.specs.Answers.{Answers}
-use Rattle.nullable_array.specs.Tasks.{operator_of}
+use Rattle.column_operators.specs.Tasks.{operator_of}
 use Rattle.table_meaning.specs.Table.{column_at}
 use Rattle.frame_ops.specs.declared.other.Other.{Other}
 use Rattle.frame_ops.specs.Pairs.{pair_at, kinds_meet, meeting_value, column_meant}

@@ -1,7 +1,7 @@
 use Rattle.std.proofs.Common.{◌≡◌, ◌<◌, List, length, arith, rules, subst, sym, Result, Err}
 use Rattle.column_core.specs.Blocks.{CellBlock}
 use Rattle.frame_store.specs.declared.fault.OpFault.{OpFault}
-use Rattle.nullable_array.specs.Tasks.{operator_of}
+use Rattle.column_operators.specs.Tasks.{operator_of}
 use Rattle.form_meaning.specs.Finish.{try_all}
 use Rattle.form_meaning.specs.Infix.{met}
 use Rattle.form_parts.specs.Makes.{MakesBy, blocks_value}

@@ -2,7 +2,7 @@ use Rattle.std.proofs.Common.{◌≡◌, ◌++◌, drop, length, true, Ok}
 use Rattle.std.specs.List.{list_all}
 use Rattle.meaning.specs.Cell.{IsLonger}
 use Rattle.meaning.specs.Fault.{then_value}
-use Rattle.nullable_array.specs.Tasks.{operator_of}
+use Rattle.column_operators.specs.Tasks.{operator_of}
 use Rattle.form_meaning.specs.Finish.{try_all}
 use Rattle.form_meaning.specs.Infix.{met}
 use Rattle.form_parts.specs.Makes.{blocks_value, AreColumns}

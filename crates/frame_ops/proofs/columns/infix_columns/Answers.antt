@@ -2,7 +2,7 @@ use Rattle.std.proofs.Common.{◌≡◌, List, length, true, false, rules, sym, 
 use Rattle.std.specs.List.{list_all}
 use Rattle.meaning.specs.Cell.{CellValue}
 use Rattle.meaning.specs.Fault.{FaultValue}
-use Rattle.nullable_array.specs.Tasks.{operator_of}
+use Rattle.column_operators.specs.Tasks.{operator_of}
 use Rattle.table_meaning.specs.Table.{ColumnOf}
 use Rattle.form_meaning.specs.Finish.{within_limits}
 use Rattle.form_parts.specs.Makes.{MakesBy, blocks_value}

@@ -1,5 +1,5 @@
 use Rattle.std.proofs.Common.{◌≡◌, ◌∙◌, length, false, rules, subst, refl}
-use Rattle.nullable_array.specs.Tasks.{operator_of}
+use Rattle.column_operators.specs.Tasks.{operator_of}
 use Rattle.form_meaning.specs.Finish.{within_limits}
 use Rattle.form_parts.specs.Makes.{MakesBy, blocks_value}
 use Rattle.frame_ops.proofs.JoinedTable.{sides_beyond, opposite_of, meant_of, columns_of, side_given}
@@ -7,7 +7,7 @@ use Rattle.frame_ops.proofs.joining.joined_columns.Goals as goal
 
 pub returns-then-not-within_limits-clause-made : goal.returns-then-not-within_limits-clause-made
 returns-then-not-within_limits-clause-made c =
-    let beyond : within_limits (length c.args.rows.now.tuples) (length c.args.a.now.columns) ≡ false = search rules in
+    let beyond : within_limits (length c.args.rows.now.axis.tuples) (length c.args.a.now.columns) ≡ false = search rules in
     (sides_beyond (operator_of c.args.op) c.args.dict.now c.args.a.now c.args.b.now c.args.rows.now c.requires.columns c.requires.kinds beyond, λ more. refl)
 
 pub infix_columns-requires-clause-opposite : goal.infix_columns-requires-clause-opposite

@@ -1,4 +1,6 @@
-use Rattle.std.proofs.Common.{◌∙◌, length, subst, sym, Err}
+use Rattle.std.proofs.Common.{◌∙◌, List, Option, None, length, ap, subst, sym, Err}
+use Rattle.std.proofs.lemmas.List.{length-replicate}
+use Rattle.cell_core.specs.declared.cell.Label.{Label}
 use Rattle.multi_index.specs.Axes.{HaveLevels}
 use Rattle.row_keys.specs.Keys.{same_tuple}
 use Rattle.align_meaning.proofs.DifferLaws.{joined_apart}
@@ -46,6 +48,9 @@ returns-in-Ok-clause-inside c =
     is_joined c.args.dict.now a b c.in-Ok.rows
     (rows_inside c.args.dict.now a.tuples b.tuples c.len.ensures.distinct c.requires.given_a c.requires.given_b (length a.names)
     (subst (λ n. HaveLevels n a.tuples) c.levels.ensures.count c.levels.ensures.alike) (subst (λ n. HaveLevels n b.tuples) (c.levels-2.ensures.count ∙ sym c.requires.levels) c.levels-2.ensures.alike) c.in-Ok.rows c.in-Ok.ensures.rows)
+
+pub returns-in-Ok-clause-names : goal.returns-in-Ok-clause-names
+returns-in-Ok-clause-names c = ap (λ (names : List (Option Label)). length names) c.in-Ok.ensures.names ∙ length-replicate (length c.args.a.now.names) None
 
 pub returns-in-Ok-clause-apart : goal.returns-in-Ok-clause-apart
 returns-in-Ok-clause-apart c = λ left right. joined_apart same_tuple (tuple_less c.args.dict.now) tuple_decides c.args.a.now.tuples c.args.b.now.tuples left right (lists_seen c.in-Ok.rows) c.in-Ok.ensures.rows

@@ -1,5 +1,5 @@
 use Rattle.std.proofs.Common.{◌≡◌, ◌∙◌, sym, true, false, rules}
-use Rattle.nullable_array.specs.Tasks.{operator_of}
+use Rattle.column_operators.specs.Tasks.{operator_of}
 use Rattle.frame_ops.proofs.InfixLaws.{makes_as, across_is_meant, across_is_unequal, across_opposite, series_given}
 use Rattle.frame_ops.proofs.tables.across_infix.Goals as goal
 

@@ -1,7 +1,7 @@
 use Rattle.std.proofs.Common.{◌≡◌, ◌∙◌, length, ap, refl, sym}
 use Rattle.std.specs.Prelude.{◌≢◌}
 use Rattle.multi_index.specs.Axes.{AxisValue}
-use Rattle.nullable_array.specs.Tasks.{operator_of}
+use Rattle.column_operators.specs.Tasks.{operator_of}
 use Rattle.frame_ops.proofs.InfixLaws.{makes_as}
 use Rattle.frame_ops.proofs.AcrossLaws.{across_kinds, across_levels, across_unfit, across_compared, across_met}
 use Rattle.frame_ops.proofs.tables.across_unequal.Goals as goal

@@ -1,5 +1,5 @@
 use Rattle.std.proofs.Common.{ap}
-use Rattle.nullable_array.specs.Tasks.{operator_of}
+use Rattle.column_operators.specs.Tasks.{operator_of}
 use Rattle.table_meaning.specs.Table.{table_value}
 use Rattle.form_meaning.specs.Infix.{rows_infix}
 use Rattle.frame_ops.proofs.InfixLaws.{makes_as, frame_named, columns_name_settled}

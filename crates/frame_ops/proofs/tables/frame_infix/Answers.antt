@@ -1,5 +1,5 @@
 use Rattle.std.proofs.Common.{◌≡◌, ◌∙◌, sym, true, false, rules}
-use Rattle.nullable_array.specs.Tasks.{operator_of}
+use Rattle.column_operators.specs.Tasks.{operator_of}
 use Rattle.frame_ops.proofs.InfixLaws.{makes_as, frame_is_meant, frame_is_wide, frame_columns}
 use Rattle.frame_ops.proofs.tables.frame_infix.Goals as goal
 

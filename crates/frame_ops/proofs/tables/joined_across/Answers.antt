@@ -1,6 +1,6 @@
 use Rattle.std.proofs.Common.{◌∙◌, Result, ap, sym, true, false}
 use Rattle.meaning.specs.Fault.{FaultValue, then_value}
-use Rattle.nullable_array.specs.Tasks.{operator_of}
+use Rattle.column_operators.specs.Tasks.{operator_of}
 use Rattle.table_meaning.specs.Table.{NumberedTable, Table, table_value}
 use Rattle.form_meaning.specs.Infix.{joined_frames, joined_turned, spread_frame}
 use Rattle.frame_ops.proofs.InfixLaws.{makes_as}

@@ -1,6 +1,6 @@
 use Rattle.std.proofs.Common.{◌≡◌, ◌∙◌, sym, true, false, rules}
 use Rattle.std.proofs.lemmas.List.{length-map}
-use Rattle.nullable_array.specs.Tasks.{operator_of}
+use Rattle.column_operators.specs.Tasks.{operator_of}
 use Rattle.table_meaning.specs.Table.{table_value, tuple_value}
 use Rattle.form_meaning.specs.Infix.{same_tuples}
 use Rattle.frame_store.specs.Shown.{labels_value}

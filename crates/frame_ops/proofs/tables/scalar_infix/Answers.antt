@@ -1,4 +1,4 @@
-use Rattle.nullable_array.specs.Tasks.{operator_of}
+use Rattle.column_operators.specs.Tasks.{operator_of}
 use Rattle.frame_ops.proofs.InfixLaws.{makes_as, scalar_is_meant}
 use Rattle.frame_ops.proofs.tables.scalar_infix.Goals as goal
 

@@ -1,7 +1,7 @@
 use Rattle.std.proofs.Common.{◌≡◌, length, true, false, arith, rules, refl}
 use Rattle.std.specs.Prelude.{◌≢◌}
 use Rattle.std.specs.List.{list_all}
-use Rattle.nullable_array.specs.Tasks.{operator_of}
+use Rattle.column_operators.specs.Tasks.{operator_of}
 use Rattle.form_meaning.specs.Infix.{compares}
 use Rattle.frame_ops.specs.declared.other.Other.TheVariants.{Beside}
 use Rattle.frame_ops.specs.Pairs.{kinds_meet, pairs_from}

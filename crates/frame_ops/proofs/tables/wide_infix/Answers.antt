@@ -1,6 +1,6 @@
 use Rattle.std.proofs.Common.{◌≡◌, ◌∙◌, Result, Ok, Err, ap, length, sym, subst, rules}
 use Rattle.meaning.specs.Fault.{FaultValue, then_value}
-use Rattle.nullable_array.specs.Tasks.{operator_of}
+use Rattle.column_operators.specs.Tasks.{operator_of}
 use Rattle.table_meaning.specs.Table.{NumberedTable, table_value}
 use Rattle.form_meaning.specs.Finish.{column_labels}
 use Rattle.form_meaning.specs.Infix as meant
@@ -16,12 +16,12 @@ use Rattle.frame_ops.proofs.tables.wide_infix.Goals as goal
 pub unequal_columns-requires-clause-known_a : goal.unequal_columns-requires-clause-known_a
 unequal_columns-requires-clause-known_a c =
     subst (IsKnownTable c.args.dict.now) (sym (c.read-on.ensures ∙ c.in_ok-left.ensures))
-    (known_wide c.args.dict.now c.args.a.now c.args.b.now c.in_ok-joined.joined.tuples c.in_ok-joined.joined.left c.in_ok-joined.joined.right c.requires.known_a c.requires.frame_a c.in_ok-joined.ensures.keys c.in_ok-joined.ensures.given c.in_ok-joined.ensures.left c.in_ok-joined.ensures.right)
+    (known_wide c.args.dict.now c.args.a.now c.args.b.now c.in_ok-joined.joined.axis.tuples c.in_ok-joined.joined.left c.in_ok-joined.joined.right c.requires.known_a c.requires.frame_a c.in_ok-joined.ensures.keys c.in_ok-joined.ensures.given c.in_ok-joined.ensures.left c.in_ok-joined.ensures.right)
 
 pub unequal_columns-requires-clause-known_b : goal.unequal_columns-requires-clause-known_b
 unequal_columns-requires-clause-known_b c =
     subst (IsKnownTable c.args.dict.now) (sym (c.read.ensures ∙ c.in_ok-right.ensures))
-    (known_wide c.args.dict.now c.args.b.now c.args.a.now c.in_ok-joined.joined.tuples c.in_ok-joined.joined.right c.in_ok-joined.joined.left c.requires.known_b c.requires.frame_b c.in_ok-joined.ensures.keys c.in_ok-joined.ensures.given c.in_ok-joined.ensures.right c.in_ok-joined.ensures.left)
+    (known_wide c.args.dict.now c.args.b.now c.args.a.now c.in_ok-joined.joined.axis.tuples c.in_ok-joined.joined.right c.in_ok-joined.joined.left c.requires.known_b c.requires.frame_b c.in_ok-joined.ensures.keys c.in_ok-joined.ensures.given c.in_ok-joined.ensures.right c.in_ok-joined.ensures.left)
 
 pub unequal_columns-requires-clause-frame : goal.unequal_columns-requires-clause-frame
 unequal_columns-requires-clause-frame c = ap (λ (t : NumberedTable). t.shape) (c.read-on.ensures ∙ c.in_ok-left.ensures) ∙ c.requires.frame_a
@@ -31,8 +31,8 @@ unequal_columns-requires-clause-columns c =
     let j = c.in_ok-joined.joined in
     let left = c.in_ok-joined.ensures.left.count_is in
     let right = c.in_ok-joined.ensures.right.count_is in
-    ap (λ (t : NumberedTable). length t.columns) (c.read.ensures ∙ c.in_ok-right.ensures) ∙ widened_many c.args.b.now c.args.a.now j.tuples j.right j.left right left
-    ∙ sym (ap (λ (t : NumberedTable). length t.columns) (c.read-on.ensures ∙ c.in_ok-left.ensures) ∙ widened_many c.args.a.now c.args.b.now j.tuples j.left j.right left right)
+    ap (λ (t : NumberedTable). length t.columns) (c.read.ensures ∙ c.in_ok-right.ensures) ∙ widened_many c.args.b.now c.args.a.now j.axis.tuples j.right j.left right left
+    ∙ sym (ap (λ (t : NumberedTable). length t.columns) (c.read-on.ensures ∙ c.in_ok-left.ensures) ∙ widened_many c.args.a.now c.args.b.now j.axis.tuples j.left j.right left right)
 
 pub returns-in_err-joined-clause-makes : goal.returns-in_err-joined-clause-makes
 returns-in_err-joined-clause-makes c =
@@ -56,5 +56,5 @@ returns-clause-makes c =
     let joined : meant.joined_rows (column_labels (table_value texts a)) (column_labels (table_value texts b)) ≡ Ok (joined_value texts j) = c.in_ok-joined.ensures.columns in
     makes_as _ _ _ _ c.unequal_columns.ensures.makes
     ((λ i. meant.unequal_columns op (table_value texts (left i)) (table_value texts (right i)))
-    ∙ (λ i. meant.unequal_columns op (widened_seen a b j.tuples j.left j.right texts i) (widened_seen b a j.tuples j.right j.left texts i))
+    ∙ (λ i. meant.unequal_columns op (widened_seen a b j.axis.tuples j.left j.right texts i) (widened_seen b a j.axis.tuples j.right j.left texts i))
     ∙ sym (ap (λ (r : Result meant.Joined FaultValue). then_value r (meant.wide_infix op (table_value texts a) (table_value texts b))) joined))

@@ -1,4 +1,5 @@
-use Rattle.std.proofs.Common.{◌≡◌, ap, length, subst}
+use Rattle.std.proofs.Common.{◌≡◌, ◌∙◌, ap, length, subst}
+use Rattle.std.proofs.lemmas.Result.{IfOk-weaker}
 use Rattle.multi_index.specs.Axes.{AxisValue, HaveLevels}
 use Rattle.form_meaning.specs.Infix as meant
 use Rattle.form_parts.specs.Makes.{MakesBy}
@@ -26,22 +27,26 @@ returns-clause-keys c =
     let left = c.in_ok-left.left in
     let right = c.in_ok-right.right in
     let one : length left.names ≡ 1 = ap (λ (x : AxisValue). length x.names) c.in_ok-left.ensures in
-    if_both (IsJoined left right) (λ rows. AreApart left.tuples → AreApart right.tuples → AreApart rows.tuples) (λ rows. AreColumnKeys rows.tuples)
+    if_both (IsJoined left right) (λ rows. AreApart left.tuples → AreApart right.tuples → AreApart rows.axis.tuples) (λ rows. AreColumnKeys rows.axis.tuples)
     (λ rows inside apart.
     record {
-      single = subst (λ n. HaveLevels n rows.tuples) one inside.levels;
+      single = subst (λ n. HaveLevels n rows.axis.tuples) one inside.levels;
       apart = apart (labels_apart left c.args.a.now c.in_ok-left.ensures c.requires.known_a.whole c.requires.frame_a) (labels_apart right c.args.b.now c.in_ok-right.ensures c.requires.known_b.whole c.requires.frame_b);
     })
     c.joined_rows.result c.joined_rows.ensures.inside c.joined_rows.ensures.apart
 
+pub returns-clause-level : goal.returns-clause-level
+returns-clause-level c =
+    IfOk-weaker c.joined_rows.result _ _ (λ rows named. named ∙ ap (λ (x : AxisValue). length x.names) c.in_ok-left.ensures) c.joined_rows.ensures.names
+
 pub returns-clause-left : goal.returns-clause-left
 returns-clause-left c =
     let inside = IsJoined c.in_ok-left.left c.in_ok-right.right in
-    if_both inside inside (λ rows. AreSideRows (length rows.tuples) (labels_axis c.args.a.now) rows.left) (λ rows h k. subst (λ (x : AxisValue). AreSideRows (length rows.tuples) x rows.left) c.in_ok-left.ensures h.left)
+    if_both inside inside (λ rows. AreSideRows (length rows.axis.tuples) (labels_axis c.args.a.now) rows.left) (λ rows h k. subst (λ (x : AxisValue). AreSideRows (length rows.axis.tuples) x rows.left) c.in_ok-left.ensures h.left)
     c.joined_rows.result c.joined_rows.ensures.inside c.joined_rows.ensures.inside
 
 pub returns-clause-right : goal.returns-clause-right
 returns-clause-right c =
     let inside = IsJoined c.in_ok-left.left c.in_ok-right.right in
-    if_both inside inside (λ rows. AreSideRows (length rows.tuples) (labels_axis c.args.b.now) rows.right) (λ rows h k. subst (λ (x : AxisValue). AreSideRows (length rows.tuples) x rows.right) c.in_ok-right.ensures h.right)
+    if_both inside inside (λ rows. AreSideRows (length rows.axis.tuples) (labels_axis c.args.b.now) rows.right) (λ rows h k. subst (λ (x : AxisValue). AreSideRows (length rows.axis.tuples) x rows.right) c.in_ok-right.ensures h.right)
     c.joined_rows.result c.joined_rows.ensures.inside c.joined_rows.ensures.inside

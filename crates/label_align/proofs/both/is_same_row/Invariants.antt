@@ -1,4 +1,4 @@
-use Rattle.std.proofs.Common.{◌≡◌, ◌<◌, ℕ, slice_get}
+use Rattle.std.proofs.Common.{◌≡◌, ◌<◌, ℕ}
 use Rattle.label_align.specs.Both.{tuples_of}
 use Rattle.label_align.specs.Runs.{label_of_row}
 use Rattle.label_align.proofs.both.is_same_row.Given as goal

@@ -1,4 +1,4 @@
-use Rattle.std.proofs.Common.{◌≡◌, ◌∙◌, ◌<◌, ◌+◌, List, ℕ, take, drop, length, ap, sym, subst, arith, slice_index_or}
+use Rattle.std.proofs.Common.{◌≡◌, ◌∙◌, ◌<◌, List, ℕ, take, drop, length, ap, sym, subst, arith, slice_index_or}
 use Rattle.std.proofs.lemmas.List.Sums.{sum_by_more}
 use Rattle.align_meaning.specs.Joins.{lists_of}
 use Rattle.label_align.specs.declared.runs.Run.{Run}

@@ -1,6 +1,6 @@
 use Rattle.std.proofs.Common.{◌≡◌, ◌∙◌, ◌<◌, ◌++◌, List, ℕ, length, ap, sym, subst, arith, rules, true, false, All, Ok}
 use Rattle.align_meaning.specs.Joins.{outer_entries, lists_of}
-use Rattle.multi_index.specs.Axes.{tuples_at}
+use Rattle.multi_index.specs.Axes.{AxisValue, tuples_at}
 use Rattle.row_keys.specs.Keys.{same_tuple}
 use Rattle.label_align.specs.Tuples.{tuple_less}
 use Rattle.label_align.specs.Runs.{same_row, no_run, runs_from, run_entries, total, counted}
@@ -38,8 +38,8 @@ entries_of_runs-requires c =
     let fits = total_outer texts a b c.levels_of_both.result c.len.ensures.distinct c.levels_of_both.ensures.alike (both_given texts a b c.requires.given_a c.requires.given_b) c.in_ok-rows.rows.items c.in_ok-rows.ensures c.in_ok-runs.runs.items made in
     omega (arith, fits, ap total c.deref-3.ensures.value, ap (λ (l : List ℕ). length l) c.deref-4.ensures.value)
 
-pub tuples_at-requires : goal.tuples_at-requires
-tuples_at-requires c =
+pub axis_of_rows-requires-clause-rows : goal.axis_of_rows-requires-clause-rows
+axis_of_rows-requires-clause-rows c =
     let texts = c.args.dict.now in
     let a = c.args.a.now.tuples in
     let b = c.args.b.now.tuples in
@@ -62,7 +62,7 @@ returns-clause-rows c =
     ∙ counted_outer texts a b c.levels_of_both.result c.len.ensures.distinct c.levels_of_both.ensures.alike (both_given texts a b c.requires.given_a c.requires.given_b) c.in_ok-rows.rows.items c.in_ok-rows.ensures c.in_ok-runs.runs.items made)
     holds
     ∙ ap Ok (sym (lists_outer texts a b c.levels_of_both.result c.len.ensures.distinct c.levels_of_both.ensures.alike (both_given texts a b c.requires.given_a c.requires.given_b) c.in_ok-rows.rows.items c.in_ok-rows.ensures c.in_ok-runs.runs.items made
-    c.in_ok-rows-2.field-0 seen c.in_ok-tuples.tuples (c.in_ok-tuples.ensures ∙ ap (tuples_at (a ++ b)) c.deref-5.ensures.value)))
+    c.in_ok-rows-2.field-0 seen c.in_ok-axis.axis.tuples (ap (λ (x : AxisValue). x.tuples) c.in_ok-axis.ensures ∙ ap (tuples_at (a ++ b)) c.deref-5.ensures.value)))
 
 pub returns-clause-law : goal.returns-clause-law
 returns-clause-law c =
@@ -72,10 +72,10 @@ returns-clause-law c =
     let holds : c.are_few.result ≡ true = search rules in
     let made = c.in_ok-runs.ensures ∙ ap (runs_from (same_row (a ++ b)) (length a) no_run) c.deref.ensures.value in
     let seen = c.in_ok-rows-2.ensures ∙ (λ i. lists_of (run_entries (c.len-2.ensures i) (c.deref-3.ensures.value i) (c.deref-4.ensures.value i))) in
-    law_of texts a b (Ok record { tuples = c.in_ok-tuples.tuples; left = c.in_ok-rows-2.field-0.left; right = c.in_ok-rows-2.field-0.right })
+    law_of texts a b (Ok record { axis = c.in_ok-axis.axis; left = c.in_ok-rows-2.field-0.left; right = c.in_ok-rows-2.field-0.right })
     (few_enough (outer_entries same_tuple (tuple_less texts) a b) (counted c.deref-2.result.now) c.are_few.result c.are_few.ensures
     (ap counted c.deref-2.ensures.value
     ∙ counted_outer texts a b c.levels_of_both.result c.len.ensures.distinct c.levels_of_both.ensures.alike (both_given texts a b c.requires.given_a c.requires.given_b) c.in_ok-rows.rows.items c.in_ok-rows.ensures c.in_ok-runs.runs.items made)
     holds
     ∙ ap Ok (sym (lists_outer texts a b c.levels_of_both.result c.len.ensures.distinct c.levels_of_both.ensures.alike (both_given texts a b c.requires.given_a c.requires.given_b) c.in_ok-rows.rows.items c.in_ok-rows.ensures c.in_ok-runs.runs.items made
-    c.in_ok-rows-2.field-0 seen c.in_ok-tuples.tuples (c.in_ok-tuples.ensures ∙ ap (tuples_at (a ++ b)) c.deref-5.ensures.value))))
+    c.in_ok-rows-2.field-0 seen c.in_ok-axis.axis.tuples (ap (λ (x : AxisValue). x.tuples) c.in_ok-axis.ensures ∙ ap (tuples_at (a ++ b)) c.deref-5.ensures.value))))

@@ -11,7 +11,7 @@ use Rattle.form_meaning.specs.Infix.{infix_result, sign_result}
 use Rattle.form_meaning.specs.Select.{length_result}
 use Rattle.select_meaning.specs.Select.{plain, through, select_result}
 use Rattle.method_meaning.specs.Calls as calls
-use Rattle.method_meaning.specs.Calls.{has_method, chain_result}
+use Rattle.method_meaning.specs.Calls.{has_method, call_result}
 use Rattle.frame_store.proofs.RowLaws.{item_of-Row, argument_of-Table}
 use Rattle.frame_store.specs.declared.arguments.Argument.TheVariants as argument
 use Rattle.frame_store.specs.declared.arguments.Item.TheVariants as item
@@ -35,7 +35,7 @@ use Rattle.script_session.proofs.Gathering.{gathered, gathers_next, gathers_none
 use Rattle.script_session.proofs.Parts.{join_parts, join_pairs, parts_end, pairs_end, items_push, pairs_push, arguments_push, items_known, pairs_known, arguments_known, item_known, argument_known, nothing_known, many_known, tuple_known, key_known, span_known, row_known, table_known}
 use Rattle.script_session.proofs.FormFaults.{sign_result_fault, infix_result_fault, length_result_fault}
 use Rattle.script_session.proofs.SelectFaults.{select_result_fault}
-use Rattle.script_session.proofs.MethodFaults.{chain_result_fault}
+use Rattle.script_session.proofs.CallFaults.{call_result_fault}
 use Rattle.meaning.specs.Text.{Text}
 use Rattle.frame_methods.specs.Calls.{chain_in, IsKnownChain}
 use Rattle.table_meaning.specs.Value.{Given, NamedGiven}
@@ -318,7 +318,7 @@ after-returns-in_err-expect_method-in-Method g t c =
     let v = entry_in (world_of s) c.args.on in
     let n = c.in-Method.name in
     let x = c.in_err-expect_method-in-Method in
-    evaluates_by (knows_none (λ fs s. then_read (named_of fs s (named_args (named_parts_of c.in-Method.args))) (λ gs. at_once (chain_result v (calls.plain n) gs))) x.field-0.0 (has_method v n) n (subst (λ k. IsNoAttribute x.field-0.0 k (has_method v k)) c.as_str.ensures (x.ensures.fault (world_of s).texts)) c.from_residual-in_err-expect_method-in-Method.result c.from_residual-in_err-expect_method-in-Method.ensures.1)
+    evaluates_by (knows_none (λ fs s. then_read (named_of fs s (named_args (named_parts_of c.in-Method.args))) (λ gs. at_once (call_result v (calls.plain n) gs))) x.field-0.0 (has_method v n) n (subst (λ k. IsNoAttribute x.field-0.0 k (has_method v k)) c.as_str.ensures (x.ensures.fault (world_of s).texts)) c.from_residual-in_err-expect_method-in-Method.result c.from_residual-in_err-expect_method-in-Method.ensures.1)
     (λ fs. ap (λ y. stepped fs (state_in s) v (step_of y)) c.in-Method.is ∙ ap (stepped fs (state_in s) v) (step_of-Method n c.in-Method.args))
 
 pub after-returns-in_err-args-in-Method : goal.after-returns-in_err-args-in-Method
@@ -327,7 +327,7 @@ after-returns-in_err-args-in-Method g t c =
     let v = entry_in (world_of s) c.args.on in
     let n = c.in-Method.name in
     let known : has_method v n ≡ true = ap (has_method v) (sym c.as_str.ensures) ∙ c.in_ok-expect_method-in-Method.ensures.known s.dict in
-    evaluates_by (knows (λ fs s. then_read (named_of fs s (named_args (named_parts_of c.in-Method.args))) (λ gs. at_once (chain_result v (calls.plain n) gs))) (has_method v n) n known (stops (λ fs s gs. at_once (chain_result v (calls.plain n) gs)) c.in_err-args-in-Method.ensures c.from_residual-in_err-args-in-Method.result c.from_residual-in_err-args-in-Method.ensures.1))
+    evaluates_by (knows (λ fs s. then_read (named_of fs s (named_args (named_parts_of c.in-Method.args))) (λ gs. at_once (call_result v (calls.plain n) gs))) (has_method v n) n known (stops (λ fs s gs. at_once (call_result v (calls.plain n) gs)) c.in_err-args-in-Method.ensures c.from_residual-in_err-args-in-Method.result c.from_residual-in_err-args-in-Method.ensures.1))
     (λ fs. ap (λ y. stepped fs (state_in s) v (step_of y)) c.in-Method.is ∙ ap (stepped fs (state_in s) v) (step_of-Method n c.in-Method.args))
 
 pub after-returns-in_err-name-in-Method : goal.after-returns-in_err-name-in-Method
@@ -336,7 +336,7 @@ after-returns-in_err-name-in-Method g t c =
     let v = entry_in (world_of s) c.args.on in
     let n = c.in-Method.name in
     let known : has_method v n ≡ true = ap (has_method v) (sym c.as_str.ensures) ∙ c.in_ok-expect_method-in-Method.ensures.known s.dict in
-    evaluates_by (knows (λ fs s. then_read (named_of fs s (named_args (named_parts_of c.in-Method.args))) (λ gs. at_once (chain_result v (calls.plain n) gs))) (has_method v n) n known (goes_on (λ fs s gs. at_once (chain_result v (calls.plain n) gs)) c.in_ok-args-in-Method.args c.in_ok-args-in-Method.ensures (runs_out c.from_residual-in_err-name-in-Method.result c.from_residual-in_err-name-in-Method.ensures.1)))
+    evaluates_by (knows (λ fs s. then_read (named_of fs s (named_args (named_parts_of c.in-Method.args))) (λ gs. at_once (call_result v (calls.plain n) gs))) (has_method v n) n known (goes_on (λ fs s gs. at_once (call_result v (calls.plain n) gs)) c.in_ok-args-in-Method.args c.in_ok-args-in-Method.ensures (runs_out c.from_residual-in_err-name-in-Method.result c.from_residual-in_err-name-in-Method.ensures.1)))
     (λ fs. ap (λ y. stepped fs (state_in s) v (step_of y)) c.in-Method.is ∙ ap (stepped fs (state_in s) v) (step_of-Method n c.in-Method.args))
 
 pub after-method-requires : goal.after-method-requires
@@ -363,9 +363,9 @@ after-returns-in_ok-name-in-Method g t c =
     let k = calls.plain c.in_ok-name-in-Method.name in
     let args = arguments_in (world_of w) c.in_ok-args-in-Method.args in
     let same = value_seen (world_of s) (world_of w) s.settled w.settled x.kept c.args.on c.requires in
-    evaluates_by (knows (λ fs s. then_read (named_of fs s (named_args (named_parts_of c.in-Method.args))) (λ gs. at_once (chain_result v (calls.plain n) gs))) (has_method v n) n known (goes_on (λ fs s gs. at_once (chain_result v (calls.plain n) gs)) c.in_ok-args-in-Method.args x
-    (evaluates_by (forms w u (chain_result on k args) (chain_result_fault on k args) c.method.ensures.names c.method.result c.evaluated-in-Method.result c.evaluated-in-Method.ensures c.method.ensures.answers)
-    (λ fs. ap (λ e. at_once (chain_result e (calls.plain n) args)) (sym same) ∙ ap (λ k. at_once (chain_result on (calls.plain k) args)) (sym c.as_str-in-Method.ensures ∙ sym c.in_ok-name-in-Method.ensures)))))
+    evaluates_by (knows (λ fs s. then_read (named_of fs s (named_args (named_parts_of c.in-Method.args))) (λ gs. at_once (call_result v (calls.plain n) gs))) (has_method v n) n known (goes_on (λ fs s gs. at_once (call_result v (calls.plain n) gs)) c.in_ok-args-in-Method.args x
+    (evaluates_by (forms w u (call_result on k args) (call_result_fault on k args) c.method.ensures.names c.method.result c.evaluated-in-Method.result c.evaluated-in-Method.ensures c.method.ensures.answers)
+    (λ fs. ap (λ e. at_once (call_result e (calls.plain n) args)) (sym same) ∙ ap (λ k. at_once (call_result on (calls.plain k) args)) (sym c.as_str-in-Method.ensures ∙ sym c.in_ok-name-in-Method.ensures)))))
     (λ fs. ap (λ y. stepped fs (state_in s) v (step_of y)) c.in-Method.is ∙ ap (stepped fs (state_in s) v) (step_of-Method n c.in-Method.args))
 
 -- what a chain is seen as
@@ -381,11 +381,11 @@ chain_known w Rolling args by name known k = tt
 chain_known w Expanding args by name known k = tt
 
 -- a call without brackets reads nothing in their place
-no_brackets : (v : Entry) (n : Text) (args more : Reads (List NamedGiven)) → where_named (has_method v n) n (then_read args (λ g. then_read more (λ gs. at_once (chain_result v (calls.through n) gs))))
-    ≡ where_named (has_method v n) n (then_read args (λ g. then_read (gives None) (λ (h : Option Given). then_read more (λ gs. at_once (chain_result v (calls.through n) gs)))))
+no_brackets : (v : Entry) (n : Text) (args more : Reads (List NamedGiven)) → where_named (has_method v n) n (then_read args (λ g. then_read more (λ gs. at_once (call_result v (calls.through n) gs))))
+    ≡ where_named (has_method v n) n (then_read args (λ g. then_read (gives None) (λ (h : Option Given). then_read more (λ gs. at_once (call_result v (calls.through n) gs)))))
 no_brackets v n args more =
     let nowhere : Option Given = None in
-    ap (λ m. where_named (has_method v n) n (then_read args (λ g. m))) (sym (then_gives Err nowhere (λ (h : Option Given). then_read more (λ gs. at_once (chain_result v (calls.through n) gs)))))
+    ap (λ m. where_named (has_method v n) n (then_read args (λ g. m))) (sym (then_gives Err nowhere (λ (h : Option Given). then_read more (λ gs. at_once (call_result v (calls.through n) gs)))))
 
 pub after-through-requires : goal.after-through-requires
 after-through-requires g t c =
@@ -468,7 +468,7 @@ through-returns-in_err-more g t c =
     knows (λ fs s. then_read (named_of fs s (named_args (named_parts_of call.args.now))) (after_link fs s v call)) (has_method v n) n known
     (goes_on (λ fs s. after_link fs s v call) c.in_ok-args.args c.in_ok-args.ensures
     (goes_on (λ fs s. after_brackets fs s v call a) c.in_ok-by.by c.in_ok-by.ensures
-    (stops (λ fs s gs. at_once (chain_result v (chain_meant call.link a b call.name.now) gs)) c.in_err-more.ensures c.from_residual-in_err-more.result c.from_residual-in_err-more.ensures.1)))
+    (stops (λ fs s gs. at_once (call_result v (chain_meant call.link a b call.name.now) gs)) c.in_err-more.ensures c.from_residual-in_err-more.result c.from_residual-in_err-more.ensures.1)))
 
 pub through-returns-in_err-name : goal.through-returns-in_err-name
 through-returns-in_err-name g t c =
@@ -482,7 +482,7 @@ through-returns-in_err-name g t c =
     knows (λ fs s. then_read (named_of fs s (named_args (named_parts_of call.args.now))) (after_link fs s v call)) (has_method v n) n known
     (goes_on (λ fs s. after_link fs s v call) c.in_ok-args.args c.in_ok-args.ensures
     (goes_on (λ fs s. after_brackets fs s v call a) c.in_ok-by.by c.in_ok-by.ensures
-    (goes_on (λ fs s gs. at_once (chain_result v (chain_meant call.link a b call.name.now) gs)) c.in_ok-more.more c.in_ok-more.ensures
+    (goes_on (λ fs s gs. at_once (call_result v (chain_meant call.link a b call.name.now) gs)) c.in_ok-more.more c.in_ok-more.ensures
     (runs_out c.from_residual-in_err-name.result c.from_residual-in_err-name.ensures.1))))
 
 pub through-method-requires : goal.through-method-requires
@@ -533,9 +533,9 @@ through-returns g t c =
     knows (λ fs s. then_read (named_of fs s (named_args (named_parts_of call.args.now))) (after_link fs s v call)) (has_method v n) n known
     (goes_on (λ fs s. after_link fs s v call) c.in_ok-args.args x
     (goes_on (λ fs s. after_brackets fs s v call a) c.in_ok-by.by y
-    (goes_on (λ fs s gs. at_once (chain_result v (chain_meant call.link a b call.name.now) gs)) c.in_ok-more.more z
-    (evaluates_by (forms w u (chain_result on k args) (chain_result_fault on k args) c.method.ensures.names c.method.result c.evaluated.result c.evaluated.ensures c.method.ensures.answers)
-    (λ fs. ap (λ e. at_once (chain_result e (chain_meant call.link a b call.name.now) args)) (sym same) ∙ ap (λ k. at_once (chain_result on k args)) (sym chained))))))
+    (goes_on (λ fs s gs. at_once (call_result v (chain_meant call.link a b call.name.now) gs)) c.in_ok-more.more z
+    (evaluates_by (forms w u (call_result on k args) (call_result_fault on k args) c.method.ensures.names c.method.result c.evaluated.result c.evaluated.ensures c.method.ensures.answers)
+    (λ fs. ap (λ e. at_once (call_result e (chain_meant call.link a b call.name.now) args)) (sym same) ∙ ap (λ k. at_once (call_result on k args)) (sym chained))))))
 
 pub subscripts-returns-in_err-first : goal.subscripts-returns-in_err-first
 subscripts-returns-in_err-first g t c =

@@ -1,0 +1,4 @@
+pub mod TaskAnswers
+pub mod Laws
+pub mod Scalars
+pub mod QuotientLaws

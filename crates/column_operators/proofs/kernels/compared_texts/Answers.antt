@@ -1,0 +1,21 @@
+use Rattle.std.proofs.Common.{refl}
+use Rattle.std.specs.Ordering.{nat_cmp}
+use Rattle.std.specs.Cmp.Lexicographic.{slice_cmp}
+use Rattle.cell_core.specs.Values.{text_of}
+use Rattle.cell_core.specs.declared.cell.Kind.TheVariants.{Boolean, Text as string}
+use Rattle.column_operators.specs.declared.ops.Task.TheVariants as task
+use Rattle.column_core.specs.Columns.{text_cell, truth_cell}
+use Rattle.column_operators.specs.Operations.{compare_row}
+use Rattle.column_operators.proofs.TaskAnswers.{pair_answer}
+use Rattle.nullable_array.proofs.ColumnAnswers.{given_at}
+use Rattle.column_operators.proofs.Laws.{texts_law}
+use Rattle.column_operators.proofs.kernels.compared_texts.Goals as goal
+
+pub returns-clause-given : goal.returns-clause-given
+returns-clause-given g c = given_at c.operate.result c.args.dict.now c.operate.ensures.given
+
+pub returns-clause-answer : goal.returns-clause-answer
+returns-clause-answer g c =
+    let texts = c.args.dict.now in
+    let r = c.args.relation in
+    pair_answer texts _ (task.Compare r) refl string string Boolean text_cell text_cell truth_cell (compare_row r (λ a b. slice_cmp nat_cmp (text_of texts a) (text_of texts b))) refl (texts_law texts r) _ _ _ _ c.requires.same _ (c.operate.ensures.answer texts)

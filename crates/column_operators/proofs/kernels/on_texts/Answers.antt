@@ -1,0 +1,20 @@
+use Rattle.std.proofs.Common.{ap, sym, ◌∙◌, ◌++◌, Ok}
+use Rattle.cell_core.specs.Values.{text_of}
+use Rattle.cell_core.specs.declared.cell.Kind.TheVariants.{Text as string}
+use Rattle.column_operators.specs.declared.ops.Task.{Task}
+use Rattle.column_operators.specs.declared.ops.Task.TheVariants as task
+use Rattle.column_core.specs.Columns.{text_cell, text_value, column_value, column_with}
+use Rattle.column_operators.specs.Operations.{both}
+use Rattle.column_operators.specs.Tasks.{task_cell, task_column}
+use Rattle.column_core.proofs.CellRows.{pairs_column}
+use Rattle.column_operators.proofs.Laws.{join_law}
+use Rattle.column_operators.proofs.kernels.on_texts.Goals as goal
+
+pub returns-in_ok-text_column-in-Sum-clause-answer : goal.returns-in_ok-text_column-in-Sum-clause-answer
+returns-in_ok-text_column-in-Sum-clause-answer g c =
+    let texts = c.args.dict.now in
+    let p = g.A.Source.row_of c.args.a.now in
+    let q = g.B.Source.row_of c.args.b.now in
+    ap (λ (t : Task). task_column t (column_value texts (column_with string text_cell (g.A.Source.count_of c.args.a.now) p)) (column_value texts (column_with string text_cell (g.B.Source.count_of c.args.b.now) q))) c.in-Sum.is
+    ∙ pairs_column texts string (task_cell task.Sum) _ _ (λ k. text_cell (p k)) (λ k. text_cell (q k)) (λ k. text_value (both (λ a b. text_of texts a ++ text_of texts b) (p k) (q k))) c.requires.same (λ k. join_law texts (p k) (q k))
+    ∙ ap Ok (sym c.in_ok-text_column-in-Sum.ensures.cells)

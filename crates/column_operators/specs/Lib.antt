@@ -1,0 +1,5 @@
+pub mod Tasks
+pub mod Operations
+pub mod Joins
+pub mod Pairs
+pub mod Quotients

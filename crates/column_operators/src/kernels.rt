@@ -1,0 +1,594 @@
+// Operators on columns.
+ghost use Rattle.std.specs.Prelude.{◌≡◌, ◌<◌, ◌^◌, ℕ, pos, List, length, Option, Some, IfOk, IfErr, OnErr};
+ghost use Rattle.cell_core.specs.declared.cell.Kind.TheVariants.{Int64, Boolean, Text as string};
+ghost use Rattle.meaning.specs.Cell.{datum, AreGiven, IsGiven, IsLonger};
+ghost use Rattle.meaning.specs.Column.{column_of, zero_division};
+ghost use Rattle.meaning.specs.Operator.{binary_column, scalar_binary, invert_column};
+ghost use Rattle.column_core.specs.Lanes.{option_at};
+ghost use Rattle.column_core.specs.Columns.{column_value, column_with, number_cell, truth_cell, text_cell};
+ghost use Rattle.column_core.specs.Views.{borrowed_column};
+ghost use Rattle.column_core.specs.Rows.{try_rows, map_rows};
+ghost use Rattle.nullable_array.specs.Answers.{Answers};
+ghost use Rattle.column_operators.specs.Operations.{compared};
+ghost use Rattle.column_operators.specs.Tasks.{operator_of, task_column, scalar_task};
+
+use crate::divisors::{Divisor, QuotientBy};
+use crate::joins::Join;
+use crate::operators::{
+    Both, Compare, Difference, Either, Not, OneOf, Product, Quotient, Rest, Sum,
+};
+use crate::ops::{Binary, Relation, Task, relation_of, task_of};
+use crate::pairs::Constant;
+use cell_core::{Cell, TextDict, TextId};
+use column_core::{
+    Borrowed, ColRef, Column, Dense, Lane, Nothing, Plain, RowFault, RowOp, Same, Source, by_rows,
+};
+use nullable_array::{
+    ArrayFault, ByNumber, ByText, ByTruth, Order, PairOp, Side, by_sides, text_column,
+};
+use std::alloc::Global;
+
+/// The operator on each two cells that stand side by side. The columns have one length.
+///
+/// `KindMismatch` comes exactly where the operator doesn't take the kinds, and `ZeroDivision` with the
+/// first row with a zero divisor opposite a present dividend. `NoMemory` may come in place of any
+/// answer; each number that the dictionary had given keeps its text then too.
+pub fn binary(
+    alloc: Global,
+    dict: &mut TextDict,
+    op: Binary,
+    a: ColRef<'_>,
+    b: ColRef<'_>,
+) -> Result<Column, ArrayFault>
+    requires same { length a.cells ≡ length b.cells }
+    requires a { AreGiven dict.old a.cells }
+    requires b { AreGiven dict.old b.cells }
+    ensures keeps { IsLonger dict.old dict.new }
+    ensures given { IfOk result (λ c. AreGiven dict.new c.cells) }
+    ensures answer { Answers dict.new result
+        (binary_column (operator_of op) (column_value dict.old a.entry)
+        (column_value dict.old b.entry)) }
+{
+    let task = task_of(op);
+    match (&a.lanes, &b.lanes) {
+        (Borrowed::Ints(x), Borrowed::Ints(y)) => numbers(alloc, task, x, y),
+        (Borrowed::Truths(x), Borrowed::Truths(y)) => truths(alloc, task, x, y),
+        (Borrowed::Texts(x), Borrowed::Texts(y)) => texts(alloc, dict, task, x, y),
+        _ => Err(ArrayFault::KindMismatch),
+    }
+}
+
+fn numbers(
+    alloc: Global,
+    task: Task,
+    a: &Lane<'_, i64>,
+    b: &Lane<'_, i64>,
+) -> Result<Column, ArrayFault>
+    requires { a.now.count ≡ b.now.count }
+    ensures given { IfOk result (λ c. (texts : List (List ℕ)) → AreGiven texts c.cells) }
+    ensures answer { (texts : List (List ℕ)) → Answers texts result (task_column task
+        (column_value texts (borrowed_column (Borrowed.Ints a.now))) (column_value texts (borrowed_column (Borrowed.Ints b.now)))) }
+{
+    match (a.dense(), b.dense()) {
+        (Some(x), Some(y)) => on_number_sides(alloc, task, x, y),
+        _ => on_numbers(alloc, task, a, b),
+    }
+}
+
+fn truths(
+    alloc: Global,
+    task: Task,
+    a: &Lane<'_, bool>,
+    b: &Lane<'_, bool>,
+) -> Result<Column, ArrayFault>
+    requires { a.now.count ≡ b.now.count }
+    ensures given { IfOk result (λ c. (texts : List (List ℕ)) → AreGiven texts c.cells) }
+    ensures answer { (texts : List (List ℕ)) → Answers texts result (task_column task
+        (column_value texts (borrowed_column (Borrowed.Truths a.now))) (column_value texts (borrowed_column (Borrowed.Truths b.now)))) }
+{
+    match (a.dense(), b.dense()) {
+        (Some(x), Some(y)) => on_truth_sides(alloc, task, x, y),
+        _ => on_truths(alloc, task, a, b),
+    }
+}
+
+fn texts(
+    alloc: Global,
+    dict: &mut TextDict,
+    task: Task,
+    a: &Lane<'_, TextId>,
+    b: &Lane<'_, TextId>,
+) -> Result<Column, ArrayFault>
+    requires same { a.now.count ≡ b.now.count }
+    requires a { AreGiven dict.old (borrowed_column (Borrowed.Texts a.now)).cells }
+    requires b { AreGiven dict.old (borrowed_column (Borrowed.Texts b.now)).cells }
+    ensures keeps { IsLonger dict.old dict.new }
+    ensures given { IfOk result (λ c. AreGiven dict.new c.cells) }
+    ensures answer { Answers dict.new result (task_column task
+        (column_value dict.old (borrowed_column (Borrowed.Texts a.now))) (column_value dict.old (borrowed_column (Borrowed.Texts b.now)))) }
+{
+    on_texts(alloc, dict, task, a, b)
+}
+
+/// The operator on each cell and a scalar, which stands on the left where `scalar_left` is true. A scalar NA
+/// has the column's kind. The refusals are those of `binary`.
+pub fn with_scalar(
+    alloc: Global,
+    dict: &mut TextDict,
+    op: Binary,
+    a: ColRef<'_>,
+    scalar: Cell,
+    scalar_left: bool,
+) -> Result<Column, ArrayFault>
+    requires a { AreGiven dict.old a.cells }
+    requires scalar { IsGiven dict.old scalar }
+    ensures keeps { IsLonger dict.old dict.new }
+    ensures given { IfOk result (λ c. AreGiven dict.new c.cells) }
+    ensures answer { Answers dict.new result
+        (scalar_binary (operator_of op) (column_value dict.old a.entry)
+        (datum dict.old scalar) scalar_left) }
+{
+    let task = task_of(op);
+    match (&a.lanes, scalar) {
+        (Borrowed::Ints(x), Cell::Int(y)) => numbers_beside(alloc, task, x, Some(y), scalar_left),
+        (Borrowed::Ints(x), Cell::Na) => numbers_beside(alloc, task, x, None, scalar_left),
+        (Borrowed::Truths(x), Cell::Bool(y)) => truths_beside(alloc, task, x, Some(y), scalar_left),
+        (Borrowed::Truths(x), Cell::Na) => truths_beside(alloc, task, x, None, scalar_left),
+        (Borrowed::Texts(x), Cell::Text(y)) => texts_beside(
+            alloc,
+            dict,
+            task,
+            x,
+            Some(y),
+            scalar_left,
+        ),
+        (Borrowed::Texts(x), Cell::Na) => texts_beside(alloc, dict, task, x, None, scalar_left),
+        _ => Err(ArrayFault::KindMismatch),
+    }
+}
+
+fn numbers_beside(
+    alloc: Global,
+    task: Task,
+    a: &Lane<'_, i64>,
+    scalar: Option<i64>,
+    left: bool,
+) -> Result<Column, ArrayFault>
+    ensures given { IfOk result (λ c. (texts : List (List ℕ)) → AreGiven texts c.cells) }
+    ensures answer { (texts : List (List ℕ)) →
+        Answers texts result
+        (scalar_task task (column_value texts (borrowed_column (Borrowed.Ints a.now)))
+        (datum texts (number_cell scalar)) left) }
+{
+    match a.dense() {
+        Some(side) => beside_number_side(alloc, task, side, scalar, left),
+        None => beside_numbers(alloc, task, a, scalar, left),
+    }
+}
+
+fn beside_number_side<A: Side<i64>>(
+    alloc: Global,
+    task: Task,
+    a: A,
+    scalar: Option<i64>,
+    left: bool,
+) -> Result<Column, ArrayFault>
+    ensures given { IfOk result (λ c. (texts : List (List ℕ)) → AreGiven texts c.cells) }
+    ensures answer { (texts : List (List ℕ)) → Answers texts result (scalar_task task
+        (column_value texts (column_with Int64 number_cell (A.count_of a) (A.row_of a))) (datum texts (number_cell scalar)) left) }
+{
+    let same = Constant {
+        value: scalar,
+        blank: 0,
+        count: a.count(),
+    };
+    if left {
+        on_number_sides(alloc, task, same, a)
+    } else {
+        on_number_before(alloc, task, a, same)
+    }
+}
+
+// What an operator does to a side of whole numbers before one that is the same in each row.
+fn on_number_before<A: Side<i64>>(
+    alloc: Global,
+    task: Task,
+    a: A,
+    b: Constant<i64>,
+) -> Result<Column, ArrayFault>
+    requires { A.count_of a ≡ b.count }
+    ensures given { IfOk result (λ c. (texts : List (List ℕ)) → AreGiven texts c.cells) }
+    ensures answer { (texts : List (List ℕ)) → Answers texts result (task_column task
+        (column_value texts (column_with Int64 number_cell (A.count_of a) (A.row_of a)))
+        (column_value texts (column_with Int64 number_cell b.count (λ _. b.value)))) }
+{
+    match (task, b.value) {
+        (Task::Quotient, Some(divisor)) if 0 < divisor => quotients_by(alloc, a, divisor as u64),
+        _ => on_number_sides(alloc, task, a, b),
+    }
+}
+
+// The quotients by one divisor, which isn't 0: so no row is refused.
+fn quotients_by<A: Side<i64>>(alloc: Global, a: A, divisor: u64) -> Result<Column, ArrayFault>
+    requires above { 0 < divisor }
+    requires below { divisor < 2 ^ 63 }
+    ensures given { IfOk result (λ c. (texts : List (List ℕ)) → AreGiven texts c.cells) }
+    ensures answer { (texts : List (List ℕ)) → Answers texts result (task_column Task.Quotient
+        (column_value texts (column_with Int64 number_cell (A.count_of a) (A.row_of a)))
+        (column_value texts
+        (column_with Int64 number_cell (A.count_of a) (λ _. Some (pos divisor))))) }
+{
+    let by = QuotientBy {
+        divisor: Divisor::new(divisor),
+    };
+    let nothing = Nothing { count: a.count() };
+    operate_sides(alloc, &by, a, nothing)
+}
+
+fn beside_numbers<A: Source<i64>>(
+    alloc: Global,
+    task: Task,
+    a: &A,
+    scalar: Option<i64>,
+    left: bool,
+) -> Result<Column, ArrayFault>
+    ensures given { IfOk result (λ c. (texts : List (List ℕ)) → AreGiven texts c.cells) }
+    ensures answer { (texts : List (List ℕ)) → Answers texts result (scalar_task task
+        (column_value texts (column_with Int64 number_cell (A.count_of a.now) (A.row_of a.now))) (datum texts (number_cell scalar)) left) }
+{
+    let same = Same {
+        value: scalar,
+        count: a.count(),
+    };
+    if left {
+        on_numbers(alloc, task, &same, a)
+    } else {
+        on_numbers(alloc, task, a, &same)
+    }
+}
+
+fn truths_beside(
+    alloc: Global,
+    task: Task,
+    a: &Lane<'_, bool>,
+    scalar: Option<bool>,
+    left: bool,
+) -> Result<Column, ArrayFault>
+    ensures given { IfOk result (λ c. (texts : List (List ℕ)) → AreGiven texts c.cells) }
+    ensures answer { (texts : List (List ℕ)) →
+        Answers texts result
+        (scalar_task task (column_value texts (borrowed_column (Borrowed.Truths a.now)))
+        (datum texts (truth_cell scalar)) left) }
+{
+    match a.dense() {
+        Some(side) => beside_truth_side(alloc, task, side, scalar, left),
+        None => beside_truths(alloc, task, a, scalar, left),
+    }
+}
+
+fn beside_truth_side<A: Side<bool>>(
+    alloc: Global,
+    task: Task,
+    a: A,
+    scalar: Option<bool>,
+    left: bool,
+) -> Result<Column, ArrayFault>
+    ensures given { IfOk result (λ c. (texts : List (List ℕ)) → AreGiven texts c.cells) }
+    ensures answer { (texts : List (List ℕ)) → Answers texts result (scalar_task task
+        (column_value texts (column_with Boolean truth_cell (A.count_of a) (A.row_of a))) (datum texts (truth_cell scalar)) left) }
+{
+    let same = Constant {
+        value: scalar,
+        blank: false,
+        count: a.count(),
+    };
+    if left {
+        on_truth_sides(alloc, task, same, a)
+    } else {
+        on_truth_sides(alloc, task, a, same)
+    }
+}
+
+fn beside_truths<A: Source<bool>>(
+    alloc: Global,
+    task: Task,
+    a: &A,
+    scalar: Option<bool>,
+    left: bool,
+) -> Result<Column, ArrayFault>
+    ensures given { IfOk result (λ c. (texts : List (List ℕ)) → AreGiven texts c.cells) }
+    ensures answer { (texts : List (List ℕ)) → Answers texts result (scalar_task task
+        (column_value texts (column_with Boolean truth_cell (A.count_of a.now) (A.row_of a.now))) (datum texts (truth_cell scalar)) left) }
+{
+    let same = Same {
+        value: scalar,
+        count: a.count(),
+    };
+    if left {
+        on_truths(alloc, task, &same, a)
+    } else {
+        on_truths(alloc, task, a, &same)
+    }
+}
+
+fn texts_beside(
+    alloc: Global,
+    dict: &mut TextDict,
+    task: Task,
+    a: &Lane<'_, TextId>,
+    scalar: Option<TextId>,
+    left: bool,
+) -> Result<Column, ArrayFault>
+    requires a { AreGiven dict.old (borrowed_column (Borrowed.Texts a.now)).cells }
+    requires scalar { IsGiven dict.old (text_cell scalar) }
+    ensures keeps { IsLonger dict.old dict.new }
+    ensures given { IfOk result (λ c. AreGiven dict.new c.cells) }
+    ensures answer { Answers dict.new result
+        (scalar_task task (column_value dict.old (borrowed_column (Borrowed.Texts a.now)))
+        (datum dict.old (text_cell scalar)) left) }
+{
+    let same = Same {
+        value: scalar,
+        count: a.count,
+    };
+    if left {
+        on_texts(alloc, dict, task, &same, a)
+    } else {
+        on_texts(alloc, dict, task, a, &same)
+    }
+}
+
+// The column that an operation makes of two others.
+fn operate<X, Y, U: Plain, O: RowOp<X, Y, U>, A: Source<X>, B: Source<Y>>(
+    alloc: Global,
+    op: &O,
+    a: &A,
+    b: &B,
+) -> Result<Column, ArrayFault>
+    requires same { A.count_of a.now ≡ B.count_of b.now }
+    requires takes { (k : ℕ) → k < A.count_of a.now →
+        O.takes op.now (A.row_of a.now k) (B.row_of b.now k) }
+    ensures given { IfOk result (λ c. (texts : List (List ℕ)) → AreGiven texts c.cells) }
+    ensures answer { (texts : List (List ℕ)) → Answers texts result
+        (column_of U.kind zero_division
+        (map_rows (λ z. datum texts (U.cell z))
+        (try_rows (A.count_of a.now)
+        (λ k. O.row_of op.now (A.row_of a.now k) (B.row_of b.now k))))) }
+{
+    match by_rows(alloc, op, U::blank(), a, b) {
+        Ok(rows) => Ok(U::column(rows)),
+        Err(RowFault::Row(row)) => Err(ArrayFault::ZeroDivision(row)),
+        Err(RowFault::Memory) => Err(ArrayFault::NoMemory),
+    }
+}
+
+// The column that an operation makes of two sides, where it refuses no row.
+#[inline(always)]
+fn operate_sides<X: Copy, Y: Copy, U: Plain, O: PairOp<X, Y, U>, A: Side<X>, B: Side<Y>>(
+    alloc: Global,
+    op: &O,
+    a: A,
+    b: B,
+) -> Result<Column, ArrayFault>
+    requires { A.count_of a ≡ B.count_of b }
+    ensures given { IfOk result (λ c. (texts : List (List ℕ)) → AreGiven texts c.cells) }
+    ensures answer { (texts : List (List ℕ)) → Answers texts result
+        (column_of U.kind zero_division
+        (map_rows (λ z. datum texts (U.cell z))
+        (try_rows (A.count_of a) (λ k. O.row_of op.now (A.row_of a k) (B.row_of b k))))) }
+{
+    let rows = by_sides(alloc, op, a, b)?;
+    Ok(U::column(rows))
+}
+
+// Which values of two sides are in a relation. Each relation has a loop of its own, with one comparison in it.
+fn compare_sides<T: Copy + Drop, K: Order<T> + Drop, A: Side<T>, B: Side<T>>(
+    alloc: Global,
+    order: K,
+    relation: Relation,
+    a: A,
+    b: B,
+) -> Result<Column, ArrayFault>
+    requires { A.count_of a ≡ B.count_of b }
+    ensures given { IfOk result (λ c. (texts : List (List ℕ)) → AreGiven texts c.cells) }
+    ensures answer { (texts : List (List ℕ)) →
+        Answers texts result
+        (compared texts relation (K.cmp order) (A.count_of a) (A.row_of a) (B.row_of b)) }
+{
+    match (relation.less, relation.equal, relation.greater) {
+        (true, false, false) => compare_by(alloc, order, relation_of(true, false, false), a, b),
+        (true, true, false) => compare_by(alloc, order, relation_of(true, true, false), a, b),
+        (false, true, false) => compare_by(alloc, order, relation_of(false, true, false), a, b),
+        (true, false, true) => compare_by(alloc, order, relation_of(true, false, true), a, b),
+        (false, false, true) => compare_by(alloc, order, relation_of(false, false, true), a, b),
+        (false, true, true) => compare_by(alloc, order, relation_of(false, true, true), a, b),
+        _ => compare_by(alloc, order, relation, a, b),
+    }
+}
+
+#[inline(always)]
+fn compare_by<T: Copy + Drop, K: Order<T> + Drop, A: Side<T>, B: Side<T>>(
+    alloc: Global,
+    order: K,
+    relation: Relation,
+    a: A,
+    b: B,
+) -> Result<Column, ArrayFault>
+    requires { A.count_of a ≡ B.count_of b }
+    ensures given { IfOk result (λ c. (texts : List (List ℕ)) → AreGiven texts c.cells) }
+    ensures answer { (texts : List (List ℕ)) →
+        Answers texts result
+        (compared texts relation (K.cmp order) (A.count_of a) (A.row_of a) (B.row_of b)) }
+{
+    operate_sides(alloc, &Compare { order, relation }, a, b)
+}
+
+// What an operator does to two sides of whole numbers.
+fn on_number_sides<A: Side<i64>, B: Side<i64>>(
+    alloc: Global,
+    task: Task,
+    a: A,
+    b: B,
+) -> Result<Column, ArrayFault>
+    requires { A.count_of a ≡ B.count_of b }
+    ensures given { IfOk result (λ c. (texts : List (List ℕ)) → AreGiven texts c.cells) }
+    ensures answer { (texts : List (List ℕ)) → Answers texts result (task_column task
+        (column_value texts (column_with Int64 number_cell (A.count_of a) (A.row_of a)))
+        (column_value texts (column_with Int64 number_cell (B.count_of b) (B.row_of b)))) }
+{
+    match task {
+        Task::Sum => operate_sides(alloc, &Sum, a, b),
+        Task::Difference => operate_sides(alloc, &Difference, a, b),
+        Task::Product => operate_sides(alloc, &Product, a, b),
+        Task::Compare(relation) => compare_sides(alloc, ByNumber, relation, a, b),
+        _ => on_numbers(alloc, task, &a, &b),
+    }
+}
+
+// What an operator does to two sides of truth values.
+fn on_truth_sides<A: Side<bool>, B: Side<bool>>(
+    alloc: Global,
+    task: Task,
+    a: A,
+    b: B,
+) -> Result<Column, ArrayFault>
+    requires { A.count_of a ≡ B.count_of b }
+    ensures given { IfOk result (λ c. (texts : List (List ℕ)) → AreGiven texts c.cells) }
+    ensures answer { (texts : List (List ℕ)) → Answers texts result (task_column task
+        (column_value texts (column_with Boolean truth_cell (A.count_of a) (A.row_of a)))
+        (column_value texts (column_with Boolean truth_cell (B.count_of b) (B.row_of b)))) }
+{
+    match task {
+        Task::Both => operate_sides(alloc, &Both, a, b),
+        Task::Either => operate_sides(alloc, &Either, a, b),
+        Task::OneOf => operate_sides(alloc, &OneOf, a, b),
+        Task::Compare(relation) => compare_sides(alloc, ByTruth, relation, a, b),
+        _ => on_truths(alloc, task, &a, &b),
+    }
+}
+
+// What an operator does to two columns of whole numbers.
+fn on_numbers<A: Source<i64>, B: Source<i64>>(
+    alloc: Global,
+    task: Task,
+    a: &A,
+    b: &B,
+) -> Result<Column, ArrayFault>
+    requires { A.count_of a.now ≡ B.count_of b.now }
+    ensures given { IfOk result (λ c. (texts : List (List ℕ)) → AreGiven texts c.cells) }
+    ensures answer { (texts : List (List ℕ)) → Answers texts result (task_column task
+        (column_value texts (column_with Int64 number_cell (A.count_of a.now) (A.row_of a.now)))
+        (column_value texts (column_with Int64 number_cell (B.count_of b.now) (B.row_of b.now)))) }
+{
+    match task {
+        Task::Sum => operate(alloc, &Sum, a, b),
+        Task::Difference => operate(alloc, &Difference, a, b),
+        Task::Product => operate(alloc, &Product, a, b),
+        Task::Quotient => operate(alloc, &Quotient, a, b),
+        Task::Rest => operate(alloc, &Rest, a, b),
+        Task::Compare(relation) => {
+            let compare = Compare {
+                order: ByNumber,
+                relation,
+            };
+            operate(alloc, &compare, a, b)
+        }
+        Task::Both | Task::Either | Task::OneOf => Err(ArrayFault::KindMismatch),
+    }
+}
+
+// What an operator does to two columns of truth values.
+fn on_truths<A: Source<bool>, B: Source<bool>>(
+    alloc: Global,
+    task: Task,
+    a: &A,
+    b: &B,
+) -> Result<Column, ArrayFault>
+    requires { A.count_of a.now ≡ B.count_of b.now }
+    ensures given { IfOk result (λ c. (texts : List (List ℕ)) → AreGiven texts c.cells) }
+    ensures answer { (texts : List (List ℕ)) → Answers texts result (task_column task
+        (column_value texts (column_with Boolean truth_cell (A.count_of a.now) (A.row_of a.now)))
+        (column_value texts (column_with Boolean truth_cell (B.count_of b.now) (B.row_of b.now)))) }
+{
+    match task {
+        Task::Both => operate(alloc, &Both, a, b),
+        Task::Either => operate(alloc, &Either, a, b),
+        Task::OneOf => operate(alloc, &OneOf, a, b),
+        Task::Compare(relation) => {
+            let compare = Compare {
+                order: ByTruth,
+                relation,
+            };
+            operate(alloc, &compare, a, b)
+        }
+        _ => Err(ArrayFault::KindMismatch),
+    }
+}
+
+/// The opposite of each truth value; NA stays. `KindMismatch` exactly where the kind isn't boolean;
+/// `NoMemory` may come in place of any answer.
+pub fn invert(alloc: Global, a: ColRef<'_>) -> Result<Column, ArrayFault>
+    ensures { (texts : List (List ℕ)) →
+        Answers texts result (invert_column (column_value texts a.entry)) }
+{
+    match &a.lanes {
+        Borrowed::Truths(lane) => match lane.dense() {
+            Some(side) => inverted(alloc, &side),
+            None => inverted(alloc, lane),
+        },
+        _ => Err(ArrayFault::KindMismatch),
+    }
+}
+
+fn inverted<A: Source<bool>>(alloc: Global, a: &A) -> Result<Column, ArrayFault>
+    ensures { (texts : List (List ℕ)) →
+        Answers texts result
+        (invert_column
+        (column_value texts (column_with Boolean truth_cell (A.count_of a.now) (A.row_of a.now)))) }
+{
+    operate(alloc, &Not, a, &Nothing { count: a.count() })
+}
+
+// What an operator does to two columns of texts.
+fn on_texts<A: Source<TextId>, B: Source<TextId>>(
+    alloc: Global,
+    dict: &mut TextDict,
+    task: Task,
+    a: &A,
+    b: &B,
+) -> Result<Column, ArrayFault>
+    requires same { A.count_of a.now ≡ B.count_of b.now }
+    requires a { (k : ℕ) → k < A.count_of a.now → IsGiven dict.old (text_cell (A.row_of a.now k)) }
+    requires b { (k : ℕ) → k < B.count_of b.now → IsGiven dict.old (text_cell (B.row_of b.now k)) }
+    ensures keeps { IsLonger dict.old dict.new }
+    ensures given { IfOk result (λ c. AreGiven dict.new c.cells) }
+    ensures answer { Answers dict.new result (task_column task
+        (column_value dict.old (column_with string text_cell (A.count_of a.now) (A.row_of a.now)))
+        (column_value dict.old (column_with string text_cell (B.count_of b.now) (B.row_of b.now)))) }
+{
+    match task {
+        Task::Sum => Ok(text_column(alloc, dict, &Join, a, b)?),
+        Task::Compare(relation) => compared_texts(alloc, dict, relation, a, b),
+        _ => Err(ArrayFault::KindMismatch),
+    }
+}
+
+fn compared_texts<A: Source<TextId>, B: Source<TextId>>(
+    alloc: Global,
+    dict: &TextDict,
+    relation: Relation,
+    a: &A,
+    b: &B,
+) -> Result<Column, ArrayFault>
+    requires same { A.count_of a.now ≡ B.count_of b.now }
+    ensures given { IfOk result (λ c. AreGiven dict.now c.cells) }
+    ensures answer { Answers dict.now result (task_column (Task.Compare relation)
+        (column_value dict.now (column_with string text_cell (A.count_of a.now) (A.row_of a.now)))
+        (column_value dict.now (column_with string text_cell (B.count_of b.now) (B.row_of b.now)))) }
+{
+    let compare = Compare {
+        order: ByText { dict },
+        relation,
+    };
+    operate(alloc, &compare, a, b)
+}

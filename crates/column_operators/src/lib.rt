@@ -1,0 +1,25 @@
+//! The operators on columns of nullable cells.
+//!
+//! [`binary`] has a column on either side, [`with_scalar`] one cell beside each cell of a column, and [`invert`] turns
+//! truth values. Each makes a new column of the cells that it is given, and its answer is a definition on these cells.
+//! An operator is what it does (`Task`) on the values of a row (`operators`); where these lie side by side with their
+//! flags, flags and values are made each by itself (`pairs`), and quotients by one divisor by its inverse (`divisors`).
+//!
+//! ```text
+//! let mut price = Column::new(alloc, Kind::Int64);
+//! price.push(Cell::Int(7))?;
+//! price.push(Cell::Na)?;
+//! let twice = with_scalar(alloc, &mut dict, Binary::Mul, price.as_ref(), Cell::Int(2), false)?;
+//! ```
+#![tactic(auto)]
+
+mod divisors;
+mod floor;
+mod joins;
+mod kernels;
+mod operators;
+mod ops;
+mod pairs;
+
+pub use kernels::{binary, invert, with_scalar};
+pub use ops::Binary;

@@ -1,0 +1,280 @@
+-- Parts side by side are what is meant.
+use Rattle.std.proofs.Common.{◌≡◌, ◌∙◌, ◌<◌, ◌≤◌, ◌+◌, ◌^◌, refl, ap, sym, subst, arith, ℕ, zero, suc, pos, nat_lt, Bool, true, false, ◌&&◌, List, [], ◌∷◌, ◌++◌, map, length, All, Option, Some, None, Result, Ok, Err, if◌then◌else◌}
+use Rattle.std.specs.Prelude.{IsSome, AllPairs, ◌≢◌}
+use Rattle.std.specs.Option.{option_map}
+use Rattle.std.specs.List.{flat_map, range_with_len}
+use Rattle.std.specs.Cmp.Lexicographic.{pointwise}
+use Rattle.std.proofs.lemmas.List.{length-map, map-append}
+use Rattle.std.proofs.lemmas.List.Elements.{All-nil, All-cons, All-head, All-tail}
+use Rattle.std.proofs.lemmas.Bool.Decides.{nat_tests}
+use Rattle.cell_core.specs.Texts.{AreDistinct}
+use Rattle.cell_core.specs.declared.cell.Label.{Label}
+use Rattle.cell_core.specs.declared.cell.Label.TheVariants as label
+use Rattle.cell_core.specs.declared.code.Code.TheVariants.{RepeatedLabel}
+use Rattle.cell_core.specs.declared.grid.Shape.TheVariants.{Frame}
+use Rattle.meaning.specs.Text.{Text}
+use Rattle.meaning.specs.Cell.{CellValue, LabelValue, int}
+use Rattle.meaning.specs.Fault.{FaultValue, limit, bad_value, repeated}
+use Rattle.meaning.specs.Fault as fault
+use Rattle.meaning.specs.FaultOf.{fault_of}
+use Rattle.align_meaning.specs.Faults.{AlignRefusal, met_rows}
+use Rattle.align_meaning.specs.Joins.{most_rows}
+use Rattle.align_meaning.specs.Targets.{first_repeated as first_twice, rows_of_targets, reindexed, unless_repeated as unless_twice}
+use Rattle.join_meaning.specs.Pairs.{or_else}
+use Rattle.join_meaning.specs.Concat as join
+use Rattle.join_meaning.specs.Concat.{united, are_equal, repeated_on_any, labels_concatenated, labels_within_limit, unless_repeated as unless_label, ConcatRefusal}
+use Rattle.multi_index.specs.Axes.{AxisValue}
+use Rattle.row_keys.specs.Keys as numbers
+use Rattle.label_align.proofs.SameLaws.{tuples_decide}
+use Rattle.table_meaning.specs.Settled.{IsSettled}
+use Rattle.table_meaning.specs.Table.{ColumnOf, NumberedTable, Table, heading_value, tuple_value, table_value}
+use Rattle.table_meaning.specs.Value.{Entry, table}
+use Rattle.form_meaning.specs.Finish.{finished, limited, limited_table, first_repeated, unless_repeated, within_limits}
+use Rattle.form_meaning.specs.Infix.{same_tuple}
+use Rattle.method_meaning.specs.Concat.{Concatenation, rows_met, labels_of_tables, table_beside, unless_label_twice, headings_beside, numbered_from, first_numbers}
+use Rattle.frame_store.specs.Shown.{labels_value, headings_value, Makes, Refuses}
+use Rattle.frame_store.specs.World.{IsKnownTable}
+use Rattle.frame_store.specs.declared.fault.OpFault.{OpFault}
+use Rattle.frame_store.specs.declared.fault.OpFault.TheVariants.{Refused, NoMemory}
+use Rattle.frame_store.proofs.Settling.{settled_by, labels_part, headings_part}
+use Rattle.form_parts.proofs.RowLaws.{tuple_by_number, tuples_settled, settled_tuples}
+use Rattle.selections.specs.Headings.{NamesRepeated, repeated_heading}
+use Rattle.selections.proofs.HeadingLaws.{repeated_seen}
+use Rattle.selections.proofs.RefusalLaws.{repeated_settled}
+use Rattle.concat_forms.specs.Parts.{parts_value, AreKnownParts}
+use Rattle.concat_forms.specs.Headings.{gets_number, numbered}
+use Rattle.concat_forms.specs.Beside.{met_beside}
+use Rattle.concat_forms.proofs.SeenLaws as seen
+
+-- numbered headings, with their texts
+some_numbered : (texts : List Text) (n : ℕ) (hs : List (Option Label)) → headings_value texts (numbered false n hs) ≡ numbered_from n (headings_value texts hs)
+some_numbered texts n [] = refl
+some_numbered texts n (None ∷ hs) = ap (λ l. Some (int (pos n)) ∷ l) (some_numbered texts (n + 1) hs)
+some_numbered texts n (Some l ∷ hs) = ap (λ t. heading_value texts (Some l) ∷ t) (some_numbered texts n hs)
+
+every_gets : (h : Option Label) → gets_number true h ≡ true
+every_gets None = refl
+every_gets (Some l) = refl
+
+every_numbered : (texts : List Text) (n : ℕ) (hs : List (Option Label)) → headings_value texts (numbered true n hs) ≡ map (λ k. Some (int (pos k))) (range_with_len n (length hs))
+every_numbered texts n [] = refl
+every_numbered texts n (h ∷ hs) =
+    ap (λ (b : Bool). headings_value texts (if b then Some (label.Int (pos n)) ∷ numbered true (n + 1) hs else h ∷ numbered true n hs)) (every_gets h)
+    ∙ ap (λ l. Some (int (pos n)) ∷ l) (every_numbered texts (n + 1) hs)
+
+pub numbered_seen : (texts : List Text) (all : Bool) (hs : List (Option Label)) → headings_value texts (numbered all 0 hs) ≡ headings_beside all (headings_value texts hs)
+numbered_seen texts false hs = some_numbered texts 0 hs
+numbered_seen texts true hs = every_numbered texts 0 hs ∙ ap (λ count. first_numbers count) (sym (length-map hs (heading_value texts)))
+
+pub numbered_given : (texts : List Text) (all : Bool) (hs : List (Option Label)) → IsSettled headings_value texts hs → IsSettled headings_value texts (numbered all 0 hs)
+numbered_given texts all hs settled = settled_by headings_value headings_value (headings_beside all) texts hs (numbered all 0 hs) (λ ts. sym (numbered_seen ts all hs)) settled
+
+pub all_headings_seen : (texts : List Text) (parts : List NumberedTable) → headings_value texts (flat_map (λ t. t.headings) parts) ≡ flat_map (λ t. t.headings) (parts_value texts parts)
+all_headings_seen texts [] = refl
+all_headings_seen texts (t ∷ ts) = map-append (heading_value texts) t.headings (flat_map (λ t. t.headings) ts) ∙ ap (λ l. headings_value texts t.headings ++ l) (all_headings_seen texts ts)
+
+pub all_headings_given : (texts : List Text) (parts : List NumberedTable) → AreKnownParts texts parts → IsSettled headings_value texts (flat_map (λ t. t.headings) parts)
+all_headings_given texts [] known = λ more. refl
+all_headings_given texts (t ∷ ts) known = λ more.
+    map-append (heading_value (texts ++ more)) t.headings (flat_map (λ t. t.headings) ts)
+    ∙ (λ i. headings_part texts t (All-head (IsKnownTable texts) t ts known).given more i ++ all_headings_given texts ts (All-tail (IsKnownTable texts) t ts known) more i)
+    ∙ sym (map-append (heading_value texts) t.headings (flat_map (λ t. t.headings) ts))
+
+pub numbered_some : (hs : List (Option Label)) (n : ℕ) (all : Bool) → All IsSome (numbered all n hs)
+numbered_some [] n all = All-nil IsSome
+numbered_some (None ∷ hs) n all = All-cons IsSome (Some (label.Int (pos n))) (numbered all (n + 1) hs) refl (numbered_some hs (n + 1) all)
+numbered_some (Some l ∷ hs) n true = All-cons IsSome (Some (label.Int (pos n))) (numbered true (n + 1) hs) refl (numbered_some hs (n + 1) true)
+numbered_some (Some l ∷ hs) n false = All-cons IsSome (Some l) (numbered false n hs) refl (numbered_some hs n false)
+
+-- rows that labels take, where they are a part's own or stand once each
+pub meets_own : (own labels : List (List LabelValue)) → pointwise same_tuple own labels ≡ true → met_rows (reindexed same_tuple own labels) ≡ Ok (rows_met own labels)
+meets_own own labels equal =
+    ap (λ (b : Bool). met_rows (if b then Ok all else unless_twice (first_twice same_tuple own) found)) equal ∙ ap (λ (b : Bool). Ok (if b then all else found)) (sym equal)
+  where
+    all : List (Option ℕ)
+    all = map Some (range_with_len 0 (length own))
+
+    found : List (Option ℕ)
+    found = rows_of_targets same_tuple own labels
+
+pub meets_once : (own labels : List (List LabelValue)) → first_twice same_tuple own ≡ None → met_rows (reindexed same_tuple own labels) ≡ Ok (rows_met own labels)
+meets_once own labels once =
+    ap (λ (o : Option (List LabelValue)). met_rows (if pointwise same_tuple own labels then Ok all else unless_twice o found)) once ∙ go (pointwise same_tuple own labels)
+  where
+    all : List (Option ℕ)
+    all = map Some (range_with_len 0 (length own))
+
+    found : List (Option ℕ)
+    found = rows_of_targets same_tuple own labels
+
+    go : (b : Bool) → met_rows (if b then Ok all else unless_twice None found) ≡ Ok (if b then all else found)
+    go true = refl
+    go false = refl
+
+first_none : {K : Type 0} (a b : Option K) → or_else a b ≡ None → a ≡ None
+first_none None b e = refl
+first_none (Some k) b e = cc
+
+second_none : {K : Type 0} (a b : Option K) → or_else a b ≡ None → b ≡ None
+second_none None b e = e
+second_none (Some k) b e = cc
+
+pub none_twice : (lists : List (List (List LabelValue))) → repeated_on_any same_tuple lists ≡ None → All (λ own. first_twice same_tuple own ≡ None) lists
+none_twice [] none = All-nil (λ own. first_twice same_tuple own ≡ None)
+none_twice (own ∷ lists) none =
+    All-cons (λ own. first_twice same_tuple own ≡ None) own lists (first_none (first_twice same_tuple own) (repeated_on_any same_tuple lists) none) (none_twice lists (second_none (first_twice same_tuple own) (repeated_on_any same_tuple lists) none))
+
+-- labels of several parts by their numbers are those by their texts
+abbrev pub numbered_labels : List NumberedTable → List (List (List Label))
+numbered_labels parts = map (λ t. t.labels) parts
+
+labels_each : (texts : List Text) (parts : List NumberedTable) → labels_of_tables (parts_value texts parts) ≡ map (map (tuple_value texts)) (numbered_labels parts)
+labels_each texts [] = refl
+labels_each texts (t ∷ ts) = ap (λ l. labels_value texts t.labels ∷ l) (labels_each texts ts)
+
+labels_given : (texts : List Text) (parts : List NumberedTable) → AreKnownParts texts parts → All (All (IsSettled tuple_value texts)) (numbered_labels parts)
+labels_given texts [] known = All-nil (All (IsSettled tuple_value texts))
+labels_given texts (t ∷ ts) known =
+    All-cons (All (IsSettled tuple_value texts)) t.labels (numbered_labels ts) (tuples_settled texts t.labels (labels_part texts t (All-head (IsKnownTable texts) t ts known).given)) (labels_given texts ts (All-tail (IsKnownTable texts) t ts known))
+
+-- an answer of the kernel, opened
+no : {A : Type 0} → false ≡ true → A
+no e = cc
+
+module _ {K : Type 0} where
+  abbrev refuses : ConcatRefusal K → Result (List K) (ConcatRefusal K)
+  refuses refusal = Err refusal
+
+  abbrev takes : List K → Result (List K) (ConcatRefusal K)
+  takes labels = Ok labels
+
+  abbrev made_or : List K → Result (List K) (ConcatRefusal K) → List K
+  made_or d (Ok labels) = labels
+  made_or d (Err refusal) = d
+
+  abbrev twice_in : ConcatRefusal K → Option K
+  twice_in (join.repeated_label k) = Some k
+  twice_in join.mixed_kinds = None
+  twice_in join.too_large = None
+
+  abbrev is_mixed : ConcatRefusal K → Bool
+  is_mixed join.mixed_kinds = true
+  is_mixed (join.repeated_label k) = false
+  is_mixed join.too_large = false
+
+  abbrev is_large : ConcatRefusal K → Bool
+  is_large join.too_large = true
+  is_large (join.repeated_label k) = false
+  is_large join.mixed_kinds = false
+
+  abbrev refusal_or : ConcatRefusal K → Result (List K) (ConcatRefusal K) → ConcatRefusal K
+  refusal_or d (Ok labels) = d
+  refusal_or d (Err refusal) = refusal
+
+  abbrev is_made : Result (List K) (ConcatRefusal K) → Bool
+  is_made (Ok labels) = true
+  is_made (Err refusal) = false
+
+  ok_opened : (o : Option K) (u labels : List K) → unless_label o u ≡ Ok labels → (o ≡ None) × (labels ≡ u)
+  ok_opened (Some k) u labels is = no (ap is_made is)
+  ok_opened None u labels is = (refl, go (nat_lt most_rows (length u)) is)
+    where
+      go : (b : Bool) → (if b then refuses join.too_large else takes u) ≡ takes labels → labels ≡ u
+      go true e = no (ap is_made e)
+      go false e = sym (ap (made_or u) e)
+
+  twice_opened : (o : Option K) (u : List K) (label : K) → unless_label o u ≡ Err (join.repeated_label label) → o ≡ Some label
+  twice_opened (Some k) u label is = ap (λ r. twice_in (refusal_or join.too_large r)) is
+  twice_opened None u label is = go (nat_lt most_rows (length u)) is
+    where
+      go : (b : Bool) → (if b then refuses join.too_large else takes u) ≡ refuses (join.repeated_label label) → None ≡ Some label
+      go true e = ap (λ r. twice_in (refusal_or join.too_large r)) e
+      go false e = no (sym (ap is_made e))
+
+  many_opened : (o : Option K) (u : List K) → unless_label o u ≡ Err join.too_large → (o ≡ None) × (most_rows < length u)
+  many_opened (Some k) u is = no (ap (λ r. is_large (refusal_or (join.repeated_label k) r)) is)
+  many_opened None u is = (refl, go (nat_lt most_rows (length u)) refl is)
+    where
+      go : (b : Bool) → nat_lt most_rows (length u) ≡ b → (if b then refuses join.too_large else takes u) ≡ refuses join.too_large → most_rows < length u
+      go true there e = grind (arith, nat_tests, there)
+      go false there e = no (sym (ap is_made e))
+
+  mixed_opened : (o : Option K) (u : List K) → unless_label o u ≡ Err join.mixed_kinds → ⊥
+  mixed_opened (Some k) u is = no (ap (λ r. is_mixed (refusal_or join.too_large r)) is)
+  mixed_opened None u is = go (nat_lt most_rows (length u)) is
+    where
+      go : (b : Bool) → (if b then refuses join.too_large else takes u) ≡ refuses join.mixed_kinds → ⊥
+      go true e = no (ap (λ r. is_mixed (refusal_or join.too_large r)) e)
+      go false e = no (sym (ap is_made e))
+
+module _ (texts : List Text) (distinct : AreDistinct texts) (parts : List NumberedTable) (known : AreKnownParts texts parts) where
+  abbrev P : List Label → Type 0
+  P = IsSettled tuple_value texts
+
+  abbrev T : List Table
+  T = parts_value texts parts
+
+  abbrev by_number : (x y : List Label) → P x → P y → same_tuple (tuple_value texts x) (tuple_value texts y) ≡ numbers.same_tuple x y
+  by_number x y f g = tuple_by_number texts x y distinct f g
+
+  pub equal_labels : are_equal same_tuple (labels_of_tables T) ≡ are_equal numbers.same_tuple (numbered_labels parts)
+  equal_labels =
+      ap (are_equal same_tuple) (labels_each texts parts) ∙ seen.equal_seen (tuple_value texts) P numbers.same_tuple same_tuple by_number (numbered_labels parts) (labels_given texts parts known)
+
+  pub twice_labels : repeated_on_any same_tuple (labels_of_tables T) ≡ option_map (tuple_value texts) (repeated_on_any numbers.same_tuple (numbered_labels parts))
+  twice_labels =
+      ap (repeated_on_any same_tuple) (labels_each texts parts) ∙ seen.repeated_seen (tuple_value texts) P numbers.same_tuple same_tuple by_number (numbered_labels parts) (labels_given texts parts known)
+
+  pub united_labels : (inner : Bool) → united same_tuple inner (labels_of_tables T) ≡ labels_value texts (united numbers.same_tuple inner (numbered_labels parts))
+  united_labels inner =
+      ap (united same_tuple inner) (labels_each texts parts) ∙ seen.united_seen (tuple_value texts) P numbers.same_tuple same_tuple by_number inner (numbered_labels parts) (labels_given texts parts known)
+
+  pub united_labels_given : (inner : Bool) → IsSettled labels_value texts (united numbers.same_tuple inner (numbered_labels parts))
+  united_labels_given inner = settled_tuples texts _ (seen.united_all P numbers.same_tuple inner (numbered_labels parts) (labels_given texts parts known))
+
+  pub twice_given : (label : List Label) → repeated_on_any numbers.same_tuple (numbered_labels parts) ≡ Some label → IsSettled fault_of texts (RepeatedLabel label)
+  twice_given label is = λ more. ap fault.repeated_label (seen.repeated_all P numbers.same_tuple (numbered_labels parts) label (labels_given texts parts known) is more)
+
+  -- what the kernel answers for axes that aren't equal
+  module _ (c : Concatenation) (apart : are_equal numbers.same_tuple (numbered_labels parts) ≡ false) where
+    abbrev twice : Option (List Label)
+    twice = repeated_on_any numbers.same_tuple (numbered_labels parts)
+
+    abbrev all_labels : List (List Label)
+    all_labels = united numbers.same_tuple c.inner (numbered_labels parts)
+
+    chosen : labels_concatenated numbers.same_tuple c.inner (numbered_labels parts) ≡ unless_label twice all_labels
+    chosen = ap (λ (b : Bool). if b then labels_within_limit (join.first_axis (numbered_labels parts)) else unless_label twice all_labels) apart
+
+    meant : (o : Option (List Label)) → twice ≡ o → met_beside T c ≡ unless_label_twice (option_map (tuple_value texts) o) (finished (table_beside T c.renumbered (labels_value texts all_labels)))
+    meant o is = λ i. unless_label_twice ((twice_labels ∙ ap (option_map (tuple_value texts)) is) i) (finished (table_beside T c.renumbered (united_labels c.inner i)))
+
+    -- the labels
+    pub met_labels : (labels : List (List Label)) → labels_concatenated numbers.same_tuple c.inner (numbered_labels parts) ≡ Ok labels → labels ≡ united numbers.same_tuple c.inner (numbered_labels parts)
+    met_labels labels is = (ok_opened twice all_labels labels (sym chosen ∙ is)).1
+
+    pub met_once : (labels : List (List Label)) → labels_concatenated numbers.same_tuple c.inner (numbered_labels parts) ≡ Ok labels → repeated_on_any same_tuple (labels_of_tables T) ≡ None
+    met_once labels is = twice_labels ∙ ap (option_map (tuple_value texts)) (ok_opened twice all_labels labels (sym chosen ∙ is)).0
+
+    pub met_found : (labels : List (List Label)) → labels_concatenated numbers.same_tuple c.inner (numbered_labels parts) ≡ Ok labels → met_beside T c ≡ finished (table_beside T c.renumbered (labels_value texts labels))
+    met_found labels is =
+        let opened = ok_opened twice all_labels labels (sym chosen ∙ is) in
+        meant None opened.0 ∙ ap (λ l. finished (table_beside T c.renumbered (labels_value texts l))) (sym opened.1)
+
+    pub met_given : (labels : List (List Label)) → labels_concatenated numbers.same_tuple c.inner (numbered_labels parts) ≡ Ok labels → IsSettled labels_value texts labels
+    met_given labels is = subst (IsSettled labels_value texts) (sym (ok_opened twice all_labels labels (sym chosen ∙ is)).1) (united_labels_given c.inner)
+
+    -- a label that stands twice
+    pub met_twice : (label : List Label) → labels_concatenated numbers.same_tuple c.inner (numbered_labels parts) ≡ Err (join.repeated_label label) → Refuses texts (RepeatedLabel label) (met_beside T c)
+    met_twice label is = let found = twice_opened twice all_labels label (sym chosen ∙ is) in (meant (Some label) found, twice_given label found)
+
+    -- too many labels
+    pub met_many : labels_concatenated numbers.same_tuple c.inner (numbered_labels parts) ≡ Err join.too_large
+        → (met_beside T c ≡ finished (table_beside T c.renumbered (labels_value texts all_labels))) × (most_rows < length (labels_value texts all_labels))
+    met_many is =
+        let opened = many_opened twice all_labels (sym chosen ∙ is) in
+        let count : length (labels_value texts all_labels) ≡ length all_labels = length-map all_labels (tuple_value texts) in
+        (meant None opened.0, omega (arith, opened.1, count))
+
+    pub never_mixed : labels_concatenated numbers.same_tuple c.inner (numbered_labels parts) ≡ Err join.mixed_kinds → ⊥
+    never_mixed is = mixed_opened twice all_labels (sym chosen ∙ is)

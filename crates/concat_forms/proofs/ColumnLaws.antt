@@ -1,0 +1,225 @@
+-- Columns of parts, one below the other.
+use Rattle.std.proofs.Common.{◌≡◌, ◌∙◌, ◌<◌, ◌≤◌, ◌+◌, ◌^◌, refl, ap, sym, subst, ℕ, zero, suc, Bool, true, false, ◌&&◌, cond, List, [], ◌∷◌, ◌++◌, map, fold, take, length, replicate, unwrap_or, slice_index_or, All, Option, Some, None, Result, Ok, Err, nat_lt, if◌then◌else◌, arith}
+use Rattle.std.specs.Prelude.{slice_get, position}
+use Rattle.std.specs.Option.{option_map}
+use Rattle.std.specs.List.{list_all, flat_map}
+use Rattle.std.proofs.lemmas.List.{length-map, length-replicate, map-append, take_more}
+use Rattle.std.proofs.lemmas.List.Elements.{All-head, All-tail}
+use Rattle.std.proofs.lemmas.List.Quantifiers.{position-Some}
+use Rattle.std.proofs.lemmas.List.Concat.{length-flat_map}
+use Rattle.std.proofs.lemmas.Bool.Decides.{nat_tests}
+use Rattle.cell_core.specs.declared.cell.Cell.{Cell}
+use Rattle.cell_core.specs.declared.cell.Cell.TheVariants.{Na}
+use Rattle.cell_core.specs.declared.cell.Kind.{Kind}
+use Rattle.cell_core.specs.declared.cell.Kind.TheVariants.{Int64, Boolean, Text as string}
+use Rattle.cell_core.specs.declared.cell.Label.{Label}
+use Rattle.meaning.specs.Text.{Text}
+use Rattle.meaning.specs.Cell.{CellValue, na_cell, datum}
+use Rattle.meaning.specs.Column.{ColumnValue}
+use Rattle.meaning.specs.Fault.{FaultValue, wrong_kind}
+use Rattle.column_core.specs.Columns.{CellColumn, column_value as seen_column}
+use Rattle.align_meaning.specs.Joins.{most_rows}
+use Rattle.join_meaning.specs.Concat.{same_kind, column_below, column_within_limit, rows_concatenated, ConcatRefusal, mixed_kinds, repeated_label, too_large}
+use Rattle.table_meaning.specs.Table.{ColumnOf, NumberedTable, Table, column_at, no_column, column_value, table_value}
+use Rattle.table_meaning.specs.Valid.{IsWhole}
+use Rattle.form_meaning.specs.Finish.{missing_column, value_of_column, column_of_value}
+use Rattle.form_meaning.specs.Make.{on}
+use Rattle.frame_store.specs.Parts.{table_column, block_column}
+use Rattle.frame_store.specs.Shown.{columns_value}
+use Rattle.form_parts.specs.Makes.{blocks_value}
+use Rattle.column_core.specs.Blocks.{CellBlock}
+use Rattle.cell_core.specs.declared.grid.Shape.{Shape}
+use Rattle.method_meaning.specs.Concat.{columns_below}
+use Rattle.merge_concat.specs.Concats.{ConcatsBy}
+use Rattle.merge_concat.specs.declared.fault.MergeFault.{MergeFault}
+use Rattle.merge_concat.specs.declared.fault.MergeFault.TheVariants.{NotOneToOne, DuplicateLabels, MixedKinds, TooLarge, NoMemory}
+use Rattle.merge_concat.specs.Parts.{part_column}
+use Rattle.merge_concat.specs.declared.parts.Part.{Part}
+use Rattle.concat_forms.specs.declared.parts.Sought.{Sought}
+use Rattle.concat_forms.specs.declared.parts.Sought.TheVariants.{Only, Under}
+use Rattle.concat_forms.specs.Parts.{column_sought, same_heading}
+use Rattle.concat_forms.specs.Columns.{kind_sought, fits_kind, kinds_meet, piece_from, piece_of, cells_or_missing, sought_by, stacked, columns_stacked, rows_in}
+
+kind_itself : (k : Kind) → same_kind k k ≡ true
+kind_itself Int64 = refl
+kind_itself Boolean = refl
+kind_itself string = refl
+
+missing_seen : (texts : List Text) (n : ℕ) → map (datum texts) (replicate n Na) ≡ replicate n na_cell
+missing_seen texts zero = refl
+missing_seen texts (suc n) = ap (λ l. na_cell ∷ l) (missing_seen texts n)
+
+-- a part's column or missing cells, as the kernel takes it and with its texts
+abbrev kept_or : Kind → Option (ColumnOf Cell) → ℕ → ColumnOf Cell
+kept_or kind o n = unwrap_or o record { kind = kind; cells = replicate n Na }
+
+abbrev pub seen_or : List Text → Kind → Option (ColumnOf Cell) → ℕ → ColumnOf CellValue
+seen_or texts kind o n = unwrap_or (option_map (column_value texts) o) (missing_column kind n)
+
+abbrev cells_or : Option (ColumnOf Cell) → ℕ → List Cell
+cells_or o n = unwrap_or (option_map (λ c. c.cells) o) (replicate n Na)
+
+cells_seen : (texts : List Text) (kind : Kind) (o : Option (ColumnOf Cell)) (n : ℕ) → (seen_or texts kind o n).cells ≡ map (datum texts) (cells_or o n)
+cells_seen texts kind None n = sym (missing_seen texts n)
+cells_seen texts kind (Some c) n = refl
+
+kind_fits : (texts : List Text) (kind : Kind) (o : Option (ColumnOf Cell)) (n : ℕ) → same_kind kind (seen_or texts kind o n).kind ≡ fits_kind kind o
+kind_fits texts kind None n = kind_itself kind
+kind_fits texts kind (Some c) n = refl
+
+-- what the kernel puts together is what is meant
+piece_seen : (texts : List Text) (kind : Kind) (o : Option (ColumnOf Cell)) (n : ℕ) → seen_column texts (part_column kind (piece_from o n)) ≡ value_of_column (seen_or texts kind o n)
+piece_seen texts kind None n = ap (λ cells. record { kind = kind; cells = cells }) (missing_seen texts n)
+piece_seen texts kind (Some c) n = refl
+
+module _ (texts : List Text) (sought : Sought) where
+  abbrev pub seen_in : Kind → NumberedTable → ColumnOf CellValue
+  seen_in kind t = seen_or texts kind (column_sought sought t) (length t.labels)
+
+  pub pieces_seen : (kind : Kind) (ts : List NumberedTable) → map (λ part. seen_column texts (part_column kind part)) (map (piece_of sought) ts) ≡ map value_of_column (map (seen_in kind) ts)
+  pieces_seen kind [] = refl
+  pieces_seen kind (t ∷ ts) = λ i. piece_seen texts kind (column_sought sought t) (length t.labels) i ∷ pieces_seen kind ts i
+
+  all_cells : (kind : Kind) (ts : List NumberedTable) → flat_map (λ c. c.cells) (map value_of_column (map (seen_in kind) ts)) ≡ map (datum texts) (flat_map (cells_or_missing sought) ts)
+  all_cells kind [] = refl
+  all_cells kind (t ∷ ts) =
+      (λ i. cells_seen texts kind (column_sought sought t) (length t.labels) i ++ all_cells kind ts i)
+      ∙ sym (map-append (datum texts) (cells_or_missing sought t) (flat_map (cells_or_missing sought) ts))
+
+  -- the first part has the kind, and is of it
+  first_kind : (o : Option (ColumnOf Cell)) (n : ℕ) (rest : Kind) → (seen_or texts (unwrap_or (option_map (λ c. c.kind) o) rest) o n).kind ≡ unwrap_or (option_map (λ c. c.kind) o) rest
+  first_kind None n rest = refl
+  first_kind (Some c) n rest = refl
+
+  first_fits : (o : Option (ColumnOf Cell)) (rest : Kind) → fits_kind (unwrap_or (option_map (λ c. c.kind) o) rest) o ≡ true
+  first_fits None rest = refl
+  first_fits (Some c) rest = kind_itself c.kind
+
+  others_fit : (kind : Kind) (ts : List NumberedTable) → list_all (λ other. same_kind kind other.kind) (map value_of_column (map (seen_in kind) ts)) ≡ list_all (λ t. fits_kind kind (column_sought sought t)) ts
+  others_fit kind [] = refl
+  others_fit kind (t ∷ ts) = λ i. kind_fits texts kind (column_sought sought t) (length t.labels) i && others_fit kind ts i
+
+  module _ (t : NumberedTable) (ts : List NumberedTable) where
+    abbrev K : Kind
+    K = kind_sought sought (t ∷ ts)
+
+    abbrev whole : ColumnValue
+    whole = record { kind = K; cells = map (datum texts) (flat_map (cells_or_missing sought) (t ∷ ts)) }
+
+    pub put_together : column_below (map value_of_column (map (seen_in K) (t ∷ ts))) ≡ (if kinds_meet (t ∷ ts) sought then Some whole else None)
+    put_together =
+        let o = column_sought sought t in
+        let n = length t.labels in
+        let first = first_kind o n (kind_sought sought ts) in
+        let meet : list_all (λ other. same_kind (seen_in K t).kind other.kind) (map value_of_column (map (seen_in K) ts)) ≡ kinds_meet (t ∷ ts) sought
+        = ap (λ (k : Kind). list_all (λ other. same_kind k other.kind) (map value_of_column (map (seen_in K) ts))) first ∙ others_fit K ts ∙ ap (λ b. b && list_all (λ s. fits_kind K (column_sought sought s)) ts) (sym (first_fits o (kind_sought sought ts))) in
+        λ i. if meet i then Some record { kind = first i; cells = all_cells K (t ∷ ts) i } else None
+
+    -- the column that is meant, or columns of different kinds
+    pub columns_stacked_by : columns_below (map (seen_in K) (t ∷ ts)) ≡ (if kinds_meet (t ∷ ts) sought then Ok (column_value texts (stacked (t ∷ ts) sought)) else Err wrong_kind)
+    columns_stacked_by = ap (λ o. on o (λ c. Ok (column_of_value c))) put_together ∙ go (kinds_meet (t ∷ ts) sought)
+      where
+        go : (b : Bool) → on (if b then Some whole else None) (λ c. Ok (column_of_value c)) ≡ (if b then Ok (column_value texts (stacked (t ∷ ts) sought)) else Err wrong_kind)
+        go true = refl
+        go false = refl
+
+some_same : {A : Type 0} (a b : A) → Some a ≡ Some b → a ≡ b
+some_same a b e = cc
+
+-- the columns that are sought are as long as their parts
+column_long : (sought : Sought) (t : NumberedTable) → IsWhole t → (o : Option (ColumnOf Cell)) → column_sought sought t ≡ o → length (cells_or o (length t.labels)) ≡ length t.labels
+column_long sought t fits None is = length-replicate (length t.labels) Na
+column_long Only t fits (Some c) is = first t.columns fits.filled is
+  where
+    first : (cs : List (ColumnOf Cell)) → All (λ c. length c.cells ≡ length t.labels) cs → slice_get cs 0 ≡ Some c → length c.cells ≡ length t.labels
+    first [] all e = cc
+    first (d ∷ ds) all e = subst (λ (x : ColumnOf Cell). length x.cells ≡ length t.labels) (some_same d c e) (All-head (λ (c : ColumnOf Cell). length c.cells ≡ length t.labels) d ds all)
+column_long (Under h) t fits (Some c) is = at (position (same_heading h) t.headings) refl is
+  where
+    at : (p : Option ℕ) → position (same_heading h) t.headings ≡ p → option_map (column_at t.columns) p ≡ Some c → length c.cells ≡ length t.labels
+    at None found e = cc
+    at (Some k) found e =
+        let inside = (position-Some (same_heading h) t.headings k None found).0 in
+        let lt : k < length t.columns = omega (arith, inside, fits.headed) in
+        ap (λ (x : ColumnOf Cell). length x.cells) (sym (some_same (column_at t.columns k) c e)) ∙ fits.filled k no_column lt
+
+sum_alike : (sought : Sought) (a : ℕ) (ts : List NumberedTable) → All IsWhole ts → fold (λ a t. a + length (cells_or_missing sought t)) a ts ≡ fold (λ a t. a + length t.labels) a ts
+sum_alike sought a [] all = refl
+sum_alike sought a (t ∷ ts) all =
+    let here : length (cells_or_missing sought t) ≡ length t.labels = column_long sought t (All-head IsWhole t ts all) (column_sought sought t) refl in
+    ap (λ n. fold (λ a t. a + length (cells_or_missing sought t)) (a + n) ts) here ∙ sum_alike sought (a + length t.labels) ts (All-tail IsWhole t ts all)
+
+pub lengths : (sought : Sought) (ts : List NumberedTable) → All IsWhole ts → length (flat_map (cells_or_missing sought) ts) ≡ rows_in ts
+lengths sought ts all = length-flat_map (cells_or_missing sought) ts ∙ sum_alike sought 0 ts all
+
+few_enough : (n : ℕ) → n ≤ most_rows → nat_lt most_rows n ≡ false
+few_enough n le = grind (arith, nat_tests, le)
+
+-- columns of one kind and not too many cells are put together
+pub rows_stacked : (K : Type 0) (texts : List Text) (sought : Sought) (ts : List NumberedTable) → kinds_meet ts sought ≡ true → All IsWhole ts → rows_in ts ≤ 2 ^ 26
+    → rows_concatenated {K = K} (map (λ part. seen_column texts (part_column (kind_sought sought ts) part)) (map (piece_of sought) ts)) ≡ Ok record { kind = kind_sought sought ts; cells = map (datum texts) (flat_map (cells_or_missing sought) ts) }
+rows_stacked K texts sought [] meet all few = refl
+rows_stacked K texts sought (t ∷ ts) meet all few =
+    let cells = map (datum texts) (flat_map (cells_or_missing sought) (t ∷ ts)) in
+    let count : length cells ≡ rows_in (t ∷ ts) = length-map (flat_map (cells_or_missing sought) (t ∷ ts)) (datum texts) ∙ lengths sought (t ∷ ts) all in
+    let kind = kind_sought sought (t ∷ ts) in
+    let made : ColumnValue = record { kind = kind; cells = cells } in
+    ap (λ cs. column_within_limit (column_below cs)) (pieces_seen texts sought kind (t ∷ ts))
+    ∙ ap (λ o. column_within_limit o) (put_together texts sought t ts)
+    ∙ ap (λ (b : Bool). column_within_limit {K = K} (if b then Some made else None)) meet
+    ∙ ap (λ (b : Bool). if b then Err too_large else Ok made) (ap (λ n. nat_lt most_rows n) count ∙ few_enough (rows_in (t ∷ ts)) few)
+
+-- what the kernel makes of the parts' columns
+stacked_told : (K : Type 0) (texts : List Text) (sought : Sought) (ts : List NumberedTable) (kind : Kind) (pieces : List Part) → kinds_meet ts sought ≡ true → All IsWhole ts → rows_in ts ≤ 2 ^ 26 → kind ≡ kind_sought sought ts → pieces ≡ map (piece_of sought) ts
+    → rows_concatenated {K = K} (map (λ part. seen_column texts (part_column kind part)) pieces) ≡ Ok record { kind = kind_sought sought ts; cells = map (datum texts) (flat_map (cells_or_missing sought) ts) }
+stacked_told K texts sought ts kind pieces meet all few same listed =
+    (λ i. rows_concatenated {K = K} (map (λ part. seen_column texts (part_column (same i) part)) (listed i))) ∙ rows_stacked K texts sought ts meet all few
+
+abbrev given : {A E : Type 0} → A → Result A E
+given a = Ok a
+
+ok_same : {A E : Type 0} (a b : A) → given {E = E} a ≡ given b → a ≡ b
+ok_same a b e = cc
+
+made_or_not : {A E : Type 0} (a : A) (e : E) → Ok a ≡ Err e → ⊥
+made_or_not a e is = cc
+
+pub stacked_is : (texts : List Text) (sought : Sought) (ts : List NumberedTable) (kind : Kind) (pieces : List Part) (column : CellColumn) → kinds_meet ts sought ≡ true → All IsWhole ts → rows_in ts ≤ 2 ^ 26 → kind ≡ kind_sought sought ts → pieces ≡ map (piece_of sought) ts
+    → rows_concatenated {K = List Label} (map (λ part. seen_column texts (part_column kind part)) pieces) ≡ Ok (seen_column texts column) → column_value texts (table_column column) ≡ column_value texts (stacked ts sought)
+stacked_is texts sought ts kind pieces column meet all few same listed is =
+    ap column_of_value (ok_same (seen_column texts column) _ (sym is ∙ stacked_told (List Label) texts sought ts kind pieces meet all few same listed))
+
+pub never_refused : (sought : Sought) (ts : List NumberedTable) (kind : Kind) (pieces : List Part) (refusal : ConcatRefusal (List Label)) → kinds_meet ts sought ≡ true → All IsWhole ts → rows_in ts ≤ 2 ^ 26 → kind ≡ kind_sought sought ts → pieces ≡ map (piece_of sought) ts
+    → rows_concatenated {K = List Label} (map (λ part. seen_column [] (part_column kind part)) pieces) ≡ Err refusal → ⊥
+never_refused sought ts kind pieces refusal meet all few same listed is = made_or_not _ refusal (sym (stacked_told (List Label) [] sought ts kind pieces meet all few same listed) ∙ is)
+
+-- the column of one heading more
+pub one_more_stacked : (texts : List Text) (ts : List NumberedTable) (shape : Shape) (hs : List (Option Label)) (k : ℕ) (h : Option Label) (sought : Sought) (made made' : List CellBlock) (block : CellBlock) (column : CellColumn) → k < length hs → h ≡ slice_index_or hs k None
+    → sought ≡ sought_by shape h → column_value texts (table_column column) ≡ column_value texts (stacked ts sought) → block ≡ record { kind = column.kind; rows = length column.cells; columns = column.cells ∷ [] } → made' ≡ made ++ block ∷ []
+    → blocks_value texts made ≡ columns_value texts (columns_stacked ts shape (take k hs)) → blocks_value texts made' ≡ columns_value texts (columns_stacked ts shape (take (k + 1) hs))
+one_more_stacked texts ts shape hs k h sought made made' block column lt at by here boxed pushed so_far =
+    let this : column_value texts (block_column block) ≡ column_value texts (stacked ts (sought_by shape (slice_index_or hs k None))) =
+    ap (λ b. column_value texts (block_column b)) boxed ∙ here ∙ ap (λ s. column_value texts (stacked ts s)) (by ∙ ap (sought_by shape) at) in
+    ap (blocks_value texts) pushed
+    ∙ ap (columns_value texts) (map-append block_column made (block ∷ []))
+    ∙ map-append (column_value texts) (map block_column made) (block_column block ∷ [])
+    ∙ (λ i. so_far i ++ this i ∷ [])
+    ∙ sym (map-append (column_value texts) (columns_stacked ts shape (take k hs)) (stacked ts (sought_by shape (slice_index_or hs k None)) ∷ []))
+    ∙ ap (columns_value texts) (sym (map-append (λ h. stacked ts (sought_by shape h)) (take k hs) (slice_index_or hs k None ∷ [])))
+    ∙ ap (λ l. columns_value texts (columns_stacked ts shape l)) (sym (take_more hs k None lt))
+
+-- no other refusal than want of memory
+abbrev failed : MergeFault → Result CellColumn MergeFault
+failed fault = Err fault
+
+pub never_fault : (sought : Sought) (ts : List NumberedTable) (kind : Kind) (pieces : List Part) (r : Result CellColumn MergeFault) (fault : MergeFault) → kinds_meet ts sought ≡ true → All IsWhole ts → rows_in ts ≤ 2 ^ 26 → kind ≡ kind_sought sought ts → pieces ≡ map (piece_of sought) ts
+    → ConcatsBy (seen_column []) r (rows_concatenated (map (λ part. seen_column [] (part_column kind part)) pieces)) → r ≡ Err fault → (fault ≡ NoMemory → ⊥) → ⊥
+never_fault sought ts kind pieces r fault meet all few same listed told is other =
+    go fault other (subst (λ (x : Result CellColumn MergeFault). ConcatsBy (seen_column []) x (rows_concatenated (map (λ part. seen_column [] (part_column kind part)) pieces))) is told)
+  where
+    go : (fault : MergeFault) → (fault ≡ NoMemory → ⊥) → ConcatsBy (seen_column []) (failed fault) (rows_concatenated (map (λ part. seen_column [] (part_column kind part)) pieces)) → ⊥
+    go (NotOneToOne side key) other told = told
+    go (DuplicateLabels label) other told = never_refused sought ts kind pieces (repeated_label label) meet all few same listed told
+    go MixedKinds other told = never_refused sought ts kind pieces mixed_kinds meet all few same listed told
+    go TooLarge other told = never_refused sought ts kind pieces too_large meet all few same listed told
+    go NoMemory other told = other refl

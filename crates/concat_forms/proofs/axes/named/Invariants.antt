@@ -1,0 +1,16 @@
+use Rattle.std.proofs.Common.{◌≡◌, ◌+◌, ◌++◌, take, length}
+use Rattle.table_meaning.specs.Settled.{IsSettled}
+use Rattle.frame_store.specs.Shown.{headings_value}
+use Rattle.concat_forms.specs.Parts.{parts_value}
+use Rattle.concat_forms.specs.Axes.{names_of_levels}
+use Rattle.concat_forms.proofs.axes.named.Given as goal
+
+-- the names so far
+abbrev pub invariant-loop-level : goal.invariant-loop-level
+invariant-loop-level l =
+    record {
+      tuples : l.axis.tuples ≡ l.fn.axis.tuples;
+      count : length l.axis.names ≡ length l.fn.axis.names;
+      named : headings_value l.fn.dict (take (l.before + l.level) l.axis.names) ≡ take l.before (headings_value l.fn.dict l.fn.axis.names) ++ names_of_levels l.level (parts_value l.fn.dict l.parts);
+      given : IsSettled headings_value l.fn.dict (take (l.before + l.level) l.axis.names);
+    }

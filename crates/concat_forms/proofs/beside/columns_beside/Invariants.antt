@@ -1,0 +1,15 @@
+use Rattle.std.proofs.Common.{◌≡◌, take, length}
+use Rattle.std.specs.List.{flat_map}
+use Rattle.method_meaning.specs.Concat.{columns_beside}
+use Rattle.frame_store.specs.Shown.{labels_value}
+use Rattle.form_parts.specs.Makes.{blocks_value}
+use Rattle.concat_forms.specs.Parts.{parts_value}
+use Rattle.concat_forms.specs.Beside.{AreBlocks}
+use Rattle.concat_forms.proofs.beside.columns_beside.Given as goal
+
+-- the columns of the parts so far
+abbrev pub invariant-loop-part : goal.invariant-loop-part
+invariant-loop-part l = record {
+  blocks : AreBlocks l.dict (length l.axis.tuples) l.made;
+  columns : blocks_value l.dict l.made ≡ flat_map (columns_beside (labels_value l.dict l.axis.tuples)) (parts_value l.dict (take l.part-index l.parts));
+}

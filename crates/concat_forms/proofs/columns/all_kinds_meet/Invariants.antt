@@ -1,0 +1,6 @@
+use Rattle.std.proofs.Common.{◌≡◌, drop}
+use Rattle.concat_forms.specs.Columns.{all_kinds_meet}
+use Rattle.concat_forms.proofs.columns.all_kinds_meet.Given as goal
+
+abbrev pub invariant-loop-heading : goal.invariant-loop-heading
+invariant-loop-heading l = all_kinds_meet l.parts l.shape (drop l.heading-index l.headings) ≡ all_kinds_meet l.parts l.shape l.headings

@@ -1,0 +1,11 @@
+use Rattle.std.proofs.Common.{◌≡◌, ◌++◌, map, drop, List}
+use Rattle.meaning.specs.Text.{Text}
+use Rattle.meaning.specs.Cell.{label_datum}
+use Rattle.form_meaning.specs.Select.{labels_of}
+use Rattle.frame_store.specs.Arguments.{items_of}
+use Rattle.frame_store.specs.Objects.{Tables}
+use Rattle.concat_forms.proofs.gathering.labels_of.Given as goal
+
+-- the labels so far, and those that are left
+abbrev pub invariant-loop-item : goal.invariant-loop-item
+invariant-loop-item l = (live : Tables) (texts : List Text) → map (label_datum texts) l.labels.items ++ labels_of (items_of live texts (drop l.item-index l.items)) ≡ labels_of (items_of live texts l.items)

@@ -1,0 +1,11 @@
+use Rattle.std.proofs.Common.{◌≡◌, ◌∙◌, ◌++◌, ap, sym}
+use Rattle.meaning.specs.Reduce.{distinct}
+use Rattle.concat_forms.specs.Parts.{same_heading}
+use Rattle.concat_forms.proofs.HeadingLaws.{all_united}
+use Rattle.concat_forms.proofs.headings.all_headings.Goals as goal
+
+pub returns : goal.returns
+returns c =
+    c.in_ok-extend_from_slice.ensures.items
+    ∙ (λ i. c.new-made.ensures.items i ++ (c.as_slice.ensures.keys ∙ c.in_ok-found.ensures.keys ∙ ap (distinct same_heading) (c.deref.ensures.value ∙ c.in_ok-headings.ensures)) i)
+    ∙ all_united c.args.parts.now

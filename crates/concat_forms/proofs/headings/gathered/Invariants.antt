@@ -1,0 +1,7 @@
+use Rattle.std.proofs.Common.{◌≡◌, take}
+use Rattle.std.specs.List.{flat_map}
+use Rattle.concat_forms.proofs.headings.gathered.Given as goal
+
+-- the headings of the parts so far
+abbrev pub invariant-loop-part : goal.invariant-loop-part
+invariant-loop-part l = l.made.items ≡ flat_map (λ t. t.headings) (take l.part-index l.parts)

@@ -1,0 +1,14 @@
+use Rattle.std.proofs.Common.{◌≡◌, map, fold, drop}
+use Rattle.table_meaning.specs.Settled.{IsSettled}
+use Rattle.table_meaning.specs.Table.{heading_value}
+use Rattle.form_meaning.specs.Infix.{common_name}
+use Rattle.method_meaning.specs.Concat as meant
+use Rattle.concat_forms.specs.Parts.{name_at, parts_value}
+use Rattle.concat_forms.proofs.names.name_of_all.Given as goal
+
+-- the name that the parts so far have, and what it comes to
+abbrev pub invariant-loop-other : goal.invariant-loop-other
+invariant-loop-other l = record {
+  whole : fold common_name (heading_value l.dict l.name) (map (name_at l.which) (parts_value l.dict (drop l.other-index l.others))) ≡ meant.name_of_all (map (name_at l.which) (parts_value l.dict l.parts));
+  given : IsSettled heading_value l.dict l.name;
+}

@@ -1,0 +1,52 @@
+use Rattle.std.proofs.Common.{◌≡◌, ◌∙◌, ◌<◌, refl, ap, sym, length, arith, slice_index_or, None}
+use Rattle.std.proofs.lemmas.List.{length-set}
+use Rattle.std.proofs.lemmas.Option.{get_or_from_slice_get}
+use Rattle.multi_index.specs.Axes.{AxisValue}
+use Rattle.table_meaning.specs.Settled.{IsSettled}
+use Rattle.table_meaning.specs.Table.{heading_value}
+use Rattle.form_meaning.specs.Infix.{common_name}
+use Rattle.frame_ops.proofs.HeadingLaws.{heading_settled}
+use Rattle.frame_ops.proofs.JoinLaws.{one_named, all_named, names_given}
+use Rattle.frame_ops.proofs.joining.name_levels.Goals as goal
+
+pub loop-level-init : goal.loop-level-init
+loop-level-init c = record {
+  tuples = refl;
+  count = c.requires.count;
+  named = λ k lt. absurd (omega arith);
+  given = λ k lt. absurd (omega arith);
+}
+
+pub common_name-requires-clause-a : goal.common_name-requires-clause-a
+common_name-requires-clause-a c =
+    let lt : c.loop-level.level < length c.args.a.now.names = omega arith in
+    heading_settled c.args.dict.now c.args.a.now.names c.name.result c.loop-level.level c.requires.given_a lt (sym (get_or_from_slice_get c.args.a.now.names c.loop-level.level c.name.result None c.name.ensures))
+
+pub common_name-requires-clause-b : goal.common_name-requires-clause-b
+common_name-requires-clause-b c =
+    let lt : c.loop-level.level < length c.args.b.now.names = omega (arith, c.requires.levels) in
+    heading_settled c.args.dict.now c.args.b.now.names c.name-in-loop-level.result c.loop-level.level c.requires.given_b lt (sym (get_or_from_slice_get c.args.b.now.names c.loop-level.level c.name-in-loop-level.result None c.name-in-loop-level.ensures))
+
+pub loop-level-preserved : goal.loop-level-preserved
+loop-level-preserved c =
+    let dict = c.args.dict.now in
+    let names = c.loop-level.axis.names in
+    let level = c.loop-level.level in
+    let lt : level < length names = omega (arith, c.loop-level.invariant.count) in
+    let set = ap (λ (x : AxisValue). x.names) c.set_name.ensures in
+    let a_at = sym (get_or_from_slice_get c.args.a.now.names level c.name.result None c.name.ensures) in
+    let b_at = sym (get_or_from_slice_get c.args.b.now.names level c.name-in-loop-level.result None c.name-in-loop-level.ensures) in
+    record {
+      tuples = ap (λ (x : AxisValue). x.tuples) c.set_name.ensures ∙ c.loop-level.invariant.tuples;
+      count = ap (λ l. length l) set ∙ length-set names level c.common_name.result ∙ c.loop-level.invariant.count;
+      named = one_named (λ k h. heading_value dict h ≡ common_name (heading_value dict (slice_index_or c.args.a.now.names k None)) (heading_value dict (slice_index_or c.args.b.now.names k None))) names c.set_name.new.self.names level c.common_name.result set lt c.loop-level.invariant.named
+          (c.common_name.ensures.name ∙ (λ i. common_name (heading_value dict (a_at i)) (heading_value dict (b_at i))));
+      given = one_named (λ k h. IsSettled heading_value dict h) names c.set_name.new.self.names level c.common_name.result set lt c.loop-level.invariant.given c.common_name.ensures.settled;
+    }
+
+pub returns-clause-names : goal.returns-clause-names
+returns-clause-names c =
+    all_named c.args.dict.now c.loop-level.axis.names c.args.a.now.names c.args.b.now.names c.loop-level.invariant.count c.requires.levels (λ k lt. c.loop-level.invariant.named k (omega (arith, c.loop-level.invariant.count)))
+
+pub returns-clause-given : goal.returns-clause-given
+returns-clause-given c = names_given c.args.dict.now c.loop-level.axis.names (λ k lt. c.loop-level.invariant.given k (omega (arith, c.loop-level.invariant.count)))

@@ -1,0 +1,18 @@
+-- Rows of one level are their labels.
+use Rattle.std.proofs.Common.{◌≡◌, ◌<◌, ℕ, suc, List, [], ◌∷◌, map, length, refl, arith, slice_index_or, All}
+use Rattle.cell_core.specs.declared.cell.Label.{Label}
+use Rattle.multi_index.specs.Axes.{HaveLevels, single_tuples, tuples_at}
+use Rattle.row_keys.specs.Keys.{label_in}
+use Rattle.label_align.specs.Runs.{label_of_row}
+
+only_label : (tuple : List Label) → length tuple ≡ 1 → label_in 0 tuple ∷ [] ≡ tuple
+only_label [] one = absurd (omega (arith, one))
+only_label (l ∷ []) one = refl
+only_label (l ∷ k ∷ ks) one = absurd (omega (arith, one))
+
+pub single_rows : (tuples : List (List Label)) (rows : List ℕ) → HaveLevels 1 tuples → All (λ row. row < length tuples) rows → single_tuples (map (λ row. label_of_row tuples row 0) rows) ≡ tuples_at tuples rows
+single_rows tuples [] alike inside = refl
+single_rows tuples (row ∷ rows) alike inside =
+    let here = only_label (slice_index_or tuples row []) (alike row [] (inside 0 0 (omega arith))) in
+    let later = single_rows tuples rows alike (λ k d lt. inside (suc k) d (omega (arith, lt))) in
+    λ j. here j ∷ later j

@@ -1,0 +1,17 @@
+use Rattle.std.proofs.Common.{◌≡◌, ◌∙◌, ap, subst, sym, rules}
+use Rattle.multi_index.specs.Axes.{HaveLevels, nameless_axis, single_tuples}
+use Rattle.multi_index.proofs.TupleLaws.{levels_of_taken}
+use Rattle.label_align.specs.Both.{tuples_of}
+use Rattle.label_align.proofs.AxisLaws.{single_rows}
+use Rattle.label_align.proofs.axes.axis_of_rows.Goals as goal
+
+pub returns-then-both-eq1 : goal.returns-then-both-eq1
+returns-then-both-eq1 c =
+    let tuples = tuples_of c.args.both.now in
+    let one : c.args.both.now.levels ≡ 1 = search rules in
+    c.from_labels.ensures
+    ∙ (λ i. nameless_axis ((ap single_tuples c.in_ok-labels.ensures ∙ single_rows tuples c.args.rows.now (subst (λ n. HaveLevels n tuples) one c.requires.alike) c.requires.rows) i) (sym one i))
+
+pub from_tuples-requires-clause-alike : goal.from_tuples-requires-clause-alike
+from_tuples-requires-clause-alike c =
+    subst (HaveLevels c.args.both.now.levels) (sym c.in_ok-tuples.ensures) (levels_of_taken (tuples_of c.args.both.now) c.args.rows.now c.args.both.now.levels c.requires.alike c.requires.rows)

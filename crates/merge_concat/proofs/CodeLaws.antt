@@ -1,0 +1,121 @@
+-- Rows meet by their keys as they meet by the numbers of the keys.
+use Rattle.std.proofs.Common.{◌≡◌, ◌∙◌, ◌<◌, ◌+◌, ◌==◌, ◌||◌, ◌++◌, ap, refl, sym, arith, ℕ, zero, suc, Bool, true, false, not, cond, List, [], ◌∷◌, map, filter, length, All, slice_index_or, nat_eq, nat_lt, Option, Some}
+use Rattle.std.specs.Prelude.{option_map}
+use Rattle.std.specs.List.{list_any, position_or_len, flat_map, range_with_len}
+use Rattle.std.specs.Cmp.{IsEquivalence}
+use Rattle.std.proofs.lemmas.Bool.{false≢true, true≢false}
+use Rattle.std.proofs.lemmas.List.{map-append}
+use Rattle.std.proofs.lemmas.List.FromFn.{fill_by_all, length-map-range_with_len, get_or-map-range_with_len}
+use Rattle.std.proofs.lemmas.List.Elements.{All-head, All-tail}
+use Rattle.std.proofs.lemmas.Simd.{map-map}
+use Rattle.align_meaning.specs.Joins.{Entry, or_gap, entry, entries_with, entries_of}
+use Rattle.align_meaning.specs.Targets.{first_where, first_repeated}
+use Rattle.pick_meaning.specs.Rows.{rows_where}
+use Rattle.pick_meaning.proofs.RowLaws.{rows_where-map}
+use Rattle.join_meaning.specs.Pairs.{Pair, pair, partners, pairs_from, pair_of_entry}
+use Rattle.row_keys.specs.Keys.{place_among}
+use Rattle.row_keys.specs.Buckets.{rows_of_code, buckets_of}
+use Rattle.row_keys.proofs.KeyLaws.{place_tells}
+use Rattle.label_align.proofs.OrderLaws.{below_range}
+use Rattle.merge_concat.specs.Codes.{pairs_with, pairs_of, pairs_at, outer_pairs, repeated_from}
+
+-- a list in which one element passes
+module _ {X : Type 0} (p : X → Bool) where
+  pub any_passes : (xs : List X) (x : X) (rest : List X) → filter p xs ≡ x ∷ rest → list_any p xs ≡ true
+  any_passes [] x rest h = cc
+  any_passes (y ∷ ys) x rest h = elim (p y) as (λ b. cond b (y ∷ filter p ys) (filter p ys) ≡ x ∷ rest → (b || list_any p ys) ≡ true) [ true ↦ λ e. refl | false ↦ λ e. any_passes ys x rest e ] h
+
+  none_passes : (xs : List X) (g : ℕ) (d : X) → filter p xs ≡ [] → g < length xs → p (slice_index_or xs g d) ≡ true → ⊥
+  none_passes [] g d h lt e = omega (arith, lt)
+  none_passes (y ∷ ys) zero d h lt e = elim (p y) as (λ b. b ≡ true → cond b (y ∷ filter p ys) (filter p ys) ≡ [] → ⊥) [ true ↦ λ t n. cc | false ↦ λ t n. false≢true t ] e h
+  none_passes (y ∷ ys) (suc g) d h lt e = elim (p y) as (λ b. cond b (y ∷ filter p ys) (filter p ys) ≡ [] → ⊥) [ true ↦ λ n. cc | false ↦ λ n. none_passes ys g d n (omega (arith, lt)) e ] h
+
+  tail_empty : (y x : X) (ys : List X) → y ∷ ys ≡ x ∷ [] → ys ≡ []
+  tail_empty y x ys e = cc
+
+  pub only_place : (xs : List X) (x : X) (g : ℕ) (d : X) → filter p xs ≡ x ∷ [] → g < length xs → p (slice_index_or xs g d) ≡ true → position_or_len p xs ≡ g
+  only_place [] x g d h lt e = absurd (omega (arith, lt))
+  only_place (y ∷ ys) x zero d h lt e = ap (λ b. cond (not b) (1 + position_or_len p ys) 0) e
+  only_place (y ∷ ys) x (suc g) d h lt e =
+      elim (p y) as (λ b. cond b (y ∷ filter p ys) (filter p ys) ≡ x ∷ [] → cond (not b) (1 + position_or_len p ys) 0 ≡ suc g) [
+        | true ↦ λ n. absurd (none_passes ys g d (tail_empty y x (filter p ys) n) (omega (arith, lt)) e)
+        | false ↦ λ n. let here = only_place ys x g d n (omega (arith, lt)) e in omega (arith, here)
+      ] h
+
+-- the entries of a key as pairs
+pub with_seen : {K : Type 0} (key : K) (rights : List ℕ) (lefts : List (Option ℕ)) → map pair_of_entry (flat_map (entries_with key rights) lefts) ≡ flat_map (pairs_with rights) lefts
+with_seen key rights [] = refl
+with_seen key rights (l ∷ ls) =
+    map-append pair_of_entry (entries_with key rights l) (flat_map (entries_with key rights) ls)
+    ∙ (λ i. map-map pair_of_entry (entry key l) (or_gap rights) i ++ with_seen key rights ls i)
+
+module _ {K : Type 0} (same : K → K → Bool) (laws : IsEquivalence same) (keys : List K) where
+  abbrev pub rank : K → ℕ
+  rank = place_among same keys
+
+  abbrev pub IsKnown : K → Type 0
+  IsKnown x = list_any (same x) keys ≡ true
+
+  rows_coded : (k : K) (xs : List K) → All IsKnown xs → rows_where (same k) 0 xs ≡ rows_of_code (rank k) (map rank xs)
+  rows_coded k xs known = sym (rows_where-map IsKnown (λ n. rank k == n) (same k) rank (λ x h. sym (place_tells same laws keys k x h)) 0 xs known)
+
+  -- a row with the rows that it meets
+  pub pairs_coded : (stays : Bool) (row : ℕ) (left right : List K) → All IsKnown right → pairs_from same stays row left right ≡ pairs_from nat_eq stays row (map rank left) (map rank right)
+  pairs_coded stays row [] right known = refl
+  pairs_coded stays row (k ∷ ks) right known = λ i. map (pair (Some row)) (partners stays (rows_coded k right known i)) ++ pairs_coded stays (row + 1) ks right known i
+
+  -- the first key that stands twice
+  module _ (rows : List K) (known : All IsKnown rows) (d : K) where
+    abbrev twice : K → Bool
+    twice key = nat_lt 1 (length (rows_where (same key) 0 rows))
+
+    repeats : (row : ℕ) (xs : List K) → ((j : ℕ) → slice_index_or rows (row + j) d ≡ slice_index_or xs j d)
+        → first_where twice xs ≡ option_map (λ r. slice_index_or rows r d) (repeated_from (map rank rows) row (map rank xs))
+    repeats row [] at = refl
+    repeats row (x ∷ xs) at =
+        let start : row ≡ row + 0 = omega arith in
+        let here : x ≡ slice_index_or rows row d = sym (ap (λ n. slice_index_or rows n d) start ∙ at 0) in
+        ap (λ l. cond (nat_lt 1 (length l)) (Some x) (first_where twice xs)) (rows_coded x rows known)
+        ∙ (elim (nat_lt 1 (length (rows_of_code (rank x) (map rank rows)))) as (λ b. cond b (Some x) (first_where twice xs)
+        ≡ option_map (λ r. slice_index_or rows r d) (cond b (Some row) (repeated_from (map rank rows) (row + 1) (map rank xs)))) [
+          | true ↦ ap Some here
+          | false ↦ repeats (row + 1) xs (λ j. let next : row + 1 + j ≡ row + suc j = omega arith in ap (λ n. slice_index_or rows n d) next ∙ at (suc j))
+        ])
+
+    pub repeated_coded : first_repeated same rows ≡ option_map (λ r. slice_index_or rows r d) (repeated_from (map rank rows) 0 (map rank rows))
+    repeated_coded = repeats 0 rows (λ j. let same' : 0 + j ≡ j = omega arith in ap (λ n. slice_index_or rows n d) same')
+
+  -- key after key, where no two keys are the same
+  module _ (d : K) (apart : (g : ℕ) → g < length keys → rank (slice_index_or keys g d) ≡ g) (left right : List K) (left_known : All IsKnown left) (right_known : All IsKnown right) where
+    abbrev key_at : ℕ → K
+    key_at g = slice_index_or keys g d
+
+    abbrev part : K → List (Entry K)
+    part key = entries_of key (rows_where (same key) 0 left) (rows_where (same key) 0 right)
+
+    rows_here : (n : ℕ) (xs : List K) → n < length keys → All IsKnown xs → rows_where (same (key_at n)) 0 xs ≡ rows_of_code n (map rank xs)
+    rows_here n xs lt known = rows_coded (key_at n) xs known ∙ ap (λ m. rows_of_code m (map rank xs)) (apart n lt)
+
+    here : (n : ℕ) → n < length keys → map pair_of_entry (part (key_at n)) ≡ pairs_at (map rank left) (map rank right) n
+    here n lt =
+        with_seen (key_at n) (rows_where (same (key_at n)) 0 right) (or_gap (rows_where (same (key_at n)) 0 left))
+        ∙ (λ i. pairs_of (rows_here n left lt left_known i) (rows_here n right lt right_known i))
+
+    outer_on : (ns : List ℕ) → All (λ n. n < length keys) ns → map pair_of_entry (flat_map part (map key_at ns)) ≡ flat_map (pairs_at (map rank left) (map rank right)) ns
+    outer_on [] all = refl
+    outer_on (n ∷ ns) all =
+        map-append pair_of_entry (part (key_at n)) (flat_map part (map key_at ns))
+        ∙ (λ i. here n (All-head (λ m. m < length keys) n ns all) i ++ outer_on ns (All-tail (λ m. m < length keys) n ns all) i)
+
+    pub outer_coded : map pair_of_entry (flat_map part keys) ≡ outer_pairs (length keys) (map rank left) (map rank right)
+    outer_coded =
+        ap (λ ks. map pair_of_entry (flat_map part ks)) (fill_by_all key_at keys (length keys) d refl (λ k lt. refl))
+        ∙ outer_on (range_with_len 0 (length keys)) (below_range (length keys))
+
+-- the rows of a number
+module _ (count code : ℕ) (codes : List ℕ) (rows : List (List ℕ)) (made : rows ≡ buckets_of count codes) (lt : code < count) where
+  pub bucket_there : code < length rows
+  bucket_there = omega (arith, ap length made, length-map-range_with_len (λ c. rows_of_code c codes) 0 count, lt)
+
+  pub bucket_is : slice_index_or rows code [] ≡ rows_of_code code codes
+  bucket_is = ap (λ (l : List (List ℕ)). slice_index_or l code []) made ∙ get_or-map-range_with_len (λ c. rows_of_code c codes) 0 count code code [] lt (omega arith)

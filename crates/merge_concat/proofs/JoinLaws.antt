@@ -1,0 +1,115 @@
+-- What is meant, by the numbers of the keys.
+use Rattle.std.proofs.Common.{◌≡◌, ◌∙◌, ◌<◌, ◌≤◌, ◌++◌, ap, refl, sym, arith, ℕ, Bool, true, false, cond, List, [], ◌∷◌, map, length, take, drop, All, slice_index_or, Option, Some, None, Ok, Err, Result}
+use Rattle.std.specs.Prelude.{option_map, IfOk}
+use Rattle.cell_core.specs.declared.cell.Label.{Label}
+use Rattle.cell_core.specs.declared.cell.Label.TheVariants.{Na}
+use Rattle.meaning.specs.Fault.{Side}
+use Rattle.meaning.specs.Fault as side
+use Rattle.meaning.specs.Text.{Text}
+use Rattle.multi_index.specs.Axes.{HaveLevels}
+use Rattle.align_meaning.specs.Targets.{first_repeated}
+use Rattle.join_meaning.specs.declared.How.{How}
+use Rattle.join_meaning.specs.declared.Validate.{Validate}
+use Rattle.join_meaning.specs.Pairs.{Pair, RepeatedKey, JoinRefusal, not_one_to_one, repeated_on, or_else, within_limit, unless_repeated, key_pairs, joined}
+use Rattle.row_keys.specs.Keys.{same_tuple}
+use Rattle.label_align.specs.Tuples.{tuple_less}
+use Rattle.factorize.specs.Keys.{levels_of}
+use Rattle.row_keys.proofs.PartnerLaws.{tuple_laws}
+use Rattle.label_align.proofs.SameLaws.{tuple_decides}
+use Rattle.label_align.proofs.LawOfJoins.{tuple_weak}
+use Rattle.merge_concat.specs.declared.fault.MergeFault.{MergeFault}
+use Rattle.merge_concat.specs.declared.pairs.Pairs.{Pairs}
+use Rattle.merge_concat.specs.Joining.{IsJoinOf}
+use Rattle.merge_concat.specs.Pairs.{JoinsBy}
+use Rattle.merge_concat.proofs.JoiningLaws.{answer_is_join}
+use Rattle.merge_concat.specs.Codes.{keys_of, is_outer, code_pairs, repeated_in}
+use Rattle.merge_concat.proofs.KnownLaws.{rank, left_known, right_known, below, repeats_are, pairs_are, all_left, all_right}
+use Rattle.merge_concat.proofs.KnownLaws as known
+
+module _ (texts : List Text) (how : How) (once : Validate) (left right : List (List Label)) where
+  abbrev pub sorted : Bool
+  sorted = is_outer how
+
+  abbrev pub number : List Label → ℕ
+  number = rank texts sorted left right
+
+  abbrev meant : Result (List Pair) (JoinRefusal (List Label))
+  meant = joined same_tuple (tuple_less texts) how once left right
+
+  abbrev repeated : Side → List Label → RepeatedKey (List Label)
+  repeated s key = record { side = s; key = key }
+
+  on_side : (s : Side) (b : Bool) (rows : List (List Label)) (found : Option (List Label)) → found ≡ cond b (first_repeated same_tuple rows) None → repeated_on s same_tuple b rows ≡ option_map (repeated s) found
+  on_side s true rows found e = ap (option_map (repeated s)) (sym e)
+  on_side s false rows found e = ap (option_map (repeated s)) (sym e)
+
+  -- the numbers of the keys, cut behind those of the left side
+  module _ (b : Bool) (is : b ≡ sorted) (count : ℕ) (counted : count ≡ length (keys_of texts b left right)) (codes : List ℕ) (coded : codes ≡ map (rank texts b left right) (left ++ right))
+      (n : ℕ) (size : n ≡ length left) (of_left of_right : List ℕ) (front : of_left ≡ take n codes) (back : of_right ≡ drop n codes) where
+    keys_counted : count ≡ length (keys_of texts sorted left right)
+    keys_counted = counted ∙ ap (λ s. length (keys_of texts s left right)) is
+
+    numbered : codes ≡ map number (left ++ right)
+    numbered = coded ∙ ap (λ s. map (rank texts s left right) (left ++ right)) is
+
+    left_is : of_left ≡ map number left
+    left_is = known.left_is texts sorted left right codes of_left n numbered size front
+
+    right_is : of_right ≡ map number right
+    right_is = known.right_is texts sorted left right codes of_right n numbered size back
+
+    pub left_below : All (λ c. c < count) of_left
+    left_below = below texts sorted left right of_left count left (left_known texts sorted left right) left_is keys_counted
+
+    pub right_below : All (λ c. c < count) of_right
+    right_below = below texts sorted left right of_right count right (right_known texts sorted left right) right_is keys_counted
+
+    abbrev pub found_left : Option (List Label)
+    found_left = repeated_in once.left left of_left
+
+    abbrev pub found_right : Option (List Label)
+    found_right = repeated_in once.right right of_right
+
+    meant_is : meant ≡ unless_repeated (or_else (option_map (repeated side.left) found_left) (option_map (repeated side.right) found_right)) (within_limit (key_pairs same_tuple (tuple_less texts) how left right))
+    meant_is = λ i. unless_repeated
+        (or_else (on_side side.left once.left left found_left (repeats_are texts sorted left right once.left left of_left (left_known texts sorted left right) left_is) i)
+        (on_side side.right once.right right found_right (repeats_are texts sorted left right once.right right of_right (right_known texts sorted left right) right_is) i))
+        (within_limit (key_pairs same_tuple (tuple_less texts) how left right))
+
+    abbrev with : Option (List Label) → Option (List Label) → Result (List Pair) (JoinRefusal (List Label))
+    with l r = unless_repeated (or_else (option_map (repeated side.left) l) (option_map (repeated side.right) r)) (within_limit (key_pairs same_tuple (tuple_less texts) how left right))
+
+    pub refused_left : (key : List Label) → found_left ≡ Some key → meant ≡ Err (not_one_to_one (repeated side.left key))
+    refused_left key e = meant_is ∙ ap (λ l. with l found_right) e
+
+    pub refused_right : (key : List Label) → found_left ≡ None → found_right ≡ Some key → meant ≡ Err (not_one_to_one (repeated side.right key))
+    refused_right key none e = meant_is ∙ (λ i. with (none i) (e i))
+
+    pub allowed : found_left ≡ None → found_right ≡ None → meant ≡ within_limit (code_pairs how count of_left of_right)
+    allowed l r =
+        meant_is ∙ (λ i. with (l i) (r i)) ∙ ap within_limit (pairs_are texts how left right)
+        ∙ sym (λ i. within_limit (code_pairs how (keys_counted i) (left_is i) (right_is i)))
+
+-- keys of both sides have four labels at most
+module _ (left right : List (List Label)) (alike : HaveLevels (levels_of (left ++ right)) (left ++ right)) where
+  abbrev IsAlike : List Label → Type 0
+  IsAlike key = length key ≡ levels_of (left ++ right)
+
+  pub few_left : levels_of (left ++ right) ≤ 4 → All (λ key. length key ≤ 4) left
+  few_left few k d lt = omega (arith, all_left IsAlike left right alike k d lt, few)
+
+  pub few_right : levels_of (left ++ right) ≤ 4 → All (λ key. length key ≤ 4) right
+  few_right few k d lt = omega (arith, all_right IsAlike left right alike k d lt, few)
+
+  pub alike_right : HaveLevels (levels_of right) right
+  alike_right k d lt = all_right IsAlike left right alike k d lt ∙ sym (all_right IsAlike left right alike 0 (Na ∷ []) (omega (arith, lt)))
+
+-- what is answered is a join
+pub law_of : (texts : List Text) (how : How) (once : Validate) (left right : List (List Label)) (result : Result Pairs MergeFault)
+    → JoinsBy result (joined same_tuple (tuple_less texts) how once left right) → IfOk result (IsJoinOf same_tuple how left right)
+law_of texts how once left right (Ok made) answer = record {
+  pairs = answer.pairs;
+  seen = answer.seen;
+  join = answer_is_join same_tuple (tuple_less texts) tuple_laws tuple_decides (tuple_weak texts) left right how once answer.pairs answer.are;
+}
+law_of texts how once left right (Err fault) answer = tt

@@ -1,0 +1,261 @@
+-- What is meant by a join is one.
+use Rattle.std.proofs.Common.{◌≡◌, ◌∙◌, ◌<◌, ◌+◌, ◌*◌, ◌&&◌, ◌||◌, ◌++◌, ap, refl, sym, subst, arith, ℕ, Bool, true, false, not, cond, List, [], ◌∷◌, map, filter, length, slice_index_or, Option, Some, None, Result, Ok, Err, nat_lt, All}
+use Rattle.std.specs.List.{list_any, flat_map, sum_by}
+use Rattle.std.specs.Bool.{Decides}
+use Rattle.std.specs.Cmp.{IsEquivalence, IsStrictWeakOrder}
+use Rattle.std.proofs.lemmas.Bool.{false≢true}
+use Rattle.std.proofs.lemmas.List.{map-append}
+use Rattle.std.proofs.lemmas.List.Elements.{All-nil, All-cons, All-head, All-tail, All-map}
+use Rattle.std.proofs.lemmas.List.Sums.{sum_by-cons}
+use Rattle.column_core.specs.Moves.{IsPlaceOf}
+use Rattle.meaning.specs.Reduce.{distinct}
+use Rattle.sorting.specs.Sorting.{in_order}
+use Rattle.align_meaning.specs.Joins.{or_gap, keys_in_order, entries_of, most_rows}
+use Rattle.align_meaning.proofs.OrderLaws.{all_append, all_flat, all_in_order}
+use Rattle.pick_meaning.specs.Rows.{rows_where}
+use Rattle.pick_meaning.proofs.InsideLaws.{rows_inside}
+use Rattle.join_meaning.specs.declared.How.{How}
+use Rattle.join_meaning.specs.declared.How.TheVariants.{Inner, Left, Right, Outer}
+use Rattle.join_meaning.specs.declared.Validate.{Validate}
+use Rattle.join_meaning.specs.Pairs.{Pair, pair, exchanged, partners, pairs_from, key_pairs, pair_of_entry, RepeatedKey, JoinRefusal, repeated_key, unless_repeated, within_limit, too_large, joined}
+use Rattle.row_keys.proofs.KeyLaws.{any_at}
+use Rattle.row_keys.proofs.RecodeLaws.{All-distinct}
+use Rattle.label_align.proofs.OuterJoinLaws.{in_order_keeps, once}
+use Rattle.merge_concat.specs.Codes.{pairs_with, pairs_of}
+use Rattle.merge_concat.specs.Joining.{same_row, how_often, once_if, keeps_left, keeps_right, IsJoin}
+use Rattle.merge_concat.proofs.CodeLaws.{with_seen}
+use Rattle.merge_concat.proofs.OftenLaws.{row_often, or_gap_there, gap_there, partner_there, partner_gap, never, met_there, often_exchanged, often_product, often_parts}
+
+abbrev AreInside : ℕ → ℕ → Pair → Type 0
+AreInside n m p = IsPlaceOf n p.left × IsPlaceOf m p.right
+
+gaps_inside : (n : ℕ) (rows : List ℕ) → All (λ row. row < n) rows → All (IsPlaceOf n) (or_gap rows)
+gaps_inside n [] inside = All-cons (IsPlaceOf n) None [] tt (All-nil (IsPlaceOf n))
+gaps_inside n (r ∷ rows) inside =
+    All-cons (IsPlaceOf n) (Some r) (map Some rows) (All-head (λ row. row < n) r rows inside)
+    (All-map (IsPlaceOf n) Some rows (All-tail (λ row. row < n) r rows inside))
+
+partners_inside : (stays : Bool) (n : ℕ) (rows : List ℕ) → All (λ row. row < n) rows → All (IsPlaceOf n) (partners stays rows)
+partners_inside true n rows inside = gaps_inside n rows inside
+partners_inside false n rows inside = All-map (IsPlaceOf n) Some rows inside
+
+module _ {K : Type 0} (same : K → K → Bool) (stays : Bool) (right : List K) where
+  from_inside : (n at : ℕ) (keys : List K) → at + length keys ≡ n → All (AreInside n (length right)) (pairs_from same stays at keys right)
+  from_inside n at [] size = All-nil (AreInside n (length right))
+  from_inside n at (key ∷ keys) size =
+      all_append (AreInside n (length right)) (map (pair (Some at)) (partners stays (rows_where (same key) 0 right))) (pairs_from same stays (at + 1) keys right)
+      (All-map (AreInside n (length right)) (pair (Some at)) (partners stays (rows_where (same key) 0 right))
+      (λ k d lt. (omega (arith, size), partners_inside stays (length right) (rows_where (same key) 0 right) (rows_inside (same key) right) k d lt)))
+      (from_inside n (at + 1) keys (omega (arith, size)))
+
+  -- each row of a side with the rows that it meets
+  module _ (left : List K) where
+    abbrev pairs : List Pair
+    pairs = pairs_from same stays 0 left right
+
+    met : (b : Option ℕ) (i : ℕ) (d : K) → i < length left → how_often (pair (Some i) b) pairs ≡ row_often b (partners stays (rows_where (same (slice_index_or left i d)) 0 right))
+    met b i d lt = let at : i ≡ 0 + i = omega arith in ap (λ n. how_often (pair (Some n) b) pairs) at ∙ met_there same stays right b 0 i d left lt
+
+    pub together : (i j : ℕ) (d : K) → i < length left → j < length right → how_often (pair (Some i) (Some j)) pairs ≡ once_if (same (slice_index_or left i d) (slice_index_or right j d))
+    together i j d lt inside = met (Some j) i d lt ∙ partner_there (same (slice_index_or left i d)) stays j d right inside
+
+    pub alone : (i : ℕ) (d : K) → i < length left → how_often (pair (Some i) None) pairs ≡ once_if (stays && not (list_any (same (slice_index_or left i d)) right))
+    alone i d lt = met None i d lt ∙ partner_gap (same (slice_index_or left i d)) stays right
+
+    pub nothing : (b : Option ℕ) → how_often (pair None b) pairs ≡ 0
+    nothing b = never same stays right b 0 left
+
+    pub inside : All (AreInside (length left) (length right)) pairs
+    inside = from_inside (length left) 0 left (omega arith)
+
+-- the pairs of a key, key by key
+module _ {K : Type 0} (same less : K → K → Bool) (laws : IsEquivalence same) (decides : (a b : K) → Decides (same a b) (a ≡ b)) (weak : IsStrictWeakOrder less) (left right : List K) where
+  abbrev keys : List K
+  keys = keys_in_order same less (left ++ right)
+
+  abbrev lefts : K → List (Option ℕ)
+  lefts key = or_gap (rows_where (same key) 0 left)
+
+  abbrev rights : K → List (Option ℕ)
+  rights key = or_gap (rows_where (same key) 0 right)
+
+  abbrev pub of_key : K → List Pair
+  of_key key = pairs_of (rows_where (same key) 0 left) (rows_where (same key) 0 right)
+
+  abbrev pub outer : List Pair
+  outer = flat_map of_key keys
+
+  often : (a b : Option ℕ) → how_often (pair a b) outer ≡ sum_by (λ key. row_often a (lefts key) * row_often b (rights key)) keys
+  often a b = often_parts (pair a b) of_key keys ∙ sums (λ key. how_often (pair a b) (of_key key)) (λ key. row_often a (lefts key) * row_often b (rights key)) (λ key. often_product a b (lefts key) (rights key)) keys
+    where
+      sums : (f g : K → ℕ) → ((key : K) → f key ≡ g key) → (ks : List K) → sum_by f ks ≡ sum_by g ks
+      sums f g e [] = refl
+      sums f g e (k ∷ ks) = sum_by-cons f k ks ∙ (λ i. e k i + sums f g e ks i) ∙ sym (sum_by-cons g k ks)
+
+  abbrev IsThere : K → Type 0
+  IsThere key = list_any (same key) (left ++ right) ≡ true
+
+  stands_once : (key : K) → IsThere key → filter (same key) keys ≡ key ∷ []
+  stands_once key there = in_order_keeps same less decides weak key (distinct same (left ++ right)) ∙ once same less decides weak key (left ++ right) there
+
+  -- what is counted at one key alone
+  at_one : (key : K) (f g : K → ℕ) → ((k : K) → f k ≡ cond (same key k) (g k) 0) → (ks : List K) → sum_by f ks ≡ sum_by g (filter (same key) ks)
+  at_one key f g e [] = refl
+  at_one key f g e (k ∷ ks) =
+      sum_by-cons f k ks ∙ ap (λ n. n + sum_by f ks) (e k)
+      ∙ (elim (same key k) as (λ b. cond b (g k) 0 + sum_by f ks ≡ sum_by g (cond b (k ∷ filter (same key) ks) (filter (same key) ks))) [
+        | true ↦ ap (λ n. g k + n) (at_one key f g e ks) ∙ sym (sum_by-cons g k (filter (same key) ks))
+        | false ↦ let rest = at_one key f g e ks in omega (arith, rest)
+      ])
+
+  at_key : (key : K) (f g : K → ℕ) → IsThere key → ((k : K) → f k ≡ cond (same key k) (g k) 0) → sum_by f keys ≡ g key
+  at_key key f g there e = let one : sum_by g (key ∷ []) ≡ g key = sum_by-cons g key [] ∙ omega arith in at_one key f g e keys ∙ ap (sum_by g) (stands_once key there) ∙ one
+
+  turned : (a b : K) → same a b ≡ same b a
+  turned a b = laws.symm a b
+
+  module _ (i : ℕ) (d : K) (lt : i < length left) where
+    abbrev left_key : K
+    left_key = slice_index_or left i d
+
+    left_there : IsThere left_key
+    left_there = any_front (same left_key) left right (any_at (same left_key) left i d lt (laws.refl left_key))
+      where
+        any_front : (p : K → Bool) (xs ys : List K) → list_any p xs ≡ true → list_any p (xs ++ ys) ≡ true
+        any_front p [] ys e = absurd (false≢true e)
+        any_front p (x ∷ xs) ys e = elim (p x) as (λ b. (b || list_any p xs) ≡ true → (b || list_any p (xs ++ ys)) ≡ true) [ true ↦ λ h. refl | false ↦ λ h. any_front p xs ys h ] e
+
+    left_only : (b : Option ℕ) → how_often (pair (Some i) b) outer ≡ row_often b (rights left_key)
+    left_only b =
+        often (Some i) b
+        ∙ at_key left_key (λ key. row_often (Some i) (lefts key) * row_often b (rights key)) (λ key. row_often b (rights key)) left_there
+        (λ k. ap (λ n. n * row_often b (rights k)) (or_gap_there (same k) i d left lt ∙ ap once_if (turned k left_key))
+        ∙ (elim (same left_key k) as (λ c. once_if c * row_often b (rights k) ≡ cond c (row_often b (rights k)) 0) [ true ↦ omega arith | false ↦ omega arith ]))
+
+  module _ (j : ℕ) (d : K) (lt : j < length right) where
+    abbrev right_key : K
+    right_key = slice_index_or right j d
+
+    right_there : IsThere right_key
+    right_there = any_back (same right_key) left right (any_at (same right_key) right j d lt (laws.refl right_key))
+      where
+        any_back : (p : K → Bool) (xs ys : List K) → list_any p ys ≡ true → list_any p (xs ++ ys) ≡ true
+        any_back p [] ys e = e
+        any_back p (x ∷ xs) ys e = elim (p x) as (λ b. (b || list_any p (xs ++ ys)) ≡ true) [ true ↦ refl | false ↦ any_back p xs ys e ]
+
+    right_only : how_often (pair None (Some j)) outer ≡ row_often None (lefts right_key)
+    right_only =
+        often None (Some j)
+        ∙ at_key right_key (λ key. row_often None (lefts key) * row_often (Some j) (rights key)) (λ key. row_often None (lefts key)) right_there
+        (λ k. ap (λ n. row_often None (lefts k) * n) (or_gap_there (same k) j d right lt ∙ ap once_if (turned k right_key))
+        ∙ (elim (same right_key k) as (λ c. row_often None (lefts k) * once_if c ≡ cond c (row_often None (lefts k)) 0) [ true ↦ omega arith | false ↦ omega arith ]))
+
+  keys_there : All IsThere keys
+  keys_there =
+      all_in_order IsThere less (distinct same (left ++ right))
+      (All-distinct IsThere same (left ++ right) (λ k d lt. any_at (same (slice_index_or (left ++ right) k d)) (left ++ right) k d lt (laws.refl (slice_index_or (left ++ right) k d))))
+
+  -- a key of either side has a row
+  no_gaps_at : (key : K) → IsThere key → row_often None (lefts key) * row_often None (rights key) ≡ 0
+  no_gaps_at key there =
+      (λ i. gap_there (same key) 0 left i * gap_there (same key) 0 right i) ∙ either (list_any (same key) left) (list_any (same key) right) (sym (any_both (same key) left right) ∙ there)
+    where
+      any_both : (p : K → Bool) (xs ys : List K) → list_any p (xs ++ ys) ≡ (list_any p xs || list_any p ys)
+      any_both p [] ys = refl
+      any_both p (x ∷ xs) ys = elim (p x) as (λ b. (b || list_any p (xs ++ ys)) ≡ ((b || list_any p xs) || list_any p ys)) [ true ↦ refl | false ↦ any_both p xs ys ]
+
+      either : (a b : Bool) → (a || b) ≡ true → once_if (not a) * once_if (not b) ≡ 0
+      either true b e = omega arith
+      either false true e = omega arith
+      either false false e = absurd (false≢true e)
+
+  no_gaps : how_often (pair None None) outer ≡ 0
+  no_gaps = often None None ∙ none keys keys_there
+    where
+      none : (ks : List K) → All IsThere ks → sum_by (λ key. row_often None (lefts key) * row_often None (rights key)) ks ≡ 0
+      none [] all = refl
+      none (k ∷ ks) all =
+          sum_by-cons (λ key. row_often None (lefts key) * row_often None (rights key)) k ks
+          ∙ (λ i. no_gaps_at k (All-head IsThere k ks all) i + none ks (All-tail IsThere k ks all) i)
+
+  outer_inside : All (AreInside (length left) (length right)) outer
+  outer_inside =
+      all_flat (AreInside (length left) (length right)) (λ key. Unit {0}) of_key
+      (λ key _. all_flat (AreInside (length left) (length right)) (IsPlaceOf (length left)) (pairs_with (rows_where (same key) 0 right))
+      (λ l there. All-map (AreInside (length left) (length right)) (pair l) (rights key) (λ k d lt. (there, gaps_inside (length right) (rows_where (same key) 0 right) (rows_inside (same key) right) k d lt)))
+      (lefts key) (gaps_inside (length left) (rows_where (same key) 0 left) (rows_inside (same key) left)))
+      keys (λ k d lt. tt)
+
+  pub outer_is : IsJoin same Outer left right outer
+  outer_is = record {
+    together = λ i j d lt inside. left_only i d lt (Some j) ∙ or_gap_there (same (slice_index_or left i d)) j d right inside;
+    left_alone = λ i d lt. left_only i d lt None ∙ gap_there (same (slice_index_or left i d)) 0 right;
+    right_alone = λ j d lt. right_only j d lt ∙ gap_there (same (slice_index_or right j d)) 0 left;
+    no_gaps = no_gaps;
+    left_rows = λ k d lt. (outer_inside k d lt).0;
+    right_rows = λ k d lt. (outer_inside k d lt).1;
+  }
+
+  pub inner_is : IsJoin same Inner left right (pairs_from same false 0 left right)
+  inner_is = record {
+    together = together same false right left;
+    left_alone = alone same false right left;
+    right_alone = λ j d lt. nothing same false right left (Some j);
+    no_gaps = nothing same false right left None;
+    left_rows = λ k d lt. (inside same false right left k d lt).0;
+    right_rows = λ k d lt. (inside same false right left k d lt).1;
+  }
+
+  pub left_is : IsJoin same Left left right (pairs_from same true 0 left right)
+  left_is = record {
+    together = together same true right left;
+    left_alone = alone same true right left;
+    right_alone = λ j d lt. nothing same true right left (Some j);
+    no_gaps = nothing same true right left None;
+    left_rows = λ k d lt. (inside same true right left k d lt).0;
+    right_rows = λ k d lt. (inside same true right left k d lt).1;
+  }
+
+  turned_inside : All (λ p. AreInside (length left) (length right) p) (map exchanged (pairs_from same true 0 right left))
+  turned_inside =
+      All-map (AreInside (length left) (length right)) exchanged (pairs_from same true 0 right left)
+      (λ k d lt. ((inside same true left right k d lt).1, (inside same true left right k d lt).0))
+
+  pub right_is : IsJoin same Right left right (map exchanged (pairs_from same true 0 right left))
+  right_is = record {
+    together = λ i j d lt there. often_exchanged (pair (Some i) (Some j)) (pairs_from same true 0 right left) ∙ together same true left right j i d there lt ∙ ap once_if (turned (slice_index_or right j d) (slice_index_or left i d));
+    left_alone = λ i d lt. often_exchanged (pair (Some i) None) (pairs_from same true 0 right left) ∙ nothing same true left right (Some i);
+    right_alone = λ j d lt. often_exchanged (pair None (Some j)) (pairs_from same true 0 right left) ∙ alone same true left right j d lt;
+    no_gaps = often_exchanged (pair None None) (pairs_from same true 0 right left) ∙ nothing same true left right None;
+    left_rows = λ k d lt. (turned_inside k d lt).0;
+    right_rows = λ k d lt. (turned_inside k d lt).1;
+  }
+
+  seen : (ks : List K) → map pair_of_entry (flat_map (λ key. entries_of key (rows_where (same key) 0 left) (rows_where (same key) 0 right)) ks) ≡ flat_map of_key ks
+  seen [] = refl
+  seen (k ∷ ks) =
+      map-append pair_of_entry (entries_of k (rows_where (same k) 0 left) (rows_where (same k) 0 right)) (flat_map (λ key. entries_of key (rows_where (same key) 0 left) (rows_where (same key) 0 right)) ks)
+      ∙ (λ i. with_seen k (rows_where (same k) 0 right) (or_gap (rows_where (same k) 0 left)) i ++ seen ks i)
+
+  -- whichever rows stay
+  pub pairs_are_join : (how : How) → IsJoin same how left right (key_pairs same less how left right)
+  pairs_are_join Inner = inner_is
+  pairs_are_join Left = left_is
+  pairs_are_join Right = right_is
+  pairs_are_join Outer = subst (IsJoin same Outer left right) (sym (seen keys)) outer_is
+
+  -- what a join answers is one
+  module _ (how : How) (once : Validate) where
+    abbrev pairs_meant : List Pair
+    pairs_meant = key_pairs same less how left right
+
+    abbrev pairs_in : Result (List Pair) (JoinRefusal K) → List Pair
+    pairs_in (Ok pairs) = pairs
+    pairs_in (Err refusal) = pairs_meant
+
+    kept : (repeated : Option (RepeatedKey K)) → pairs_in (unless_repeated repeated (within_limit pairs_meant)) ≡ pairs_meant
+    kept (Some repeated) = refl
+    kept None = elim (nat_lt most_rows (length pairs_meant)) as (λ b. pairs_in (cond b (Err too_large) (Ok pairs_meant)) ≡ pairs_meant) [ true ↦ refl | false ↦ refl ]
+
+    pub answer_is_join : (pairs : List Pair) → joined same less how once left right ≡ Ok pairs → IsJoin same how left right pairs
+    answer_is_join pairs e = subst (IsJoin same how left right) (sym (sym (ap pairs_in e) ∙ kept (repeated_key same once left right))) (pairs_are_join how)

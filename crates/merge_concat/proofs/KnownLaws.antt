@@ -1,0 +1,135 @@
+-- The keys of both sides, each once: each row's key is among them, and no two of them are the same.
+use Rattle.std.proofs.Common.{◌≡◌, ◌∙◌, ◌<◌, ◌++◌, ap, refl, sym, subst, arith, ℕ, Bool, true, false, cond, List, [], ◌∷◌, map, filter, length, take, drop, All, slice_index_or, nat_eq, Option, Some, None, Ok, Err, Result}
+use Rattle.std.specs.Prelude.{option_map}
+use Rattle.std.specs.List.{list_any, flat_map}
+use Rattle.std.proofs.Math.Seq.{take-append_seam, drop-append_seam}
+use Rattle.std.proofs.lemmas.List.{length-map, map-append}
+use Rattle.std.proofs.lemmas.List.Elements.{All-take, All-drop, All-map}
+use Rattle.cell_core.specs.declared.cell.Label.{Label}
+use Rattle.meaning.specs.Text.{Text}
+use Rattle.meaning.specs.Reduce.{distinct}
+use Rattle.sorting.specs.Sorting.{in_order}
+use Rattle.align_meaning.specs.Joins.{entries_of}
+use Rattle.align_meaning.specs.Targets.{first_repeated}
+use Rattle.pick_meaning.specs.Rows.{rows_where}
+use Rattle.align_meaning.proofs.OrderLaws.{all_in_order}
+use Rattle.join_meaning.specs.declared.How.{How}
+use Rattle.join_meaning.specs.declared.How.TheVariants.{Inner, Left, Right, Outer}
+use Rattle.join_meaning.specs.Pairs.{exchanged, key_pairs, pair_of_entry}
+use Rattle.row_keys.specs.Keys.{same_tuple, place_among}
+use Rattle.row_keys.proofs.KeyLaws.{any_at, position_in}
+use Rattle.row_keys.proofs.RecodeLaws.{All-distinct}
+use Rattle.row_keys.proofs.PartnerLaws.{tuple_laws}
+use Rattle.label_align.specs.Tuples.{tuple_less}
+use Rattle.label_align.proofs.SameLaws.{tuple_decides}
+use Rattle.label_align.proofs.LawOfJoins.{tuple_weak}
+use Rattle.label_align.proofs.OuterJoinLaws.{in_order_keeps, once}
+use Rattle.group_meaning.specs.Keys.{group_of, group_codes, ordered_if}
+use Rattle.group_meaning.proofs.ListLaws.{map_map, map_on}
+use Rattle.factorize.specs.Keys.{seen_rules}
+use Rattle.factorize.proofs.PlaceLaws.{there}
+use Rattle.merge_concat.specs.Codes.{keys_of, number_in, is_outer, code_pairs, repeated_in, repeated_from}
+use Rattle.merge_concat.proofs.CodeLaws as law
+use Rattle.merge_concat.proofs.CodeLaws.{any_passes, only_place}
+
+filter_true : {X : Type 0} (xs : List X) → filter (λ x. true) xs ≡ xs
+filter_true [] = refl
+filter_true (x ∷ xs) = ap (λ l. x ∷ l) (filter_true xs)
+
+pub all_left : {X : Type 0} (P : X → Type 0) (xs ys : List X) → All P (xs ++ ys) → All P xs
+all_left P xs ys all = subst (All P) (take-append_seam xs ys) (All-take P (length xs) (xs ++ ys) all)
+
+pub all_right : {X : Type 0} (P : X → Type 0) (xs ys : List X) → All P (xs ++ ys) → All P ys
+all_right P xs ys all = subst (All P) (drop-append_seam xs ys) (All-drop P (length xs) (xs ++ ys) all)
+
+module _ (texts : List Text) (sorted : Bool) (left right : List (List Label)) where
+  abbrev rows : List (List Label)
+  rows = left ++ right
+
+  abbrev pub keys : List (List Label)
+  keys = keys_of texts sorted left right
+
+  abbrev pub rank : List Label → ℕ
+  rank = place_among same_tuple keys
+
+  abbrev pub IsKnown : List Label → Type 0
+  IsKnown key = list_any (same_tuple key) keys ≡ true
+
+  keys_are : keys ≡ ordered_if sorted (tuple_less texts) (distinct same_tuple rows)
+  keys_are = filter_true (ordered_if sorted (tuple_less texts) (distinct same_tuple rows))
+
+  stands_once : (key : List Label) → list_any (same_tuple key) rows ≡ true → filter (same_tuple key) keys ≡ key ∷ []
+  stands_once key stands =
+      ap (filter (same_tuple key)) keys_are
+      ∙ (elim sorted as (λ b. filter (same_tuple key) (cond b (in_order (tuple_less texts) (distinct same_tuple rows)) (distinct same_tuple rows)) ≡ key ∷ []) [
+        | true ↦ in_order_keeps same_tuple (tuple_less texts) tuple_decides (tuple_weak texts) key (distinct same_tuple rows) ∙ once same_tuple (tuple_less texts) tuple_decides (tuple_weak texts) key rows stands
+        | false ↦ once same_tuple (tuple_less texts) tuple_decides (tuple_weak texts) key rows stands
+      ])
+
+  abbrev IsThere : List Label → Type 0
+  IsThere key = list_any (same_tuple key) rows ≡ true
+
+  rows_there : All IsThere rows
+  rows_there k d lt = any_at (same_tuple (slice_index_or rows k d)) rows k d lt (tuple_laws.refl (slice_index_or rows k d))
+
+  keys_there : All IsThere keys
+  keys_there =
+      subst (All IsThere) (sym keys_are)
+      (elim sorted as (λ b. All IsThere (cond b (in_order (tuple_less texts) (distinct same_tuple rows)) (distinct same_tuple rows))) [
+        | true ↦ all_in_order IsThere (tuple_less texts) (distinct same_tuple rows) (All-distinct IsThere same_tuple rows rows_there)
+        | false ↦ All-distinct IsThere same_tuple rows rows_there
+      ])
+
+  rows_known : All IsKnown rows
+  rows_known k d lt = let key = slice_index_or rows k d in any_passes (same_tuple key) keys key [] (stands_once key (rows_there k d lt))
+
+  pub left_known : All IsKnown left
+  left_known = all_left IsKnown left right rows_known
+
+  pub right_known : All IsKnown right
+  right_known = all_right IsKnown left right rows_known
+
+  apart : (g : ℕ) → g < length keys → rank (slice_index_or keys g []) ≡ g
+  apart g lt = let key = slice_index_or keys g [] in only_place (same_tuple key) keys key g [] (stands_once key (keys_there g [] lt)) lt (tuple_laws.refl key)
+
+  -- the numbers of the groups are those of the keys
+  pub numbers_are : map number_in (group_codes (seen_rules texts) sorted false rows) ≡ map rank rows
+  numbers_are =
+      map_map number_in (group_of same_tuple keys) rows
+      ∙ map_on IsKnown (λ key. number_in (group_of same_tuple keys key)) rank (λ key known. ap number_in (there (same_tuple key) keys (position_in (same_tuple key) keys known))) rows rows_known
+
+  -- the numbers of either side
+  module _ (codes part : List ℕ) (n : ℕ) (coded : codes ≡ map rank rows) (size : n ≡ length left) where
+    parted : codes ≡ map rank left ++ map rank right
+    parted = coded ∙ map-append rank left right
+
+    long : n ≡ length (map rank left)
+    long = size ∙ sym (length-map left rank)
+
+    pub left_is : part ≡ take n codes → part ≡ map rank left
+    left_is is = is ∙ (λ i. take (long i) (parted i)) ∙ take-append_seam (map rank left) (map rank right)
+
+    pub right_is : part ≡ drop n codes → part ≡ map rank right
+    right_is is = is ∙ (λ i. drop (long i) (parted i)) ∙ drop-append_seam (map rank left) (map rank right)
+
+  pub below : (part : List ℕ) (m : ℕ) (side : List (List Label)) → All IsKnown side → part ≡ map rank side → m ≡ length keys → All (λ c. c < m) part
+  below part m side known are counted =
+      subst (λ k. All (λ c. c < k) part) (sym counted)
+      (subst (All (λ c. c < length keys)) (sym are) (All-map (λ c. c < length keys) rank side (λ k d lt. position_in (same_tuple (slice_index_or side k d)) keys (known k d lt))))
+
+  -- the first key that stands twice
+  pub repeats_are : (b : Bool) (side : List (List Label)) (part : List ℕ) → All IsKnown side → part ≡ map rank side → repeated_in b side part ≡ cond b (first_repeated same_tuple side) None
+  repeats_are true side part known are =
+      ap (λ codes. option_map (λ row. slice_index_or side row []) (repeated_from codes 0 codes)) are ∙ sym (law.repeated_coded same_tuple tuple_laws keys side known [])
+  repeats_are false side part known are = refl
+
+-- the pairs of keys are those of their numbers
+pub pairs_are : (texts : List Text) (how : How) (left right : List (List Label))
+    → key_pairs same_tuple (tuple_less texts) how left right
+    ≡ code_pairs how (length (keys_of texts (is_outer how) left right)) (map (rank texts (is_outer how) left right) left) (map (rank texts (is_outer how) left right) right)
+pairs_are texts Inner left right = law.pairs_coded same_tuple tuple_laws (keys_of texts false left right) false 0 left right (right_known texts false left right)
+pairs_are texts Left left right = law.pairs_coded same_tuple tuple_laws (keys_of texts false left right) true 0 left right (right_known texts false left right)
+pairs_are texts Right left right = ap (map exchanged) (law.pairs_coded same_tuple tuple_laws (keys_of texts false left right) true 0 right left (left_known texts false left right))
+pairs_are texts Outer left right =
+    ap (λ ks. map pair_of_entry (flat_map (λ key. entries_of key (rows_where (same_tuple key) 0 left) (rows_where (same_tuple key) 0 right)) ks)) (sym (keys_are texts true left right))
+    ∙ law.outer_coded same_tuple tuple_laws (keys_of texts true left right) [] (apart texts true left right) left right (left_known texts true left right) (right_known texts true left right)

@@ -1,0 +1,40 @@
+use Rattle.std.proofs.Common.{◌≡◌, ◌∙◌, ◌+◌, ◌-◌, ◌<◌, List, true, ap, subst, arith}
+use Rattle.cell_core.specs.declared.cell.Label.{Label}
+use Rattle.multi_index.specs.Axes.{AxisValue, HaveLevels, nameless_axis, single_tuples, with_level}
+use Rattle.merge_concat.specs.Axes.{levels_of_first, tuples_in}
+use Rattle.merge_concat.proofs.AxisLaws.{one_level, level_more, no_level}
+use Rattle.merge_concat.proofs.axes.all_levels.Goals as goal
+
+pub loop-level-init : goal.loop-level-init
+loop-level-init c =
+    let tuples = tuples_in c.args.axes.now in
+    let levels = levels_of_first c.args.axes.now in
+    let last = c.levels_of-level.result - 1 in
+    let told = c.levels_of-level.ensures in
+    let e : last + 1 ≡ levels = omega (arith, told.count, told.some) in
+    record {
+      inside = omega (arith, told.count, told.some);
+      made = c.from_labels-axis.ensures
+          ∙ ap (λ (labels : List Label). nameless_axis (single_tuples labels) 1) c.in_ok-labels_at.ensures
+          ∙ one_level last levels tuples e (subst (λ n. HaveLevels n tuples) told.count told.alike);
+    }
+
+pub loop-level-preserved : goal.loop-level-preserved
+loop-level-preserved c =
+    let tuples = tuples_in c.args.axes.now in
+    let levels = levels_of_first c.args.axes.now in
+    let level = c.loop-level.level - 1 in
+    let told = c.levels_of-level.ensures in
+    let was : c.loop-level.level ≡ level + 1 = omega (arith, c.loop-level-test.true) in
+    let lt : level < levels = omega (arith, c.loop-level.invariant.inside) in
+    record {
+      inside = lt;
+      made = c.in_ok-axis.ensures
+          ∙ ap (λ (axis : AxisValue). with_level axis c.deref.result.now true) c.loop-level.invariant.made
+          ∙ level_more c.loop-level.level level levels tuples c.deref.result.now was lt (subst (λ n. HaveLevels n tuples) told.count told.alike) (c.deref.ensures.value ∙ c.in_ok-labels.ensures);
+    }
+
+pub returns : goal.returns
+returns c =
+    let none : c.loop-level.level ≡ 0 = omega (arith, c.loop-level-test.false) in
+    c.loop-level.invariant.made ∙ no_level c.loop-level.level (levels_of_first c.args.axes.now) (tuples_in c.args.axes.now) none

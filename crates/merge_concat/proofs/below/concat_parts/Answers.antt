@@ -1,0 +1,15 @@
+use Rattle.std.proofs.Common.{◌∙◌, sym, arith}
+use Rattle.merge_concat.proofs.BelowLaws.{is_mixed, is_too_large, is_made, parts_at_kind}
+use Rattle.merge_concat.proofs.below.concat_parts.Goals as goal
+
+pub returns-in_default : goal.returns-in_default
+returns-in_default c texts = is_mixed c.args.missing texts c.args.parts.now (sym c.kind_of.ensures ∙ c.in_default.is)
+
+pub returns-in_default-count_of : goal.returns-in_default-count_of
+returns-in_default-count_of c texts = is_too_large c.args.missing texts c.args.parts.now c.in-Some.kind (sym c.kind_of.ensures ∙ c.in-Some.is) c.in_default-count_of.ensures
+
+pub column_of_kind-requires-clause-kind : goal.column_of_kind-requires-clause-kind
+column_of_kind-requires-clause-kind c = parts_at_kind c.args.missing c.in-Some.kind c.args.parts.now (sym c.kind_of.ensures ∙ c.in-Some.is)
+
+pub returns : goal.returns
+returns c texts = is_made c.args.missing texts c.args.parts.now c.in-Some.kind (sym c.kind_of.ensures ∙ c.in-Some.is) c.in_ok-column.column (omega (arith, c.in-Some-count_of.ensures)) c.in_ok-column.ensures

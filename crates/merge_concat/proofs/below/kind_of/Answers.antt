@@ -1,0 +1,15 @@
+use Rattle.std.proofs.Common.{◌∙◌, ◌-◌, length, take, drop, sym, ap, true, Some}
+use Rattle.std.specs.List.{list_all}
+use Rattle.std.proofs.lemmas.List.{take_all}
+use Rattle.join_meaning.specs.Concat.{same_kind}
+use Rattle.merge_concat.specs.Parts.{part_kind}
+use Rattle.merge_concat.proofs.BelowLaws.{kind_told}
+use Rattle.merge_concat.proofs.below.kind_of.Goals as goal
+
+pub returns : goal.returns
+returns c =
+    let others = take (length c.args.parts.now - 1) (drop 1 c.args.parts.now) in
+    let all = ap (λ k. list_all (λ other. same_kind k (part_kind c.args.missing other)) others) (sym c.kind-kind.ensures)
+    ∙ ap (list_all (λ other. same_kind c.kind-kind.result (part_kind c.args.missing other))) (sym (take_all c.loop-other.other-index others c.loop-other-test.false))
+    ∙ c.loop-other.invariant in
+    ap Some c.kind-kind.ensures ∙ sym (kind_told c.args.missing c.args.parts.now c.first-item.result true c.in-len1-up.len_at_least c.first-item.is all)

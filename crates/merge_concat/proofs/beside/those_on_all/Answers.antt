@@ -1,0 +1,37 @@
+use Rattle.std.proofs.Common.{◌≡◌, ◌∙◌, ◌+◌, ◌<◌, ◌&&◌, List, [], length, take, ap, sym, subst, arith}
+use Rattle.std.specs.List.{filter, list_any, list_all}
+use Rattle.std.proofs.lemmas.List.{length-map}
+use Rattle.std.proofs.lemmas.List.Folds.{list_all_more}
+use Rattle.std.proofs.lemmas.List.Elements.{All-filter}
+use Rattle.cell_core.specs.declared.cell.Label.{Label}
+use Rattle.multi_index.specs.Axes.{HaveLevels}
+use Rattle.row_keys.specs.Keys.{same_tuple}
+use Rattle.merge_concat.specs.Axes.{tuples_of_each}
+use Rattle.merge_concat.proofs.AxisLaws.{tuples_there}
+use Rattle.merge_concat.proofs.UnitedLaws.{all_pass, both_pass}
+use Rattle.merge_concat.proofs.beside.those_on_all.Goals as goal
+
+pub loop-other-init : goal.loop-other-init
+loop-other-init c = record {
+  levels = subst (HaveLevels c.levels-levels.result) (sym c.in_ok-kept.ensures) c.levels-levels.ensures.alike;
+  kept = c.in_ok-kept.ensures ∙ sym (all_pass c.args.first.now.tuples);
+}
+
+pub loop-other-preserved : goal.loop-other-preserved
+loop-other-preserved c =
+    let others = c.args.others.now in
+    let lists = tuples_of_each others in
+    let i = c.loop-other.other-index in
+    let other = c.other-item.result.now.tuples in
+    let lt : i < length lists = omega (arith, length-map others (λ axis. axis.now.tuples), c.loop-other-test.true) in
+    let before = λ (t : List Label). list_all (list_any (same_tuple t)) (take i lists) in
+    let here = λ (t : List Label). list_any (same_tuple t) other in
+    let after = λ (t : List Label). list_all (list_any (same_tuple t)) (take (i + 1) lists) in
+    record {
+      levels = subst (HaveLevels c.levels-levels.result) (sym c.in_ok-kept-2.ensures) (All-filter here (λ t. length t ≡ c.levels-levels.result) c.loop-other.kept c.loop-other.invariant.levels);
+      kept = c.in_ok-kept-2.ensures
+          ∙ ap (filter here) c.loop-other.invariant.kept
+          ∙ both_pass before here after
+          (λ t. list_all_more (list_any (same_tuple t)) lists i [] lt ∙ ap (λ l. before t && list_any (same_tuple t) l) (sym (tuples_there others i c.other-item.result c.loop-other-test.true c.other-item.is)))
+          c.args.first.now.tuples;
+    }

@@ -1,0 +1,20 @@
+use Rattle.std.proofs.Common.{◌∙◌, ap, sym}
+use Rattle.std.proofs.lemmas.Result.{IfOk-weaker}
+use Rattle.meaning.specs.Reduce.{distinct}
+use Rattle.join_meaning.specs.Concat.{united}
+use Rattle.multi_index.specs.Axes.{AxisValue}
+use Rattle.row_keys.specs.Keys.{same_tuple}
+use Rattle.merge_concat.specs.Axes.{tuples_of_each}
+use Rattle.merge_concat.proofs.UnitedLaws.{united_any}
+use Rattle.merge_concat.proofs.beside.union_of.Goals as goal
+
+pub returns : goal.returns
+returns c =
+    let axes = c.args.axes.now in
+    IfOk-weaker c.different.result _ _
+    (λ made h.
+    h
+    ∙ ap (λ (axis : AxisValue). distinct same_tuple axis.tuples) c.in_ok-all.ensures
+    ∙ united_any axes c.first-item.result c.in-len1-up.len_at_least c.first-item.is
+    ∙ sym (ap (λ b. united same_tuple b (tuples_of_each axes)) c.if-inner.false))
+    c.different.ensures

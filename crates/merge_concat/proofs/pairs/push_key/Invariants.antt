@@ -1,0 +1,8 @@
+use Rattle.std.proofs.Common.{Some, take}
+use Rattle.std.specs.List.{flat_map}
+use Rattle.merge_concat.specs.Codes.{pairs_with}
+use Rattle.merge_concat.specs.Pairs.{HasMore}
+use Rattle.merge_concat.proofs.pairs.push_key.Given as goal
+
+abbrev pub invariant-loop-left : goal.invariant-loop-left
+invariant-loop-left l = HasMore l.fn.out l.out (flat_map (λ r. pairs_with l.rights (Some r)) (take l.left-index l.lefts))

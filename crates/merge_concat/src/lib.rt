@@ -1,0 +1,35 @@
+//! The rows of two sides that have equal keys, and what stands one below the other or side by side.
+//!
+//! [`join_rows`] joins the rows of two sides by their keys, as the cells of some columns ([`factorize::KeyColumns`]), and
+//! [`join_pairs`] tuples of labels. [`concat_rows`] and [`concat_parts`] put columns one below the other, where a part may
+//! lack the column; [`axis_below`] puts labels of rows so, with a label for each part if there are such.
+//! [`concat_columns`] has the labels of axes that are put side by side. What is answered is defined in `join_meaning`.
+//!
+//! ```text
+//! let once = Validate { left: true, right: false };
+//! let pairs = join_pairs(alloc, &dict, &left, &right, How::Inner, once)?;
+//! let first = pairs.left.at(0);
+//! let column = concat_rows(alloc, &[first.as_ref(), second.as_ref()])?;
+//! let labels = concat_columns(alloc, &[&left, &right], false)?;
+//! ```
+#![tactic(auto)]
+
+mod axes;
+mod below;
+mod beside;
+mod fault;
+mod growing;
+mod joins;
+mod numbers;
+mod pairs;
+mod parts;
+mod repeats;
+mod sides;
+
+pub use axes::axis_below;
+pub use below::{concat_parts, concat_rows};
+pub use beside::{concat_columns, have_same_labels};
+pub use fault::MergeFault;
+pub use joins::{join_pairs, join_rows};
+pub use pairs::Pairs;
+pub use parts::Part;

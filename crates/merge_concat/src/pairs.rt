@@ -1,0 +1,218 @@
+// Pairs of rows.
+ghost use Rattle.std.specs.Prelude.{◌≡◌, ◌∷◌, ◌≤◌, [], map, nat_eq, Some, OnOk, IfOk};
+ghost use Rattle.std.specs.Bool.{Decides};
+ghost use Rattle.align_meaning.specs.Joins.{most_rows};
+ghost use Rattle.join_meaning.specs.Pairs.{pair, partners, pairs_from, within_limit};
+ghost use Rattle.merge_concat.specs.Codes.{pairs_with, pairs_of, outer_pairs, code_pairs};
+ghost use Rattle.merge_concat.specs.Codes.{counted_by_row, counted_by_key};
+ghost use Rattle.merge_concat.specs.Pairs.{ArePairs, HasMore, JoinsBy};
+
+use crate::fault::MergeFault;
+use crate::sides::CodedRows;
+use cell_core::{Gaps, NoMemory};
+use join_meaning::How;
+use std::alloc::Global;
+
+/// The rows of a join: for each the row of either side that it comes from, if there is one.
+#[derive(Drop)]
+pub struct Pairs {
+    /// The row of the left side.
+    pub left: Gaps,
+    /// The row of the right side.
+    pub right: Gaps,
+}
+
+// As many rows as a table may have.
+const MOST_ROWS: usize = 67108864;
+
+// No pair.
+fn no_pairs(alloc: Global) -> Pairs
+    ensures { ArePairs result [] }
+{
+    Pairs {
+        left: Gaps::new(alloc),
+        right: Gaps::new(alloc),
+    }
+}
+
+// Adds a pair.
+fn push_pair(out: &mut Pairs, left: Option<usize>, right: Option<usize>) -> Result<(), NoMemory>
+    ensures { OnOk result (HasMore out.old out.new (pair left right ∷ [])) }
+{
+    out.left.push(left)?;
+    out.right.push(right)?;
+    Ok(())
+}
+
+// Adds a left row, or a gap, with each right row.
+fn push_left(out: &mut Pairs, left: Option<usize>, rights: &[usize]) -> Result<(), NoMemory>
+    ensures { OnOk result (HasMore out.old out.new (pairs_with rights.now left)) }
+{
+    if rights.is_empty() {
+        return push_pair(out, left, None);
+    }
+    for right in rights {
+        push_pair(out, left, Some(*right))?;
+    }
+    Ok(())
+}
+
+// Adds each left row of a key with each right row of it.
+fn push_key(out: &mut Pairs, lefts: &[usize], rights: &[usize]) -> Result<(), NoMemory>
+    ensures { OnOk result (HasMore out.old out.new (pairs_of lefts.now rights.now)) }
+{
+    if lefts.is_empty() {
+        return push_left(out, None, rights);
+    }
+    for left in lefts {
+        push_left(out, Some(*left), rights)?;
+    }
+    Ok(())
+}
+
+// Adds a left row with the right rows that it meets; where it meets none, with a gap, if it stays.
+fn push_row(out: &mut Pairs, stays: bool, row: usize, rights: &[usize]) -> Result<(), NoMemory>
+    ensures { OnOk result (HasMore out.old out.new
+        (map (pair (Some row)) (partners stays rights.now))) }
+{
+    if !stays && rights.is_empty() {
+        return Ok(());
+    }
+    push_left(out, Some(row), rights)
+}
+
+// Each left row with the right rows of its number.
+fn pairs_by_row(
+    alloc: Global,
+    stays: bool,
+    left: &CodedRows<'_>,
+    right: &CodedRows<'_>,
+) -> Result<Pairs, NoMemory>
+    requires { left.now.count ≡ right.now.count }
+    ensures { IfOk result (λ made. ArePairs made
+        (pairs_from nat_eq stays 0 left.now.codes.now right.now.codes.now)) }
+{
+    let mut out = no_pairs(alloc);
+    for row in 0..left.codes.len() {
+        push_row(&mut out, stays, row, right.rows_of(left.code(row)))?;
+    }
+    Ok(out)
+}
+
+// Whether these are at most as many as a table may have rows.
+fn are_few_by_row(stays: bool, left: &CodedRows<'_>, right: &CodedRows<'_>) -> bool
+    requires { left.now.count ≡ right.now.count }
+    ensures { Decides result (counted_by_row stays left.now.codes.now right.now.codes.now
+        ≤ most_rows) }
+{
+    let mut total = 0usize;
+    for row in 0..left.codes.len() {
+        let rights = right.rows_of(left.code(row)).len();
+        let size = if stays { rights.max(1) } else { rights };
+        if size > MOST_ROWS - total {
+            return false;
+        }
+        total += size;
+    }
+    true
+}
+
+// The rows of each number, one number after the other.
+fn pairs_by_key(
+    alloc: Global,
+    left: &CodedRows<'_>,
+    right: &CodedRows<'_>,
+) -> Result<Pairs, NoMemory>
+    requires { left.now.count ≡ right.now.count }
+    ensures { IfOk result (λ made. ArePairs made
+        (outer_pairs left.now.count left.now.codes.now right.now.codes.now)) }
+{
+    let mut out = no_pairs(alloc);
+    for code in 0..left.count {
+        push_key(&mut out, left.rows_of(code), right.rows_of(code))?;
+    }
+    Ok(out)
+}
+
+// Whether these are at most as many as a table may have rows.
+fn are_few_by_key(left: &CodedRows<'_>, right: &CodedRows<'_>) -> bool
+    requires { left.now.count ≡ right.now.count }
+    ensures { Decides result (counted_by_key left.now.count left.now.codes.now right.now.codes.now
+        ≤ most_rows) }
+{
+    let mut total = 0usize;
+    for code in 0..left.count {
+        let lefts = left.rows_of(code).len().max(1);
+        let rights = right.rows_of(code).len().max(1);
+        match lefts.checked_mul(rights) {
+            Some(size) if size <= MOST_ROWS - total => total += size,
+            _ => return false,
+        }
+    }
+    true
+}
+
+// Each left row with the right rows of its number, unless there are too many.
+fn joined_by_row(
+    alloc: Global,
+    stays: bool,
+    left: &CodedRows<'_>,
+    right: &CodedRows<'_>,
+) -> Result<Pairs, MergeFault>
+    requires { left.now.count ≡ right.now.count }
+    ensures { JoinsBy result
+        (within_limit (pairs_from nat_eq stays 0 left.now.codes.now right.now.codes.now)) }
+{
+    if !are_few_by_row(stays, left, right) {
+        return Err(MergeFault::TooLarge);
+    }
+    let pairs = pairs_by_row(alloc, stays, left, right)?;
+    Ok(pairs)
+}
+
+// The rows of each number, unless there are too many.
+fn joined_by_key(
+    alloc: Global,
+    left: &CodedRows<'_>,
+    right: &CodedRows<'_>,
+) -> Result<Pairs, MergeFault>
+    requires { left.now.count ≡ right.now.count }
+    ensures { JoinsBy result
+        (within_limit (outer_pairs left.now.count left.now.codes.now right.now.codes.now)) }
+{
+    if !are_few_by_key(left, right) {
+        return Err(MergeFault::TooLarge);
+    }
+    let pairs = pairs_by_key(alloc, left, right)?;
+    Ok(pairs)
+}
+
+// The sides exchanged.
+fn exchanged(pairs: Pairs) -> Pairs
+    ensures left { result.left ≡ pairs.right }
+    ensures right { result.right ≡ pairs.left }
+{
+    Pairs {
+        left: pairs.right,
+        right: pairs.left,
+    }
+}
+
+// The rows of both sides whose keys have equal numbers, unless there are too many.
+pub(crate) fn joined_by_code(
+    alloc: Global,
+    how: How,
+    left: &CodedRows<'_>,
+    right: &CodedRows<'_>,
+) -> Result<Pairs, MergeFault>
+    requires { left.now.count ≡ right.now.count }
+    ensures { JoinsBy result
+        (within_limit (code_pairs how left.now.count left.now.codes.now right.now.codes.now)) }
+{
+    match how {
+        How::Inner => joined_by_row(alloc, false, left, right),
+        How::Left => joined_by_row(alloc, true, left, right),
+        How::Right => Ok(exchanged(joined_by_row(alloc, true, right, left)?)),
+        How::Outer => joined_by_key(alloc, left, right),
+    }
+}

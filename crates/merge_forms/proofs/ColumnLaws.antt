@@ -1,0 +1,176 @@
+-- The columns of joined rows, with texts by number and with texts.
+use Rattle.std.proofs.Common.{◌≡◌, ◌∙◌, ◌+◌, ◌<◌, ◌≤◌, ap, refl, sym, subst, arith, ℕ, suc, Bool, true, false, List, [], ◌∷◌, ◌++◌, map, take, drop, length, slice_get, slice_index_or, All, Option, Some, None, if◌then◌else◌, append_assoc, append-nil, nat_eq}
+use Rattle.std.specs.List.{range_with_len, position_or_len}
+use Rattle.std.proofs.Math.ListN.{get_or-map}
+use Rattle.std.proofs.Math.Seq.{drop-cons}
+use Rattle.std.proofs.lemmas.List.{length-map, map-append, take_more, at_drop_all}
+use Rattle.std.proofs.lemmas.List.Elements.{All-map, All-append}
+use Rattle.std.proofs.lemmas.List.FromFn.{map-range_with_len_more}
+use Rattle.std.proofs.lemmas.Option.{get_or_from_slice_get}
+use Rattle.cell_core.specs.declared.cell.Cell.{Cell}
+use Rattle.cell_core.specs.declared.cell.Cell.TheVariants.{Na}
+use Rattle.meaning.specs.Text.{Text}
+use Rattle.meaning.specs.Cell.{CellValue, na_cell, datum}
+use Rattle.meaning.specs.Column.{gap_cell, taken}
+use Rattle.join_meaning.specs.Pairs.{Pair}
+use Rattle.table_meaning.specs.Settled.{IsSettled}
+use Rattle.table_meaning.specs.Table.{ColumnOf, Table, column_at, column_value, no_column}
+use Rattle.column_core.specs.Columns.{CellColumn}
+use Rattle.frame_store.specs.Parts.{table_column}
+use Rattle.frame_store.specs.Shown.{columns_value}
+use Rattle.method_meaning.specs.Rows.{all_places}
+use Rattle.method_meaning.specs.Merge.{MergeKeys, is_key, right_key, right_places, key_cell, left_column, column_of_side}
+use Rattle.merge_forms.specs.Columns.{key_cell_at, key_cells, column_on, left_column_on, merged_columns}
+
+-- what holds of all holds of one
+pub at_all : {X : Type 0} (P : X → Type 0) (xs : List X) (k : ℕ) (x : X) → All P xs → k < length xs → slice_get xs k ≡ Some x → P x
+at_all P xs k x all lt at = subst P (get_or_from_slice_get xs k x x at) (all k x lt)
+
+-- one column more
+pub one_more_in_range : {X : Type 0} (f : ℕ → X) (place : ℕ) (x : X) (made made' : List X) → x ≡ f place → made' ≡ made ++ x ∷ [] → made ≡ map f (range_with_len 0 place) → made' ≡ map f (range_with_len 0 (place + 1))
+one_more_in_range f place x made made' is pushed before = pushed ∙ (λ i. before i ++ is i ∷ []) ∙ sym (map-range_with_len_more f 0 place place (omega arith))
+
+pub one_more_at : {X : Type 0} (f : ℕ → X) (places : List ℕ) (k place : ℕ) (x : X) (first made made' : List X) → k < length places → slice_get places k ≡ Some place → x ≡ f place → made' ≡ made ++ x ∷ [] → made ≡ first ++ map f (take k places)
+    → made' ≡ first ++ map f (take (k + 1) places)
+one_more_at f places k place x first made made' lt at is pushed before =
+    pushed
+    ∙ (λ i. before i ++ is i ∷ [])
+    ∙ append_assoc first (map f (take k places)) (f place ∷ [])
+    ∙ ap (λ p. first ++ (map f (take k places) ++ f p ∷ [])) (sym (get_or_from_slice_get places k place 0 at))
+    ∙ ap (λ l. first ++ l) (sym (ap (map f) (take_more places k 0 lt) ∙ map-append f (take k places) (slice_index_or places k 0 ∷ [])))
+
+-- the cells of a key, one more of them
+key_next : {C : Type 0} (na : C) (left right : List C) (ls rs : List (Option ℕ)) (row : ℕ) (l r : Option ℕ) → row < length ls → length rs ≡ length ls → slice_get ls row ≡ Some l → slice_get rs row ≡ Some r
+    → key_cells na left right (drop row ls) (drop row rs) ≡ key_cell_at na left right l r ∷ key_cells na left right (drop (row + 1) ls) (drop (row + 1) rs)
+key_next na left right ls rs row l r lt same here there =
+    let next : suc row ≡ row + 1 = omega arith in
+    (λ i. key_cells na left right (drop-cons ls row None lt i) (drop-cons rs row None (omega (arith, lt, same)) i))
+    ∙ (λ i. key_cell_at na left right (get_or_from_slice_get ls row l None here i) (get_or_from_slice_get rs row r None there i) ∷ key_cells na left right (drop (next i) ls) (drop (next i) rs))
+
+pub one_more_key : {C : Type 0} (na : C) (left right : List C) (ls rs : List (Option ℕ)) (row : ℕ) (l r : Option ℕ) (c : C) (made made' whole : List C) → row < length ls → length rs ≡ length ls → slice_get ls row ≡ Some l → slice_get rs row ≡ Some r
+    → c ≡ key_cell_at na left right l r → made' ≡ made ++ c ∷ [] → made ++ key_cells na left right (drop row ls) (drop row rs) ≡ whole → made' ++ key_cells na left right (drop (row + 1) ls) (drop (row + 1) rs) ≡ whole
+one_more_key na left right ls rs row l r c made made' whole lt same here there is pushed before =
+    ap (λ m. m ++ key_cells na left right (drop (row + 1) ls) (drop (row + 1) rs)) pushed
+    ∙ append_assoc made (c ∷ []) (key_cells na left right (drop (row + 1) ls) (drop (row + 1) rs))
+    ∙ ap (λ x. made ++ x ∷ key_cells na left right (drop (row + 1) ls) (drop (row + 1) rs)) is
+    ∙ ap (λ m. made ++ m) (sym (key_next na left right ls rs row l r lt same here there))
+    ∙ before
+
+pub all_keys : {C : Type 0} (na : C) (left right : List C) (ls rs : List (Option ℕ)) (row : ℕ) (made whole : List C) → length ls ≤ row → made ++ key_cells na left right (drop row ls) (drop row rs) ≡ whole → made ≡ whole
+all_keys na left right ls rs row made whole end before =
+    sym (append-nil made) ∙ sym (at_drop_all (λ m. made ++ key_cells na left right m (drop row rs)) ls row end) ∙ before
+
+-- how many there are
+key_count : {C : Type 0} (na : C) (left right : List C) (ls rs : List (Option ℕ)) → length rs ≡ length ls → length (key_cells na left right ls rs) ≡ length ls
+key_count na left right [] rs same = refl
+key_count na left right (l ∷ ls) [] same = absurd (omega (arith, same))
+key_count na left right (l ∷ ls) (r ∷ rs) same = ap suc (key_count na left right ls rs (omega (arith, same)))
+
+module _ {C : Type 0} (na : C) (l r : List (ColumnOf C)) (keys : MergeKeys) (lefts rights : List (Option ℕ)) (same : length rights ≡ length lefts) where
+  left_counted : (place : ℕ) → length (left_column_on na l r keys lefts rights place).cells ≡ length lefts
+  left_counted place = by (is_key keys.left place)
+    where
+      by : (b : Bool)
+          → length (if b then record { kind = (column_at l place).kind; cells = key_cells na (column_at l place).cells (column_at r (right_key keys place)).cells lefts rights } else column_on na l lefts place).cells ≡ length lefts
+      by true = key_count na (column_at l place).cells (column_at r (right_key keys place)).cells lefts rights same
+      by false = length-map lefts (gap_cell na (column_at l place).cells)
+
+  pub columns_counted : (places : List ℕ) → All (λ (c : ColumnOf C). length c.cells ≡ length lefts) (merged_columns na l r keys places lefts rights)
+  columns_counted places =
+      All-append (λ (c : ColumnOf C). length c.cells ≡ length lefts) (map (left_column_on na l r keys lefts rights) (range_with_len 0 (length l))) (map (column_on na r rights) places)
+      (All-map (λ (c : ColumnOf C). length c.cells ≡ length lefts) (left_column_on na l r keys lefts rights) (range_with_len 0 (length l)) (λ k d lt. left_counted (slice_index_or (range_with_len 0 (length l)) k d)))
+      (All-map (λ (c : ColumnOf C). length c.cells ≡ length lefts) (column_on na r rights) places (λ k d lt. length-map rights (gap_cell na (column_at r (slice_index_or places k d)).cells) ∙ same))
+
+-- a column of the left side, a key or another one
+module _ (l r : List (ColumnOf Cell)) (keys : MergeKeys) (lefts rights : List (Option ℕ)) (place : ℕ) (a : CellColumn) (at : column_at l place ≡ table_column a) (made : CellColumn) where
+  pub key_is : (other k : ℕ) (b : CellColumn) → is_key keys.left place ≡ true → position_or_len (nat_eq place) keys.left ≡ k → slice_get keys.right k ≡ Some other → column_at r other ≡ table_column b
+      → made ≡ record { kind = a.kind; cells = key_cells Na a.cells b.cells lefts rights } → table_column made ≡ left_column_on Na l r keys lefts rights place
+  key_is other k b key first there at_other is =
+      let right_is : right_key keys place ≡ other = ap (λ n. slice_index_or keys.right n 0) first ∙ get_or_from_slice_get keys.right k other 0 there in
+      let right_at : column_at r (right_key keys place) ≡ table_column b = ap (column_at r) right_is ∙ at_other in
+      ap table_column is
+      ∙ (λ i. record { kind = (sym at i).kind; cells = key_cells Na (sym at i).cells (sym right_at i).cells lefts rights })
+      ∙ ap (λ b. if b then record { kind = (column_at l place).kind; cells = key_cells Na (column_at l place).cells (column_at r (right_key keys place)).cells lefts rights } else column_on Na l lefts place) (sym key)
+
+  pub other_is : is_key keys.left place ≡ false → made.kind ≡ a.kind → made.cells ≡ taken Na a.cells lefts → table_column made ≡ left_column_on Na l r keys lefts rights place
+  other_is key kind cells =
+      (λ i. record { kind = (kind ∙ ap (λ (c : ColumnOf Cell). c.kind) (sym at)) i; cells = (cells ∙ ap (λ (c : ColumnOf Cell). taken Na c.cells lefts) (sym at)) i })
+      ∙ ap (λ b. if b then record { kind = (column_at l place).kind; cells = key_cells Na (column_at l place).cells (column_at r (right_key keys place)).cells lefts rights } else column_on Na l lefts place) (sym key)
+
+-- as they are seen
+module _ (texts : List Text) where
+  cell_on : (cells : List Cell) (gap : Option ℕ) → datum texts (gap_cell Na cells gap) ≡ gap_cell na_cell (map (datum texts) cells) gap
+  cell_on cells None = refl
+  cell_on cells (Some place) = sym (get_or-map (datum texts) cells place Na)
+
+  cells_on : (cells : List Cell) (rows : List (Option ℕ)) → map (datum texts) (taken Na cells rows) ≡ taken na_cell (map (datum texts) cells) rows
+  cells_on cells [] = refl
+  cells_on cells (gap ∷ rows) = λ i. cell_on cells gap i ∷ cells_on cells rows i
+
+  key_seen : (left right : List Cell) (l r : Option ℕ) → datum texts (key_cell_at Na left right l r) ≡ key_cell_at na_cell (map (datum texts) left) (map (datum texts) right) l r
+  key_seen left right None r = cell_on right r
+  key_seen left right (Some row) r = cell_on left (Some row)
+
+  keys_seen : (left right : List Cell) (ls rs : List (Option ℕ)) → map (datum texts) (key_cells Na left right ls rs) ≡ key_cells na_cell (map (datum texts) left) (map (datum texts) right) ls rs
+  keys_seen left right [] rs = refl
+  keys_seen left right (l ∷ ls) [] = refl
+  keys_seen left right (l ∷ ls) (r ∷ rs) = λ i. key_seen left right l r i ∷ keys_seen left right ls rs i
+
+  column_seen : (cs : List (ColumnOf Cell)) (place : ℕ) → column_value texts (column_at cs place) ≡ column_at (columns_value texts cs) place
+  column_seen cs place = sym (get_or-map (column_value texts) cs place no_column)
+
+  on_seen : (cs : List (ColumnOf Cell)) (rows : List (Option ℕ)) (place : ℕ) → column_value texts (column_on Na cs rows place) ≡ column_on na_cell (columns_value texts cs) rows place
+  on_seen cs rows place = λ i. record {
+    kind = (column_seen cs place i).kind;
+    cells = (cells_on (column_at cs place).cells rows ∙ ap (λ (c : ColumnOf CellValue). taken na_cell c.cells rows) (column_seen cs place)) i;
+  }
+
+  module _ (l r : List (ColumnOf Cell)) (keys : MergeKeys) (lefts rights : List (Option ℕ)) where
+    abbrev key_on : {C : Type 0} → C → ColumnOf C → ColumnOf C → ColumnOf C
+    key_on na a b = record { kind = a.kind; cells = key_cells na a.cells b.cells lefts rights }
+
+    key_column_seen : (place : ℕ) → column_value texts (key_on Na (column_at l place) (column_at r (right_key keys place))) ≡ key_on na_cell (column_at (columns_value texts l) place) (column_at (columns_value texts r) (right_key keys place))
+    key_column_seen place = λ i. record {
+      kind = (column_seen l place i).kind;
+      cells = (keys_seen (column_at l place).cells (column_at r (right_key keys place)).cells lefts rights
+          ∙ (λ j. key_cells na_cell (column_seen l place j).cells (column_seen r (right_key keys place) j).cells lefts rights)) i;
+    }
+
+    left_seen : (place : ℕ) → column_value texts (left_column_on Na l r keys lefts rights place) ≡ left_column_on na_cell (columns_value texts l) (columns_value texts r) keys lefts rights place
+    left_seen place = by (is_key keys.left place)
+      where
+        by : (b : Bool) → column_value texts (if b then key_on Na (column_at l place) (column_at r (right_key keys place)) else column_on Na l lefts place)
+            ≡ (if b then key_on na_cell (column_at (columns_value texts l) place) (column_at (columns_value texts r) (right_key keys place)) else column_on na_cell (columns_value texts l) lefts place)
+        by true = key_column_seen place
+        by false = on_seen l lefts place
+
+    each_seen : {A : Type 0} (f : A → ColumnOf Cell) (g : A → ColumnOf CellValue) → ((x : A) → column_value texts (f x) ≡ g x) → (xs : List A) → columns_value texts (map f xs) ≡ map g xs
+    each_seen f g same [] = refl
+    each_seen f g same (x ∷ xs) = λ i. same x i ∷ each_seen f g same xs i
+
+    pub columns_seen : (places : List ℕ) → columns_value texts (merged_columns Na l r keys places lefts rights) ≡ merged_columns na_cell (columns_value texts l) (columns_value texts r) keys places lefts rights
+    columns_seen places =
+        map-append (column_value texts) (map (left_column_on Na l r keys lefts rights) (range_with_len 0 (length l))) (map (column_on Na r rights) places)
+        ∙ (λ i. (each_seen (left_column_on Na l r keys lefts rights) (left_column_on na_cell (columns_value texts l) (columns_value texts r) keys lefts rights) left_seen (range_with_len 0 (length l))
+        ∙ ap (λ n. map (left_column_on na_cell (columns_value texts l) (columns_value texts r) keys lefts rights) (range_with_len 0 n)) (sym (length-map l (column_value texts)))) i
+        ++ each_seen (column_on Na r rights) (column_on na_cell (columns_value texts r) rights) (on_seen r rights) places i)
+
+pub columns_settled : (texts : List Text) (l r : List (ColumnOf Cell)) (keys : MergeKeys) (lefts rights : List (Option ℕ)) (places : List ℕ) → IsSettled columns_value texts l → IsSettled columns_value texts r
+    → IsSettled columns_value texts (merged_columns Na l r keys places lefts rights)
+columns_settled texts l r keys lefts rights places of_left of_right = λ more.
+    columns_seen (texts ++ more) l r keys lefts rights places
+    ∙ (λ i. merged_columns na_cell (of_left more i) (of_right more i) keys places lefts rights)
+    ∙ sym (columns_seen texts l r keys lefts rights places)
+
+-- as they are meant
+cells_meant : (left right : List CellValue) (ps : List Pair) → key_cells na_cell left right (map (λ p. p.left) ps) (map (λ p. p.right) ps) ≡ map (key_cell left right) ps
+cells_meant left right [] = refl
+cells_meant left right (p ∷ ps) = ap (λ l. key_cell left right p ∷ l) (cells_meant left right ps)
+
+pub columns_meant : (l r : Table) (keys : MergeKeys) (ps : List Pair) → merged_columns na_cell l.columns r.columns keys (right_places r keys) (map (λ p. p.left) ps) (map (λ p. p.right) ps)
+    ≡ map (left_column l r keys ps) (all_places l) ++ map (column_of_side r (map (λ p. p.right) ps)) (right_places r keys)
+columns_meant l r keys ps = λ i.
+    map (λ place. if is_key keys.left place
+    then record { kind = (column_at l.columns place).kind; cells = cells_meant (column_at l.columns place).cells (column_at r.columns (right_key keys place)).cells ps i }
+    else column_of_side l (map (λ p. p.left) ps) place) (all_places l)
+    ++ map (column_of_side r (map (λ p. p.right) ps)) (right_places r keys)

@@ -1,0 +1,277 @@
+-- The frame of joined rows.
+use Rattle.std.proofs.Common.{◌≡◌, ◌∙◌, ◌+◌, ◌*◌, ◌^◌, ◌<◌, ◌≤◌, ◌&&◌, ap, refl, sym, subst, arith, ℕ, pos, suc, Bool, true, false, List, [], ◌∷◌, ◌++◌, map, length, slice_index_or, All, Option, Some, None, Result, Ok, Err, if◌then◌else◌}
+use Rattle.std.specs.Prelude.{IsSome, nat_le, codes}
+use Rattle.std.specs.List.{list_any, range_with_len}
+use Rattle.std.proofs.lemmas.Bool.Decides.{nat_tests}
+use Rattle.std.proofs.lemmas.List.{length-map, length-append}
+use Rattle.std.proofs.lemmas.List.Elements.{All-append, All-map, All-cons, All-nil, All-filter}
+use Rattle.std.proofs.lemmas.List.FromFn.{length-map-range_with_len}
+use Rattle.sorting.proofs.RankLaws.{below_range}
+use Rattle.cell_core.specs.declared.cell.Cell.TheVariants.{Na}
+use Rattle.cell_core.specs.declared.cell.Label.{Label}
+use Rattle.cell_core.specs.declared.code.Code.TheVariants.{Limit}
+use Rattle.cell_core.specs.declared.grid.Shape.TheVariants.{Frame}
+use Rattle.cell_core.specs.Texts.{AreDistinct, IsLonger}
+use Rattle.meaning.specs.Text.{Text}
+use Rattle.meaning.specs.Cell.{LabelValue, int, na_cell}
+use Rattle.meaning.specs.Fault.{FaultValue, limit, then_value}
+use Rattle.meaning.specs.FaultOf.{fault_of}
+use Rattle.column_core.specs.Blocks.{CellBlock}
+use Rattle.index_core.specs.Ranges.{number_label}
+use Rattle.multi_index.specs.Axes.{AxisValue, single_tuples, range_axis}
+use Rattle.join_meaning.specs.declared.How.{How}
+use Rattle.join_meaning.specs.declared.Validate.{Validate}
+use Rattle.join_meaning.specs.Pairs.{Pair, RepeatedKey}
+use Rattle.merge_concat.specs.declared.pairs.Pairs.{Pairs}
+use Rattle.merge_concat.specs.Pairs.{ArePairs}
+use Rattle.table_meaning.specs.Settled.{IsSettled}
+use Rattle.table_meaning.specs.Table.{NumberedTable, Table, table_value, heading_value}
+use Rattle.table_meaning.specs.Valid.{IsWhole}
+use Rattle.table_meaning.specs.Value.{Entry, table}
+use Rattle.form_meaning.specs.Finish.{within_limits, limited, first_repeated, unless_repeated, finished, default_labels, same_heading}
+use Rattle.form_meaning.specs.Infix.{common_name}
+use Rattle.form_meaning.specs.Select.{heading_at}
+use Rattle.method_meaning.specs.Rows.{all_places, places_besides}
+use Rattle.method_meaning.specs.Groups.{headings_of}
+use Rattle.method_meaning.specs.Merge.{MergeKeys, is_key, with_suffix, suffixed_heading, left_heading, right_heading, right_places, merged, merged_rows, unless_twice}
+use Rattle.frame_store.specs.declared.fault.OpFault.{OpFault}
+use Rattle.frame_store.specs.declared.fault.OpFault.TheVariants.{Refused, NoMemory}
+use Rattle.frame_store.specs.Parts.{HeadingList, HaveRows, columns_of, table_of}
+use Rattle.frame_store.specs.Shown.{labels_value, headings_value, columns_value, Makes, Refuses}
+use Rattle.frame_store.proofs.Settling.{table_settled, settled_later, seen_later, columns_part}
+use Rattle.selections.specs.Headings.{NamesRepeated, repeated_heading}
+use Rattle.selections.proofs.HeadingLaws.{repeated_seen, different}
+use Rattle.selections.proofs.RefusalLaws.{repeated_settled}
+use Rattle.frame_methods.proofs.TableLaws.{limited_within}
+use Rattle.merge_forms.specs.Headings.{merged_headings}
+use Rattle.merge_forms.specs.Columns.{merged_columns}
+use Rattle.merge_forms.specs.Rows.{repeated_in, pairs_in, HasMet, MeetsBy}
+use Rattle.merge_forms.specs.Tables.{IsHeaded, MayFinish}
+use Rattle.merge_forms.proofs.ColumnLaws.{columns_seen, columns_meant, columns_settled, columns_counted}
+
+-- within the limits, or beyond them
+abbrev within_then : Table → Bool → Result Entry FaultValue
+within_then t b = then_value (if b then Ok t else Err limit) (λ t. Ok (table t))
+
+too_many : (rows columns : ℕ) → 2 ^ 26 < rows → within_limits rows columns ≡ false
+too_many rows columns many = first (nat_le rows (2 ^ 26)) (nat_le columns (2 ^ 16)) (nat_le (rows * columns) (2 ^ 26)) (grind (arith, nat_tests))
+  where
+    first : (a b c : Bool) → a ≡ false → a && b && c ≡ false
+    first true b c e = cc
+    first false b c e = refl
+
+module _ (texts : List Text) (distinct : AreDistinct texts) (labels : List (Option Label)) (settled : IsSettled headings_value texts labels) (t : Table) (h : IsHeaded texts labels t) where
+  finished_by : (found : Option Label) → repeated_heading labels ≡ found → finished t ≡ unless_repeated (heading_value texts found) (limited t)
+  finished_by found is = ap (λ o. unless_repeated o (limited t)) (ap first_repeated h.headings ∙ sym (repeated_seen texts labels distinct settled) ∙ ap (heading_value texts) is)
+
+  pub may_within : (count : ℕ) → repeated_heading labels ≡ None → length t.labels ≡ count → within_limits count (length labels) ≡ true → finished t ≡ Ok (table t)
+  may_within count none rows within = finished_by None none ∙ limited_within t count (length labels) rows h.headed within
+
+  pub may_beyond : (count : ℕ) → repeated_heading labels ≡ None → length t.labels ≡ count → within_limits count (length labels) ≡ false → Refuses texts Limit (finished t)
+  may_beyond count none rows beyond = (finished_by None none ∙ ap (within_then t) ((λ i. within_limits (rows i) (h.headed i)) ∙ beyond), λ more. refl)
+
+  pub may_many : repeated_heading labels ≡ None → 2 ^ 26 < length t.labels → Refuses texts Limit (finished t)
+  may_many none many = (finished_by None none ∙ ap (within_then t) (too_many (length t.labels) (length t.columns) many), λ more. refl)
+
+  pub may_repeated : (why : OpFault) → NamesRepeated why (repeated_heading labels) → MayFinish {X = HeadingList} texts (Err why) t
+  may_repeated (Refused code) named = (finished_by (Some named.0) named.1 ∙ ap (λ c. Err (fault_of texts c)) (sym named.2), repeated_settled texts code labels named.0 named.1 named.2 settled)
+  may_repeated NoMemory named = tt
+
+pub within_few : (rows columns : ℕ) → within_limits rows columns ≡ true → rows ≤ 2 ^ 26
+within_few rows columns is = few (first (nat_le rows (2 ^ 26)) (nat_le columns (2 ^ 16)) (nat_le (rows * columns) (2 ^ 26)) is)
+  where
+    first : (a b c : Bool) → a && b && c ≡ true → a ≡ true
+    first true b c e = refl
+    first false b c e = cc
+
+    few : nat_le rows (2 ^ 26) ≡ true → rows ≤ 2 ^ 26
+    few e = grind (arith, nat_tests)
+
+-- the labels 0, 1 and so on
+range_from : (texts : List Text) (ns : List ℕ) → labels_value texts (single_tuples (map number_label ns)) ≡ map (λ k. int (pos k) ∷ []) ns
+range_from texts [] = refl
+range_from texts (n ∷ ns) = λ j. (int (pos n) ∷ []) ∷ range_from texts ns j
+
+range_seen : (texts : List Text) (count : ℕ) → labels_value texts (range_axis count).tuples ≡ default_labels count
+range_seen texts count = range_from texts (range_with_len 0 count)
+
+pub rows_numbered : (count : ℕ) → length (range_axis count).tuples ≡ count
+rows_numbered count = length-map (map number_label (range_with_len 0 count)) (λ label. label ∷ []) ∙ length-map-range_with_len number_label 0 count
+
+-- the frame that is meant
+module _ (l r : Table) (keys : MergeKeys) (ps : List Pair) where
+  pub rows_meant : length (merged l r keys ps).labels ≡ length ps
+  rows_meant = length-map-range_with_len (λ k. int (pos k) ∷ []) 0 (length ps)
+
+  both_counted : {A B : Type 0} (f : ℕ → A) (g : ℕ → A) (h : ℕ → B) (k : ℕ → B) (xs ys : List ℕ) → length (map f xs ++ map g ys) ≡ length (map h xs ++ map k ys)
+  both_counted f g h k xs ys =
+      length-append (map f xs) (map g ys) ∙ (λ i. length-map xs f i + length-map ys g i) ∙ sym (length-append (map h xs) (map k ys) ∙ (λ i. length-map xs h i + length-map ys k i))
+
+  columns_headed : length (merged l r keys ps).columns ≡ length (merged_headings l r keys)
+  columns_headed = both_counted _ _ (left_heading l r keys) (right_heading l r keys) (all_places l) (right_places r keys)
+
+  pub is_headed : (texts : List Text) (labels : List (Option Label)) → headings_value texts labels ≡ merged_headings l r keys → IsHeaded texts labels (merged l r keys ps)
+  is_headed texts labels is = record {
+    headings = sym is;
+    headed = columns_headed ∙ sym (ap (λ (hs : List (Option LabelValue)). length hs) is) ∙ length-map labels (heading_value texts);
+  }
+
+-- each column has a label
+some_suffixed : (suffix : Text) (others : List (Option LabelValue)) (h : Option LabelValue) → IsSome h → IsSome (suffixed_heading suffix others h)
+some_suffixed suffix others h some = by (list_any (same_heading h) others) h some
+  where
+    by : (b : Bool) (h : Option LabelValue) → IsSome h → IsSome (if b then with_suffix suffix h else h)
+    by true None some = some
+    by true (Some x) some = refl
+    by false h some = some
+
+some_if : (b : Bool) (x y : Option LabelValue) → IsSome x → IsSome y → IsSome (if b then x else y)
+some_if true x y h k = h
+some_if false x y h k = k
+
+module _ (l r : Table) (keys : MergeKeys) (of_left : All IsSome l.headings) (of_right : All IsSome r.headings) (left_counted : length l.headings ≡ length l.columns) (right_counted : length r.headings ≡ length r.columns) where
+  some_at : (t : Table) → All IsSome t.headings → length t.headings ≡ length t.columns → (place : ℕ) → place < length t.columns → IsSome (heading_at t place)
+  some_at t all count place lt = all place None (omega (arith, lt, count))
+
+  lefts_some : All IsSome (map (left_heading l r keys) (all_places l))
+  lefts_some = All-map IsSome (left_heading l r keys) (all_places l) (λ k d lt.
+      let place = slice_index_or (all_places l) k d in
+      let some = some_at l of_left left_counted place (below_range (length l.columns) k d lt) in
+      some_if (is_key keys.left place) (heading_at l place) (suffixed_heading (codes "_x") (headings_of r (right_places r keys)) (heading_at l place)) some (some_suffixed (codes "_x") (headings_of r (right_places r keys)) (heading_at l place) some))
+
+  rights_below : All (λ place. place < length r.columns) (right_places r keys)
+  rights_below = All-filter _ (λ place. place < length r.columns) (all_places r) (below_range (length r.columns))
+
+  rights_some : All IsSome (map (right_heading l r keys) (right_places r keys))
+  rights_some = All-map IsSome (right_heading l r keys) (right_places r keys) (λ k d lt.
+      let place = slice_index_or (right_places r keys) k d in
+      some_suffixed (codes "_y") (headings_of l (places_besides l keys.left)) (heading_at r place) (some_at r of_right right_counted place (rights_below k d lt)))
+
+  pub all_labelled : All IsSome (merged_headings l r keys)
+  all_labelled = All-append IsSome (map (left_heading l r keys) (all_places l)) (map (right_heading l r keys) (right_places r keys)) lefts_some rights_some
+
+-- the same by numbers
+some_seen : (texts : List Text) (h : Option Label) → IsSome (heading_value texts h) → IsSome h
+some_seen texts None some = some
+some_seen texts (Some l) some = refl
+
+seen_some : (texts : List Text) (h : Option Label) → IsSome h → IsSome (heading_value texts h)
+seen_some texts None some = some
+seen_some texts (Some l) some = refl
+
+pub headings_some : (texts : List Text) (hs : List (Option Label)) → All IsSome hs → All IsSome (headings_value texts hs)
+headings_some texts hs all = All-map IsSome (heading_value texts) hs (λ k d lt. seen_some texts (slice_index_or hs k d) (all k d lt))
+
+pub some_headings : (texts : List Text) (hs : List (Option Label)) → All IsSome (headings_value texts hs) → All IsSome hs
+some_headings texts [] all = All-nil IsSome
+some_headings texts (h ∷ hs) all =
+    All-cons IsSome h hs (some_seen texts h (all 0 None (omega arith))) (some_headings texts hs (λ k d lt. all (suc k) d (omega (arith, lt))))
+
+module _ (old new : List Text) (longer : IsLonger old new) (l r : NumberedTable) (left_given : IsSettled table_value old l) (right_given : IsSettled table_value old r) (keys : MergeKeys) where
+  abbrev L : Table
+  L = table_value old l
+
+  abbrev R : Table
+  R = table_value old r
+
+  pub labels_some : IsWhole l → IsWhole r → l.shape ≡ Frame → r.shape ≡ Frame → (labels : List (Option Label)) → headings_value new labels ≡ merged_headings L R keys → All IsSome labels
+  labels_some left_whole right_whole left_frame right_frame labels is =
+      some_headings new labels (subst (All IsSome) (sym is)
+      (all_labelled L R keys (headings_some old l.headings (left_whole.headings.labelled left_frame)) (headings_some old r.headings (right_whole.headings.labelled right_frame))
+      (length-map l.headings (heading_value old) ∙ left_whole.headed ∙ sym (length-map l.columns _))
+      (length-map r.headings (heading_value old) ∙ right_whole.headed ∙ sym (length-map r.columns _))))
+
+  module _ (ps : List Pair) (made : Pairs) (are : ArePairs made ps) (rights : List ℕ) (rights_are : rights ≡ right_places R keys) (name : Option Label) (named : heading_value old name ≡ common_name L.columns_name R.columns_name) (name_given : IsSettled heading_value old name) (labels : List (Option Label)) (labels_are : headings_value new labels ≡ merged_headings L R keys) (labels_given : IsSettled headings_value new labels) (count : ℕ) (counted : count ≡ length made.left) (axis : AxisValue) (axis_is : axis ≡ range_axis count)
+      (headings : HeadingList) (headings_are : headings ≡ record { columns_name = name; labels = labels }) (blocks : List CellBlock) (blocks_are : columns_of blocks ≡ merged_columns Na l.columns r.columns keys rights made.left made.right) where
+    rows_are : length made.left ≡ length ps
+    rows_are = ap (λ (rows : List (Option ℕ)). length rows) are.left ∙ length-map ps _
+
+    abbrev whole : NumberedTable
+    whole = record {
+      shape = Frame;
+      columns_name = name;
+      level_names = (range_axis count).names;
+      labels = (range_axis count).tuples;
+      headings = labels;
+      columns = merged_columns Na l.columns r.columns keys rights made.left made.right;
+    }
+
+    whole_is : table_of Frame axis headings blocks ≡ whole
+    whole_is = λ i. record {
+      shape = Frame;
+      columns_name = (headings_are i).columns_name;
+      level_names = (axis_is i).names;
+      labels = (axis_is i).tuples;
+      headings = (headings_are i).labels;
+      columns = blocks_are i;
+    }
+
+    columns_are : columns_value new (merged_columns Na l.columns r.columns keys rights made.left made.right) ≡ (merged L R keys ps).columns
+    columns_are =
+        columns_seen new l.columns r.columns keys made.left made.right rights
+        ∙ (λ i. merged_columns na_cell (seen_later columns_value old new l.columns longer (columns_part old l left_given) i) (seen_later columns_value old new r.columns longer (columns_part old r right_given) i) keys (rights_are i) (are.left i) (are.right i))
+        ∙ columns_meant L R keys ps
+
+    whole_seen : table_value new whole ≡ merged L R keys ps
+    whole_seen = λ i. record {
+      shape = Frame;
+      columns_name = (seen_later heading_value old new name longer name_given ∙ named) i;
+      level_names = None ∷ [];
+      labels = (range_seen new count ∙ ap default_labels (counted ∙ rows_are)) i;
+      headings = labels_are i;
+      columns = columns_are i;
+    }
+
+    whole_settled : IsSettled table_value new whole
+    whole_settled =
+        table_settled new whole (settled_later heading_value old new name longer name_given) (λ more. refl) (λ more. range_seen (new ++ more) count ∙ sym (range_seen new count)) labels_given
+        (columns_settled new l.columns r.columns keys made.left made.right rights (settled_later columns_value old new l.columns longer (columns_part old l left_given)) (settled_later columns_value old new r.columns longer (columns_part old r right_given)))
+
+    -- the frame that is made is the one that is meant
+    pub made_is : (how : How) (once : Validate) (made' : NumberedTable) → repeated_in once L R keys ≡ None → ps ≡ pairs_in how L R keys → finished (merged L R keys ps) ≡ Ok (table (merged L R keys ps)) → made' ≡ table_of Frame axis headings blocks
+        → Makes new (Ok made') (merged_rows L R how once keys)
+    made_is how once made' again ps_are shows tabled =
+        let is : made' ≡ whole = tabled ∙ whole_is in (
+          ap (λ o. unless_twice o (finished (merged L R keys (pairs_in how L R keys)))) again
+              ∙ ap (λ (p : List Pair). finished (merged L R keys p)) (sym ps_are)
+              ∙ shows
+              ∙ ap (λ v. Ok (table v)) (sym whole_seen)
+              ∙ ap (λ u. Ok (table (table_value new u))) (sym is),
+          subst (IsSettled table_value new) (sym is) whole_settled,
+        )
+
+    -- its parts fit
+    pub parts_fit : length made.right ≡ length made.left → All IsSome labels → repeated_heading labels ≡ None → IsWhole (table_of Frame axis headings blocks)
+    parts_fit same some none = subst (λ (t : NumberedTable). IsWhole t) (sym whole_is) record {
+      headed = sym (length-map labels (heading_value new)) ∙ ap (λ (hs : List (Option LabelValue)). length hs) labels_are ∙ sym (columns_headed L R keys ps) ∙ ap (λ (t : Table). length t.columns) (sym whole_seen) ∙ length-map whole.columns _;
+      filled = subst (λ n. HaveRows n whole.columns) (sym counted ∙ sym (rows_numbered count)) (columns_counted Na l.columns r.columns keys made.left made.right same rights);
+      headings = record { single = λ e. cc; nameless = λ e. cc; labelled = λ e. some; different = λ e. different labels some none };
+    }
+
+-- as many rows as pairs
+pub pairs_counted : (l r : Table) (keys : MergeKeys) (ps : List Pair) (made : Pairs) (count : ℕ) → ArePairs made ps → count ≡ length made.left → length (merged l r keys ps).labels ≡ count
+pairs_counted l r keys ps made count are is = rows_meant l r keys ps ∙ sym (is ∙ ap (λ (rows : List (Option ℕ)). length rows) are.left ∙ length-map ps _)
+
+pub met_some : (met : Option Pairs) (ps : List Pair) (made : Pairs) → met ≡ Some made → HasMet met ps → ArePairs made ps
+met_some met ps made is has = (subst (λ (o : Option Pairs). HasMet o ps) is has).0
+
+pub met_none : (met : Option Pairs) (ps : List Pair) → met ≡ None → HasMet met ps → 2 ^ 26 < length ps
+met_none met ps is has = subst (λ (o : Option Pairs). HasMet o ps) is has
+
+-- why no frame is made
+abbrev refused : {X : Type 0} → OpFault → Result X OpFault
+refused fault = Err fault
+
+pub met_refused : (texts : List Text) (again : Option (RepeatedKey (List LabelValue))) (ps : List Pair) (rest : Result Entry FaultValue) (why : OpFault) → MeetsBy texts (refused why) again ps → Makes texts (Err why) (unless_twice again rest)
+met_refused texts again ps rest (Refused code) meets = meets rest
+met_refused texts again ps rest NoMemory meets = tt
+
+pub refused_is : (new : List Text) (L R : Table) (keys : MergeKeys) (how : How) (once : Validate) (why : OpFault) → repeated_in once L R keys ≡ None → MayFinish {X = HeadingList} new (Err why) (merged L R keys (pairs_in how L R keys)) → Makes new (Err why) (merged_rows L R how once keys)
+refused_is new L R keys how once (Refused code) again may = (ap (λ o. unless_twice o (finished (merged L R keys (pairs_in how L R keys)))) again ∙ may.0, may.1)
+refused_is new L R keys how once NoMemory again may = tt
+
+-- the columns of the right side are its own
+pub rights_inside : (texts : List Text) (r : NumberedTable) (keys : MergeKeys) (rights : List ℕ) → rights ≡ right_places (table_value texts r) keys → All (λ place. place < length r.columns) rights
+rights_inside texts r keys rights is =
+    subst (All (λ place. place < length r.columns)) (sym is)
+    (subst (λ n. All (λ place. place < n) (right_places (table_value texts r) keys)) (length-map r.columns _) (All-filter _ (λ place. place < length (table_value texts r).columns) (all_places (table_value texts r)) (below_range (length (table_value texts r).columns))))

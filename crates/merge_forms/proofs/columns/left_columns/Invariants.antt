@@ -1,0 +1,14 @@
+use Rattle.std.proofs.Common.{◌≡◌, map, All}
+use Rattle.std.specs.List.{range_with_len}
+use Rattle.cell_core.specs.declared.cell.Cell.TheVariants.{Na}
+use Rattle.frame_store.specs.Parts.{columns_of, IsSingle}
+use Rattle.merge_forms.specs.Keys.{keys_value}
+use Rattle.merge_forms.specs.Columns.{left_column_on}
+use Rattle.merge_forms.proofs.columns.left_columns.Given as goal
+
+-- the columns so far
+abbrev pub invariant-loop-place : goal.invariant-loop-place
+invariant-loop-place l = record {
+  single : All IsSingle l.made;
+  columns : columns_of l.made ≡ map (left_column_on Na l.l.columns l.r.columns (keys_value l.keys) l.pairs.left l.pairs.right) (range_with_len 0 l.place);
+}

@@ -1,0 +1,8 @@
+use Rattle.std.proofs.Common.{take}
+use Rattle.selections.specs.Selected.{headings_at}
+use Rattle.merge_forms.specs.Headings.{AreAmong}
+use Rattle.merge_forms.proofs.headings.heading_set.Given as goal
+
+-- the headings so far
+abbrev pub invariant-loop-k : goal.invariant-loop-k
+invariant-loop-k l = AreAmong l.made.keys (headings_at l.on (take l.k l.places))

@@ -1,0 +1,8 @@
+use Rattle.std.proofs.Common.{◌≡◌, drop}
+use Rattle.method_meaning.specs.Merge.{are_same_kinds}
+use Rattle.merge_forms.specs.Keys.{kinds_of}
+use Rattle.merge_forms.proofs.keys.are_same_kinds.Given as goal
+
+-- the keys from here on decide it
+abbrev pub invariant-loop-k : goal.invariant-loop-k
+invariant-loop-k l = are_same_kinds (drop l.k (kinds_of l.l l.keys.left)) (drop l.k (kinds_of l.r l.keys.right)) ≡ are_same_kinds (kinds_of l.l l.keys.left) (kinds_of l.r l.keys.right)

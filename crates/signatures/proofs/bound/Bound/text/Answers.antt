@@ -1,0 +1,9 @@
+use Rattle.std.proofs.Common.{◌∙◌}
+use Rattle.std.proofs.Math.Logic.{∥∥₁_elim}
+use mathlib.Core.Bool.{Bool-set}
+use Rattle.signatures.proofs.SureLaws.{text_sure}
+use Rattle.signatures.proofs.bound.Bound.text.Goals as goal
+
+pub unwrap-requires : goal.unwrap-requires
+unwrap-requires c =
+    ∥∥₁_elim c.args.self.now.filled (Bool-set _ _) (λ f. c.text_or_none.ensures.there f.live f.texts ∙ text_sure _ _ c.requires (f.filled c.args.place))

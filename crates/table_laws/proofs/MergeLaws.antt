@@ -1,0 +1,236 @@
+-- `merge` makes a valid frame of valid ones.
+use Rattle.std.proofs.Common.{◌≡◌, ◌∙◌, refl, sym, ap, subst, ℕ, suc, ◌+◌, ◌<◌, List, [], ◌∷◌, length, map, length-append, arith}
+use Rattle.std.specs.Prelude.{Bool, true, false, not, ◌||◌, nat_eq, nat_lt, slice_index_or, is_some, if◌then◌else◌, codes, Option, Some, None, IsSome, IfSome, Result, Ok, Err, IfOk, All}
+use Rattle.std.specs.List.{list_any, position_or_len}
+use Rattle.std.proofs.lemmas.Bool.{eqb-true}
+use Rattle.std.proofs.lemmas.List.{length-map}
+use Rattle.std.proofs.lemmas.List.Elements.{All-nil, All-filter, All-append}
+use Rattle.cell_core.specs.declared.cell.Kind.{Kind}
+use Rattle.cell_core.specs.declared.cell.Kind.TheVariants.{Int64}
+use Rattle.cell_core.specs.declared.grid.Shape.TheVariants.{Frame}
+use Rattle.meaning.specs.Text.{Text}
+use Rattle.meaning.specs.Cell.{CellValue, na_cell, LabelValue}
+use Rattle.meaning.specs.Column.{gap_cell}
+use Rattle.meaning.specs.Fault.{FaultValue, bad_value, key_kinds, limit, then_value}
+use Rattle.join_meaning.specs.declared.How.{How}
+use Rattle.join_meaning.specs.declared.Validate.{Validate}
+use Rattle.join_meaning.specs.Pairs.{Pair, RepeatedKey, repeated_key, key_pairs}
+use Rattle.table_meaning.specs.Table.{ColumnOf, Table, column_at, no_column}
+use Rattle.table_meaning.specs.Valid.{IsValid}
+use Rattle.table_meaning.specs.Value.{Given, NamedGiven, nothing, one, row, many, entries, object_in}
+use Rattle.form_meaning.specs.declared.Method.TheVariants.{Merge}
+use Rattle.form_meaning.specs.Signature.{parameters_of}
+use Rattle.form_meaning.specs.Binding.{argument_at, text_in}
+use Rattle.form_meaning.specs.Finish.{same_heading, same_kind, finished}
+use Rattle.form_meaning.specs.Infix.{same_tuple, tuple_before}
+use Rattle.form_meaning.specs.Select.{column_place, column_places, heading_at}
+use Rattle.method_meaning.specs.Rows.{all_places, labels_in, places_besides}
+use Rattle.method_meaning.specs.Groups.{row_keys, headings_of}
+use Rattle.method_meaning.specs.Merge.{MergeKeys, common_headings, keys_under, keys_on, kinds_at, are_same_kinds, checked_keys, keys_of_merge, with_suffix, suffixed_heading, right_places, is_key, left_heading, right_heading, column_of_side, key_cell, joined_key_column, right_key, left_column, merged, unless_twice, merged_rows, merge_result}
+use Rattle.method_meaning.specs.Calls.{merge_call}
+use Rattle.table_laws.specs.Validity.{IsValidEntry, AreValidArguments}
+use Rattle.table_laws.proofs.ListLaws.{both_true, all_made, all_mapped, at_or, then_keeps, try_keeps, on_keeps, on_some_keeps}
+use Rattle.table_laws.proofs.CellLaws.{Held}
+use Rattle.table_laws.proofs.ColumnLaws.{IsColumn}
+use Rattle.table_laws.proofs.TableLaws.{IsShaped, shaped}
+use Rattle.table_laws.proofs.SelectLaws.{kind_is}
+use Rattle.table_laws.proofs.ReachLaws.{below_all}
+use Rattle.table_laws.proofs.InfixLaws.{gap_held}
+use Rattle.table_laws.proofs.GroupLaws.{AreLabels, frame_keeps}
+use Rattle.table_laws.proofs.SetLaws.{length_default, default_levels}
+use Rattle.table_laws.proofs.ArgumentLaws.{argument_valid, object_valid, frame_at, bound_taken}
+
+-- as many keys on either side, of the same kinds
+abbrev AreEven : MergeKeys → Type 0
+AreEven keys = length keys.left ≡ length keys.right
+
+record AreKeys (l r : Table) (keys : MergeKeys) : Type 0 where
+  even : AreEven keys
+  alike : are_same_kinds (kinds_at l keys.left) (kinds_at r keys.right) ≡ true
+
+under_even : (l r : Table) (hs : List (Option LabelValue)) → IfOk (keys_under l r hs) AreEven
+under_even l r [] = tt
+under_even l r (h ∷ hs) = ap suc (length-map hs (λ h. position_or_len (same_heading h) l.headings) ∙ sym (length-map hs (λ h. position_or_len (same_heading h) r.headings)))
+
+abbrev AreAsMany : List LabelValue → List ℕ → Type 0
+AreAsMany ls places = length places ≡ length ls
+
+as_many : (t : Table) (ls : List LabelValue) → IfOk (column_places t ls) (AreAsMany ls)
+as_many t ls = by (column_places t ls) (try_keeps (λ l. Unit {0}) (λ place. Unit {0}) (column_place t) (λ l _. any (column_place t l)) ls (λ k d lt. tt))
+  where
+    any : (r : Result ℕ FaultValue) → IfOk r (λ place. Unit {0})
+    any (Ok place) = tt
+    any (Err fault) = tt
+
+    by : (r : Result (List ℕ) FaultValue) → IfOk r (λ places. (length places ≡ length ls) × All (λ place. Unit {0}) places) → IfOk r (AreAsMany ls)
+    by (Ok places) h = h.0
+    by (Err fault) h = tt
+
+named_even : (l r : Table) (ls : List LabelValue) → IfOk (then_value (column_places l ls) (λ left. then_value (column_places r ls) (λ right. Ok record { left = left; right = right }))) AreEven
+named_even l r ls =
+    then_keeps (AreAsMany ls) AreEven (column_places l ls) _ (as_many l ls)
+    (λ left h. then_keeps (AreAsMany ls) AreEven (column_places r ls) _ (as_many r ls) (λ right k. h ∙ sym k))
+
+keys_even : (l r : Table) (labels : Given) → IfOk (keys_on l r labels) AreEven
+keys_even l r nothing = under_even l r (common_headings l r)
+keys_even l r (one v) = named_even l r (labels_in (one v))
+keys_even l r (row parts) = named_even l r (labels_in (row parts))
+keys_even l r (many parts) = named_even l r (labels_in (many parts))
+keys_even l r (entries pairs) = named_even l r (labels_in (entries pairs))
+
+checked_are : (l r : Table) (keys : MergeKeys) → AreEven keys → IfOk (checked_keys l r keys) (AreKeys l r)
+checked_are l r keys even = by (are_same_kinds (kinds_at l keys.left) (kinds_at r keys.right)) (nat_lt 4 (length keys.left)) refl
+  where
+    by : (a b : Bool) → are_same_kinds (kinds_at l keys.left) (kinds_at r keys.right) ≡ a → IfOk (if a then (if b then Err limit else Ok keys) else Err (bad_value key_kinds)) (AreKeys l r)
+    by true true e = tt
+    by true false e = record { even = even; alike = e }
+    by false b e = tt
+
+keys_are : (l r : Table) (labels : Given) → IfOk (keys_of_merge l r labels) (AreKeys l r)
+keys_are l r labels = then_keeps AreEven (AreKeys l r) (keys_on l r labels) (checked_keys l r) (keys_even l r labels) (checked_are l r)
+
+-- cells of columns are held, also where there is no such column
+cells_held : (t : Table) → IsShaped t → (place : ℕ) → All (Held (column_at t.columns place).kind) (column_at t.columns place).cells
+cells_held t s place = at_or (λ (c : ColumnOf CellValue). All (Held c.kind) c.cells) t.columns place no_column (All-nil (Held Int64)) (λ k d lt. (s.columns k d lt).held)
+
+side_column : (t : Table) → IsShaped t → (rows : List (Option ℕ)) (count : ℕ) → length rows ≡ count → (place : ℕ) → IsColumn count (column_of_side t rows place)
+side_column t s rows count size place =
+    let kind = (column_at t.columns place).kind in
+    let cells = (column_at t.columns place).cells in
+    record { filled = length-map rows (gap_cell na_cell cells) ∙ size; held = all_mapped (Held kind) (gap_cell na_cell cells) (λ gap. gap_held kind cells gap (cells_held t s place)) rows }
+
+-- a headed frame's labels
+label_some : (t : Table) → IsShaped t → t.shape ≡ Frame → (place : ℕ) → place < length t.columns → IsSome (heading_at t place)
+label_some t s is place lt = s.headings.labelled is place None (Prim.omega (arith, lt, s.headed))
+
+suffix_some : (suffix : Text) (h : Option LabelValue) → IsSome h → IsSome (with_suffix suffix h)
+suffix_some suffix (Some l) h = refl
+suffix_some suffix None h = h
+
+beside_some : (suffix : Text) (others : List (Option LabelValue)) (h : Option LabelValue) → IsSome h → IsSome (suffixed_heading suffix others h)
+beside_some suffix others h some = by (list_any (same_heading h) others)
+  where
+    by : (b : Bool) → IsSome (if b then with_suffix suffix h else h)
+    by true = suffix_some suffix h some
+    by false = some
+
+-- the key of the right side is of the kind of the left
+kinds_meet : (l r : Table) (lefts rights : List ℕ) (place : ℕ) → length lefts ≡ length rights → are_same_kinds (kinds_at l lefts) (kinds_at r rights) ≡ true → is_key lefts place ≡ true
+    → (column_at l.columns place).kind ≡ (column_at r.columns (slice_index_or rights (position_or_len (nat_eq place) lefts) 0)).kind
+kinds_meet l r [] rights place even alike key = Prim.cc
+kinds_meet l r (a ∷ lefts) [] place even alike key = absurd (Prim.omega (arith, even))
+kinds_meet l r (a ∷ lefts) (b ∷ rights) place even alike key =
+    let both = both_true (same_kind (column_at l.columns a).kind (column_at r.columns b).kind) (are_same_kinds (kinds_at l lefts) (kinds_at r rights)) alike in
+    by (nat_eq place a) refl key (kind_is (column_at l.columns a).kind (column_at r.columns b).kind both.0) (kinds_meet l r lefts rights place (Prim.omega (arith, even)) both.1)
+  where
+    by : (c : Bool) → nat_eq place a ≡ c → (c || is_key lefts place) ≡ true → (column_at l.columns a).kind ≡ (column_at r.columns b).kind
+        → (is_key lefts place ≡ true → (column_at l.columns place).kind ≡ (column_at r.columns (slice_index_or rights (position_or_len (nat_eq place) lefts) 0)).kind)
+        → (column_at l.columns place).kind ≡ (column_at r.columns (slice_index_or (b ∷ rights) (if not c then 1 + position_or_len (nat_eq place) lefts else 0) 0)).kind
+    by true e k here later = ap (λ p. (column_at l.columns p).kind) (eqb-true place a e) ∙ here
+    by false e k here later =
+        let next : suc (position_or_len (nat_eq place) lefts) ≡ 1 + position_or_len (nat_eq place) lefts = Prim.omega arith in
+        subst (λ n. (column_at l.columns place).kind ≡ (column_at r.columns (slice_index_or (b ∷ rights) n 0)).kind) next (later k)
+
+-- the frame of two frames
+module _ (l r : Table) (s : IsShaped l) (w : IsShaped r) (is : l.shape ≡ Frame) (is' : r.shape ≡ Frame) (keys : MergeKeys) (are : AreKeys l r keys) (pairs : List Pair) where
+  key_held : (place : ℕ) → is_key keys.left place ≡ true → IsColumn (length pairs) (joined_key_column l r pairs place (right_key keys place))
+  key_held place key = record { filled = length-map pairs _; held = all_mapped (Held kind) (key_cell left right) each pairs }
+    where
+      kind : Kind
+      kind = (column_at l.columns place).kind
+
+      left : List CellValue
+      left = (column_at l.columns place).cells
+
+      right : List CellValue
+      right = (column_at r.columns (right_key keys place)).cells
+
+      right_held : All (Held kind) right
+      right_held = subst (λ k. All (Held k) right) (sym (kinds_meet l r keys.left keys.right place are.even are.alike key)) (cells_held r w (right_key keys place))
+
+      each : (p : Pair) → Held kind (key_cell left right p)
+      each p = by (is_some p.left)
+        where
+          by : (b : Bool) → Held kind (if b then gap_cell na_cell left p.left else gap_cell na_cell right p.right)
+          by true = gap_held kind left p.left (cells_held l s place)
+          by false = gap_held kind right p.right right_held
+
+  left_held : (place : ℕ) → IsColumn (length pairs) (left_column l r keys pairs place)
+  left_held place = by (is_key keys.left place) refl
+    where
+      by : (b : Bool) → is_key keys.left place ≡ b → IsColumn (length pairs) (if b then joined_key_column l r pairs place (right_key keys place) else column_of_side l (map (λ p. p.left) pairs) place)
+      by true e = key_held place e
+      by false e = side_column l s (map (λ p. p.left) pairs) (length pairs) (length-map pairs (λ p. p.left)) place
+
+  left_some : (place : ℕ) → place < length l.columns → IsSome (left_heading l r keys place)
+  left_some place lt = by (is_key keys.left place)
+    where
+      by : (b : Bool) → IsSome (if b then heading_at l place else suffixed_heading (codes "_x") (headings_of r (right_places r keys)) (heading_at l place))
+      by true = label_some l s is place lt
+      by false = beside_some (codes "_x") (headings_of r (right_places r keys)) (heading_at l place) (label_some l s is place lt)
+
+  right_below : All (λ place. place < length r.columns) (right_places r keys)
+  right_below = All-filter _ (λ place. place < length r.columns) (all_places r) (below_all (length r.columns))
+
+  merged_labels : AreLabels (merged l r keys pairs).headings
+  merged_labels =
+      All-append IsSome (map (left_heading l r keys) (all_places l)) (map (right_heading l r keys) (right_places r keys))
+      (all_made (λ place. place < length l.columns) IsSome (left_heading l r keys) left_some (all_places l) (below_all (length l.columns)))
+      (all_made (λ place. place < length r.columns) IsSome (right_heading l r keys)
+      (λ place lt. beside_some (codes "_y") (headings_of l (places_besides l keys.left)) (heading_at r place) (label_some r w is' place lt)) (right_places r keys) right_below)
+
+  merged_columns : All (IsColumn (length pairs)) (merged l r keys pairs).columns
+  merged_columns =
+      All-append (IsColumn (length pairs)) (map (left_column l r keys pairs) (all_places l)) (map (column_of_side r (map (λ p. p.right) pairs)) (right_places r keys))
+      (all_mapped (IsColumn (length pairs)) (left_column l r keys pairs) left_held (all_places l))
+      (all_mapped (IsColumn (length pairs)) (column_of_side r (map (λ p. p.right) pairs)) (side_column r w (map (λ p. p.right) pairs) (length pairs) (length-map pairs (λ p. p.right))) (right_places r keys))
+
+  merged_headed : length (merged l r keys pairs).headings ≡ length (merged l r keys pairs).columns
+  merged_headed =
+      let lefts : length (map (left_heading l r keys) (all_places l)) ≡ length (map (left_column l r keys pairs) (all_places l)) = length-map (all_places l) _ ∙ sym (length-map (all_places l) _) in
+      let rights : length (map (right_heading l r keys) (right_places r keys)) ≡ length (map (column_of_side r (map (λ p. p.right) pairs)) (right_places r keys)) = length-map (right_places r keys) _ ∙ sym (length-map (right_places r keys) _) in
+      length-append (map (left_heading l r keys) (all_places l)) _ ∙ (λ i. lefts i + rights i) ∙ sym (length-append (map (left_column l r keys pairs) (all_places l)) _)
+
+  merged_keeps : IfOk (finished (merged l r keys pairs)) IsValidEntry
+  merged_keeps = frame_keeps (merged l r keys pairs) record {
+    some = Prim.omega arith;
+    few = Prim.omega arith;
+    levels = default_levels (length pairs);
+    headed = merged_headed;
+    columns = subst (λ n. All (IsColumn n) (merged l r keys pairs).columns) (sym (length_default (length pairs))) merged_columns;
+    frame = refl;
+  } merged_labels
+
+rows_keep : (l r : Table) → IsShaped l → IsShaped r → l.shape ≡ Frame → r.shape ≡ Frame → (h : How) (once : Validate) (keys : MergeKeys) → AreKeys l r keys → IfOk (merged_rows l r h once keys) IsValidEntry
+rows_keep l r s w is is' h once keys are = by (repeated_key same_tuple once (row_keys l keys.left) (row_keys r keys.right))
+  where
+    pairs : List Pair
+    pairs = key_pairs same_tuple tuple_before h (row_keys l keys.left) (row_keys r keys.right)
+
+    by : (o : Option (RepeatedKey (List LabelValue))) → IfOk (unless_twice o (finished (merged l r keys pairs))) IsValidEntry
+    by None = merged_keeps l r s w is is' keys are pairs
+    by (Some twice) = tt
+
+-- a frame that is valid
+pub record IsShapedFrame (t : Table) : Type 0 where
+  pub fits : IsShaped t
+  pub frame : t.shape ≡ Frame
+
+pub merge_result_keeps : (l : Table) (right how labels once : Given) → IsShapedFrame l → IfSome (object_in right) IsShapedFrame → IfOk (merge_result l (right ∷ how ∷ labels ∷ once ∷ [])) IsValidEntry
+merge_result_keeps l right how labels once s h =
+    on_some_keeps IsShapedFrame IsValidEntry (object_in right) _ h
+    (λ r w. on_keeps IsValidEntry (text_in how) _
+    (λ t. then_keeps (AreKeys l r) IsValidEntry (keys_of_merge l r labels) _ (keys_are l r labels)
+    (λ keys are. rows_keep l r s.fits w.fits s.frame w.frame _ _ keys are)))
+
+both_fit : (o : Option Table) → IfSome o IsValid → IfSome o (λ t. t.shape ≡ Frame) → IfSome o IsShapedFrame
+both_fit None h k = tt
+both_fit (Some t) h k = record { fits = shaped t h; frame = k }
+
+-- a call of `merge`
+pub merge_call_keeps : (t : Table) (gs : List NamedGiven) → IsShapedFrame t → AreValidArguments gs → IfOk (merge_call t gs) IsValidEntry
+merge_call_keeps t gs s h =
+    let ps = parameters_of Merge in
+    bound_taken ps gs (merge_result t)
+    (λ fitted. merge_result_keeps t (argument_at ps gs 0) (argument_at ps gs 1) (argument_at ps gs 2) (argument_at ps gs 3) s
+    (both_fit (object_in (argument_at ps gs 0)) (object_valid (argument_at ps gs 0) (argument_valid ps gs 0 h)) (frame_at ps gs 0 _ refl refl fitted)))
