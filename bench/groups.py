@@ -5,7 +5,7 @@
 
 PROGRAM is the built `pdscript`. A file has 1,000,000 rows: a text among 50, one among 100,000, a whole number among 20, one of
 its own for each row, and a whole number as value. A script reads it, does one form and prints a length and a sum. `--growth`
-times the program on ten times the rows as well.
+times the program on ten times the rows as well; ten times 1,000,000 are more than a file may have.
 """
 import os
 import sys

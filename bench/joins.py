@@ -42,7 +42,7 @@ FORMS = [
     ("1,000 text keys", "td", "z = t.merge(d, on='w').groupby('g')['a'].sum()\n" + TOLD, MATCHED),
     ("inner", "tu", "m = t.merge(u, on='k')\n" + COUNTED, counted("", "")),
     ("left", "tu", "m = t.merge(u, how='left', on='k')\n" + COUNTED, counted("LEFT", ", all.x = TRUE")),
-    ("outer", "tu", "m = t.merge(u, how='outer', on='k')\n" + COUNTED, counted("FULL", ", all = TRUE")),
+    ("outer", "tu", "m = t.merge(u, how='outer', on='k')\n" + COUNTED, {"data.table": counted("FULL", ", all = TRUE")["data.table"]}),
     ("ten parts", PARTS, "z = pd.concat([%s])['a']\n" % ", ".join(PARTS) + TOLD, {}),
 ]
 
