@@ -36,7 +36,8 @@ def counted(how, kept):
     return {"data.table": r, "sqlite": SQL % ("count(b)", "SELECT b FROM t %s JOIN u USING (k)" % how)}
 
 
-# The name of the form, the files that it reads, its script behind the reading, and what is asked of the others.
+# The name of the form, the files that it reads, its script behind the reading, and what is asked of the others. A full join
+# of sqlite looks at each pair of rows, and isn't asked for.
 FORMS = [
     ("reading alone", "tu", "z = t['a']\n" + TOLD, {"data.table": R % ("u <- fread(f[2])", "nrow(t)", "sum(as.numeric(t$a))")}),
     ("1,000 text keys", "td", "z = t.merge(d, on='w').groupby('g')['a'].sum()\n" + TOLD, MATCHED),
