@@ -9,3 +9,5 @@ mod cells;
 mod columns;
 #[cfg(test)]
 mod picks;
+#[cfg(test)]
+mod sorts;

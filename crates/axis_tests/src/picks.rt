@@ -1,22 +1,19 @@
-// The rows of labels, positions and masks, and rows in an order.
+// The rows of labels, positions and masks.
 ghost use Rattle.std.specs.Prelude.{◌≡◌, ◌∷◌, [], true, length, IfOk};
 ghost use Rattle.cell_core.specs.declared.cell.Cell.TheVariants.{Bool, Na};
 ghost use Rattle.cell_core.specs.declared.cell.Kind.TheVariants.{Boolean};
 ghost use Rattle.indexers.specs.Keys.{FitsLevels};
-ghost use Rattle.axis_tests.specs.Orders.{is_sooner, sooner_is_weak};
 
 use cell_core::{Cell, Kind, Label, NoMemory, Places, Rows, TextDict, Tuple, Tuples};
 use column_core::Column;
 use index_core::{Index, IndexFault};
 use indexers::{KeyFault, LocKey, PosKey, iloc_places, loc_places, mask_places};
 use multi_index::{Axis, AxisFault};
-use sorting::{RowOrder, sorted_rows};
 use std::alloc::Global;
-use std::cmp::Ordering;
 use std::test::Fail;
 
 // Whether the places are these.
-fn are(places: &Places, expected: &[usize]) -> bool {
+pub(crate) fn are(places: &Places, expected: &[usize]) -> bool {
     if places.len() != expected.len() {
         return false;
     }
@@ -150,25 +147,5 @@ fn a_mask_picks_rows(rt: HostRuntime) -> Result<(), Fail> {
     let mask_axis = single_axis(alloc, &labels)?;
     let same = mask_places(alloc, &mask_axis, &mask_axis, mask.as_ref()).ok();
     assert!(rt; same.is_some_and(|rows| are(&rows, &[0, 2])));
-    Ok(())
-}
-
-// Even rows before odd ones.
-struct EvenFirst;
-
-impl RowOrder for EvenFirst {
-    ghost less = { λ _. is_sooner };
-
-    ghost weak = { λ _. sooner_is_weak };
-
-    fn compare(&self, i: usize, j: usize) -> Ordering {
-        (i % 2).cmp(&(j % 2))
-    }
-}
-
-#[test]
-fn rows_that_tie_stay_as_they_stood(rt: HostRuntime) -> Result<(), Fail> {
-    let rows = sorted_rows(rt.alloc(), 5, &EvenFirst)?;
-    assert!(rt; are(&rows, &[0, 2, 4, 1, 3]));
     Ok(())
 }

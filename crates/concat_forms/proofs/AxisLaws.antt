@@ -1,5 +1,5 @@
 -- The rows of parts one below the other.
-use Rattle.std.proofs.Common.{◌≡◌, ◌∙◌, ◌<◌, ◌≤◌, ◌+◌, ◌-◌, refl, ap, sym, subst, arith, ℕ, zero, suc, pos, nat_eq, Bool, true, false, ◌&&◌, List, [], ◌∷◌, ◌++◌, map, fold, length, take, replicate, slice_index_or, All, Option, Some, None, Result, Ok, Err, if◌then◌else◌}
+use Rattle.std.proofs.Common.{◌≡◌, ◌∙◌, ◌<◌, ◌+◌, ◌-◌, refl, ap, sym, subst, arith, ℕ, zero, suc, pos, nat_eq, Bool, true, false, ◌&&◌, List, [], ◌∷◌, ◌++◌, map, fold, length, take, replicate, slice_index_or, All, Option, Some, None, Result, Ok, Err, if◌then◌else◌}
 use Rattle.std.specs.Prelude.{IfOk}
 use Rattle.std.specs.Borrow.{Bor}
 use Rattle.std.specs.Option.{option_map}
@@ -19,7 +19,7 @@ use Rattle.multi_index.specs.Axes.{AxisValue, range_axis, nameless_axis}
 use Rattle.table_meaning.specs.Settled.{IsSettled}
 use Rattle.table_meaning.specs.Table.{NumberedTable, Table, tuple_value, heading_value, table_value}
 use Rattle.form_meaning.specs.Finish.{default_labels}
-use Rattle.method_meaning.specs.Concat.{RowAxis, rows_below, labels_of_tables, level_names_of_all, name_of_all}
+use Rattle.method_meaning.specs.Concat.{rows_below, labels_of_tables, level_names_of_all, name_of_all}
 use Rattle.frame_store.specs.Parts.{axis_of}
 use Rattle.frame_store.specs.Shown.{labels_value, headings_value}
 use Rattle.frame_store.specs.World.{IsKnownTable}
@@ -29,7 +29,7 @@ use Rattle.concat_forms.specs.declared.asked.Asked.{Asked}
 use Rattle.concat_forms.specs.declared.parts.Naming.TheVariants.{Level}
 use Rattle.concat_forms.specs.Parts.{parts_value, have_same_levels, name_at, AreKnownParts}
 use Rattle.concat_forms.specs.Columns.{rows_in}
-use Rattle.concat_forms.specs.Asked.{keys_value, asked_value, KeysFit}
+use Rattle.concat_forms.specs.Asked.{keys_value, KeysFit}
 use Rattle.concat_forms.specs.Axes.{axis_seen, levels_with, levels_for, levels_of, names_of_levels, named_after}
 use Rattle.concat_forms.proofs.NameLaws.{level_names_by}
 

@@ -1,8 +1,6 @@
 -- Parts one below the other are what is meant.
-use Rattle.std.proofs.Common.{◌≡◌, ◌∙◌, ◌<◌, ◌≤◌, ◌+◌, refl, ap, sym, subst, arith, ℕ, zero, suc, nat_eq, Bool, true, false, not, ◌&&◌, List, [], ◌∷◌, ◌++◌, map, length, replicate, slice_index_or, unwrap_or, All, Option, Some, None, Result, Ok, Err, if◌then◌else◌}
-use Rattle.std.specs.Prelude.{slice_get, nat_le}
-use Rattle.std.specs.Option.{option_map}
-use Rattle.std.specs.List.{list_all, flat_map}
+use Rattle.std.proofs.Common.{◌≡◌, ◌∙◌, refl, ap, sym, arith, Bool, true, false, ◌&&◌, List, [], ◌∷◌, map, length, slice_index_or, unwrap_or, All, Option, None, Result, Ok, Err, if◌then◌else◌}
+use Rattle.std.specs.Prelude.{slice_get}
 use Rattle.std.proofs.lemmas.List.{length-map}
 use Rattle.std.proofs.lemmas.List.Elements.{All-head, All-tail}
 use Rattle.cell_core.specs.Texts.{AreDistinct}
@@ -13,19 +11,18 @@ use Rattle.cell_core.specs.declared.grid.Shape.{Shape}
 use Rattle.cell_core.specs.declared.grid.Shape.TheVariants.{Series, Frame}
 use Rattle.meaning.specs.Text.{Text}
 use Rattle.meaning.specs.Cell.{CellValue, LabelValue}
-use Rattle.meaning.specs.Fault.{FaultValue, wrong_kind, limit, then_value}
+use Rattle.meaning.specs.Fault.{FaultValue, wrong_kind, then_value}
 use Rattle.table_meaning.specs.Settled.{IsSettled}
 use Rattle.table_meaning.specs.Table.{ColumnOf, NumberedTable, Table, column_at, column_value, heading_value, tuple_value, table_value}
 use Rattle.table_meaning.specs.Valid.{IsWhole}
-use Rattle.table_meaning.specs.Value.{Entry, table}
-use Rattle.form_meaning.specs.Finish.{missing_column, try_all, limited, within_limits}
-use Rattle.method_meaning.specs.Concat.{Concatenation, columns_below, column_under, column_or_missing, kind_under, frame_column_below, series_below, frames_below, table_below, finished_below, name_of_all}
+use Rattle.form_meaning.specs.Finish.{missing_column, try_all}
+use Rattle.method_meaning.specs.Concat.{Concatenation, columns_below, column_or_missing, frame_column_below, series_below, table_below, finished_below, name_of_all}
 use Rattle.frame_store.specs.Shown.{headings_value, columns_value}
 use Rattle.frame_store.specs.World.{IsKnownTable}
 use Rattle.selections.proofs.HeadingLaws.{head_settled, rest_settled}
 use Rattle.concat_forms.specs.declared.parts.Sought.TheVariants.{Only, Under}
-use Rattle.concat_forms.specs.Parts.{column_sought, parts_value, AreKnownParts, AreOf}
-use Rattle.concat_forms.specs.Columns.{sought_by, kind_sought, kinds_meet, all_kinds_meet, stacked, columns_stacked}
+use Rattle.concat_forms.specs.Parts.{parts_value, AreKnownParts, AreOf}
+use Rattle.concat_forms.specs.Columns.{kind_sought, kinds_meet, all_kinds_meet, stacked, columns_stacked}
 use Rattle.concat_forms.specs.Below.{columns_made, table_made}
 use Rattle.concat_forms.proofs.ColumnLaws.{seen_or, seen_in, columns_stacked_by}
 use Rattle.concat_forms.proofs.TextLaws.{column_under_seen, kind_under_seen}

@@ -1,6 +1,6 @@
 -- Parts side by side are what is meant.
-use Rattle.std.proofs.Common.{◌≡◌, ◌∙◌, ◌<◌, ◌≤◌, ◌+◌, ◌^◌, refl, ap, sym, subst, arith, ℕ, zero, suc, pos, nat_lt, Bool, true, false, ◌&&◌, List, [], ◌∷◌, ◌++◌, map, length, All, Option, Some, None, Result, Ok, Err, if◌then◌else◌}
-use Rattle.std.specs.Prelude.{IsSome, AllPairs, ◌≢◌}
+use Rattle.std.proofs.Common.{◌≡◌, ◌∙◌, ◌<◌, ◌+◌, refl, ap, sym, subst, arith, ℕ, pos, nat_lt, Bool, true, false, List, [], ◌∷◌, ◌++◌, map, length, All, Option, Some, None, Result, Ok, Err, if◌then◌else◌}
+use Rattle.std.specs.Prelude.{IsSome}
 use Rattle.std.specs.Option.{option_map}
 use Rattle.std.specs.List.{flat_map, range_with_len}
 use Rattle.std.specs.Cmp.Lexicographic.{pointwise}
@@ -11,36 +11,27 @@ use Rattle.cell_core.specs.Texts.{AreDistinct}
 use Rattle.cell_core.specs.declared.cell.Label.{Label}
 use Rattle.cell_core.specs.declared.cell.Label.TheVariants as label
 use Rattle.cell_core.specs.declared.code.Code.TheVariants.{RepeatedLabel}
-use Rattle.cell_core.specs.declared.grid.Shape.TheVariants.{Frame}
 use Rattle.meaning.specs.Text.{Text}
-use Rattle.meaning.specs.Cell.{CellValue, LabelValue, int}
-use Rattle.meaning.specs.Fault.{FaultValue, limit, bad_value, repeated}
+use Rattle.meaning.specs.Cell.{LabelValue, int}
 use Rattle.meaning.specs.Fault as fault
 use Rattle.meaning.specs.FaultOf.{fault_of}
-use Rattle.align_meaning.specs.Faults.{AlignRefusal, met_rows}
+use Rattle.align_meaning.specs.Faults.{met_rows}
 use Rattle.align_meaning.specs.Joins.{most_rows}
 use Rattle.align_meaning.specs.Targets.{first_repeated as first_twice, rows_of_targets, reindexed, unless_repeated as unless_twice}
 use Rattle.join_meaning.specs.Pairs.{or_else}
 use Rattle.join_meaning.specs.Concat as join
 use Rattle.join_meaning.specs.Concat.{united, are_equal, repeated_on_any, labels_concatenated, labels_within_limit, unless_repeated as unless_label, ConcatRefusal}
-use Rattle.multi_index.specs.Axes.{AxisValue}
 use Rattle.row_keys.specs.Keys as numbers
-use Rattle.label_align.proofs.SameLaws.{tuples_decide}
 use Rattle.table_meaning.specs.Settled.{IsSettled}
-use Rattle.table_meaning.specs.Table.{ColumnOf, NumberedTable, Table, heading_value, tuple_value, table_value}
-use Rattle.table_meaning.specs.Value.{Entry, table}
-use Rattle.form_meaning.specs.Finish.{finished, limited, limited_table, first_repeated, unless_repeated, within_limits}
+use Rattle.table_meaning.specs.Table.{NumberedTable, Table, heading_value, tuple_value}
+use Rattle.form_meaning.specs.Finish.{finished}
 use Rattle.form_meaning.specs.Infix.{same_tuple}
 use Rattle.method_meaning.specs.Concat.{Concatenation, rows_met, labels_of_tables, table_beside, unless_label_twice, headings_beside, numbered_from, first_numbers}
-use Rattle.frame_store.specs.Shown.{labels_value, headings_value, Makes, Refuses}
+use Rattle.frame_store.specs.Shown.{labels_value, headings_value, Refuses}
 use Rattle.frame_store.specs.World.{IsKnownTable}
-use Rattle.frame_store.specs.declared.fault.OpFault.{OpFault}
-use Rattle.frame_store.specs.declared.fault.OpFault.TheVariants.{Refused, NoMemory}
 use Rattle.frame_store.proofs.Settling.{settled_by, labels_part, headings_part}
 use Rattle.form_parts.proofs.RowLaws.{tuple_by_number, tuples_settled, settled_tuples}
-use Rattle.selections.specs.Headings.{NamesRepeated, repeated_heading}
 use Rattle.selections.proofs.HeadingLaws.{repeated_seen}
-use Rattle.selections.proofs.RefusalLaws.{repeated_settled}
 use Rattle.concat_forms.specs.Parts.{parts_value, AreKnownParts}
 use Rattle.concat_forms.specs.Headings.{gets_number, numbered}
 use Rattle.concat_forms.specs.Beside.{met_beside}

@@ -1,5 +1,5 @@
 -- Calls of `pd.concat` and their arguments.
-use Rattle.std.proofs.Common.{◌≡◌, ◌∙◌, ◌++◌, ◌<◌, refl, ap, sym, subst, arith, ℕ, ℤ, pos, to_z, of_z, w64, nat_eq, Bool, true, false, List, [], ◌∷◌, map, length, unwrap_or, Option, Some, None, Result, Ok, Err, if◌then◌else◌}
+use Rattle.std.proofs.Common.{◌≡◌, ◌∙◌, ◌++◌, ◌<◌, refl, ap, sym, subst, arith, ℕ, ℤ, pos, to_z, of_z, w64, nat_eq, Bool, true, false, List, [], ◌∷◌, length, unwrap_or, Option, Some, None, Result, Ok, Err, if◌then◌else◌}
 use Rattle.std.specs.Prelude.{codes}
 use Rattle.std.specs.Ordering.{int_eq}
 use Rattle.std.specs.Bool.{Decides}
@@ -11,7 +11,6 @@ use Rattle.std.specs.Borrow.{Bor}
 use Rattle.std.specs.Global.{Vec}
 use Rattle.cell_core.specs.declared.cell.Label.{Label}
 use Rattle.meaning.specs.Text.{Text, same_text}
-use Rattle.meaning.specs.Cell.{LabelValue}
 use Rattle.meaning.specs.Fault.{FaultValue, wrong_kind}
 use Rattle.table_meaning.specs.Settled.{IsSettled}
 use Rattle.table_meaning.specs.Table.{Table}
@@ -30,7 +29,7 @@ use Rattle.frame_store.specs.declared.arguments.Named.{Named}
 use Rattle.frame_store.specs.Arguments.{items_of, arguments_of}
 use Rattle.frame_store.specs.Objects.{Tables}
 use Rattle.frame_store.specs.World.{World, arguments_in, AreKnownArguments}
-use Rattle.signatures.specs.Bound.{given_in, stands_at, IsBound}
+use Rattle.signatures.specs.Bound.{stands_at, IsBound}
 use Rattle.signatures.specs.declared.bound.Bound.{Bound as BoundArguments}
 use Rattle.concat_forms.specs.declared.asked.Asked.{Asked}
 use Rattle.concat_forms.specs.Asked.{asked_value, keys_value}

@@ -1,5 +1,5 @@
 -- Columns of parts, one below the other.
-use Rattle.std.proofs.Common.{◌≡◌, ◌∙◌, ◌<◌, ◌≤◌, ◌+◌, ◌^◌, refl, ap, sym, subst, ℕ, zero, suc, Bool, true, false, ◌&&◌, cond, List, [], ◌∷◌, ◌++◌, map, fold, take, length, replicate, unwrap_or, slice_index_or, All, Option, Some, None, Result, Ok, Err, nat_lt, if◌then◌else◌, arith}
+use Rattle.std.proofs.Common.{◌≡◌, ◌∙◌, ◌<◌, ◌≤◌, ◌+◌, ◌^◌, refl, ap, sym, subst, ℕ, zero, suc, Bool, true, false, ◌&&◌, List, [], ◌∷◌, ◌++◌, map, fold, take, length, replicate, unwrap_or, slice_index_or, All, Option, Some, None, Result, Ok, Err, nat_lt, if◌then◌else◌, arith}
 use Rattle.std.specs.Prelude.{slice_get, position}
 use Rattle.std.specs.Option.{option_map}
 use Rattle.std.specs.List.{list_all, flat_map}
@@ -11,17 +11,17 @@ use Rattle.std.proofs.lemmas.Bool.Decides.{nat_tests}
 use Rattle.cell_core.specs.declared.cell.Cell.{Cell}
 use Rattle.cell_core.specs.declared.cell.Cell.TheVariants.{Na}
 use Rattle.cell_core.specs.declared.cell.Kind.{Kind}
-use Rattle.cell_core.specs.declared.cell.Kind.TheVariants.{Int64, Boolean, Text as string}
 use Rattle.cell_core.specs.declared.cell.Label.{Label}
 use Rattle.meaning.specs.Text.{Text}
 use Rattle.meaning.specs.Cell.{CellValue, na_cell, datum}
 use Rattle.meaning.specs.Column.{ColumnValue}
-use Rattle.meaning.specs.Fault.{FaultValue, wrong_kind}
+use Rattle.meaning.specs.Fault.{wrong_kind}
 use Rattle.column_core.specs.Columns.{CellColumn, column_value as seen_column}
 use Rattle.align_meaning.specs.Joins.{most_rows}
 use Rattle.join_meaning.specs.Concat.{same_kind, column_below, column_within_limit, rows_concatenated, ConcatRefusal, mixed_kinds, repeated_label, too_large}
-use Rattle.table_meaning.specs.Table.{ColumnOf, NumberedTable, Table, column_at, no_column, column_value, table_value}
+use Rattle.table_meaning.specs.Table.{ColumnOf, NumberedTable, column_at, no_column, column_value}
 use Rattle.table_meaning.specs.Valid.{IsWhole}
+use Rattle.table_meaning.proofs.KindLaws.{kind_itself}
 use Rattle.form_meaning.specs.Finish.{missing_column, value_of_column, column_of_value}
 use Rattle.form_meaning.specs.Make.{on}
 use Rattle.frame_store.specs.Parts.{table_column, block_column}
@@ -39,11 +39,6 @@ use Rattle.concat_forms.specs.declared.parts.Sought.{Sought}
 use Rattle.concat_forms.specs.declared.parts.Sought.TheVariants.{Only, Under}
 use Rattle.concat_forms.specs.Parts.{column_sought, same_heading}
 use Rattle.concat_forms.specs.Columns.{kind_sought, fits_kind, kinds_meet, piece_from, piece_of, cells_or_missing, sought_by, stacked, columns_stacked, rows_in}
-
-kind_itself : (k : Kind) → same_kind k k ≡ true
-kind_itself Int64 = refl
-kind_itself Boolean = refl
-kind_itself string = refl
 
 missing_seen : (texts : List Text) (n : ℕ) → map (datum texts) (replicate n Na) ≡ replicate n na_cell
 missing_seen texts zero = refl

@@ -1,6 +1,6 @@
 -- The frame of parts side by side.
-use Rattle.std.proofs.Common.{◌≡◌, ◌∙◌, ◌<◌, ◌≤◌, ◌+◌, ◌*◌, ◌^◌, ◌-◌, refl, ap, sym, subst, arith, ℕ, zero, suc, Bool, true, false, ◌&&◌, List, [], ◌∷◌, ◌++◌, map, take, length, slice_index_or, pos, All, Option, Some, None, Result, Ok, Err, if◌then◌else◌}
-use Rattle.std.specs.Prelude.{IsSome, nat_le}
+use Rattle.std.proofs.Common.{◌≡◌, ◌∙◌, ◌<◌, ◌+◌, ◌*◌, ◌^◌, ◌-◌, refl, ap, sym, subst, arith, ℕ, suc, Bool, true, false, ◌&&◌, List, [], ◌∷◌, ◌++◌, map, take, length, slice_index_or, pos, All, Option, Some, None, Result, Ok, Err, if◌then◌else◌}
+use Rattle.std.specs.Prelude.{nat_le}
 use Rattle.std.specs.List.{flat_map}
 use Rattle.std.proofs.lemmas.List.{length-map, length-append, map-append, append_assoc, append-nil, take_more}
 use Rattle.std.proofs.lemmas.List.Elements.{All-nil, All-cons, All-head, All-tail}
@@ -29,7 +29,7 @@ use Rattle.form_meaning.specs.Infix.{on_rows}
 use Rattle.form_parts.proofs.GapLaws.{on_rows_seen, on_rows_given}
 use Rattle.form_parts.specs.Makes.{blocks_value}
 use Rattle.method_meaning.specs.Concat.{rows_met, columns_beside, table_beside, headings_beside, level_names_of_all, name_of_all}
-use Rattle.frame_store.specs.Parts.{HeadingList, IsSingle, HaveRows, block_column, columns_of, table_with}
+use Rattle.frame_store.specs.Parts.{HeadingList, IsSingle, HaveRows, columns_of, table_with}
 use Rattle.frame_store.specs.Shown.{labels_value, headings_value, columns_value, Makes}
 use Rattle.frame_store.specs.World.{IsKnownTable}
 use Rattle.frame_store.specs.declared.fault.OpFault.{OpFault}

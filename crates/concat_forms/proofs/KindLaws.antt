@@ -1,16 +1,15 @@
 -- What parts are, by numbers as with their texts.
-use Rattle.std.proofs.Common.{◌≡◌, ◌∙◌, refl, ap, sym, nat_eq, Bool, true, false, not, ◌&&◌, List, [], ◌∷◌, map, length, All, Option, None, Result, Ok, Err, if◌then◌else◌}
+use Rattle.std.proofs.Common.{◌≡◌, ◌∙◌, refl, ap, nat_eq, Bool, true, false, not, ◌&&◌, List, [], ◌∷◌, map, length, All, None, Result, Err, if◌then◌else◌}
 use Rattle.std.specs.Prelude.{IsSome, AllPairs, ◌≢◌}
 use Rattle.std.specs.List.{list_all}
 use Rattle.std.proofs.lemmas.List.{length-map}
 use Rattle.std.proofs.lemmas.List.Elements.{All-nil, All-cons, All-head, All-tail}
-use Rattle.cell_core.specs.declared.cell.Label.{Label}
 use Rattle.cell_core.specs.declared.grid.Shape.{Shape}
 use Rattle.cell_core.specs.declared.grid.Shape.TheVariants.{Series, Frame}
 use Rattle.meaning.specs.Text.{Text}
 use Rattle.meaning.specs.Fault.{FaultValue, wrong_kind, bad_value, levels}
 use Rattle.join_meaning.specs.Concat.{united}
-use Rattle.table_meaning.specs.Table.{NumberedTable, Table, TableOf, heading_value, table_value}
+use Rattle.table_meaning.specs.Table.{NumberedTable, Table, heading_value, table_value}
 use Rattle.table_meaning.specs.Valid.{AreHeadings}
 use Rattle.table_meaning.specs.Value.{Entry}
 use Rattle.form_meaning.specs.Finish as finish

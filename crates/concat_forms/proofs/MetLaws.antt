@@ -1,5 +1,5 @@
 -- Rows of parts that are put side by side.
-use Rattle.std.proofs.Common.{◌≡◌, ◌∙◌, ◌<◌, ◌≤◌, refl, ap, sym, subst, arith, ℕ, zero, suc, nat_eq, Bool, true, false, ◌&&◌, List, [], ◌∷◌, map, length, replicate, slice_index_or, All, Option, Some, None, Result, Ok, Err, inl, inr, if◌then◌else◌}
+use Rattle.std.proofs.Common.{◌≡◌, ◌∙◌, ◌<◌, refl, ap, sym, subst, arith, ℕ, nat_eq, Bool, true, false, ◌&&◌, List, [], ◌∷◌, map, length, replicate, slice_index_or, All, None, Result, Err, inl, inr, if◌then◌else◌}
 use Rattle.std.specs.Borrow.{Bor}
 use Rattle.std.specs.List.{list_all}
 use Rattle.std.specs.Cmp.Lexicographic.{pointwise}
@@ -16,9 +16,8 @@ use Rattle.multi_index.specs.Axes.{AxisValue, HaveLevels, nameless_axis}
 use Rattle.row_keys.specs.Keys as numbers
 use Rattle.label_align.proofs.SameLaws.{tuples_decide}
 use Rattle.table_meaning.specs.Settled.{IsSettled}
-use Rattle.table_meaning.specs.Table.{NumberedTable, Table, table_value}
+use Rattle.table_meaning.specs.Table.{NumberedTable, Table}
 use Rattle.table_meaning.specs.Value.{Entry}
-use Rattle.form_meaning.specs.Binding.{same_label}
 use Rattle.form_meaning.specs.Finish.{finished}
 use Rattle.form_meaning.specs.Infix.{same_tuple}
 use Rattle.form_parts.proofs.LabelLaws.{value_decides}

@@ -1,15 +1,14 @@
 -- The names that all parts have.
 use Rattle.std.proofs.Common.{◌≡◌, ◌∙◌, ◌<◌, ◌≤◌, ◌+◌, ◌-◌, refl, ap, sym, subst, arith, ℕ, zero, suc, List, [], ◌∷◌, ◌++◌, map, length, fold, take, drop, slice_index_or, slice_set, All, Option, Some, None}
 use Rattle.std.specs.List.{range_with_len}
-use Rattle.std.proofs.lemmas.List.{length-map, map-append, append_assoc, append-nil, take_more_set}
+use Rattle.std.proofs.lemmas.List.{map-append, append_assoc, take_more_set}
 use Rattle.std.proofs.Math.Seq.{drop-cons}
-use Rattle.std.proofs.lemmas.List.Elements.{All-head, All-tail}
-use Rattle.cell_core.specs.declared.cell.Cell.{Cell}
+use Rattle.std.proofs.lemmas.List.Elements.{All-tail}
 use Rattle.cell_core.specs.declared.cell.Label.{Label}
 use Rattle.meaning.specs.Text.{Text}
 use Rattle.meaning.specs.Cell.{LabelValue}
 use Rattle.table_meaning.specs.Settled.{IsSettled}
-use Rattle.table_meaning.specs.Table.{NumberedTable, Table, TableOf, heading_value, table_value}
+use Rattle.table_meaning.specs.Table.{NumberedTable, Table, heading_value, table_value}
 use Rattle.form_meaning.specs.Infix.{common_name}
 use Rattle.method_meaning.specs.Concat.{kept_names, level_names_of_all, name_of_all}
 use Rattle.frame_store.specs.Shown.{headings_value}

@@ -1,19 +1,16 @@
 -- Objects of a list as parts.
-use Rattle.std.proofs.Common.{◌≡◌, ◌∙◌, ◌<◌, ◌+◌, refl, ap, sym, subst, arith, ℕ, zero, suc, List, [], ◌∷◌, ◌++◌, map, length, drop, slice_index_or, All, Option, Some, None}
+use Rattle.std.proofs.Common.{◌≡◌, ◌∙◌, ◌<◌, ◌+◌, ap, sym, subst, arith, ℕ, zero, suc, List, [], ◌∷◌, ◌++◌, map, length, drop, slice_index_or, All, Option, Some, None}
 use Rattle.std.specs.Prelude.{IsSome, IfSome}
-use Rattle.std.specs.Option.{option_map}
 use Rattle.std.proofs.Math.Seq.{drop-cons}
 use Rattle.std.proofs.lemmas.List.{map-append, append_assoc}
 use Rattle.std.proofs.lemmas.List.Elements.{All-push}
 use Rattle.meaning.specs.Text.{Text}
-use Rattle.table_meaning.specs.Settled.{IsSettled}
-use Rattle.table_meaning.specs.Table.{NumberedTable, Table, table_value}
-use Rattle.table_meaning.specs.Valid.{IsWhole, AreHeadings}
+use Rattle.table_meaning.specs.Table.{NumberedTable, table_value}
+use Rattle.table_meaning.specs.Valid.{IsWhole}
 use Rattle.table_meaning.specs.Value.{object_in}
 use Rattle.method_meaning.specs.Concat.{tables_from, tables_of}
 use Rattle.frame_store.specs.Arguments.{item_of, items_of, object_value, AreLiveItems, IsLiveItem, IsLiveObject}
 use Rattle.frame_store.specs.Objects.{Tables, table_or}
-use Rattle.frame_store.specs.Shown.{shown}
 use Rattle.frame_store.specs.World.{IsKnownTable}
 use Rattle.frame_store.specs.declared.arguments.Item.{Item}
 use Rattle.frame_store.specs.declared.object.ObjId.{ObjId}

@@ -1,8 +1,8 @@
 -- The table of parts one below the other.
-use Rattle.std.proofs.Common.{◌≡◌, ◌∙◌, ◌<◌, ◌≤◌, ◌+◌, ◌*◌, ◌^◌, refl, ap, sym, subst, arith, ℕ, zero, suc, Bool, true, false, not, ◌&&◌, List, [], ◌∷◌, ◌++◌, map, fold, length, replicate, slice_index_or, unwrap_or, All, Option, Some, None, Result, Ok, Err, if◌then◌else◌}
+use Rattle.std.proofs.Common.{◌≡◌, ◌∙◌, ◌<◌, ◌≤◌, ◌+◌, ◌*◌, ◌^◌, refl, ap, sym, subst, arith, ℕ, zero, suc, Bool, true, false, ◌&&◌, List, [], ◌∷◌, ◌++◌, map, fold, length, replicate, slice_index_or, unwrap_or, All, Option, Some, None, Result, Ok, Err, if◌then◌else◌}
 use Rattle.std.specs.Prelude.{slice_get, nat_le, position}
 use Rattle.std.specs.Option.{option_map}
-use Rattle.std.specs.List.{list_all, flat_map}
+use Rattle.std.specs.List.{flat_map}
 use Rattle.std.proofs.lemmas.List.{length-map}
 use Rattle.std.proofs.lemmas.List.Elements.{All-nil, All-cons, All-head, All-tail, All-replicate}
 use Rattle.std.proofs.lemmas.Bool.Decides.{nat_tests}
@@ -11,7 +11,7 @@ use Rattle.cell_core.specs.declared.cell.Cell.{Cell}
 use Rattle.cell_core.specs.declared.cell.Cell.TheVariants.{Na}
 use Rattle.cell_core.specs.declared.cell.Label.{Label}
 use Rattle.cell_core.specs.declared.grid.Shape.{Shape}
-use Rattle.cell_core.specs.declared.grid.Shape.TheVariants.{Series, Frame}
+use Rattle.cell_core.specs.declared.grid.Shape.TheVariants.{Series}
 use Rattle.column_core.specs.Blocks.{CellBlock}
 use Rattle.meaning.specs.Text.{Text}
 use Rattle.meaning.specs.Cell.{CellValue, LabelValue}
@@ -19,26 +19,26 @@ use Rattle.meaning.specs.Fault.{FaultValue, wrong_kind, limit, then_value}
 use Rattle.multi_index.specs.Axes.{AxisValue}
 use Rattle.align_meaning.proofs.OrderLaws.{all_append}
 use Rattle.table_meaning.specs.Settled.{IsSettled}
-use Rattle.table_meaning.specs.Table.{ColumnOf, NumberedTable, Table, column_at, no_column, column_value, heading_value, table_value}
+use Rattle.table_meaning.specs.Table.{ColumnOf, NumberedTable, Table, column_at, column_value, heading_value, table_value}
 use Rattle.table_meaning.specs.Valid.{IsWhole, AreHeadings}
 use Rattle.table_meaning.specs.Value.{Entry, table}
-use Rattle.form_meaning.specs.Finish.{limited, limited_table, within_limits}
+use Rattle.form_meaning.specs.Finish.{limited, within_limits}
 use Rattle.form_meaning.specs.Infix.{common_name}
 use Rattle.method_meaning.specs.Levels.{on_levels}
-use Rattle.method_meaning.specs.Concat.{Concatenation, RowAxis, rows_below, table_below, finished_below, name_of_all, columns_name_of_all}
-use Rattle.frame_store.specs.Parts.{HeadingList, block_column, columns_of, table_with, HaveRows}
-use Rattle.frame_store.specs.Shown.{headings_value, columns_value, Makes}
+use Rattle.method_meaning.specs.Concat.{Concatenation, RowAxis, rows_below, table_below, finished_below, name_of_all}
+use Rattle.frame_store.specs.Parts.{HeadingList, columns_of, table_with, HaveRows}
+use Rattle.frame_store.specs.Shown.{headings_value, columns_value}
 use Rattle.frame_store.specs.World.{IsKnownTable}
-use Rattle.frame_store.proofs.Settling.{columns_part, columns_given, column_settled, columns_settled, table_settled}
+use Rattle.frame_store.proofs.Settling.{columns_part, columns_given, columns_settled, table_settled}
 use Rattle.form_parts.specs.Makes.{blocks_value}
 use Rattle.concat_forms.specs.declared.asked.Asked.{Asked}
 use Rattle.concat_forms.specs.declared.parts.Sought.{Sought}
 use Rattle.concat_forms.specs.declared.parts.Sought.TheVariants.{Only, Under}
 use Rattle.concat_forms.specs.declared.parts.Naming.TheVariants.{Columns}
-use Rattle.concat_forms.specs.Parts.{column_sought, same_heading, name_at, parts_value, AreKnownParts, AreOf}
-use Rattle.concat_forms.specs.Columns.{sought_by, kind_sought, cells_or_missing, all_kinds_meet, stacked, columns_stacked, rows_in}
+use Rattle.concat_forms.specs.Parts.{same_heading, name_at, parts_value, AreKnownParts, AreOf}
+use Rattle.concat_forms.specs.Columns.{sought_by, cells_or_missing, all_kinds_meet, stacked, columns_stacked, rows_in}
 use Rattle.concat_forms.specs.Asked.{asked_value, keys_value, AreKeysFor}
-use Rattle.concat_forms.specs.Axes.{axis_seen, levels_for, levels_of}
+use Rattle.concat_forms.specs.Axes.{axis_seen, levels_for}
 use Rattle.concat_forms.specs.Below.{table_made}
 use Rattle.concat_forms.proofs.ColumnLaws.{lengths}
 use Rattle.concat_forms.proofs.AxisLaws.{rows_count, levels_count}

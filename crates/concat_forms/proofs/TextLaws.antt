@@ -1,22 +1,19 @@
 -- Parts with their texts: their headings, columns and names.
-use Rattle.std.proofs.Common.{◌≡◌, ◌∙◌, ◌<◌, ◌+◌, arith, refl, ap, sym, subst, ℕ, Bool, true, false, not, ◌&&◌, ◌||◌, cond, List, [], ◌∷◌, ◌++◌, map, filter, length, fold, nat_lt, slice_index_or, unwrap_or, All, Option, Some, None}
-use Rattle.std.specs.Prelude.{position, AllPairs, ◌≢◌, IsSome, slice_get}
+use Rattle.std.proofs.Common.{◌≡◌, ◌∙◌, ◌+◌, arith, refl, ap, sym, ℕ, Bool, true, false, not, cond, List, [], ◌∷◌, map, filter, length, nat_lt, unwrap_or, All, Option, Some, None}
+use Rattle.std.specs.Prelude.{position, AllPairs, ◌≢◌}
 use Rattle.std.specs.Option.{option_map}
-use Rattle.std.specs.List.{list_all, position_or_len, flat_map}
+use Rattle.std.specs.List.{position_or_len, flat_map}
 use Rattle.std.proofs.lemmas.List.{length-map}
 use Rattle.std.proofs.lemmas.List.Elements.{All-nil, All-cons, All-head, All-tail}
 use Rattle.std.proofs.lemmas.List.Kept.{AllPairs-filter, AllPairs-cons}
 use Rattle.cell_core.specs.Texts.{AreDistinct}
 use Rattle.cell_core.specs.declared.cell.Cell.{Cell}
-use Rattle.cell_core.specs.declared.cell.Kind.{Kind}
-use Rattle.cell_core.specs.declared.cell.Kind.TheVariants.{Int64}
 use Rattle.cell_core.specs.declared.cell.Label.{Label}
 use Rattle.meaning.specs.Text.{Text}
-use Rattle.meaning.specs.Cell.{CellValue, LabelValue}
 use Rattle.meaning.specs.Reduce.{distinct}
 use Rattle.join_meaning.specs.Concat.{united}
 use Rattle.table_meaning.specs.Settled.{IsSettled}
-use Rattle.table_meaning.specs.Table.{ColumnOf, NumberedTable, Table, column_at, column_value, heading_value, table_value}
+use Rattle.table_meaning.specs.Table.{ColumnOf, NumberedTable, column_at, column_value, heading_value, table_value}
 use Rattle.form_meaning.specs.Finish as finish
 use Rattle.method_meaning.specs.Concat.{column_under, kind_under}
 use Rattle.frame_store.specs.Shown.{headings_value, columns_value}

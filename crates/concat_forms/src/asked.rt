@@ -4,12 +4,14 @@ ghost use Rattle.meaning.specs.Text.{Text};
 ghost use Rattle.meaning.specs.Fault.{FaultValue};
 ghost use Rattle.table_meaning.specs.Value.{Entry};
 ghost use Rattle.method_meaning.specs.Concat as meant;
-ghost use Rattle.concat_forms.specs.Asked.{asked_value, AreKeysFor, Passes};
+ghost use Rattle.form_parts.specs.Makes.{Passes};
+ghost use Rattle.concat_forms.specs.Asked.{asked_value, AreKeysFor};
 
 use cell_core::{Code, Label, Reason};
 use frame_store::OpFault;
 
-// Whether only what all parts have stays, whether the labels along the axis are 0, 1 and so on, and a label for each part.
+// Whether only what all parts have stays, whether the labels along the axis are 0, 1 and so on, and a label for each
+// part.
 #[derive(Drop)]
 pub(crate) struct Asked {
     pub(crate) inner: bool,

@@ -12,8 +12,7 @@ use Rattle.cell_core.specs.declared.grid.Shape.TheVariants.{Series}
 use Rattle.meaning.specs.Text.{Text}
 use Rattle.meaning.specs.Cell.{CellValue, LabelValue, int, datum, label_datum, holds, AreGiven, IsLonger}
 use Rattle.meaning.specs.Fault.{FaultValue, wrong_kind, limit, bad_value, length_of, then_value}
-use Rattle.index_core.specs.Ranges.{number_label}
-use Rattle.multi_index.specs.Axes.{AxisValue, range_axis, single_tuples}
+use Rattle.multi_index.specs.Axes.{AxisValue, range_axis}
 use Rattle.column_core.specs.Columns.{CellColumn}
 use Rattle.table_meaning.specs.Settled.{IsSettled}
 use Rattle.table_meaning.specs.Table.{ColumnOf, NumberedTable, Table, table_value, heading_value, tuple_value}
@@ -22,6 +21,7 @@ use Rattle.form_meaning.specs.Finish.{within_limits, limited, default_labels}
 use Rattle.form_meaning.specs.Set.{list_column, first_kind}
 use Rattle.form_meaning.specs.Make.{cast_to, level_count, nameless, few_levels, series_table}
 use Rattle.form_parts.specs.Makes.{MakesBy}
+use Rattle.form_parts.proofs.LabelLaws.{default_seen}
 use Rattle.form_parts.proofs.TableMade.{refused_on}
 use Rattle.frame_store.specs.declared.arguments.Item.{Item}
 use Rattle.frame_store.specs.declared.fault.OpFault.{OpFault}
@@ -32,17 +32,12 @@ use Rattle.signatures.specs.Scalars.{scalars}
 use Rattle.constructors.specs.Scalars.{column_seen, made_series}
 use Rattle.constructors.specs.Made.{axis_labels, labels_within, index_labels, indexed, series_with}
 
--- the labels 0, 1 and so on
-default_seen : (texts : List Text) (ns : List ℕ) → labels_value texts (single_tuples (map number_label ns)) ≡ map (λ row. int (pos row) ∷ []) ns
-default_seen texts [] = refl
-default_seen texts (n ∷ ns) = λ i. (int (pos n) ∷ []) ∷ default_seen texts ns i
-
 abbrev if_within : List (List LabelValue) → Bool → Result (List (List LabelValue)) FaultValue
 if_within labels b = if b then Ok labels else Err limit
 
 pub counted : (texts : List Text) (rows columns : ℕ) (axis : AxisValue) → within_limits rows columns ≡ true → axis ≡ range_axis rows → labels_within rows columns (default_labels rows) ≡ Ok (axis_labels texts axis)
 counted texts rows columns axis within is =
-    ap (if_within (default_labels rows)) within ∙ ap Ok (sym (default_seen texts (range_with_len 0 rows)) ∙ ap (axis_labels texts) (sym is))
+    ap (if_within (default_labels rows)) within ∙ ap Ok (sym (default_seen texts rows) ∙ ap (axis_labels texts) (sym is))
 
 default_count : (rows : ℕ) → length (default_labels rows) ≡ rows
 default_count rows = length-map-range_with_len (λ row. int (pos row) ∷ []) 0 rows

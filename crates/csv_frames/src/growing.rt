@@ -140,7 +140,7 @@ impl Growing {
         }
     }
 
-    /// Appends a field to so many fields.
+    /// Appends a field to so many fields, and says whether it isn't of the kind that is named for the column.
     pub(crate) fn push(
         &mut self,
         alloc: Global,
@@ -148,8 +148,10 @@ impl Growing {
         named: Option<Kind>,
         rows: usize,
         field: &str,
-    ) -> Result<(), NoMemory>
+    ) -> Result<bool, NoMemory>
         ensures longer { IsLonger dict.old dict.new }
+        ensures misfit { IfOk result (λ misfit. (fields : List (List ℕ)) →
+            Grown dict.old named fields self.old → misfit ≡ meant.is_misfit named field.now) }
         ensures grown { OnOk result ((fields : List (List ℕ)) → length fields ≡ rows →
             Grown dict.old named fields self.old →
             Grown dict.new named (fields ++ field.now ∷ []) self.new) }
@@ -159,16 +161,18 @@ impl Growing {
                 if !is_missing(field) {
                     *self = Growing::Cells(first_value(alloc, dict, rows, field)?);
                 }
+                Ok(false)
             }
             Growing::Cells(column) => {
                 let fits = push_field(dict, column, field)?;
                 if !fits && named.is_none() {
                     *self = Growing::Mixed;
+                    return Ok(false);
                 }
+                Ok(!fits)
             }
-            Growing::Mixed => {}
+            Growing::Mixed => Ok(false),
         }
-        Ok(())
     }
 
     /// Whether the cells aren't kept.

@@ -62,7 +62,8 @@ fn new_columns(alloc: Global, kinds: &[Option<Kind>]) -> Result<Vec<Growing>, No
     Ok(columns)
 }
 
-// Appends a record to the columns of so many records.
+// Appends a record to the columns of so many records, and says whether a field isn't of the kind that is named for its
+// column.
 fn push_fields(
     alloc: Global,
     dict: &mut TextDict,
@@ -70,17 +71,22 @@ fn push_fields(
     columns: &mut [Growing],
     rows: usize,
     row: &StringRecord,
-) -> Result<(), NoMemory>
+) -> Result<bool, NoMemory>
     requires { length columns.old ≡ length kinds.now }
     ensures longer { IsLonger dict.old dict.new }
+    ensures misfit { IfOk result (λ misfit. (before : List (List (List ℕ))) →
+        length before ≡ rows → AreGrown dict.old kinds.now before columns.old →
+        misfit ≡ meant.has_misfit kinds.now (fields_of row.now)) }
     ensures grown { OnOk result ((before : List (List (List ℕ))) → length before ≡ rows →
         AreGrown dict.old kinds.now before columns.old →
         AreGrown dict.new kinds.now (before ++ fields_of row.now ∷ []) columns.new) }
 {
+    let mut misfit = false;
     for place in 0..kinds.len() {
-        columns[place].push(alloc, dict, kinds[place], rows, field_in(row, place))?;
+        let field = field_in(row, place);
+        misfit |= columns[place].push(alloc, dict, kinds[place], rows, field)?;
     }
-    Ok(())
+    Ok(misfit)
 }
 
 /// The records so far.
@@ -112,19 +118,6 @@ impl Growth {
         })
     }
 
-    // Counts a record, and sees whether its fields are of the named kinds.
-    fn count(&mut self, kinds: &[Option<Kind>], row: &StringRecord)
-        requires { self.old.rows < 2 ^ 32 }
-        ensures { self.new ≡ record {
-          rows = self.old.rows + 1;
-          fits = self.old.fits && not (meant.has_misfit kinds.now (fields_of row.now));
-          columns = self.old.columns;
-        } }
-    {
-        self.fits = self.fits && !has_misfit(kinds, row);
-        self.rows += 1;
-    }
-
     fn push(
         &mut self,
         alloc: Global,
@@ -141,11 +134,14 @@ impl Growth {
             GrownTo dict.new kinds.now (before ++ fields_of row.now ∷ []) self.new) }
     {
         let rows = self.rows;
-        self.count(kinds, row);
+        self.rows += 1;
         if !is_within_limits(self.rows, kinds.len()) {
+            self.fits &= !has_misfit(kinds, row);
             return Ok(());
         }
-        push_fields(alloc, dict, kinds, self.columns.as_mut_slice(), rows, row)
+        let columns = self.columns.as_mut_slice();
+        self.fits &= !push_fields(alloc, dict, kinds, columns, rows, row)?;
+        Ok(())
     }
 }
 

@@ -1,6 +1,6 @@
 -- The groups of rows whose keys are tuples of labels.
-use Rattle.std.proofs.Common.{◌≡◌, ◌∙◌, ◌<◌, ◌==◌, ap, sym, subst, arith, ℕ, Bool, List, [], map, filter, length, slice_index_or, All, Option}
-use Rattle.std.specs.List.{list_any, position, range_with_len}
+use Rattle.std.proofs.Common.{◌≡◌, ◌∙◌, ◌<◌, ap, sym, subst, arith, ℕ, Bool, List, [], map, length, slice_index_or, All, Option}
+use Rattle.std.specs.List.{list_any}
 use Rattle.std.specs.Cmp.Lexicographic.{lists_total}
 use Rattle.std.proofs.lemmas.List.{length-map, get_or-map, map-id}
 use Rattle.std.proofs.lemmas.List.Sums.{passes_at_first}
@@ -9,16 +9,14 @@ use Rattle.std.proofs.lemmas.List.Elements.{All-map}
 use Rattle.meaning.specs.Text.{Text}
 use Rattle.meaning.specs.Reduce.{distinct}
 use Rattle.cell_core.specs.declared.cell.Label.{Label}
-use Rattle.column_core.specs.Moves.{IsPlaceOf}
 use Rattle.multi_index.specs.Axes.{HaveLevels, tuples_at}
 use Rattle.row_keys.specs.Keys.{same_tuple, place_among, codes_of, first_rows}
-use Rattle.std.proofs.lemmas.List.FromFn.{length-map-range_with_len}
 use Rattle.row_keys.proofs.KeyLaws.{position_in, all_known}
 use Rattle.row_keys.proofs.RecodeLaws.{firsts_inside, first_keys}
 use Rattle.label_align.specs.Tuples.{tuple_seen, tuple_less}
 use Rattle.label_align.proofs.OrderLaws.{row_agrees}
 use Rattle.label_align.proofs.SameLaws.{tuple_decides, tuple_laws}
-use Rattle.group_meaning.specs.Keys.{is_na, is_kept, ordered_if, group_keys, group_of, group_codes}
+use Rattle.group_meaning.specs.Keys.{is_na, group_keys, group_codes}
 use Rattle.factorize.specs.Keys.{seen_rules}
 use Rattle.factorize.specs.Numbers.{first_row, number_less, row_holds_na, kept_numbers, places_of, recoded}
 use Rattle.group_meaning.specs.Grouping.{AreGroups}
@@ -26,7 +24,6 @@ use Rattle.group_meaning.proofs.ListLaws.{map_map, map_on}
 use Rattle.cell_core.proofs.LabelLaws.{label_total}
 use Rattle.factorize.proofs.LawOfGroups.{IsThere, keys_there, are_groups}
 use Rattle.factorize.proofs.LabelLaws.{labels_there}
-use Rattle.factorize.proofs.PlaceLaws.{place_inside}
 use Rattle.factorize.proofs.NumberLaws as law
 
 module _ (texts : List Text) (keys : List (List Label)) (levels : ℕ) (alike : HaveLevels levels keys) (sorted dropna : Bool) where
@@ -82,43 +79,34 @@ module _ (texts : List Text) (keys : List (List Label)) (levels : ℕ) (alike : 
   firsts_kept = law.firsts_kept (seen_rules texts) tuple_laws [] sorted dropna keys less holds_na below missing
 
   -- what is made step by step
-  module _ (firsts' ordered kept' : List ℕ) (first : firsts' ≡ firsts) (in_order : ordered ≡ ordered_if sorted (number_less texts keys levels firsts') (range_with_len 0 (length firsts')))
-      (without : kept' ≡ filter (is_kept dropna (λ number. row_holds_na texts keys levels (first_row firsts' number))) ordered) where
+  module _ (firsts' : List ℕ) (first : firsts' ≡ firsts) where
     pub count_is : length firsts' ≡ how_many
     count_is = ap length first ∙ firsts_counted
 
-    pub kept_is : kept' ≡ kept
-    kept_is =
-        without
-        ∙ ap (filter (is_kept dropna (λ number. row_holds_na texts keys levels (first_row firsts' number)))) in_order
-        ∙ (λ i. filter (is_kept dropna (λ number. row_holds_na texts keys levels (first_row (first i) number))) (ordered_if sorted (number_less texts keys levels (first i)) (range_with_len 0 (length (first i)))))
-        ∙ ap (kept_numbers sorted dropna less holds_na) firsts_counted
+    pub codes_below : (codes : List ℕ) → codes ≡ codes_of same_tuple keys → All (λ code. code < length firsts') codes
+    codes_below codes coded =
+        subst (λ n. All (λ code. code < n) codes) (sym count_is) (subst (All (λ code. code < how_many)) (sym coded)
+        (All-map (λ code. code < how_many) (place_among same_tuple (distinct same_tuple keys)) keys
+        (λ k d lt. position_in (same_tuple (slice_index_or keys k d)) (distinct same_tuple keys) (all_known same_tuple tuple_laws keys k d lt))))
 
-    pub below_count : All (λ number. number < length firsts') kept'
-    below_count = subst (λ n. All (λ number. number < n) kept') (sym count_is) (subst (All (λ number. number < how_many)) (sym kept_is) kept_below)
+    module _ (kept' : List ℕ) (chosen : kept' ≡ kept_numbers sorted dropna (number_less texts keys levels firsts') (λ number. row_holds_na texts keys levels (first_row firsts' number)) (length firsts')) where
+      pub kept_is : kept' ≡ kept
+      kept_is =
+          chosen
+          ∙ (λ i. kept_numbers sorted dropna (number_less texts keys levels (first i)) (λ number. row_holds_na texts keys levels (first_row (first i) number)) (length (first i)))
+          ∙ ap (kept_numbers sorted dropna less holds_na) firsts_counted
 
-    pub groups_counted : length kept' ≡ length (group_keys (seen_rules texts) sorted dropna keys)
-    groups_counted = ap length kept_is ∙ sym keys_counted
+      pub below_count : All (λ number. number < length firsts') kept'
+      below_count = subst (λ n. All (λ number. number < n) kept') (sym count_is) (subst (All (λ number. number < how_many)) (sym kept_is) kept_below)
 
-    pub rows_are : (rows : List ℕ) → rows ≡ map (first_row firsts') kept' → rows ≡ map (place_among same_tuple keys) (group_keys (seen_rules texts) sorted dropna keys)
-    rows_are rows made = made ∙ (λ i. map (first_row (first i)) (kept_is i)) ∙ sym firsts_kept
+      pub groups_counted : length kept' ≡ length (group_keys (seen_rules texts) sorted dropna keys)
+      groups_counted = ap length kept_is ∙ sym keys_counted
 
-    module _ (codes : List ℕ) (coded : codes ≡ codes_of same_tuple keys) (places : List (Option ℕ)) (placed : places ≡ places_of kept' (length firsts')) where
-      pub codes_below : All (λ code. code < length places) codes
-      codes_below =
-          let size : length places ≡ how_many = ap length placed ∙ length-map-range_with_len (λ number. position (λ k. number == k) kept') 0 (length firsts') ∙ count_is in
-          subst (λ n. All (λ code. code < n) codes) (sym size) (subst (All (λ code. code < how_many)) (sym coded)
-          (All-map (λ code. code < how_many) (place_among same_tuple (distinct same_tuple keys)) keys
-          (λ k d lt. position_in (same_tuple (slice_index_or keys k d)) (distinct same_tuple keys) (all_known same_tuple tuple_laws keys k d lt))))
+      pub rows_are : (rows : List ℕ) → rows ≡ map (first_row firsts') kept' → rows ≡ map (place_among same_tuple keys) (group_keys (seen_rules texts) sorted dropna keys)
+      rows_are rows made = made ∙ (λ i. map (first_row (first i)) (kept_is i)) ∙ sym firsts_kept
 
-      pub codes_are : (made : List (Option ℕ)) → made ≡ recoded places codes → made ≡ group_codes (seen_rules texts) sorted dropna keys
-      codes_are made is = is ∙ (λ i. recoded ((placed ∙ (λ j. places_of (kept_is j) (count_is j))) i) (coded i)) ∙ sym codes_recoded
-
-      pub codes_are_places : (made : List (Option ℕ)) → made ≡ recoded places codes → All (IsPlaceOf (length kept')) made
-      codes_are_places made is =
-          subst (λ n. All (IsPlaceOf n) made) (sym groups_counted) (subst (All (IsPlaceOf (length (group_keys (seen_rules texts) sorted dropna keys)))) (sym (codes_are made is))
-          (All-map (IsPlaceOf (length (group_keys (seen_rules texts) sorted dropna keys))) (group_of same_tuple (group_keys (seen_rules texts) sorted dropna keys)) keys
-          (λ k d lt. place_inside (same_tuple (slice_index_or keys k d)) (group_keys (seen_rules texts) sorted dropna keys))))
+      pub codes_are : (codes : List ℕ) → codes ≡ codes_of same_tuple keys → (made : List (Option ℕ)) → made ≡ recoded (places_of kept' (length firsts')) codes → made ≡ group_codes (seen_rules texts) sorted dropna keys
+      codes_are codes coded made is = is ∙ (λ i. recoded (places_of (kept_is i) (count_is i)) (coded i)) ∙ sym codes_recoded
 
 -- the tuples of groups, and the law of groups for tuples
 module _ (texts : List Text) (keys : List (List Label)) (sorted dropna : Bool) where
@@ -139,9 +127,9 @@ module _ (texts : List Text) (keys : List (List Label)) (sorted dropna : Bool) w
       (λ key here. sym ((tuple_decides key (slice_index_or keys (place_among same_tuple keys key) [])).0 (passes_at_first (same_tuple key) keys [] (position_in (same_tuple key) keys here)))) group_tuples groups_there
       ∙ map-id group_tuples
 
-  pub law_of : (firsts : List ℕ) (codes : List (Option ℕ)) → firsts ≡ map (place_among same_tuple keys) group_tuples → codes ≡ group_codes (seen_rules texts) sorted dropna keys
-      → AreGroups (seen_rules texts) sorted dropna keys (tuples_at keys firsts) codes
-  law_of firsts codes first coded =
+  pub law_of : (rows : List ℕ) (codes : List (Option ℕ)) → rows ≡ map (place_among same_tuple keys) group_tuples → codes ≡ group_codes (seen_rules texts) sorted dropna keys
+      → AreGroups (seen_rules texts) sorted dropna keys (tuples_at keys rows) codes
+  law_of rows codes first coded =
       subst (λ ts. AreGroups (seen_rules texts) sorted dropna keys ts codes) (sym (ap (tuples_at keys) first ∙ tuples_there))
       (subst (λ cs. AreGroups (seen_rules texts) sorted dropna keys group_tuples cs) (sym coded)
       (are_groups (seen_rules texts) tuple_laws (ranks_by (lists_total label_total) (tuple_seen texts)) (λ a b e. ap (λ key. list_any is_na (tuple_seen texts key)) ((tuple_decides a b).0 e)) sorted dropna keys))

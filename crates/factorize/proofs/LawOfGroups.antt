@@ -38,7 +38,7 @@ any_put_in p less x (y ∷ ys) = elim (less y x) as (λ b. list_any p (cond b (y
     turned false true c = refl
     turned false false c = refl
 
-any_in_order : {X : Type 0} (p : X → Bool) (less : X → X → Bool) (xs : List X) → list_any p (in_order less xs) ≡ list_any p xs
+pub any_in_order : {X : Type 0} (p : X → Bool) (less : X → X → Bool) (xs : List X) → list_any p (in_order less xs) ≡ list_any p xs
 any_in_order p less [] = refl
 any_in_order p less (x ∷ xs) = any_put_in p less x (in_order less xs) ∙ ap (λ b. p x || b) (any_in_order p less xs)
 

@@ -3,3 +3,4 @@ pub mod PlaceLaws
 pub mod NumberLaws
 pub mod GroupLaws
 pub mod LawOfGroups
+pub mod KeyNumberLaws

@@ -1,5 +1,5 @@
 -- What is made of the numbers of keys is what is made of the keys.
-use Rattle.std.proofs.Common.{◌≡◌, ◌∙◌, ◌==◌, ◌<◌, ap, refl, sym, ℕ, Bool, true, false, not, cond, List, map, filter, length, All, slice_index_or, None, arith}
+use Rattle.std.proofs.Common.{◌≡◌, ◌∙◌, ◌==◌, ◌<◌, ap, refl, sym, ℕ, Bool, true, false, not, cond, List, [], ◌∷◌, map, filter, length, All, slice_index_or, None, arith}
 use Rattle.std.specs.List.{list_any, position, range_with_len}
 use Rattle.std.specs.Cmp.{IsEquivalence}
 use Rattle.std.proofs.lemmas.List.{length-map, get_or-map}
@@ -15,6 +15,10 @@ use Rattle.label_align.proofs.OrderLaws.{below_range}
 use Rattle.group_meaning.specs.Keys.{KeyRules, is_kept, ordered_if, group_keys, group_of, group_codes}
 use Rattle.group_meaning.proofs.ListLaws.{map_map, map_on, filter_seen, position_seen}
 use Rattle.factorize.specs.Numbers.{first_row, kept_numbers, places_of, recoded}
+
+pub filter_all : {X : Type 0} (xs : List X) → filter (λ x. true) xs ≡ xs
+filter_all [] = refl
+filter_all (x ∷ xs) = ap (λ l. x ∷ l) (filter_all xs)
 
 module _ {K : Type 0} (rules : KeyRules K) (laws : IsEquivalence rules.same) (d : K) (sorted dropna : Bool) (rows : List K) where
   abbrev keys : List K

@@ -1,13 +1,16 @@
 -- The first place that passes a test, with one element more.
-use Rattle.std.proofs.Common.{◌≡◌, ◌∙◌, ◌+◌, ◌<◌, ◌≤◌, ap, refl, sym, subst, arith, ℕ, Bool, true, false, not, cond, List, [], ◌∷◌, ◌++◌, ◌==◌, length, slice_index_or, set, Option, Some, None, inl, inr, length-append}
+use Rattle.std.proofs.Common.{◌≡◌, ◌∙◌, ◌+◌, ◌<◌, ◌≤◌, ap, refl, sym, subst, arith, ℕ, Bool, true, false, not, cond, List, [], ◌∷◌, ◌++◌, ◌==◌, length, slice_index_or, set, Option, Some, None, inl, inr, length-append, map, All}
 use Rattle.std.specs.List.{position, position_or_len}
 use Rattle.std.specs.Prelude.{is_none}
 use Rattle.std.proofs.lemmas.Bool.{lt-ltb, le-ltb, ne_eqb, eq-eqb, eqb-true, eqb-false, cases_lt}
-use Rattle.std.proofs.lemmas.List.{length-set, get_or-set_same, get_or-set_other}
+use Rattle.std.proofs.lemmas.List.{length-set, length-map, get_or-map, get_or-set_same, get_or-set_other, get_or_default, same_lists}
 use Rattle.std.proofs.lemmas.List.Folds.{position_or_len_push}
+use Rattle.std.proofs.lemmas.List.Elements.{All-map}
+use Rattle.std.proofs.lemmas.List.FromFn.{length-map-range_with_len, get_or-map-range_with_len}
 use Rattle.column_core.specs.Moves.{IsPlaceOf}
 use Rattle.row_keys.proofs.DistinctLaws.{prefix-le}
-use Rattle.factorize.specs.Numbers.{placed}
+use Rattle.group_meaning.proofs.ListLaws.{map_map}
+use Rattle.factorize.specs.Numbers.{placed, places_of, recoded, number_in}
 
 module _ {X : Type 0} (p : X → Bool) where
   pub there : (xs : List X) → position_or_len p xs < length xs → position p xs ≡ Some (position_or_len p xs)
@@ -92,3 +95,27 @@ module _ (numbers : List ℕ) (count number : ℕ) (before after : List (Option 
     | true ↦ λ e. subst (λ m. slice_index_or after m None ≡ position (λ k. m == k) (numbers ++ number ∷ [])) (sym (eqb-true n number e)) (here (slice_index_or before number None) refl)
     | false ↦ λ e. other n e ∙ were n lt ∙ sym (position_other (λ k. n == k) numbers number e)
   ] refl
+
+-- the places of kept numbers
+pub places_counted : (kept : List ℕ) (count : ℕ) (places : List (Option ℕ)) → places ≡ places_of kept count → length places ≡ count
+places_counted kept count places is = ap length is ∙ length-map-range_with_len (λ number. position (λ k. number == k) kept) 0 count
+
+pub codes_placed : (kept : List ℕ) (count : ℕ) (places : List (Option ℕ)) (codes : List ℕ) → places ≡ places_of kept count → All (λ code. code < count) codes → All (λ code. code < length places) codes
+codes_placed kept count places codes is = subst (λ n. All (λ code. code < n) codes) (sym (places_counted kept count places is))
+
+pub recoded_inside : (kept : List ℕ) (count : ℕ) (codes : List ℕ) → All (λ code. code < count) codes → All (IsPlaceOf (length kept)) (recoded (places_of kept count) codes)
+recoded_inside kept count codes below =
+    All-map (IsPlaceOf (length kept)) (λ number. slice_index_or (places_of kept count) number None) codes
+    (λ k d lt.
+    let code = slice_index_or codes k d in
+    subst (IsPlaceOf (length kept)) (sym (get_or-map-range_with_len (λ number. position (λ i. number == i) kept) 0 count code code None (below k d lt) (omega arith)))
+    (place_inside (λ i. code == i) kept))
+
+-- numbers are recoded one by one
+pub all_recoded : (places : List (Option ℕ)) (codes made : List ℕ) → length made ≡ length codes
+    → ((k : ℕ) → k < length codes → slice_index_or made k 0 ≡ number_in (slice_index_or places (slice_index_or codes k 0) None)) → made ≡ map number_in (recoded places codes)
+all_recoded places codes made size each =
+    let place : ℕ → ℕ = λ n. number_in (slice_index_or places n None) in
+    same_lists made (map place codes) (size ∙ sym (length-map codes place))
+    (λ k d lt. get_or_default made k d 0 lt ∙ each k (omega (arith, lt, size)) ∙ sym (get_or-map place codes k 0 d (omega (arith, lt, size))))
+    ∙ sym (map_map number_in (λ n. slice_index_or places n None) codes)

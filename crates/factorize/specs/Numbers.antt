@@ -1,12 +1,8 @@
 -- Keys by their numbers: the rows are numbered by the sight of their keys, and each number has a first row.
-use Rattle.std.specs.Prelude.{ℕ, ◌==◌, Bool, List, map, filter, slice_index_or, slice_set, Option, Some, None, is_none, if◌then◌else◌}
+use Rattle.std.specs.Prelude.{ℕ, ◌==◌, Bool, List, map, filter, slice_index_or, slice_set, Option, Some, None, is_none, unwrap_or, if◌then◌else◌}
 use Rattle.std.specs.List.{list_any, position, range_with_len}
-use Rattle.std.specs.Cmp.{IsStrictWeakOrder}
-use Rattle.std.specs.Cmp.Lexicographic.{lists_total}
-use Rattle.std.proofs.lemmas.List.Sorted.{ranks_by}
 use Rattle.meaning.specs.Text.{Text}
 use Rattle.cell_core.specs.declared.cell.Label.{Label}
-use Rattle.cell_core.proofs.LabelLaws.{label_total}
 use Rattle.label_align.specs.Tuples.{labels_of, row_less}
 use Rattle.group_meaning.specs.Keys.{is_na, is_kept, ordered_if}
 
@@ -17,9 +13,6 @@ first_row firsts number = slice_index_or firsts number 0
 -- whether a number's key stands before another's
 abbrev pub number_less : List Text → List (List Label) → ℕ → List ℕ → ℕ → ℕ → Bool
 number_less texts keys levels firsts i j = row_less texts keys levels (first_row firsts i) (first_row firsts j)
-
-pub number_weak : (texts : List Text) (keys : List (List Label)) (levels : ℕ) (firsts : List ℕ) → IsStrictWeakOrder (number_less texts keys levels firsts)
-number_weak texts keys levels firsts = ranks_by (lists_total label_total) (λ number. labels_of texts keys levels (first_row firsts number))
 
 -- whether a row's key holds an NA
 abbrev pub row_holds_na : List Text → List (List Label) → ℕ → ℕ → Bool
@@ -40,3 +33,7 @@ places_of kept count = map (λ number. position (λ k. number == k) kept) (range
 -- the place of each row's number
 abbrev pub recoded : List (Option ℕ) → List ℕ → List (Option ℕ)
 recoded places codes = map (λ number. slice_index_or places number None) codes
+
+-- the number of a group, and 0 where there is none
+abbrev pub number_in : Option ℕ → ℕ
+number_in group = unwrap_or group 0

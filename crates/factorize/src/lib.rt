@@ -1,7 +1,8 @@
 //! The groups of rows by their keys.
 //!
 //! [`factorize`] numbers tuples of labels, and [`group_by_keys`] the rows of any [`KeyLevels`], as the cells of some
-//! columns ([`KeyColumns`]), without a tuple a row. What is answered is defined in `group_meaning`.
+//! columns ([`KeyColumns`]), without a tuple a row. [`number_keys`] does so where each row has a key. What is answered is
+//! defined in `group_meaning`.
 //!
 //! ```text
 //! let codes = factorize(alloc, &dict, &keys, true, true)?;
@@ -20,3 +21,4 @@ mod places;
 pub use codes::{Codes, factorize};
 pub use factor::{KeyGroups, group_by_keys};
 pub use levels::{KeyColumns, KeyLevels, KeyTuples};
+pub use numbers::{KeyNumbers, number_keys};

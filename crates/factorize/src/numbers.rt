@@ -1,12 +1,24 @@
-// Keys numbered by first sight, level by level.
-ghost use Rattle.std.specs.Prelude.{◌≡◌, ◌<◌, map, length, slice_get, Some, IfOk};
-ghost use Rattle.row_keys.specs.Keys.{same_tuple, codes_of, first_rows, label_in};
+// Numbers of keys.
+ghost use Rattle.std.specs.Prelude.{◌≡◌, ◌<◌, false, map, length, slice_get, Some, IfOk};
+ghost use Rattle.row_keys.specs.Keys.{same_tuple, place_among, codes_of, first_rows, label_in};
+ghost use Rattle.group_meaning.specs.Keys.{group_keys};
+ghost use Rattle.factorize.specs.Keys.{seen_rules};
 
 use crate::levels::KeyLevels;
-use cell_core::{Label, NoMemory};
-use row_keys::{Factors, KeyRows, Numbers, factorize};
+use crate::order::numbers_in_order;
+use crate::places::{places_among, recode};
+use cell_core::{Label, NoMemory, TextDict};
+use row_keys::{KeyRows, Numbers, label_codes, pair_codes};
 use std::alloc::Global;
-use std::hash::Hash;
+
+/// How many keys there are, and the number of each row's key.
+#[derive(Drop)]
+pub struct KeyNumbers {
+    /// How many keys there are.
+    pub count: usize,
+    /// The number of each row's key, counted from 0.
+    pub codes: Vec<usize>,
+}
 
 /// The labels of the last level.
 #[derive(Drop)]
@@ -54,15 +66,6 @@ impl<R: KeyLevels> KeyRows<(Label, usize)> for UpperLevel<'_, R> {
     }
 }
 
-// The numbers and first rows alone.
-fn number<K: Eq + Hash + Drop, R: KeyRows<K>>(alloc: Global, rows: &R) -> Result<Numbers, NoMemory>
-    ensures codes { IfOk result (λ n. n.codes.items ≡ codes_of K.eq (R.keys rows.now)) }
-    ensures firsts { IfOk result (λ n. n.firsts.items ≡ first_rows K.eq (R.keys rows.now)) }
-{
-    let Factors { codes, firsts, .. } = factorize(alloc, rows)?;
-    Ok(Numbers { codes, firsts })
-}
-
 // Numbers the keys of rows by first sight: one pass a level, and no tuple is made.
 pub(crate) fn numbered<R: KeyLevels>(alloc: Global, rows: &R) -> Result<Numbers, NoMemory>
     ensures codes { IfOk result (λ n. n.codes.items ≡ codes_of same_tuple (R.keys rows.now)) }
@@ -70,10 +73,10 @@ pub(crate) fn numbered<R: KeyLevels>(alloc: Global, rows: &R) -> Result<Numbers,
 {
     let levels = rows.levels();
     let mut level = levels - 1;
-    let mut numbers = number(alloc, &LastLevel { rows, level })?;
+    let mut numbers = label_codes(alloc, &LastLevel { rows, level })?;
     while level > 0 {
         level -= 1;
-        numbers = number(
+        numbers = pair_codes(
             alloc,
             &UpperLevel {
                 rows,
@@ -83,4 +86,34 @@ pub(crate) fn numbered<R: KeyLevels>(alloc: Global, rows: &R) -> Result<Numbers,
         )?;
     }
     Ok(numbers)
+}
+
+/// Numbers the keys of rows: in the order of the keys where they are to be sorted, and else by first sight. Texts are
+/// told apart by their numbers and ordered by what they say. No tuple is made. `NoMemory` is the only refusal.
+pub fn number_keys<R: KeyLevels>(
+    alloc: Global,
+    dict: &TextDict,
+    rows: &R,
+    sorted: bool,
+) -> Result<KeyNumbers, NoMemory>
+    ensures count { let keys = group_keys (seen_rules dict.now) sorted false (R.keys rows.now) in
+        IfOk result (λ made. made.count ≡ length keys) }
+    ensures codes { let keys = group_keys (seen_rules dict.now) sorted false (R.keys rows.now) in
+        IfOk result (λ made. made.codes.items ≡ map (place_among same_tuple keys) (R.keys rows.now)) }
+{
+    let levels = rows.levels();
+    let Numbers { mut codes, firsts } = numbered(alloc, rows)?;
+    if !sorted {
+        return Ok(KeyNumbers {
+            count: firsts.len(),
+            codes,
+        });
+    }
+    let ordered = numbers_in_order(alloc, dict, rows, levels, &firsts, sorted)?;
+    let places = places_among(alloc, ordered.as_slice(), firsts.len())?;
+    recode(&mut codes, &places);
+    Ok(KeyNumbers {
+        count: ordered.len(),
+        codes,
+    })
 }

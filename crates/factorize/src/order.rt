@@ -1,35 +1,38 @@
 // The order of keys.
-ghost use Rattle.std.specs.Prelude.{◌≡◌, [], IfOk, Bool, length};
+ghost use Rattle.std.specs.Prelude.{◌≡◌, IfOk, length};
 ghost use Rattle.std.specs.List.{range_with_len};
-ghost use Rattle.std.specs.Cmp.Lexicographic.{slice_cmp};
-ghost use Rattle.cell_core.specs.Values.{label_cmp};
-ghost use Rattle.label_align.specs.Tuples.{labels_of};
 ghost use Rattle.group_meaning.specs.Keys.{ordered_if};
-ghost use Rattle.factorize.specs.Numbers.{first_row, number_less, number_weak};
+ghost use Rattle.factorize.specs.Numbers.{first_row, number_less};
 
 use crate::levels::KeyLevels;
-use cell_core::{NoMemory, Places, TextDict};
-use sorting::{RowOrder, sorted_rows};
+use cell_core::{Label, NoMemory, Places, TextDict};
+use sorting::{LabelKeys, rows_by_labels};
 use std::alloc::Global;
-use std::cmp::Ordering;
 
-// The order of numbers by the keys of their first rows.
+// The keys of numbers: those of their first rows.
 #[derive(Drop)]
-struct ByKey<'a, R> {
-    dict: &'a TextDict,
+struct FirstKeys<'a, R> {
     rows: &'a R,
     levels: usize,
     firsts: &'a [usize],
 }
 
-impl<R: KeyLevels> RowOrder for ByKey<'_, R> {
-    ghost less = { λ s. number_less s.dict.now (R.keys s.rows.now) s.levels s.firsts.now };
+impl<R: KeyLevels> LabelKeys for FirstKeys<'_, R> {
+    ghost use Rattle.std.specs.Prelude.{[], slice_index_or};
+    ghost use Rattle.row_keys.specs.Keys.{label_in};
+    ghost use Rattle.factorize.specs.Numbers.{first_row};
 
-    ghost weak = { λ s. number_weak s.dict.now (R.keys s.rows.now) s.levels s.firsts.now };
+    ghost keys = { λ s. s.levels };
 
-    fn compare(&self, i: usize, j: usize) -> Ordering {
-        let (one, other) = (row_of(self.firsts, i), row_of(self.firsts, j));
-        compare_keys(self.dict, self.rows, self.levels, one, other)
+    ghost label_at = { λ s number level.
+        label_in level (slice_index_or (R.keys s.rows.now) (first_row s.firsts.now number) []) };
+
+    fn count(&self) -> usize {
+        self.levels
+    }
+
+    fn at(&self, number: usize, level: usize) -> Label {
+        self.rows.label(row_of(self.firsts, number), level)
     }
 }
 
@@ -44,35 +47,15 @@ pub(crate) fn row_of(firsts: &[usize], number: usize) -> usize
     }
 }
 
-// How the key of one row stands to that of another.
-fn compare_keys<R: KeyLevels>(
-    dict: &TextDict,
-    rows: &R,
-    levels: usize,
-    i: usize,
-    j: usize,
-) -> Ordering
-    ensures { let labels = labels_of dict.now (R.keys rows.now) levels in
-        result ≡ slice_cmp label_cmp (labels i) (labels j) }
-{
-    for level in 0..levels {
-        let order = dict.compare(rows.label(i, level), rows.label(j, level));
-        if order != Ordering::Equal {
-            return order;
-        }
-    }
-    Ordering::Equal
-}
-
 // The numbers below a count, one by one.
 fn in_sequence(alloc: Global, count: usize) -> Result<Places, NoMemory>
     ensures { IfOk result (λ numbers. numbers ≡ range_with_len 0 count) }
 {
-    let mut numbers = Places::new(alloc);
+    let mut numbers = Vec::with_capacity(alloc, count)?;
     for number in 0..count {
         numbers.push(number)?;
     }
-    Ok(numbers)
+    Ok(Places::from(numbers))
 }
 
 // The numbers of keys, each with its first row, in the order of the keys where they are to be sorted.
@@ -91,11 +74,10 @@ pub(crate) fn numbers_in_order<R: KeyLevels>(
     if !sorted {
         return in_sequence(alloc, firsts.len());
     }
-    let order = ByKey {
-        dict,
+    let keys = FirstKeys {
         rows,
         levels,
         firsts,
     };
-    sorted_rows(alloc, firsts.len(), &order)
+    rows_by_labels(alloc, dict, &keys, true, firsts.len())
 }

@@ -1,6 +1,6 @@
 -- Frames of columns that were read.
 use Rattle.std.proofs.Common.{◌≡◌, ◌≢◌, ◌∙◌, ◌+◌, ◌<◌, refl, ap, sym, subst, ℕ, List, [], ◌∷◌, ◌++◌, map, length, drop, get_or, slice_get, append_assoc, append-nil, unwrap_or, Option, Some, None, Ok, All, arith}
-use Rattle.std.specs.Prelude.{IsSome, Result, pos, reverse}
+use Rattle.std.specs.Prelude.{IsSome, Result, reverse}
 use Rattle.std.specs.List.{AllPairs, range_with_len}
 use Rattle.std.proofs.lemmas.List.{drop_more, get_or-map, length-map, map-append, reverse-append}
 use Rattle.std.proofs.lemmas.List.FromFn.{length-map-range_with_len}
@@ -9,9 +9,8 @@ use Rattle.std.proofs.lemmas.Option.{slice_get-get_or}
 use Rattle.cell_core.specs.declared.cell.Label.{Label}
 use Rattle.cell_core.specs.declared.grid.Shape.TheVariants.{Series, Frame}
 use Rattle.meaning.specs.Text.{Text}
-use Rattle.meaning.specs.Cell.{int}
 use Rattle.index_core.specs.Ranges.{number_label, range_labels}
-use Rattle.multi_index.specs.Axes.{AxisValue, HaveLevels, single_tuples, range_axis}
+use Rattle.multi_index.specs.Axes.{AxisValue, HaveLevels, range_axis}
 use Rattle.column_core.specs.Blocks.{CellBlock}
 use Rattle.column_core.specs.Columns.{CellColumn}
 use Rattle.table_meaning.specs.Settled.{IsSettled}
@@ -22,8 +21,9 @@ use Rattle.method_meaning.specs.Readers.{frame_of_columns, frame_or_fault}
 use Rattle.csv_meaning.specs.CsvRead.{CsvValue, CsvRefusal}
 use Rattle.csv_frames.specs.Views.{tuples_seen, column_seen, columns_seen, csv_seen, PartsFit}
 use Rattle.csv_frames.specs.declared.table.CsvTable.{CsvTable}
+use Rattle.form_parts.proofs.LabelLaws.{default_seen}
 use Rattle.frame_store.specs.Parts.{HeadingList, IsSingle, block_column, table_column, table_with}
-use Rattle.frame_store.specs.Shown.{labels_value, headings_value, columns_value}
+use Rattle.frame_store.specs.Shown.{headings_value, columns_value}
 use Rattle.frame_store.proofs.Settling.{settled_by}
 use Rattle.file_readers.specs.Frames.{headings_of, column_block, frame_of}
 
@@ -31,10 +31,6 @@ abbrev pub first_label : List Label → Option Label
 first_label tuple = slice_get tuple 0
 
 -- what is seen of the parts
-rows_seen : (texts : List Text) (ns : List ℕ) → map (λ row. int (pos row) ∷ []) ns ≡ labels_value texts (single_tuples (map number_label ns))
-rows_seen texts [] = refl
-rows_seen texts (n ∷ ns) = ap (λ ls. (int (pos n) ∷ []) ∷ ls) (rows_seen texts ns)
-
 first_seen : (texts : List Text) (tuple : List Label) → slice_get (tuple_value texts tuple) 0 ≡ heading_value texts (first_label tuple)
 first_seen texts [] = refl
 first_seen texts (l ∷ ls) = refl
@@ -53,7 +49,7 @@ frame_seen texts read = λ j.
       shape = Frame;
       columns_name = None;
       level_names = None ∷ [];
-      labels = rows_seen texts (range_with_len 0 read.rows) j;
+      labels = sym (default_seen texts read.rows) j;
       headings = headings_seen texts read.labels j;
       columns = cells_seen texts read.columns j;
     }

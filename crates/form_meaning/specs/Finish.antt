@@ -1,13 +1,13 @@
 -- What all answers have in common: equal labels of columns, and the limits.
 use Rattle.std.specs.Prelude.{ℕ, pos, Bool, true, false, List, [], ◌∷◌, map, length, replicate, unwrap_or, Option, Some, None, Result, Ok, Err, if◌then◌else◌}
 use Rattle.std.specs.List.{list_any, range_with_len}
-use Rattle.cell_core.specs.declared.cell.Kind.TheVariants.{Int64, Boolean, Text as string}
 use Rattle.cell_core.specs.declared.grid.Shape.TheVariants.{Series}
 use Rattle.meaning.specs.Cell.{Kind, CellValue, na_cell, LabelValue, int}
 use Rattle.meaning.specs.Column.{ColumnValue, ColumnFault, kind_mismatch, zero_division, not_cast}
 use Rattle.meaning.specs.Fault.{FaultValue, wrong_kind, bad_value, repeated, cast, zero_divide, limit, then_value}
 use Rattle.table_meaning.specs.Table.{ColumnOf, Table}
 use Rattle.table_meaning.specs.Value.{Entry, table}
+pub use Rattle.table_meaning.specs.Table.{same_kind}
 pub use Rattle.table_meaning.specs.Valid.{within_limits}
 use Rattle.form_meaning.specs.Binding.{same_label}
 
@@ -68,12 +68,6 @@ default_labels count = map (λ row. int (pos row) ∷ []) (range_with_len 0 coun
 
 abbrev pub missing_column : Kind → ℕ → ColumnOf CellValue
 missing_column kind count = record { kind = kind; cells = replicate count na_cell }
-
-abbrev pub same_kind : Kind → Kind → Bool
-same_kind Int64 Int64 = true
-same_kind Boolean Boolean = true
-same_kind string string = true
-same_kind a b = false
 
 -- the labels of the columns as those of rows; 0 would stand for a label that is missing, which no frame has
 abbrev pub column_labels : Table → List (List LabelValue)

@@ -2,7 +2,7 @@
 use Rattle.std.specs.Prelude.{ℕ, pos, Bool, true, false, ◌&&◌, List, [], ◌∷◌, map, length, replicate, is_some, Option, Some, None, Result, Ok, Err, if◌then◌else◌}
 use Rattle.std.specs.List.{list_all, list_any}
 use Rattle.std.specs.Ordering.{is_lt}
-use Rattle.std.specs.Cmp.Lexicographic.{slice_cmp}
+use Rattle.std.specs.Cmp.Lexicographic.{pointwise, slice_cmp}
 use Rattle.cell_core.specs.declared.cell.Kind.{Kind}
 use Rattle.cell_core.specs.declared.cell.Kind.TheVariants.{Int64, Boolean}
 use Rattle.cell_core.specs.declared.grid.Shape.{Shape}
@@ -21,24 +21,18 @@ use Rattle.form_meaning.specs.Finish.{within_limits, limited_table, same_heading
 
 -- lists of equal labels
 abbrev pub same_tuple : List LabelValue → List LabelValue → Bool
-same_tuple [] [] = true
-same_tuple (a ∷ as') (b ∷ bs) = same_label a b && same_tuple as' bs
-same_tuple a b = false
+same_tuple a b = pointwise same_label a b
 
 -- lists of equal tuples: the rows of two axes meet by position
 abbrev pub same_tuples : List (List LabelValue) → List (List LabelValue) → Bool
-same_tuples [] [] = true
-same_tuples (a ∷ as') (b ∷ bs) = same_tuple a b && same_tuples as' bs
-same_tuples a b = false
+same_tuples a b = pointwise same_tuple a b
 
 -- the order of tuples: that of their first different labels
 abbrev pub tuple_before : List LabelValue → List LabelValue → Bool
 tuple_before a b = is_lt (slice_cmp label_cmp a b)
 
 abbrev pub same_headings : List (Option LabelValue) → List (Option LabelValue) → Bool
-same_headings [] [] = true
-same_headings (a ∷ as') (b ∷ bs) = same_heading a b && same_headings as' bs
-same_headings a b = false
+same_headings a b = pointwise same_heading a b
 
 -- the labels of the rows are the labels of the columns, in their order
 abbrev pub are_headings : List (List LabelValue) → List (Option LabelValue) → Bool
@@ -69,7 +63,8 @@ meets op m = is_some (operator_kind op m.0.kind m.1.kind)
 abbrev pub met : Binary → Meeting → Result (ColumnOf CellValue) FaultValue
 met op m = made_column (binary_column op m.0 m.1)
 
--- The table whose columns are what the operator makes of these. Kinds are tested first, the limits next, a divisor of 0 last.
+-- The table whose columns are what the operator makes of these. Kinds are tested first, the limits next, a divisor of 0
+-- last.
 abbrev pub infix_table : Binary → Table → List Meeting → Result Entry FaultValue
 infix_table op t meetings =
     if list_all (meets op) meetings
@@ -153,8 +148,8 @@ joined_infix op a b t rows = infix_table op (with_joined a b t rows) (joined_col
 abbrev pub unequal_infix : Binary → Table → Table → Table → Result Entry FaultValue
 unequal_infix op a b t = if compares op then Err (bad_value not_aligned) else then_value (joined_rows a.labels b.labels) (joined_infix op a b t)
 
--- Two tables whose columns meet in order; t is the left one, under the headings of the answer. Rows meet by position where
--- the labels of both are equal, and else each with each row of its label, or with none.
+-- Two tables whose columns meet in order; t is the left one, under the headings of the answer. Rows meet by position
+-- where the labels of both are equal, and else each with each row of its label, or with none.
 abbrev pub rows_infix : Binary → Table → Table → Table → Result Entry FaultValue
 rows_infix op a b t =
     on_levels (list_all (meets op) (beside a.columns b.columns)) (same_count a.level_names b.level_names)
@@ -248,8 +243,9 @@ abbrev pub joined_turned : Binary → Bool → Table → Table → Result Entry 
 joined_turned op false f g = joined_frames op f g
 joined_turned op true f g = joined_frames op g f
 
--- A frame with a Series of other labels than its columns: each row meets the Series by the labels of columns that either has. Kinds are tested first:
--- each column's and the Series', and where a column and a label meet. They aren't compared, and no label of the Series stands twice.
+-- A frame with a Series of other labels than its columns: each row meets the Series by the labels of columns that
+-- either has. Kinds are tested first: each column's and the Series', and where a column and a label meet. They aren't
+-- compared, and no label of the Series stands twice.
 abbrev pub across_unequal : Binary → Bool → Table → Table → Result Entry FaultValue
 across_unequal op left f s =
     on_levels (takes_each op f s) (has_one s.level_names)
@@ -257,7 +253,8 @@ across_unequal op left f s =
     then (if compares op then Err (bad_value not_aligned) else then_value (spread_frame f s) (joined_turned op left f))
     else Err wrong_kind)
 
--- A frame with a Series. Each row meets the Series: in order where its labels are those of the columns, and else by its labels.
+-- A frame with a Series. Each row meets the Series: in order where its labels are those of the columns, and else by its
+-- labels.
 abbrev pub across_infix : Binary → Bool → Table → Table → Result Entry FaultValue
 across_infix op left f s =
     if are_headings s.labels f.headings

@@ -143,7 +143,8 @@ abbrev pub frame_with : List LabelValue → List (ColumnOf CellValue) → Option
 frame_with headings [] index = few_levels (labels_given index) (limited (frame_table (labels_given index) headings []))
 frame_with headings (c ∷ cs) index = all_of_length (length c.cells) cs (with_index (length c.cells) index (λ labels. limited (frame_table labels headings (c ∷ cs))))
 
--- `pd.DataFrame`: lists of scalars, mixed kinds, lengths, the number of labels, and that of their levels are tested in this order
+-- `pd.DataFrame`: lists of scalars, mixed kinds, lengths, the number of labels, and that of their levels are tested in
+-- this order
 abbrev pub frame_of : List (LabelValue × Given) → Option GivenList → Result Entry FaultValue
 frame_of pairs index =
     if list_all is_scalar_list pairs

@@ -1,11 +1,12 @@
--- What selections, constructors and methods share: columns by their labels, the scalars of a list, and the length of a value.
-use Rattle.std.specs.Prelude.{ℕ, suc, pos, List, [], ◌∷◌, map, length, slice_index_or, unwrap_or, Option, Some, None, option_map, Result, Ok, Err, if◌then◌else◌}
+-- What selections, constructors and methods share: columns by their labels, the scalars of a list, and the length of a
+-- value.
+use Rattle.std.specs.Prelude.{ℕ, suc, pos, List, [], ◌∷◌, map, length, slice_index_or, Option, Some, None, option_map, Result, Ok, Err, if◌then◌else◌}
 use Rattle.std.specs.Int.{int_wrap, w64}
-use Rattle.meaning.specs.Cell.{CellValue, int_cell, LabelValue, int}
+use Rattle.meaning.specs.Cell.{CellValue, int_cell, LabelValue}
 use Rattle.meaning.specs.Operator.{cell_label}
-use Rattle.meaning.specs.Fault.{FaultValue, wrong_kind, no_key, then_value}
+use Rattle.meaning.specs.Fault.{FaultValue, wrong_kind, no_key}
 use Rattle.table_meaning.specs.Table.{Table, column_at}
-use Rattle.table_meaning.specs.Value.{Entry, cell, table, Given, GivenList, nothing, one, row, many, entries, no_given, more_given}
+use Rattle.table_meaning.specs.Value.{Entry, cell, table, GivenList, nothing, one, row, many, entries, no_given, more_given}
 use Rattle.form_meaning.specs.Finish.{same_heading, try_all}
 
 -- the place of the first column with the label

@@ -1,5 +1,5 @@
 -- The rows that labels take, by their numbers as by their texts, and the columns on such rows.
-use Rattle.std.proofs.Common.{◌≡◌, ◌∙◌, ap, refl, sym, subst, ℕ, ◌+◌, ◌<◌, Bool, false, List, [], ◌∷◌, ◌++◌, map, length, take, slice_index_or, All, Option, Some, None, Result, Ok, Err}
+use Rattle.std.proofs.Common.{◌≡◌, ◌∙◌, ap, refl, sym, subst, ℕ, ◌+◌, ◌<◌, false, List, [], ◌∷◌, ◌++◌, map, length, take, slice_index_or, All, Option, Some, None, Result, Ok, Err}
 use Rattle.std.specs.Prelude.{IfOk}
 use Rattle.std.proofs.Math.ListN.{get_or-map}
 use Rattle.std.proofs.lemmas.List.{map-append, take_more}
@@ -9,7 +9,7 @@ use Rattle.cell_core.specs.declared.cell.Cell.TheVariants.{Na}
 use Rattle.cell_core.specs.declared.cell.Label.{Label}
 use Rattle.cell_core.specs.Texts.{AreDistinct, AreGiven, IsGiven}
 use Rattle.meaning.specs.Text.{Text}
-use Rattle.meaning.specs.Cell.{CellValue, na_cell, datum}
+use Rattle.meaning.specs.Cell.{na_cell, datum}
 use Rattle.meaning.specs.Column.{gap_cell, taken}
 use Rattle.meaning.specs.Fault.{FaultValue, bad_value, repeated}
 use Rattle.column_core.specs.Blocks.{CellBlock}

@@ -1,23 +1,25 @@
 -- Labels are equal exactly where their numbers are.
-use Rattle.std.proofs.Common.{◌≡◌, ◌∙◌, ◌++◌, Bool, true, false, List, [], refl, ap, sym, Option, Some, None}
+use Rattle.std.proofs.Common.{◌≡◌, ◌∙◌, ◌++◌, ℕ, Bool, List, [], ◌∷◌, map, refl, ap, sym, Option, Some, None}
+use Rattle.std.specs.Prelude.{pos}
 use Rattle.std.specs.Bool.{Decides}
-use Rattle.std.specs.FinMap.{int_cmp-IsAntisymmetric, nat_cmp-IsAntisymmetric, slice_cmp-IsAntisymmetric}
-use Rattle.std.specs.Ordering.{is_eq, bool_cmp}
-use Rattle.std.specs.declared.cmp.Ordering.{Ordering}
-use Rattle.std.specs.declared.cmp.Ordering.TheVariants.{Less, Equal, Greater}
+use Rattle.std.specs.List.{range_with_len}
+use Rattle.std.specs.Ordering.{is_eq}
 use Rattle.std.proofs.lemmas.Bool.Decides.{same_from_decides}
 use Rattle.std.proofs.lemmas.Cmp.{tied_itself}
 use Rattle.cell_core.specs.declared.cell.Label.{Label}
 use Rattle.cell_core.specs.declared.cell.Label.TheVariants as label
 use Rattle.cell_core.specs.declared.cell.Cell.TheVariants as cell
-use Rattle.cell_core.specs.declared.cell.TextId.{TextId}
 use Rattle.cell_core.specs.Texts.{AreDistinct, IsGivenLabel}
-use Rattle.cell_core.specs.Values.{text_cell, LabelValue, truth, int, text, na, label_cmp, label_datum}
+use Rattle.cell_core.specs.Values.{text_cell, LabelValue, int, text, na, label_cmp, label_datum}
 use Rattle.cell_core.proofs.LabelLaws.{label_total}
 use Rattle.meaning.specs.Text.{Text}
 use Rattle.table_meaning.specs.Settled.{IsSettled}
 use Rattle.table_meaning.specs.Table.{heading_value}
+use Rattle.index_core.specs.Ranges.{number_label}
+use Rattle.multi_index.specs.Axes.{range_axis, single_tuples}
 use Rattle.form_meaning.specs.Binding.{same_label}
+use Rattle.form_meaning.specs.Finish.{default_labels}
+use Rattle.frame_store.specs.Shown.{labels_value}
 use Rattle.frame_store.proofs.Settling.{cell_given}
 use Rattle.label_align.proofs.SameLaws.{value_same, is_equal}
 pub use Rattle.label_align.proofs.SameLaws.{label_one}
@@ -53,3 +55,11 @@ same_by_number texts a b r distinct f g is =
 -- a heading's label
 pub heading_label : (texts : List Text) (h : Option Label) (l : Label) → h ≡ Some l → IsSettled heading_value texts h → IsSettled label_datum texts l
 heading_label texts h l is settled = λ more. ap (λ (o : Option Label). label_in (heading_value (texts ++ more) o)) (sym is) ∙ ap label_in (settled more) ∙ ap (λ (o : Option Label). label_in (heading_value texts o)) is
+
+-- the labels 0, 1 and so on
+numbers_seen : (texts : List Text) (ns : List ℕ) → labels_value texts (single_tuples (map number_label ns)) ≡ map (λ k. int (pos k) ∷ []) ns
+numbers_seen texts [] = refl
+numbers_seen texts (n ∷ ns) = λ i. (int (pos n) ∷ []) ∷ numbers_seen texts ns i
+
+pub default_seen : (texts : List Text) (count : ℕ) → labels_value texts (range_axis count).tuples ≡ default_labels count
+default_seen texts count = numbers_seen texts (range_with_len 0 count)

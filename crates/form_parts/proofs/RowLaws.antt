@@ -1,7 +1,8 @@
 -- Rows and headings are equal exactly where their labels' numbers are.
-use Rattle.std.proofs.Common.{◌≡◌, Bool, ◌&&◌, List, [], ◌∷◌, refl, ap, All}
+use Rattle.std.proofs.Common.{◌≡◌, Bool, List, [], ◌∷◌, refl, ap, All}
 use Rattle.std.specs.Bool.{Decides}
-use Rattle.std.proofs.lemmas.Bool.Decides.{same_from_decides, Decides-and, Decides-like}
+use Rattle.std.specs.Cmp.Lexicographic.{pointwise_decides}
+use Rattle.std.proofs.lemmas.Bool.Decides.{same_from_decides}
 use Rattle.std.proofs.lemmas.List.Elements.{All-nil, All-cons, All-head, All-tail}
 use Rattle.cell_core.specs.declared.cell.Label.{Label}
 use Rattle.cell_core.specs.Texts.{AreDistinct, IsGivenLabel}
@@ -9,7 +10,6 @@ use Rattle.cell_core.specs.Values.{LabelValue, label_datum}
 use Rattle.meaning.specs.Text.{Text}
 use Rattle.table_meaning.specs.Settled.{IsSettled}
 use Rattle.table_meaning.specs.Table.{tuple_value}
-use Rattle.form_meaning.specs.Binding.{same_label}
 use Rattle.form_meaning.specs.Infix.{same_tuple, same_tuples}
 use Rattle.frame_store.specs.Shown.{labels_value}
 use Rattle.row_keys.specs.Keys.{same_tuple as same_numbers}
@@ -33,16 +33,10 @@ module _ {X : Type 0} where
   apart a b as' bs e = (ap (head_or a) e, ap tail_of e)
 
 tuple_decides : (a b : List LabelValue) → Decides (same_tuple a b) (a ≡ b)
-tuple_decides [] [] = (λ e. refl, λ e. refl)
-tuple_decides [] (b ∷ bs) = (λ e. cc, λ e. cc)
-tuple_decides (a ∷ as') [] = (λ e. cc, λ e. cc)
-tuple_decides (a ∷ as') (b ∷ bs) = Decides-like (same_label a b && same_tuple as' bs) (joined a b as' bs) (apart a b as' bs) (Decides-and (same_label a b) (same_tuple as' bs) (value_decides a b) (tuple_decides as' bs))
+tuple_decides a b = pointwise_decides value_decides a b
 
 tuples_decide : (a b : List (List LabelValue)) → Decides (same_tuples a b) (a ≡ b)
-tuples_decide [] [] = (λ e. refl, λ e. refl)
-tuples_decide [] (b ∷ bs) = (λ e. cc, λ e. cc)
-tuples_decide (a ∷ as') [] = (λ e. cc, λ e. cc)
-tuples_decide (a ∷ as') (b ∷ bs) = Decides-like (same_tuple a b && same_tuples as' bs) (joined a b as' bs) (apart a b as' bs) (Decides-and (same_tuple a b) (same_tuples as' bs) (tuple_decides a b) (tuples_decide as' bs))
+tuples_decide a b = pointwise_decides tuple_decides a b
 
 label_settled : (texts : List Text) (l : Label) (ls : List Label) → IsSettled tuple_value texts (l ∷ ls) → IsSettled label_datum texts l
 label_settled texts l ls settled = λ more. ap (head_or (label_datum texts l)) (settled more)

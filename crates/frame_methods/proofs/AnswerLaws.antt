@@ -4,7 +4,6 @@ use Rattle.nullable_array.specs.declared.ops.Reduction.TheVariants as reduction
 use Rattle.meaning.specs.Text.{Text}
 use Rattle.meaning.specs.Fault.{FaultValue, not_built, then_value}
 use Rattle.table_meaning.specs.Table.{NumberedTable, Table, table_value}
-use Rattle.table_meaning.specs.Valid.{IsWhole}
 use Rattle.table_meaning.specs.Value.{Entry, Given, NamedGiven}
 use Rattle.form_meaning.specs.declared.Method.{Method}
 use Rattle.form_meaning.specs.declared.Parameter.{Parameter}
@@ -14,11 +13,10 @@ use Rattle.method_meaning.specs.Methods.{summary, answer_for, is_built}
 use Rattle.method_meaning.specs.Calls.{called}
 use Rattle.frame_store.specs.Shown.{Refuses, Makes}
 use Rattle.frame_store.specs.declared.arguments.Named.{Named}
-use Rattle.frame_store.specs.declared.arguments.Value.{Value}
 use Rattle.frame_store.specs.declared.fault.OpFault.{OpFault}
-use Rattle.frame_store.specs.World.{World, arguments_in, IsSettledWorld, IsKnownTable, Forms}
+use Rattle.frame_store.specs.World.{World, arguments_in, IsSettledWorld, Forms}
 use Rattle.frame_store.specs.declared.fault.OpFault.TheVariants.{Refused, NoMemory}
-use Rattle.frame_store.proofs.Settling.{longer_self, object_settled}
+use Rattle.frame_store.proofs.Settling.{longer_self}
 use Rattle.signatures.specs.Bound.{given_in, stands_at, IsBound, code_of}
 use Rattle.signatures.specs.declared.binding.Unbound.{Unbound}
 use Rattle.signatures.specs.declared.binding.Unbound.TheVariants.{NotTaken, NotListed}
@@ -26,7 +24,7 @@ use Rattle.signatures.specs.declared.bound.Bound.{Bound}
 use Rattle.signatures.proofs.ToldLaws.{some_same}
 use Rattle.frame_methods.specs.Built.{method_of}
 use Rattle.frame_methods.specs.Calls.{answer_in}
-use Rattle.frame_methods.specs.Named.{FindsPlaces}
+use Rattle.label_methods.specs.Named.{FindsPlaces}
 use Rattle.frame_methods.specs.Summaries.{summary_value}
 use Rattle.frame_methods.specs.declared.summaries.Summary.{Summary}
 use Rattle.frame_methods.specs.declared.summaries.Summary.TheVariants.{Reduced, Distinct}
@@ -74,10 +72,6 @@ pub answer_by : (w : World) (m m' : Method) (b : Bound) (t : Table) (go : (ℕ �
 answer_by w m m' b t go is parameters same =
     ap (λ p. go (argument_at p (arguments_in w b.args.now))) (parameters ∙ ap parameters_of is) ∙ same ∙ answer_is w m m' b t is parameters
 
--- a table that is read of a settled world
-pub known_table : (w : World) (id : ℕ) (t : NumberedTable) → w.tables id ≡ Some t → IsWhole t → IsSettledWorld w → IsKnownTable w.texts t
-known_table w id t at whole settled = record { whole = whole; given = object_settled w.texts w.tables id t at settled }
-
 -- a table that is made of an object's, by another wording
 pub makes_by : (w : World) (m m' : Method) (b : Bound) (source t : NumberedTable) (r : Result NumberedTable OpFault) (go : (ℕ → Given) → Table → Result Entry FaultValue) (meant : Result Entry FaultValue) → source ≡ t → m ≡ m'
     → b.parameters.now ≡ parameters_of m → ((v : Table) → go (argument_at (parameters_of m') (arguments_in w b.args.now)) v ≡ answer_of w m' b v) → meant ≡ go (stands_at w.tables w.texts b) (table_value w.texts source)
@@ -95,9 +89,6 @@ lost_forms w t fault lost meant go was finds settled = at fault (subst (λ (r : 
     at : (f : OpFault) → FindsPlaces w.texts t (Err f) meant → Forms (Err f) (then_value meant go) w w
     at (Refused code) m = (((ap (λ (r : Result (List ℕ) FaultValue). then_value r go) m.0.0, m.0.1), refl), longer_self w.texts, settled)
     at NoMemory m = (refl, longer_self w.texts, settled)
-
-pub forms_so : (r : Result Value OpFault) (meant meant' : Result Entry FaultValue) (old new : World) → meant ≡ meant' → Forms r meant old new → Forms r meant' old new
-forms_so r meant meant' old new same = subst (λ (m : Result Entry FaultValue). Forms r m old new) same
 
 -- the summaries
 pub summary_meant : (op : Summary) (gs : List Given) (t : Table) → summary (summary_value op) t ≡ answer_for (method_of (built.Summary op)) gs t

@@ -1,12 +1,12 @@
 -- Columns that are made one by one.
-use Rattle.std.proofs.Common.{◌≡◌, ◌∙◌, refl, ap, sym, subst, ℕ, suc, ◌+◌, ◌<◌, List, [], ◌∷◌, ◌++◌, map, drop, length, append_assoc, append-nil, length-append, All, Result, Ok, Err, slice_index_or, slice_get, Some, arith}
+use Rattle.std.proofs.Common.{◌≡◌, ◌∙◌, refl, ap, sym, subst, ℕ, suc, ◌+◌, ◌<◌, List, [], ◌∷◌, ◌++◌, map, drop, length, append-nil, length-append, All, Result, Ok, Err, slice_index_or, slice_get, Some, arith}
 use Rattle.std.proofs.lemmas.List.{map-append}
 use Rattle.std.proofs.lemmas.List.Elements.{All-append, All-cons, All-nil}
 use Rattle.std.proofs.lemmas.Option.{slice_get-get_or}
 use Rattle.cell_core.specs.declared.cell.Cell.{Cell}
 use Rattle.meaning.specs.Text.{Text}
 use Rattle.meaning.specs.Cell.{CellValue, IsLonger, AreGiven}
-use Rattle.meaning.specs.Fault.{FaultValue, then_value}
+use Rattle.meaning.specs.Fault.{FaultValue}
 use Rattle.column_core.specs.Columns.{CellColumn}
 use Rattle.column_core.specs.Blocks.{CellBlock}
 use Rattle.table_meaning.specs.Settled.{IsSettled}
@@ -15,32 +15,17 @@ use Rattle.form_meaning.specs.Finish.{try_all}
 use Rattle.frame_store.specs.Parts.{block_column, single_block, IsSingle, table_column}
 use Rattle.frame_store.specs.Shown.{columns_value, cells_value}
 use Rattle.frame_store.proofs.Settling.{settled_later, seen_later, cells_settled, cells_given, column_settled, columns_settled, columns_given, columns_part, longer_self, longer_twice}
-use Rattle.frame_methods.specs.Columns.{with_front, IsFront, MakesColumn, MakesColumns}
+use Rattle.label_methods.specs.Columns.{with_front}
+use Rattle.label_methods.proofs.FrontLaws.{front_next, front_fails}
+use Rattle.frame_methods.specs.Columns.{IsFront, MakesColumn, MakesColumns}
 use Rattle.meaning.specs.FaultOf.{fault_of}
 use Rattle.frame_store.specs.declared.fault.OpFault.{OpFault}
 use Rattle.frame_store.specs.declared.fault.OpFault.TheVariants.{Refused, NoMemory}
-use Rattle.frame_methods.proofs.Lists.{drop_next}
+use Rattle.label_methods.proofs.Lists.{drop_next, drop_all}
 
 -- what was given stays so
 pub given_later : (old new : List Text) (cells : List Cell) → IsLonger old new → AreGiven old cells → AreGiven new cells
 given_later old new cells longer given = cells_given new cells (settled_later cells_value old new cells longer (cells_settled old cells given))
-
-front_twice : {B : Type 0} (made : List B) (y : B) (rest : Result (List B) FaultValue) → with_front (made ++ y ∷ []) rest ≡ with_front made (then_value rest (λ ys. Ok (y ∷ ys)))
-front_twice made y (Ok ys) = ap Ok (append_assoc made (y ∷ []) ys)
-front_twice made y (Err fault) = refl
-
-abbrev first_then : {A B : Type 0} → (A → Result B FaultValue) → List A → Result B FaultValue → Result (List B) FaultValue
-first_then f xs first = then_value first (λ y. then_value (try_all f xs) (λ ys. Ok (y ∷ ys)))
-
--- one item more is made
-pub front_next : {A B : Type 0} (f : A → Result B FaultValue) (made : List B) (x : A) (y : B) (xs : List A) (whole : Result (List B) FaultValue)
-    → with_front made (try_all f (x ∷ xs)) ≡ whole → f x ≡ Ok y → with_front (made ++ y ∷ []) (try_all f xs) ≡ whole
-front_next f made x y xs whole so_far is = front_twice made y (try_all f xs) ∙ ap (λ r. with_front made (first_then f xs r)) (sym is) ∙ so_far
-
--- or it is the first fault
-pub front_fails : {A B : Type 0} (f : A → Result B FaultValue) (made : List B) (x : A) (fault : FaultValue) (xs : List A) (whole : Result (List B) FaultValue)
-    → with_front made (try_all f (x ∷ xs)) ≡ whole → f x ≡ Err fault → whole ≡ Err fault
-front_fails f made x fault xs whole so_far is = sym so_far ∙ ap (λ r. with_front made (first_then f xs r)) is
 
 -- the column at a place, and those after it
 pub at_place : (columns : List (ColumnOf Cell)) (place : ℕ) (a : ColumnOf Cell) → place < length columns → column_at columns place ≡ a → drop place columns ≡ a ∷ drop (place + 1) columns
@@ -101,10 +86,6 @@ pub front_refused : (f : ColumnOf CellValue → Result (ColumnOf CellValue) Faul
 front_refused f first dict columns rows place made a fault so_far lt at is =
     front_fails f (columns_value dict (map block_column made)) (column_value first (table_column a)) fault (columns_value first (drop (place + 1) columns)) (try_all f (columns_value first columns))
     (ap (λ l. placed_front f (columns_value dict (map block_column made)) (columns_value first l)) (sym (at_place columns place (table_column a) lt at)) ∙ so_far.answer) is
-
-pub drop_all : {X : Type 0} (xs : List X) → drop (length xs) xs ≡ []
-drop_all [] = refl
-drop_all (x ∷ xs) = drop_all xs
 
 pub front_ends : (f : ColumnOf CellValue → Result (ColumnOf CellValue) FaultValue) (first dict : List Text) (columns : List (ColumnOf Cell)) (rows place : ℕ) (made : List CellBlock)
     → IsFront f first dict columns rows place made → place ≡ length columns → try_all f (columns_value first columns) ≡ Ok (columns_value dict (map block_column made))

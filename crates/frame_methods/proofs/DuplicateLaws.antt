@@ -36,10 +36,11 @@ use Rattle.std.proofs.lemmas.List.Elements.{All-cons, All-nil, All-map, All-get_
 use Rattle.std.proofs.lemmas.List.Folds.{list_any-append}
 use Rattle.std.proofs.lemmas.Map.Keys.{apart_from_distinct}
 use Rattle.std.proofs.lemmas.Option.{slice_get_within, get_or_from_slice_get}
-use Rattle.frame_methods.specs.Rows.{row_cells, AreNumbers, duplicated_among}
+use Rattle.label_methods.specs.Rows.{row_cells}
+use Rattle.frame_methods.specs.Rows.{AreNumbers, duplicated_among}
 use Rattle.frame_methods.proofs.ListedLaws.{cell_by_number}
-use Rattle.frame_methods.proofs.RowLaws.{cells_in, by_rows}
-use Rattle.frame_methods.proofs.TableLaws.{limited_within}
+use Rattle.label_methods.proofs.RowLaws.{cells_in, by_rows}
+use Rattle.label_methods.proofs.TableLaws.{limited_within}
 
 -- a number and a cell as a key
 abbrev pub Key : Type 0

@@ -1,4 +1,3 @@
-pub mod Lists
 pub mod ColumnLaws
 pub mod OpLaws
 pub mod TableLaws
@@ -14,13 +13,3 @@ pub mod CsvLaws
 pub mod RowLaws
 pub mod DuplicateLaws
 pub mod SortLaws
-pub mod NamedLaws
-pub mod UnderLaws
-pub mod LevelNameLaws
-pub mod IndexingLaws
-pub mod LevelColumnLaws
-pub mod ResetLaws
-pub mod ResetTableLaws
-pub mod LevelMoveLaws
-pub mod ReindexLaws
-pub mod SectionLaws

@@ -3,7 +3,6 @@ use Rattle.std.proofs.Common.{◌≡◌, ◌∙◌, ◌<◌, ◌+◌, refl, ap, 
 use Rattle.std.specs.Option.{option_map}
 use Rattle.std.specs.Bool.{Decides}
 use Rattle.std.specs.List.{list_any}
-use Rattle.std.proofs.Math.Seq.{drop-cons}
 use Rattle.std.proofs.lemmas.List.{map-append}
 use Rattle.std.proofs.lemmas.List.Folds.{list_any-append}
 use Rattle.std.proofs.lemmas.List.Elements.{All-append, All-cons, All-nil, All-map}
@@ -23,19 +22,20 @@ use Rattle.meaning.specs.Fault.{FaultValue}
 use Rattle.column_core.specs.Columns.{CellColumn}
 use Rattle.table_meaning.specs.Settled.{IsSettled}
 use Rattle.table_meaning.specs.Table.{Table, column_value}
-use Rattle.table_meaning.specs.Value.{Entry, GivenList, scalar_in}
+use Rattle.table_meaning.specs.Value.{Entry, GivenList}
 use Rattle.form_meaning.specs.Binding.{same_label}
 use Rattle.form_meaning.specs.Make.{on}
 use Rattle.form_meaning.specs.Select.{cells_of}
 use Rattle.method_meaning.specs.Methods.{is_in, mapped, each_column}
 use Rattle.frame_store.specs.Objects.{Tables}
-use Rattle.frame_store.specs.Arguments.{item_of, items_of}
+use Rattle.frame_store.specs.Arguments.{items_of}
 use Rattle.frame_store.specs.Shown.{cells_value}
 use Rattle.frame_store.specs.declared.arguments.Item.{Item}
 use Rattle.frame_store.proofs.Settling.{cell_settled, cell_given}
-use Rattle.signatures.proofs.ScalarLaws.{cells_of_more, scalars_are}
+use Rattle.signatures.proofs.ScalarLaws.{scalars_are}
 use Rattle.frame_store.specs.Parts.{table_column}
 use Rattle.signatures.specs.Scalars.{scalars, with_cell}
+use Rattle.label_methods.proofs.ScalarLaws.{IsScalarOf, scalars_from}
 use Rattle.frame_methods.specs.Listed.{noted, listed_column}
 use Rattle.nullable_array.specs.Marks.{same_number, listed_mark}
 
@@ -95,18 +95,6 @@ listed_answer texts values a new distinct given all is =
 pub listed_given : (texts : List Text) (values : List Cell) (a new : CellColumn) → new ≡ record { kind = Boolean; cells = map (listed_mark values) a.cells } → AreGiven texts new.cells
 listed_given texts values a new is =
     subst (λ (n : CellColumn). AreGiven texts n.cells) (sym is) (All-map (IsGiven texts) (listed_mark values) a.cells (λ k d lt. tt))
-
--- the scalars from a part on
-abbrev pub IsScalarOf : Option Cell → Item → Type 0
-IsScalarOf o item = (live : Tables) (texts : List Text) → option_map (datum texts) o ≡ scalar_in (item_of live texts item)
-
-pub scalars_from : (texts : List Text) (items : List Item) (i : ℕ) (item : Item) (o : Option Cell) → i < length items → item ≡ get_or items i item → IsScalarOf o item
-    → scalars texts (drop i items) ≡ with_cell (option_map (datum texts) o) (scalars texts (drop (i + 1) items))
-scalars_from texts items i item o lt is scalar =
-    let next : suc i ≡ i + 1 = omega arith in
-    ap (scalars texts) (drop-cons items i item lt ∙ (λ j. sym is j ∷ drop (next j) items))
-    ∙ cells_of_more (item_of (λ id. None) texts item) (items_of (λ id. None) texts (drop (i + 1) items))
-    ∙ ap (λ c. with_cell c (scalars texts (drop (i + 1) items))) (sym (scalar (λ id. None) texts))
 
 -- a cell and those after it are settled where they are so together
 abbrev first_or : CellValue → List CellValue → CellValue

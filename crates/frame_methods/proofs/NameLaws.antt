@@ -17,7 +17,7 @@ use Rattle.frame_store.specs.declared.fault.OpFault.{OpFault}
 use Rattle.frame_store.specs.Parts.{HeadingList}
 use Rattle.frame_store.specs.Shown.{Shown, headings_value, FormAnswers}
 use Rattle.selections.specs.Picked.{headed_by}
-use Rattle.frame_methods.specs.Labels.{column_tuple}
+use Rattle.label_methods.specs.Labels.{column_tuple}
 
 -- a heading that is read of what is settled is settled
 pub named_settled : {A : Type 0} (view : List Text → A) (read : A → Option LabelValue) (texts : List Text) (name : Option Label) (labels : List (Option Label))

@@ -10,10 +10,8 @@ use Rattle.std.proofs.lemmas.List.FromFn.{length-range_with_len}
 use Rattle.cell_core.specs.Grids.{AreRowsBelow}
 use Rattle.cell_core.specs.declared.cell.Cell.{Cell}
 use Rattle.cell_core.specs.declared.grid.Rows.{Rows}
-use Rattle.column_core.proofs.CellRows.{map-map}
 use Rattle.column_core.proofs.MoveLaws.{get_or-tabulate}
 use Rattle.meaning.specs.Cell.{CellValue, na_cell}
-use Rattle.meaning.specs.Column.{tabulate}
 use Rattle.meaning.specs.Fault.{FaultValue}
 use Rattle.meaning.specs.Reduce.{is_present}
 use Rattle.meaning.specs.Text.{Text}
@@ -21,7 +19,6 @@ use Rattle.table_meaning.specs.Settled.{IsSettled}
 use Rattle.table_meaning.specs.Table.{ColumnOf, NumberedTable, Table, row_of, column_at, no_column, table_value, tuple_value, column_value}
 use Rattle.table_meaning.specs.Value.{Entry, table}
 use Rattle.form_meaning.specs.Finish.{limited, within_limits}
-use Rattle.form_meaning.specs.Select.{columns_frame}
 use Rattle.pick_meaning.specs.Keys.{place_slice}
 use Rattle.pick_meaning.specs.Positions.{rows_before}
 use Rattle.pick_meaning.specs.Rows.{rows_of, rows_where}
@@ -37,8 +34,9 @@ use Rattle.selections.specs.Chosen.{chosen}
 use Rattle.selections.proofs.PickedLaws.{list_is, read_is}
 use Rattle.selections.proofs.TakenLaws.{chosen_rows, chosen_settled}
 use Rattle.selections.proofs.AnswerLaws.{own_name, own_labels}
+use Rattle.label_methods.proofs.RowLaws.{cells_in, by_rows}
 use Rattle.frame_methods.specs.Rows.{complete}
-use Rattle.frame_methods.proofs.TableLaws.{limited_within}
+use Rattle.label_methods.proofs.TableLaws.{limited_within}
 
 -- rows side by side, from one on
 abbrev pub run : ℕ → ℕ → Rows
@@ -127,13 +125,6 @@ rows_made texts t made headings rows columns named all is within settled = (
 
 pub makes_so : (texts : List Text) (r : Result NumberedTable OpFault) (meant meant' : Result Entry FaultValue) → meant ≡ meant' → Makes texts r meant → Makes texts r meant'
 makes_so texts r meant meant' same = subst (λ (m : Result Entry FaultValue). Makes texts r m) same
-
--- the cells of a row in the columns at these places, and of all rows
-abbrev pub cells_in : Table → List ℕ → ℕ → List CellValue
-cells_in t places row = map (λ c. slice_index_or c.cells row na_cell) (map (column_at t.columns) places)
-
-pub by_rows : (t : Table) (places : List ℕ) → cells_by_row t places ≡ tabulate (length t.labels) (cells_in t places)
-by_rows t places = map-map (row_of na_cell (columns_frame t places)) (λ r. r.cells) (range_with_len 0 (length t.labels))
 
 pub all_columns_are : (t : Table) → map (column_at t.columns) (all_places t) ≡ t.columns
 all_columns_are t = list_is (column_at t.columns) t.columns 0 no_column (λ k lt. let e : 0 + k ≡ k = omega arith in ap (column_at t.columns) e)

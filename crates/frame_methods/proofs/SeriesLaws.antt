@@ -1,17 +1,16 @@
 -- Series over the labels of columns.
-use Rattle.std.proofs.Common.{◌≡◌, ◌∙◌, refl, ap, sym, subst, pos, true, List, [], ◌∷◌, map, length, Option, Some, None, slice_index_or, unwrap_or, Result, Ok, Err}
+use Rattle.std.proofs.Common.{◌≡◌, ◌∙◌, refl, ap, sym, subst, true, List, [], ◌∷◌, map, length, None, Result, Ok, Err}
 use Rattle.std.proofs.lemmas.List.{length-map}
-use Rattle.std.proofs.lemmas.List.Elements.{All-map, All-cons, All-nil}
+use Rattle.std.proofs.lemmas.List.Elements.{All-cons, All-nil}
 use Rattle.cell_core.specs.declared.cell.Cell.{Cell}
 use Rattle.cell_core.specs.declared.cell.Kind.{Kind}
-use Rattle.cell_core.specs.declared.cell.Label.{Label}
 use Rattle.cell_core.specs.declared.grid.Shape.TheVariants.{Series, Frame}
 use Rattle.meaning.specs.Text.{Text}
-use Rattle.meaning.specs.Cell.{CellValue, LabelValue, int, datum, AreGiven}
+use Rattle.meaning.specs.Cell.{CellValue, datum, AreGiven}
 use Rattle.meaning.specs.Fault.{FaultValue, then_value}
 use Rattle.column_core.specs.Columns.{CellColumn}
-use Rattle.multi_index.specs.Axes.{AxisValue, HaveLevels}
-use Rattle.table_meaning.specs.Table.{ColumnOf, NumberedTable, table_value, heading_value, tuple_value}
+use Rattle.multi_index.specs.Axes.{AxisValue}
+use Rattle.table_meaning.specs.Table.{ColumnOf, NumberedTable, table_value, heading_value}
 use Rattle.table_meaning.specs.Value.{Entry, table}
 use Rattle.table_meaning.specs.Settled.{IsSettled}
 use Rattle.form_meaning.specs.Finish.{within_limits, limited, try_all, across_columns}
@@ -19,27 +18,9 @@ use Rattle.method_meaning.specs.Methods.{Summary, kind_for, summary_as, summary_
 use Rattle.frame_store.specs.Parts.{table_with, table_column}
 use Rattle.frame_store.specs.Shown.{labels_value, headings_value, columns_value}
 use Rattle.frame_store.proofs.Settling.{settled_by, columns_name_part, headings_part, columns_settled, table_settled}
-use Rattle.frame_methods.specs.Labels.{column_tuple}
-use Rattle.frame_methods.proofs.TableLaws.{limited_within}
-
-single : (h : Option Label) → length (column_tuple h) ≡ 1
-single None = refl
-single (Some l) = refl
-
-pub tuples_alike : (hs : List (Option Label)) → HaveLevels 1 (map column_tuple hs)
-tuples_alike hs = All-map (λ (tuple : List Label). length tuple ≡ 1) column_tuple hs (λ k d lt. single (slice_index_or hs k d))
-
--- the label of a column as a tuple, with texts
-abbrev pub label_tuple : Option LabelValue → List LabelValue
-label_tuple h = unwrap_or h (int (pos 0)) ∷ []
-
-tuple_seen : (texts : List Text) (h : Option Label) → label_tuple (heading_value texts h) ≡ tuple_value texts (column_tuple h)
-tuple_seen texts None = refl
-tuple_seen texts (Some l) = refl
-
-pub tuples_seen : (texts : List Text) (hs : List (Option Label)) → map label_tuple (headings_value texts hs) ≡ labels_value texts (map column_tuple hs)
-tuples_seen texts [] = refl
-tuples_seen texts (h ∷ hs) = λ j. tuple_seen texts h j ∷ tuples_seen texts hs j
+use Rattle.label_methods.specs.Labels.{column_tuple}
+use Rattle.label_methods.proofs.TableLaws.{limited_within}
+use Rattle.label_methods.proofs.ColumnLabelLaws.{label_tuple, tuples_seen}
 
 abbrev summaries_axis : NumberedTable → AxisValue
 summaries_axis t = record { tuples = map column_tuple t.headings; names = t.columns_name ∷ [] }

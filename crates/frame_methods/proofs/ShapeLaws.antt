@@ -1,6 +1,6 @@
 -- A method that a name means is one of the shape.
 use Rattle.std.specs.Prelude.{codes}
-use Rattle.std.proofs.Common.{◌≡◌, Bool, true, false, refl, subst, Option, Some, IfSome, if◌then◌else◌}
+use Rattle.std.proofs.Common.{◌≡◌, ◌∙◌, Bool, true, false, refl, ap, sym, subst, Option, Some, IfSome, if◌then◌else◌}
 use Rattle.cell_core.specs.declared.grid.Shape.{Shape}
 use Rattle.cell_core.specs.declared.grid.Shape.TheVariants.{Series, Frame}
 use Rattle.meaning.specs.Text.{Text, same_text}
@@ -77,3 +77,11 @@ named_fits s name =
 
 pub shaped : (s : Shape) (name : Text) (m : Method) → method_named s name ≡ Some m → fits_shape m s ≡ true
 shaped s name m named = subst (Fits s) named (named_fits s name)
+
+-- a frame alone has columns to choose
+pub frame_fits : (s : Shape) (m : Method) → m ≡ method.ReindexFrame → fits_shape m s ≡ true → s ≡ Frame
+frame_fits s m is fits = by s (ap (λ x. fits_shape x s) (sym is) ∙ fits)
+  where
+    by : (s : Shape) → fits_shape method.ReindexFrame s ≡ true → s ≡ Frame
+    by Frame e = refl
+    by Series e = cc

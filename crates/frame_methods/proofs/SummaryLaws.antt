@@ -19,10 +19,12 @@ use Rattle.form_parts.specs.Makes.{MakesBy}
 use Rattle.frame_store.specs.Shown.{columns_value}
 use Rattle.frame_store.specs.declared.fault.OpFault.{OpFault}
 use Rattle.frame_store.specs.declared.fault.OpFault.TheVariants.{Refused, NoMemory}
-use Rattle.frame_methods.specs.Columns.{with_front}
+use Rattle.label_methods.specs.Columns.{with_front}
 use Rattle.frame_store.specs.Parts.{table_column}
 use Rattle.frame_methods.specs.Summaries.{AreCells, counted_cell}
-use Rattle.frame_methods.proofs.ColumnLaws.{front_next, front_fails, at_place, drop_all}
+use Rattle.label_methods.proofs.FrontLaws.{front_next, front_fails}
+use Rattle.frame_methods.proofs.ColumnLaws.{at_place}
+use Rattle.label_methods.proofs.Lists.{drop_all}
 
 -- a number below 2^64 as what is left of it in 64 bits
 count_wraps : (n : ℕ) → n < 2 ^ 64 → int_wrap w64 (pos n) ≡ cast_signed w64 n

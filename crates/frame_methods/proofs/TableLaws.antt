@@ -1,10 +1,10 @@
 -- Tables that are made of others.
-use Rattle.std.proofs.Common.{◌≡◌, ◌∙◌, ap, sym, subst, Bool, true, List, map, length, All, Result, Ok, Err, if◌then◌else◌}
+use Rattle.std.proofs.Common.{◌≡◌, ◌∙◌, ap, sym, subst, true, List, map, length, All, Result, Ok}
 use Rattle.std.proofs.lemmas.List.{length-map}
 use Rattle.cell_core.specs.declared.cell.Cell.{Cell}
 use Rattle.meaning.specs.Text.{Text}
 use Rattle.meaning.specs.Cell.{CellValue, AreGiven, IsLonger}
-use Rattle.meaning.specs.Fault.{FaultValue, limit, then_value}
+use Rattle.meaning.specs.Fault.{FaultValue, then_value}
 use Rattle.column_core.specs.Blocks.{CellBlock}
 use Rattle.table_meaning.specs.Table.{ColumnOf, NumberedTable, Table, table_value, heading_value, tuple_value, column_value}
 use Rattle.table_meaning.specs.Value.{Entry, table}
@@ -14,13 +14,7 @@ use Rattle.method_meaning.specs.Methods as meant
 use Rattle.frame_store.specs.Parts.{block_column, table_with, axis_of, HeadingList}
 use Rattle.frame_store.specs.Shown.{labels_value, headings_value, columns_value}
 use Rattle.frame_store.proofs.Settling.{settled_later, seen_later, columns_name_part, level_names_part, labels_part, headings_part, with_columns_settled}
-
-abbrev unless_beyond : Table → Bool → Result Entry FaultValue
-unless_beyond t within = then_value (if within then Ok t else Err limit) (λ t. Ok (table t))
-
--- a table within the limits
-pub limited_within : (t : Table) (rows columns : Rattle.std.specs.Prelude.ℕ) → length t.labels ≡ rows → length t.columns ≡ columns → within_limits rows columns ≡ true → limited t ≡ Ok (table t)
-limited_within t rows columns r c within = ap (unless_beyond t) ((λ j. within_limits (r j) (c j)) ∙ within)
+use Rattle.label_methods.proofs.TableLaws.{limited_within}
 
 -- the same table under other columns, at a later dictionary
 pub columns_later : (old new : List Text) (t : NumberedTable) (cs : List (ColumnOf Cell)) → IsLonger old new → IsSettled table_value old t

@@ -1,4 +1,5 @@
 -- The methods by what they make.
+use Rattle.std.specs.Prelude.{Bool, true, false}
 use Rattle.form_meaning.specs.declared.Method.{Method}
 use Rattle.form_meaning.specs.declared.Method.TheVariants as method
 use Rattle.nullable_array.specs.declared.ops.Cumulation.TheVariants as cumulation
@@ -12,6 +13,8 @@ use Rattle.frame_methods.specs.declared.built.LevelMethod.{LevelMethod}
 use Rattle.frame_methods.specs.declared.built.LevelMethod.TheVariants as levels
 use Rattle.frame_methods.specs.declared.built.LabelMethod.{LabelMethod}
 use Rattle.frame_methods.specs.declared.built.LabelMethod.TheVariants as labels
+use Rattle.frame_methods.specs.declared.built.TableMethod.{TableMethod}
+use Rattle.frame_methods.specs.declared.built.TableMethod.TheVariants as table
 use Rattle.frame_methods.specs.declared.built.Built.{Built}
 use Rattle.frame_methods.specs.declared.built.Built.TheVariants as built
 
@@ -46,6 +49,29 @@ label_method labels.ReindexSeries = method.ReindexSeries
 label_method labels.ReindexFrame = method.ReindexFrame
 label_method labels.Xs = method.Xs
 
+abbrev pub table_method : TableMethod → Method
+table_method (table.Rows m) = row_method m
+table_method (table.Levels m) = level_method m
+table_method (table.Labels m) = label_method m
+
+-- whether a method is one of these
+abbrev pub makes_table : Method → Bool
+makes_table method.Dropna = true
+makes_table method.DuplicatedSeries = true
+makes_table method.DuplicatedFrame = true
+makes_table method.SortValuesSeries = true
+makes_table method.SortValuesFrame = true
+makes_table method.SortIndex = true
+makes_table method.RenameAxis = true
+makes_table method.SetIndex = true
+makes_table method.ResetIndex = true
+makes_table method.Droplevel = true
+makes_table method.Swaplevel = true
+makes_table method.ReindexSeries = true
+makes_table method.ReindexFrame = true
+makes_table method.Xs = true
+makes_table m = false
+
 abbrev pub method_of : Built → Method
 method_of built.Copy = method.Copy
 method_of (built.Columns m) = column_method m
@@ -58,9 +84,7 @@ method_of (built.Summary (Reduced reduction.Count)) = method.Count
 method_of (built.Summary Distinct) = method.Nunique
 method_of built.Head = method.Head
 method_of built.Tail = method.Tail
-method_of (built.Rows m) = row_method m
-method_of (built.Levels m) = level_method m
-method_of (built.Labels m) = label_method m
+method_of (built.Table m) = table_method m
 method_of built.RenameSeries = method.RenameSeries
 method_of built.RenameFrame = method.RenameFrame
 method_of built.ToFrame = method.ToFrame

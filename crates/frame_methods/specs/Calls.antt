@@ -1,6 +1,5 @@
 -- Calls of methods.
-use Rattle.std.specs.Prelude.{◌≡◌, Bool, true, false, codes, IfSome, Result, Ok, Err}
-use Rattle.std.specs.Option.{option_map}
+use Rattle.std.specs.Prelude.{◌≡◌, Bool, true, false, Result, Ok, Err}
 use Rattle.cell_core.specs.declared.grid.Shape.{Shape}
 use Rattle.cell_core.specs.declared.grid.Shape.TheVariants.{Series, Frame}
 use Rattle.meaning.specs.Fault.{FaultValue}
@@ -11,39 +10,15 @@ use Rattle.form_meaning.specs.declared.Method.{Method}
 use Rattle.form_meaning.specs.declared.Method.TheVariants as method
 use Rattle.form_meaning.specs.Signature.{parameters_of}
 use Rattle.method_meaning.specs.Methods.{answer_for}
-use Rattle.method_meaning.specs.Calls.{ChainValue, plain, grouped, through}
-use Rattle.frame_store.specs.declared.arguments.Chain.{Chain}
-use Rattle.frame_store.specs.declared.arguments.Chain.TheVariants.{Plain, Group, Rolling, Expanding}
 use Rattle.frame_store.specs.declared.fault.OpFault.{OpFault}
 use Rattle.frame_store.specs.declared.fault.OpFault.TheVariants.{Refused, NoMemory}
 use Rattle.frame_store.specs.Shown.{Refuses}
 use Rattle.frame_store.specs.Arguments.{arguments_of}
-use Rattle.frame_store.specs.World.{World, argument_in, arguments_in, IsKnownArgument, AreKnownArguments}
+use Rattle.frame_store.specs.World.{World}
 use Rattle.signatures.specs.Bound.{given_in}
 use Rattle.signatures.specs.declared.bound.Bound.{Bound}
 use Rattle.frame_methods.specs.Built.{method_of}
 use Rattle.frame_methods.specs.declared.binding.BoundCall.{BoundCall}
-
--- a chain with its tables and texts
-abbrev pub chain_in : World → Chain → ChainValue
-chain_in w (Plain name) = plain name
-chain_in w (Group by brackets name) = grouped (arguments_in w by.items.items) (option_map (argument_in w) brackets) name
-chain_in w (Rolling args name) = through (codes "rolling")
-chain_in w (Expanding args name) = through (codes "expanding")
-
--- whether it goes by groups
-abbrev pub is_grouped : Chain → Bool
-is_grouped (Plain name) = false
-is_grouped (Group by brackets name) = true
-is_grouped (Rolling args name) = false
-is_grouped (Expanding args name) = false
-
--- the arguments of `groupby` and its brackets are known
-abbrev pub IsKnownChain : World → Chain → Type 0
-IsKnownChain w (Plain name) = Unit {0}
-IsKnownChain w (Group by brackets name) = AreKnownArguments w by.items.items × IfSome brackets (IsKnownArgument w)
-IsKnownChain w (Rolling args name) = Unit {0}
-IsKnownChain w (Expanding args name) = Unit {0}
 
 -- a method of Series alone isn't one of a frame, nor the other way round
 abbrev pub fits_shape : Method → Shape → Bool
@@ -57,6 +32,7 @@ fits_shape method.SetIndex Series = false
 fits_shape method.ReindexSeries Frame = false
 fits_shape method.ReindexFrame Series = false
 fits_shape method.DropColumns Series = false
+fits_shape method.Merge Series = false
 fits_shape method.ToFrame Frame = false
 fits_shape m shape = true
 

@@ -1,21 +1,18 @@
 -- Columns that are made one by one.
-use Rattle.std.specs.Prelude.{◌≡◌, ℕ, List, ◌++◌, map, drop, length, All, Result, Ok, Err}
+use Rattle.std.specs.Prelude.{◌≡◌, ℕ, List, map, drop, length, All, Result, Ok, Err}
 use Rattle.cell_core.specs.declared.cell.Cell.{Cell}
 use Rattle.meaning.specs.Text.{Text}
 use Rattle.meaning.specs.Cell.{CellValue, IsLonger, AreGiven}
-use Rattle.meaning.specs.Fault.{FaultValue, then_value}
+use Rattle.meaning.specs.Fault.{FaultValue}
 use Rattle.column_core.specs.Columns.{CellColumn}
-use Rattle.table_meaning.specs.Table.{ColumnOf, column_value}
+use Rattle.table_meaning.specs.Table.{ColumnOf}
 use Rattle.frame_store.specs.declared.fault.OpFault.{OpFault}
 use Rattle.frame_store.specs.declared.fault.OpFault.TheVariants.{Refused, NoMemory}
 use Rattle.frame_store.specs.Shown.{columns_value, Refuses}
-use Rattle.frame_store.specs.Parts.{table_column, block_column, IsSingle, HaveRows}
+use Rattle.frame_store.specs.Parts.{block_column, IsSingle, HaveRows}
 use Rattle.form_meaning.specs.Finish.{try_all}
 use Rattle.column_core.specs.Blocks.{CellBlock}
-
--- a column of a kernel with texts
-abbrev pub seen_column : List Text → CellColumn → ColumnOf CellValue
-seen_column texts c = column_value texts (table_column c)
+use Rattle.label_methods.specs.Columns.{seen_column, with_front}
 
 -- the column that is made is the one that is meant, or its fault is
 abbrev pub MakesColumn : List Text → Result CellColumn OpFault → Result (ColumnOf CellValue) FaultValue → Type 0
@@ -28,10 +25,6 @@ abbrev pub MakesColumns : List Text → Result (List CellBlock) OpFault → Resu
 MakesColumns texts (Ok blocks) meant = meant ≡ Ok (columns_value texts (map block_column blocks))
 MakesColumns texts (Err (Refused code)) meant = Refuses texts code meant
 MakesColumns texts (Err NoMemory) meant = Unit {0}
-
--- these, and then what the others come to
-abbrev pub with_front : {B : Type 0} → List B → Result (List B) FaultValue → Result (List B) FaultValue
-with_front made rest = then_value rest (λ ys. Ok (made ++ ys))
 
 -- the columns before a place are made, and with what the others come to they are the whole
 pub record IsFront (f : ColumnOf CellValue → Result (ColumnOf CellValue) FaultValue) (first dict : List Text) (columns : List (ColumnOf Cell)) (rows place : ℕ) (made : List CellBlock) : Type 0 where

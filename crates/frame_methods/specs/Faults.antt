@@ -1,17 +1,11 @@
--- Faults that name what isn't there.
-use Rattle.std.specs.Prelude.{◌≡◌, List}
-use Rattle.cell_core.specs.declared.code.Code.TheVariants.{NoAttribute}
+-- The fault of a chain that isn't built.
+use Rattle.std.specs.Prelude.{List}
 use Rattle.meaning.specs.Text.{Text}
 use Rattle.table_meaning.specs.Value.{Entry}
 use Rattle.method_meaning.specs.Calls.{has_method, not_built_if}
 use Rattle.frame_store.specs.declared.fault.OpFault.{OpFault}
 use Rattle.frame_store.specs.declared.fault.OpFault.TheVariants.{Refused, NoMemory}
 use Rattle.frame_store.specs.Shown.{Refuses}
-
--- it names the attribute, or there was no memory to do so
-abbrev pub NamesNone : OpFault → Text → Type 0
-NamesNone (Refused code) name = code ≡ NoAttribute name
-NamesNone NoMemory name = Unit {0}
 
 -- the fault of a call of groups or windows, which aren't built
 abbrev pub IsChained : List Text → OpFault → Entry → Text → Type 0

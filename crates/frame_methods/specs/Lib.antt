@@ -1,8 +1,6 @@
 pub mod Columns
 pub mod Marks
 pub mod Summaries
-pub mod Labels
-pub mod Levels
 pub mod Made
 pub mod Built
 pub mod Calls
@@ -11,8 +9,3 @@ pub mod Listed
 pub mod Renames
 pub mod Sorts
 pub mod Rows
-pub mod Named
-pub mod Reindexed
-pub mod Section
-pub mod LevelColumns
-pub mod Resets

@@ -1,8 +1,7 @@
 -- Rows of a table: those without a missing cell, and numbers that tell rows apart.
-use Rattle.std.specs.Prelude.{◌≡◌, ℕ, ◌<◌, List, [], map, length, slice_index, nat_eq, Result}
+use Rattle.std.specs.Prelude.{◌≡◌, ℕ, ◌<◌, List, [], length, slice_index, nat_eq, Result}
 use Rattle.std.specs.Cmp.Lexicographic.{pointwise}
 use Rattle.std.specs.List.{list_all}
-use Rattle.cell_core.specs.declared.cell.Cell.{Cell}
 use Rattle.meaning.specs.Fault.{FaultValue}
 use Rattle.meaning.specs.Reduce.{is_present, same_cell}
 use Rattle.table_meaning.specs.Table.{NumberedTable, Table}
@@ -11,11 +10,7 @@ use Rattle.form_meaning.specs.Finish.{limited}
 use Rattle.pick_meaning.specs.Rows.{rows_where}
 use Rattle.method_meaning.specs.Rows.{all_places, cells_by_row, marks_series, repeats}
 use Rattle.nullable_array.specs.Marks.{same_number}
-use Rattle.selections.specs.Across.{cell_across}
-
--- the cells of a row in the columns at these places
-abbrev pub row_cells : NumberedTable → List ℕ → ℕ → List Cell
-row_cells t places row = map (cell_across t row) places
+use Rattle.label_methods.specs.Rows.{row_cells}
 
 -- the rows in which no cell is missing
 abbrev pub complete : Table → List ℕ

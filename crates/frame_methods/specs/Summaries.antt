@@ -10,7 +10,7 @@ use Rattle.cell_core.specs.declared.cell.Kind.{Kind}
 use Rattle.table_meaning.specs.Table.{ColumnOf}
 use Rattle.form_meaning.specs.Finish.{try_all}
 use Rattle.frame_store.specs.Shown.{columns_value}
-use Rattle.frame_methods.specs.Columns.{with_front}
+use Rattle.label_methods.specs.Columns.{with_front}
 use Rattle.column_core.specs.Columns.{CellColumn}
 use Rattle.nullable_array.specs.Folds.{reduction_of}
 use Rattle.method_meaning.specs.Methods as meant

@@ -8,11 +8,11 @@ ghost use Rattle.frame_store.specs.Arguments.{entry_of, IsLive};
 ghost use Rattle.frame_store.specs.Objects.{tables, table_at};
 ghost use Rattle.frame_store.specs.World.{world, arguments_in, AreKnownArguments};
 ghost use Rattle.frame_methods.specs.Calls.{Binds};
-ghost use Rattle.frame_methods.specs.Faults.{NamesNone};
 
 use crate::built::Built;
-use cell_core::{Code, Grid, TextDict, Words};
+use cell_core::{Code, Grid, TextDict};
 use frame_store::{Named, ObjId, OpFault, Store, Value};
+use label_methods::no_attribute;
 use signatures::{Bound, bind, method_named, parameters};
 use std::alloc::Global;
 
@@ -21,16 +21,6 @@ use std::alloc::Global;
 pub(crate) struct BoundCall<'a> {
     pub(crate) built: Built,
     pub(crate) bound: Bound<'a>,
-}
-
-/// An AttributeError of the name, or want of memory.
-pub fn no_attribute(alloc: Global, name: &str) -> OpFault
-    ensures { NamesNone result name.now }
-{
-    match Words::from_text(alloc, name) {
-        Ok(name) => OpFault::Refused(Code::NoAttribute(name)),
-        Err(_) => OpFault::NoMemory,
-    }
 }
 
 /// Whether a value has a method of the name, `groupby`, `rolling` and `expanding` among them. A

@@ -2,7 +2,7 @@
 ghost use Rattle.std.specs.Prelude.{◌≡◌, Some, None, if◌then◌else◌};
 ghost use Rattle.std.specs.Option.{option_map};
 ghost use Rattle.method_meaning.specs.Methods.{is_built};
-ghost use Rattle.frame_methods.specs.Built.{method_of};
+ghost use Rattle.frame_methods.specs.Built.{method_of, table_method, makes_table};
 
 use crate::summaries::Summary;
 use form_meaning::Method;
@@ -63,6 +63,40 @@ pub(crate) enum LabelMethod {
     Xs,
 }
 
+// A method that makes one table of an object.
+#[derive(Clone, Copy)]
+pub(crate) enum TableMethod {
+    Rows(RowMethod),
+    Levels(LevelMethod),
+    Labels(LabelMethod),
+}
+
+impl TableMethod {
+    // What a method makes, if it is one of these.
+    fn of(method: Method) -> Option<Self>
+        ensures { option_map table_method result
+            ≡ (if makes_table method then Some method else None) }
+    {
+        match method {
+            Method::Dropna => Some(TableMethod::Rows(RowMethod::Dropna)),
+            Method::DuplicatedSeries => Some(TableMethod::Rows(RowMethod::DuplicatedSeries)),
+            Method::DuplicatedFrame => Some(TableMethod::Rows(RowMethod::DuplicatedFrame)),
+            Method::SortValuesSeries => Some(TableMethod::Rows(RowMethod::SortValuesSeries)),
+            Method::SortValuesFrame => Some(TableMethod::Rows(RowMethod::SortValuesFrame)),
+            Method::SortIndex => Some(TableMethod::Rows(RowMethod::SortIndex)),
+            Method::RenameAxis => Some(TableMethod::Levels(LevelMethod::RenameAxis)),
+            Method::SetIndex => Some(TableMethod::Levels(LevelMethod::SetIndex)),
+            Method::ResetIndex => Some(TableMethod::Levels(LevelMethod::ResetIndex)),
+            Method::Droplevel => Some(TableMethod::Levels(LevelMethod::Droplevel)),
+            Method::Swaplevel => Some(TableMethod::Levels(LevelMethod::Swaplevel)),
+            Method::ReindexSeries => Some(TableMethod::Labels(LabelMethod::ReindexSeries)),
+            Method::ReindexFrame => Some(TableMethod::Labels(LabelMethod::ReindexFrame)),
+            Method::Xs => Some(TableMethod::Labels(LabelMethod::Xs)),
+            _ => None,
+        }
+    }
+}
+
 // What a method that is built makes.
 #[derive(Clone, Copy)]
 pub(crate) enum Built {
@@ -72,14 +106,11 @@ pub(crate) enum Built {
     Columns(ColumnMethod),
     // One cell of each column.
     Summary(Summary),
-    // The first or the last rows, and a table of other rows.
+    // The first or the last rows.
     Head,
     Tail,
-    Rows(RowMethod),
-    // The rows under other labels.
-    Levels(LevelMethod),
-    // The rows or the columns of labels.
-    Labels(LabelMethod),
+    // One table of rows, levels or labels.
+    Table(TableMethod),
     // The same rows under other headings: a name, labels, or those of a frame.
     RenameSeries,
     RenameFrame,
@@ -95,6 +126,9 @@ impl Built {
     pub(crate) fn of(method: Method) -> Option<Self>
         ensures { option_map method_of result ≡ (if is_built method then Some method else None) }
     {
+        if let Some(table) = TableMethod::of(method) {
+            return Some(Built::Table(table));
+        }
         match method {
             Method::Copy => Some(Built::Copy),
             Method::Head => Some(Built::Head),
@@ -102,11 +136,8 @@ impl Built {
             Method::Isna => Some(Built::Columns(ColumnMethod::Isna)),
             Method::Notna => Some(Built::Columns(ColumnMethod::Notna)),
             Method::Fillna => Some(Built::Columns(ColumnMethod::Fillna)),
-            Method::Dropna => Some(Built::Rows(RowMethod::Dropna)),
             Method::Isin => Some(Built::Columns(ColumnMethod::Isin)),
             Method::Astype => Some(Built::Columns(ColumnMethod::Astype)),
-            Method::DuplicatedSeries => Some(Built::Rows(RowMethod::DuplicatedSeries)),
-            Method::DuplicatedFrame => Some(Built::Rows(RowMethod::DuplicatedFrame)),
             Method::Shift => Some(Built::Columns(ColumnMethod::Shift)),
             Method::Cumsum => Some(Built::Columns(ColumnMethod::Cumulated(Cumulation::Sum))),
             Method::Cummin => Some(Built::Columns(ColumnMethod::Cumulated(Cumulation::Min))),
@@ -118,20 +149,9 @@ impl Built {
             Method::All => Some(Built::Summary(Summary::Reduced(Reduction::All))),
             Method::Count => Some(Built::Summary(Summary::Reduced(Reduction::Count))),
             Method::Nunique => Some(Built::Summary(Summary::Distinct)),
-            Method::SortValuesSeries => Some(Built::Rows(RowMethod::SortValuesSeries)),
-            Method::SortValuesFrame => Some(Built::Rows(RowMethod::SortValuesFrame)),
-            Method::SortIndex => Some(Built::Rows(RowMethod::SortIndex)),
             Method::RenameSeries => Some(Built::RenameSeries),
             Method::RenameFrame => Some(Built::RenameFrame),
-            Method::RenameAxis => Some(Built::Levels(LevelMethod::RenameAxis)),
-            Method::SetIndex => Some(Built::Levels(LevelMethod::SetIndex)),
-            Method::ResetIndex => Some(Built::Levels(LevelMethod::ResetIndex)),
             Method::DropColumns => Some(Built::DropColumns),
-            Method::Droplevel => Some(Built::Levels(LevelMethod::Droplevel)),
-            Method::Swaplevel => Some(Built::Levels(LevelMethod::Swaplevel)),
-            Method::ReindexSeries => Some(Built::Labels(LabelMethod::ReindexSeries)),
-            Method::ReindexFrame => Some(Built::Labels(LabelMethod::ReindexFrame)),
-            Method::Xs => Some(Built::Labels(LabelMethod::Xs)),
             Method::ToFrame => Some(Built::ToFrame),
             Method::ToCsv => Some(Built::ToCsv),
             _ => None,

@@ -13,27 +13,21 @@ ghost use Rattle.frame_store.specs.Arguments.{entry_of, object_value, shape_at, 
 ghost use Rattle.frame_store.specs.Objects.{tables, table_at};
 ghost use Rattle.frame_store.specs.Shown.{Makes};
 ghost use Rattle.frame_store.specs.World.{world, entry_in, arguments_in, IsSettledWorld, AreKnownArguments, Forms};
-ghost use Rattle.frame_methods.specs.Built.{method_of, column_method, row_method, level_method, label_method};
-ghost use Rattle.frame_methods.specs.Calls.{chain_in, is_grouped, answer_in, IsCall};
+ghost use Rattle.frame_methods.specs.Built.{method_of, column_method, row_method, level_method, label_method, table_method};
+ghost use Rattle.label_methods.specs.Chains.{chain_in, is_grouped};
+ghost use Rattle.frame_methods.specs.Calls.{answer_in, IsCall};
 ghost use Rattle.frame_methods.specs.Made.{made_value};
 ghost use Rattle.frame_methods.specs.Faults.{IsChained};
 
-use crate::axis_names::{level_names, rename_axis, renumber};
-use crate::binding::{BoundCall, bound_call, exists, no_attribute};
-use crate::built::{Built, ColumnMethod, LabelMethod, LevelMethod, RowMethod};
+use crate::binding::{BoundCall, bound_call, exists};
+use crate::built::{Built, ColumnMethod, LabelMethod, LevelMethod, RowMethod, TableMethod};
 use crate::column_ops::{Cast, Cumulated, Filled, Marked, Shifted};
 use crate::columns::ColumnOp;
-use crate::cross_section::xs;
 use crate::csv::to_csv;
 use crate::duplicates::duplicated;
-use crate::indexing::set_index;
-use crate::levels::{drop_level, swap_levels};
 use crate::listed::{Listed, listed_cells};
 use crate::made::Made;
-use crate::named_columns::{drop_columns, named_places, subset_places};
-use crate::reindexing::reindex;
 use crate::renaming::{rename_frame, rename_series, to_frame};
-use crate::resetting::reset_levels;
 use crate::rows::{dropna, head, tail};
 use crate::sorts::{sort_index, sort_values};
 use crate::summaries::summarize;
@@ -41,6 +35,10 @@ use crate::tables::columns_table;
 use cell_core::{Code, Grid, TextDict};
 use form_parts::{name_of, placed};
 use frame_store::{Chain, Named, NamedList, ObjId, OpFault, Store, Table, Value};
+use label_methods::{
+    drop_columns, drop_level, level_names, named_places, no_attribute, reindex, rename_axis,
+    renumber, reset_levels, set_index, subset_places, swap_levels, xs,
+};
 use selections::{copied, places_below};
 use signatures::Bound;
 use std::alloc::Global;
@@ -249,6 +247,31 @@ fn labels_made(
     }
 }
 
+// The table that a method makes.
+#[tactic(auto, using(frame_store::proofs::Settling::longer_self))]
+fn table_made(
+    alloc: Global,
+    store: &Store,
+    dict: &mut TextDict,
+    method: TableMethod,
+    bound: &Bound<'_>,
+    on: ObjId,
+) -> Result<Table, OpFault>
+    requires live { IsSome (tables store.now on.0) }
+    requires settled { IsSettledWorld (world store.now dict.old) }
+    requires call { IsCall (world store.now dict.old) (table_method method) bound.now
+        (shape_at (tables store.now) on) }
+    ensures longer { IsLonger dict.old dict.new }
+    ensures answer { Makes dict.new result (answer_in (world store.now dict.old)
+        (table_method method) bound.now (object_value (tables store.now) dict.old on)) }
+{
+    match method {
+        TableMethod::Rows(method) => rows_made(alloc, store, dict, method, bound, on),
+        TableMethod::Levels(method) => levels_made(alloc, store, dict, method, bound, on),
+        TableMethod::Labels(method) => labels_made(alloc, store, dict, method, bound, on),
+    }
+}
+
 // The answer of a call.
 fn answer(
     alloc: Global,
@@ -275,16 +298,8 @@ fn answer(
         }
         Built::Head => head(alloc, store, on, bound.whole(0)),
         Built::Tail => tail(alloc, store, on, bound.whole(0)),
-        Built::Rows(method) => {
-            let table = rows_made(alloc, store, dict, method, bound, on);
-            placed(store, dict, table)
-        }
-        Built::Levels(method) => {
-            let table = levels_made(alloc, store, dict, method, bound, on);
-            placed(store, dict, table)
-        }
-        Built::Labels(method) => {
-            let table = labels_made(alloc, store, dict, method, bound, on);
+        Built::Table(method) => {
+            let table = table_made(alloc, store, dict, method, bound, on);
             placed(store, dict, table)
         }
         Built::RenameSeries => {

@@ -1,12 +1,12 @@
 // What is made of a column.
-ghost use Rattle.std.specs.Prelude.{◌≡◌, List, length, map, IfOk, true, false, if◌then◌else◌};
-ghost use Rattle.meaning.specs.Text.{Text as OneText};
+ghost use Rattle.std.specs.Prelude.{◌≡◌, length, map, IfOk};
 ghost use Rattle.meaning.specs.Cell.{AreGiven, IsGiven, IsLonger, holds, datum};
 ghost use Rattle.method_meaning.specs.Methods.{filled_column, shifted_column, cast_as, cumulated};
 ghost use Rattle.cell_core.specs.declared.cell.Kind.TheVariants.{Boolean};
 ghost use Rattle.nullable_array.specs.Folds.{cumulation_of};
 ghost use Rattle.nullable_array.specs.Marks.{missing_mark};
-ghost use Rattle.frame_methods.specs.Columns.{seen_column, MakesColumn};
+ghost use Rattle.label_methods.specs.Columns.{seen_column};
+ghost use Rattle.frame_methods.specs.Columns.{MakesColumn};
 ghost use Rattle.frame_methods.specs.Marks.{marked_column};
 ghost use Rattle.frame_methods.specs.Listed.{listed_column};
 ghost use Rattle.frame_store.specs.Shown.{cells_value};

@@ -1,6 +1,5 @@
 // Columns that are made one by one.
 ghost use Rattle.std.specs.Prelude.{◌≡◌, ◌<◌, List, map, length, All, Result, IfOk};
-ghost use Rattle.cell_core.specs.declared.cell.Cell.{Cell as OneCell};
 ghost use Rattle.meaning.specs.Text.{Text as OneText};
 ghost use Rattle.meaning.specs.Cell.{CellValue, AreGiven, IsLonger};
 ghost use Rattle.meaning.specs.Fault.{FaultValue};
@@ -10,7 +9,8 @@ ghost use Rattle.table_meaning.specs.Settled.{IsSettled};
 ghost use Rattle.form_meaning.specs.Finish.{try_all};
 ghost use Rattle.frame_store.specs.Parts.{block_column, IsSingle, HaveRows};
 ghost use Rattle.frame_store.specs.Shown.{columns_value};
-ghost use Rattle.frame_methods.specs.Columns.{seen_column, MakesColumn, MakesColumns};
+ghost use Rattle.label_methods.specs.Columns.{seen_column};
+ghost use Rattle.frame_methods.specs.Columns.{MakesColumn, MakesColumns};
 
 use cell_core::{Grid, TextDict};
 use column_core::{ColRef, Column};

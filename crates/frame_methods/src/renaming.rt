@@ -1,5 +1,5 @@
 // The methods that give an object's rows and columns under other headings.
-ghost use Rattle.std.specs.Prelude.{◌≡◌, ◌∷◌, [], IsSome};
+ghost use Rattle.std.specs.Prelude.{◌≡◌, IsSome};
 ghost use Rattle.cell_core.specs.declared.grid.Shape.TheVariants.{Series, Frame};
 ghost use Rattle.table_meaning.specs.Settled.{IsSettled};
 ghost use Rattle.table_meaning.specs.Table.{heading_value, table_value};
@@ -12,9 +12,9 @@ ghost use Rattle.frame_store.specs.Shown.{shown, FormAnswers};
 ghost use Rattle.frame_methods.specs.Renames.{given_labels};
 
 use crate::relabelling::renamed_headings;
-use crate::series::column_label;
 use cell_core::{Grid, Label, TextDict};
 use frame_store::{Argument, Headings, ObjId, OpFault, Store, Value};
+use label_methods::column_label;
 use selections::{as_frame, renamed};
 use std::alloc::Global;
 

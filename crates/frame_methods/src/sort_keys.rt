@@ -71,7 +71,6 @@ pub(crate) fn rows_by_keys(
     ascending: bool,
     rows: usize,
 ) -> Result<Places, NoMemory>
-    requires { sorts.AreSettledKeys dict.now keys.now rows }
     ensures { let before = sorts.stands_before ascending (sorts.keys_of dict.now keys.now) in
         IfOk result (λ made. made ≡ in_order before (range_with_len 0 rows)) }
 {

@@ -7,7 +7,7 @@ ghost use Rattle.method_meaning.specs.Rows as meant;
 ghost use Rattle.frame_store.specs.Shown.{Makes};
 ghost use Rattle.frame_store.specs.World.{IsKnownTable};
 ghost use Rattle.frame_store.specs.Parts.{AreColumnsOf};
-ghost use Rattle.frame_methods.specs.Sorts.{AreKeys, AreSettledKeys};
+ghost use Rattle.frame_methods.specs.Sorts.{AreKeys};
 
 use crate::rows::rows_table;
 use crate::sort_keys::{SortKeys, columns_at, rows_by_keys};
@@ -23,8 +23,7 @@ fn sorted_table(
     keys: &SortKeys<'_>,
     ascending: bool,
 ) -> Result<Table, OpFault>
-    requires known { IsKnownTable dict.now on.now }
-    requires settled { AreSettledKeys dict.now keys.now (length on.now.labels) }
+    requires { IsKnownTable dict.now on.now }
     ensures { (all : List (List LabelValue)) → AreKeys dict.now keys.now (length on.now.labels) all
         → Makes dict.now result (meant.sorted_result (table_value dict.now on.now) ascending all) }
 {

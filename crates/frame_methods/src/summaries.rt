@@ -1,5 +1,5 @@
 // What is made of all cells of a column.
-ghost use Rattle.std.specs.Prelude.{◌≡◌, ◌∷◌, [], List, map, length, true, IfOk};
+ghost use Rattle.std.specs.Prelude.{◌≡◌, List, length, true, IfOk};
 ghost use Rattle.meaning.specs.Text.{Text as OneText};
 ghost use Rattle.meaning.specs.Cell.{AreGiven, IsGiven, datum, holds};
 ghost use Rattle.table_meaning.specs.Table.{table_value};
@@ -11,15 +11,16 @@ ghost use Rattle.cell_core.specs.declared.grid.Shape.TheVariants.{Frame};
 ghost use Rattle.frame_store.specs.Shown.{columns_value, Makes};
 ghost use Rattle.frame_store.specs.World.{IsKnownTable};
 ghost use Rattle.frame_methods.specs.Made.{made_value};
-ghost use Rattle.frame_methods.specs.Columns.{seen_column};
+ghost use Rattle.label_methods.specs.Columns.{seen_column};
 ghost use Rattle.frame_methods.specs.Summaries.{summary_value, counted_cell, column_cells};
 
 use crate::made::Made;
-use crate::series::{columns_axis, series_table};
+use crate::series::series_table;
 use cell_core::{Cell, Code, Grid, Kind, Shape, TextDict};
 use column_core::{ColRef, Column};
 use form_parts::{refusal_of, within_limits};
 use frame_store::{ObjRef, OpFault, Table};
+use label_methods::columns_axis;
 use nullable_array::{Reduction, distinct, reduce};
 use std::alloc::Global;
 

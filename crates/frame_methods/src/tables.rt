@@ -1,5 +1,4 @@
 // Tables whose columns are made one by one.
-ghost use Rattle.std.specs.Prelude.{◌≡◌, All};
 ghost use Rattle.meaning.specs.Cell.{IsLonger};
 ghost use Rattle.table_meaning.specs.Table.{table_value};
 ghost use Rattle.method_meaning.specs.Methods as meant;

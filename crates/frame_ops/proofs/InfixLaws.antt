@@ -2,6 +2,7 @@
 use Rattle.std.proofs.Common.{◌≡◌, ◌∙◌, ℕ, suc, ◌<◌, nat_eq, Bool, true, false, ◌&&◌, List, [], ◌∷◌, length, refl, ap, sym, subst, arith, Option, Some, None, Result, Ok, Err, All, slice_index_or, if◌then◌else◌}
 use Rattle.std.specs.Prelude.{◌≢◌}
 use Rattle.std.specs.List.{list_all}
+use Rattle.std.specs.Cmp.Lexicographic.{as_long}
 use Rattle.std.proofs.lemmas.Bool.Decides.{nat_tests}
 use Rattle.std.proofs.lemmas.List.{length-map}
 use Rattle.cell_core.specs.declared.cell.Cell.{Cell}
@@ -20,12 +21,15 @@ use Rattle.frame_store.proofs.Settling.{columns_given, columns_part, headings_pa
 use Rattle.table_meaning.specs.Value as value
 use Rattle.table_meaning.specs.Value.{Entry}
 use Rattle.form_meaning.specs.Finish.{with_columns, same_heading}
-use Rattle.form_meaning.specs.Infix.{meets, infix_table, on_levels, same_tuple, same_tuples, same_headings, are_headings, common_name, first_heading, beside, across, across_series, turned, has_one, same_count, compares, joined_rows, joined_infix, unequal_infix, scalar_infix, rows_infix, common_infix, unequal_columns, joined_frames, frame_infix, across_unequal, across_infix}
+use Rattle.form_meaning.specs.Infix.{meets, infix_table, on_levels, same_tuple, same_tuples, same_headings, are_headings, common_name, first_heading, beside, across, across_series, turned, has_one, same_count, compares, joined_rows, joined_infix, unequal_infix, scalar_infix, rows_infix, common_infix, joined_frames, frame_infix, across_unequal, across_infix}
 use Rattle.frame_store.specs.declared.fault.OpFault.{OpFault}
+use Rattle.frame_store.specs.declared.fault.OpFault.TheVariants.{Refused, NoMemory}
 use Rattle.frame_store.specs.Shown.{headings_value, labels_value, columns_value, Makes}
 use Rattle.frame_ops.specs.declared.naming.Naming.TheVariants.{Kept, Name, ColumnsName}
 use Rattle.frame_ops.specs.declared.other.Other.{Other}
 use Rattle.frame_ops.specs.declared.other.Other.TheVariants.{Scalar, Beside, Across}
+use Rattle.form_parts.specs.Makes.{Passes}
+use Rattle.frame_ops.specs.Joining.{joined_after}
 use Rattle.frame_ops.specs.Namings.{named_by}
 use Rattle.frame_ops.specs.Pairs.{pairs_from, kinds_meet, meetings_value, levels_fit, IsOpposite, columns_meant}
 use Rattle.frame_ops.proofs.Meanings.{table_meant, levels_agree, kinds_seen}
@@ -60,7 +64,7 @@ not_equal : (m n : ℕ) → m ≢ n → nat_eq m n ≡ false
 not_equal m n apart = grind (arith, nat_tests)
 
 -- two tables
-module _ (op : Binary) (texts : List Text) (a b : NumberedTable) (t : Table) (columns : length b.columns ≡ length a.columns) where
+module _ (op : Binary) (texts : List Text) (a b : NumberedTable) (columns : length b.columns ≡ length a.columns) where
   abbrev v : Table
   v = table_value texts a
 
@@ -71,34 +75,39 @@ module _ (op : Binary) (texts : List Text) (a b : NumberedTable) (t : Table) (co
   met = beside_meetings texts b a.columns columns
 
   -- where the rows are equal
-  pub rows_are_meant : length t.labels ≡ length a.labels → same_tuples v.labels w.labels ≡ true → met_table op texts a (Beside b) t ≡ rows_infix op v w t
-  rows_are_meant rows equal =
+  pub rows_are_meant : (t : Table) → length t.labels ≡ length a.labels → same_tuples v.labels w.labels ≡ true → met_table op texts a (Beside b) t ≡ rows_infix op v w t
+  rows_are_meant t rows equal =
       met_on_levels op texts a (Beside b) t rows
       ∙ (λ i. on_levels (list_all (meets op) (met i)) (levels_same (heading_value texts) (heading_value texts) a.level_names b.level_names i) (infix_table op t (met i)))
       ∙ sym (ap (λ (r : Bool). on_levels (list_all (meets op) (beside v.columns w.columns)) (same_count v.level_names w.level_names) (if r then infix_table op t (beside v.columns w.columns) else unequal_infix op v w t)) equal)
 
   -- and where they aren't, by the tests
-  module _ (unequal : same_tuples v.labels w.labels ≡ false) where
-    by_tests : (k l : Bool) → list_all (kinds_meet op) (pairs_from (Beside b) 0 a.columns) ≡ k → nat_eq (length a.level_names) (length b.level_names) ≡ l → rows_infix op v w t ≡ on_levels k l (unequal_infix op v w t)
+  module _ (rest : Result Entry FaultValue) where
+    by_tests : (k l : Bool) → list_all (kinds_meet op) (pairs_from (Beside b) 0 a.columns) ≡ k → nat_eq (length a.level_names) (length b.level_names) ≡ l
+        → joined_after op v w rest ≡ on_levels k l (if compares op then Err (bad_value not_aligned) else rest)
     by_tests k l kinds counted =
-        ap (λ (r : Bool). on_levels (list_all (meets op) (beside v.columns w.columns)) (same_count v.level_names w.level_names) (if r then infix_table op t (beside v.columns w.columns) else unequal_infix op v w t)) unequal
-        ∙ (λ i. on_levels (list_all (meets op) (sym met i)) (sym (levels_same (heading_value texts) (heading_value texts) a.level_names b.level_names) i) (unequal_infix op v w t))
-        ∙ (λ i. on_levels ((kinds_seen op texts (pairs_from (Beside b) 0 a.columns) ∙ kinds) i) (counted i) (unequal_infix op v w t))
+        (λ i. on_levels (list_all (meets op) (sym met i)) (sym (levels_same (heading_value texts) (heading_value texts) a.level_names b.level_names) i) (if compares op then Err (bad_value not_aligned) else rest))
+        ∙ (λ i. on_levels ((kinds_seen op texts (pairs_from (Beside b) 0 a.columns) ∙ kinds) i) (counted i) (if compares op then Err (bad_value not_aligned) else rest))
 
-    pub kinds_differ : list_all (kinds_meet op) (pairs_from (Beside b) 0 a.columns) ≡ false → rows_infix op v w t ≡ Err wrong_kind
+    pub kinds_differ : list_all (kinds_meet op) (pairs_from (Beside b) 0 a.columns) ≡ false → joined_after op v w rest ≡ Err wrong_kind
     kinds_differ kinds = by_tests false (nat_eq (length a.level_names) (length b.level_names)) kinds refl
 
     module _ (kinds : list_all (kinds_meet op) (pairs_from (Beside b) 0 a.columns) ≡ true) where
-      pub levels_differ : length a.level_names ≢ length b.level_names → rows_infix op v w t ≡ Err (bad_value levels)
+      pub levels_differ : length a.level_names ≢ length b.level_names → joined_after op v w rest ≡ Err (bad_value levels)
       levels_differ apart = by_tests true false kinds (not_equal (length a.level_names) (length b.level_names) apart)
 
-      pub not_compared : length a.level_names ≡ length b.level_names → compares op ≡ true → rows_infix op v w t ≡ Err (bad_value not_aligned)
-      not_compared counted compared =
-          by_tests true true kinds (equal (length a.level_names) (length b.level_names) counted) ∙ ap (λ (r : Bool). if r then Err (bad_value not_aligned) else then_value (joined_rows v.labels w.labels) (joined_infix op v w t)) compared
+      pub tests_passed : (c : Bool) → length a.level_names ≡ length b.level_names → compares op ≡ c → joined_after op v w rest ≡ (if c then Err (bad_value not_aligned) else rest)
+      tests_passed c counted compared =
+          by_tests true true kinds (equal (length a.level_names) (length b.level_names) counted) ∙ ap (λ (r : Bool). if r then Err (bad_value not_aligned) else rest) compared
 
-      pub are_joined : length a.level_names ≡ length b.level_names → compares op ≡ false → then_value (joined_rows v.labels w.labels) (joined_infix op v w t) ≡ rows_infix op v w t
-      are_joined counted compared =
-          sym (by_tests true true kinds (equal (length a.level_names) (length b.level_names) counted) ∙ ap (λ (r : Bool). if r then Err (bad_value not_aligned) else then_value (joined_rows v.labels w.labels) (joined_infix op v w t)) compared)
+  pub rows_unequal : (t : Table) → same_tuples v.labels w.labels ≡ false → rows_infix op v w t ≡ joined_after op v w (then_value (joined_rows v.labels w.labels) (joined_infix op v w t))
+  rows_unequal t unequal =
+      ap (λ (r : Bool). on_levels (list_all (meets op) (beside v.columns w.columns)) (same_count v.level_names w.level_names) (if r then infix_table op t (beside v.columns w.columns) else unequal_infix op v w t)) unequal
+
+-- what is meant where a test is refused
+pub test_refused : (texts : List Text) (fault : OpFault) (rest meant : Result Entry FaultValue) → Passes texts (Err fault) rest meant → Makes texts (Err fault) meant
+test_refused texts (Refused code) rest meant refuses = refuses
+test_refused texts NoMemory rest meant refuses = tt
 
 first_value : (texts : List Text) (hs : List (Option Label)) → first_heading (headings_value texts hs) ≡ heading_value texts (slice_index_or hs 0 None)
 first_value texts [] = refl
@@ -129,29 +138,6 @@ module _ (op : Binary) (texts : List Text) (a b : NumberedTable) where
   pub frame_is_wide : same_headings f.headings g.headings ≡ false → joined_frames op f g ≡ frame_infix op f g
   frame_is_wide same = sym (ap (λ (r : Bool). if r then common_infix op f g else joined_frames op f g) same)
 
-  -- frames under joined labels of columns, by the tests
-  module _ (columns : length b.columns ≡ length a.columns) where
-    under_tests : (k l : Bool) → list_all (kinds_meet op) (pairs_from (Beside b) 0 a.columns) ≡ k → nat_eq (length a.level_names) (length b.level_names) ≡ l
-        → unequal_columns op f g ≡ on_levels k l (if compares op then Err (bad_value not_aligned) else common_infix op f g)
-    under_tests k l kinds counted =
-        (λ i. on_levels (list_all (meets op) (sym (beside_meetings texts b a.columns columns) i)) (sym (levels_same (heading_value texts) (heading_value texts) a.level_names b.level_names) i) (if compares op then Err (bad_value not_aligned) else common_infix op f g))
-        ∙ (λ i. on_levels ((kinds_seen op texts (pairs_from (Beside b) 0 a.columns) ∙ kinds) i) (counted i) (if compares op then Err (bad_value not_aligned) else common_infix op f g))
-
-    pub under_kinds : list_all (kinds_meet op) (pairs_from (Beside b) 0 a.columns) ≡ false → unequal_columns op f g ≡ Err wrong_kind
-    under_kinds kinds = under_tests false (nat_eq (length a.level_names) (length b.level_names)) kinds refl
-
-    module _ (kinds : list_all (kinds_meet op) (pairs_from (Beside b) 0 a.columns) ≡ true) where
-      pub under_levels : length a.level_names ≢ length b.level_names → unequal_columns op f g ≡ Err (bad_value levels)
-      under_levels apart = under_tests true false kinds (not_equal (length a.level_names) (length b.level_names) apart)
-
-      pub under_compared : length a.level_names ≡ length b.level_names → compares op ≡ true → unequal_columns op f g ≡ Err (bad_value not_aligned)
-      under_compared counted compared =
-          under_tests true true kinds (equal (length a.level_names) (length b.level_names) counted) ∙ ap (λ (r : Bool). if r then Err (bad_value not_aligned) else common_infix op f g) compared
-
-      pub under_common : length a.level_names ≡ length b.level_names → compares op ≡ false → common_infix op f g ≡ unequal_columns op f g
-      under_common counted compared =
-          sym (under_tests true true kinds (equal (length a.level_names) (length b.level_names) counted) ∙ ap (λ (r : Bool). if r then Err (bad_value not_aligned) else common_infix op f g) compared)
-
 -- a frame and a Series across
 pub across_is_meant : (op : Binary) (texts : List Text) (f s : NumberedTable) (left : Bool) → IsWhole f → are_headings (labels_value texts s.labels) (headings_value texts f.headings) ≡ true → length (column_at s.columns 0).cells ≡ length f.columns
     → met_table op texts f (Across s left) (table_value texts (named_by f Kept)) ≡ across_infix op left (table_value texts f) (table_value texts s)
@@ -179,18 +165,6 @@ both_true : (a b : Bool) → (a && b) ≡ true → b ≡ true
 both_true true b e = e
 both_true false b e = cc
 
-tuples_count : (x y : List (List LabelValue)) → same_tuples x y ≡ true → length x ≡ length y
-tuples_count [] [] e = refl
-tuples_count [] (b ∷ bs) e = cc
-tuples_count (a ∷ as') [] e = cc
-tuples_count (a ∷ as') (b ∷ bs) e = ap suc (tuples_count as' bs (both_true (same_tuple a b) (same_tuples as' bs) e))
-
-headings_count : (x y : List (Option LabelValue)) → same_headings x y ≡ true → length x ≡ length y
-headings_count [] [] e = refl
-headings_count [] (b ∷ bs) e = cc
-headings_count (a ∷ as') [] e = cc
-headings_count (a ∷ as') (b ∷ bs) e = ap suc (headings_count as' bs (both_true (same_heading a b) (same_headings as' bs) e))
-
 are_count : (x : List (List LabelValue)) (y : List (Option LabelValue)) → are_headings x y ≡ true → length x ≡ length y
 are_count [] [] e = refl
 are_count [] (h ∷ hs) e = cc
@@ -203,7 +177,7 @@ are_count ((l ∷ m ∷ r) ∷ ls) (h ∷ hs) e = cc
 
 pub rows_count : (texts : List Text) (a b : NumberedTable) → same_tuples (labels_value texts a.labels) (labels_value texts b.labels) ≡ true → length b.labels ≡ length a.labels
 rows_count texts a b same =
-    sym (sym (length-map a.labels (tuple_value texts)) ∙ tuples_count (labels_value texts a.labels) (labels_value texts b.labels) same ∙ length-map b.labels (tuple_value texts))
+    sym (sym (length-map a.labels (tuple_value texts)) ∙ as_long same_tuple (labels_value texts a.labels) (labels_value texts b.labels) same ∙ length-map b.labels (tuple_value texts))
 
 -- the columns of two Series, and of two frames, are as many
 pub series_columns : (a b : NumberedTable) → IsWhole a → IsWhole b → a.shape ≡ Series → b.shape ≡ Series → length b.columns ≡ length a.columns
@@ -212,7 +186,7 @@ series_columns a b whole whole' is is' = sym whole'.headed ∙ whole'.headings.s
 pub frame_columns : (texts : List Text) (a b : NumberedTable) → IsWhole a → IsWhole b → same_headings (headings_value texts a.headings) (headings_value texts b.headings) ≡ true → length b.columns ≡ length a.columns
 frame_columns texts a b whole whole' same =
     let headings : length a.headings ≡ length b.headings =
-    sym (length-map a.headings (heading_value texts)) ∙ headings_count (headings_value texts a.headings) (headings_value texts b.headings) same ∙ length-map b.headings (heading_value texts) in
+    sym (length-map a.headings (heading_value texts)) ∙ as_long same_heading (headings_value texts a.headings) (headings_value texts b.headings) same ∙ length-map b.headings (heading_value texts) in
     sym whole'.headed ∙ sym headings ∙ whole.headed
 
 -- a Series has a cell for each column of the frame

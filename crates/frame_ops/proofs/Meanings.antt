@@ -9,7 +9,6 @@ use Rattle.meaning.specs.Fault.{wrong_kind, bad_value, levels, limit, then_value
 use Rattle.meaning.specs.Symbol.{Binary}
 use Rattle.table_meaning.specs.Table.{ColumnOf, Table}
 use Rattle.table_meaning.specs.Value as value
-use Rattle.table_meaning.specs.Value.{Entry}
 use Rattle.form_meaning.specs.Finish.{within_limits, try_all, with_columns}
 use Rattle.form_meaning.specs.Infix.{Meeting, meets, met, infix_table, on_levels}
 use Rattle.frame_ops.specs.declared.other.Other.{Other}

@@ -1,16 +1,22 @@
 -- Rows that are joined by their labels, with texts by number.
-use Rattle.std.specs.Prelude.{◌≡◌, ◌≢◌, ◌≤◌, ◌^◌, ℕ, List, length, Option, All, AllPairs}
+use Rattle.std.specs.Prelude.{◌≡◌, ◌≢◌, ◌≤◌, ◌^◌, ℕ, true, List, length, Option, Result, Err, All, AllPairs, if◌then◌else◌}
+use Rattle.std.specs.List.{list_all}
 use Rattle.cell_core.specs.declared.cell.Cell.TheVariants.{Na}
 use Rattle.cell_core.specs.declared.cell.Label.{Label}
 use Rattle.meaning.specs.Text.{Text}
+use Rattle.meaning.specs.Fault.{FaultValue, bad_value, not_aligned}
+use Rattle.meaning.specs.Symbol.{Binary}
 use Rattle.column_core.specs.Moves.{IsPlaceOf}
 use Rattle.multi_index.specs.Axes.{AxisValue, HaveLevels, range_axis}
 use Rattle.label_align.specs.declared.joined.Joined.{Joined}
-use Rattle.table_meaning.specs.Table.{NumberedTable}
+use Rattle.table_meaning.specs.Table.{NumberedTable, Table}
+use Rattle.table_meaning.specs.Value.{Entry}
 use Rattle.form_meaning.specs.Infix as meant
-use Rattle.form_meaning.specs.Infix.{on_rows}
+use Rattle.form_meaning.specs.Infix.{on_rows, on_levels, meets, beside, same_count, compares}
 use Rattle.frame_store.specs.Parts.{table_with, headings_of}
 use Rattle.frame_store.specs.Shown.{labels_value}
+use Rattle.frame_ops.specs.declared.other.Other.TheVariants.{Beside}
+use Rattle.frame_ops.specs.Pairs.{all_met, kinds_meet}
 
 -- the joined rows with their texts
 abbrev pub joined_value : List Text → Joined → meant.Joined
@@ -35,3 +41,13 @@ AreApart tuples = AllPairs (λ a b. a ≢ b) tuples
 -- a side on joined rows, which are numbered
 abbrev pub side_on : NumberedTable → List (Option ℕ) → NumberedTable
 side_on t rows = table_with t.shape (range_axis (length rows)) (headings_of t) (on_rows Na rows t.columns)
+
+-- the operator takes the columns of both, and their rows have as many levels
+pub record MayJoin (op : Binary) (a b : NumberedTable) : Type 0 where
+  pub kinds : list_all (kinds_meet op) (all_met a (Beside b)) ≡ true
+  pub levels : length a.level_names ≡ length b.level_names
+
+-- tables of other labels come to the rest after these tests, unless they are compared
+abbrev pub joined_after : Binary → Table → Table → Result Entry FaultValue → Result Entry FaultValue
+joined_after op a b rest =
+    on_levels (list_all (meets op) (beside a.columns b.columns)) (same_count a.level_names b.level_names) (if compares op then Err (bad_value not_aligned) else rest)

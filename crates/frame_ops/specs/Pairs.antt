@@ -89,7 +89,8 @@ IsGivenOther texts (Scalar c left) = IsGiven texts c
 IsGivenOther texts (Beside t) = All (λ c. AreGiven texts c.cells) t.columns
 IsGivenOther texts (Across s left) = AreGiven texts (column_at s.columns 0).cells
 
--- The columns that an operator makes. Kinds are tested first, the levels of the rows and the limits next, a divisor of 0 last.
+-- The columns that an operator makes. Kinds are tested first, the levels of the rows and the limits next, a divisor of
+-- 0 last.
 abbrev pub columns_meant : Binary → ℕ → Bool → List Meeting → Result (List (ColumnOf CellValue)) FaultValue
 columns_meant op rows fit meetings =
     if list_all (meets op) meetings

@@ -48,7 +48,8 @@ pub(crate) fn joined_rows(
     ensures apart { IfOk result (λ rows. AreApart a.now.tuples → AreApart b.now.tuples
         → AreApart rows.axis.tuples) }
 {
-    // Equal texts have equal numbers: `TextDict::len` says so. Each row has a label for each level: `Axis::levels` does.
+    // Equal texts have equal numbers: `TextDict::len` says so. Each row has a label for each level: `Axis::levels`
+    // does.
     let _ = (dict.len(), a.levels(), b.levels());
     match outer(alloc, dict, a, b) {
         Ok(rows) => Ok(rows),
@@ -85,7 +86,8 @@ fn side_on(alloc: Global, on: &ObjRef<'_>, rows: &Gaps) -> Result<Table, NoMemor
     Ok(Table::new(on.shape(), axis, headings, blocks))
 }
 
-// What the operator makes of the columns of two tables on the joined rows. `Limit` before a row is made, then `ZeroDivide`.
+// What the operator makes of the columns of two tables on the joined rows. `Limit` before a row is made, then
+// `ZeroDivide`.
 fn joined_columns(
     alloc: Global,
     dict: &mut TextDict,

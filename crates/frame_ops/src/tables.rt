@@ -1,17 +1,21 @@
 // The tables that an operator makes.
-ghost use Rattle.std.specs.Prelude.{◌≡◌, Ok, false, length};
+ghost use Rattle.std.specs.Prelude.{◌≡◌, List, Result, Ok, OnOk, false, length};
 ghost use Rattle.cell_core.specs.declared.grid.Shape.TheVariants.{Series as one_column, Frame as columns};
+ghost use Rattle.meaning.specs.Text.{Text};
 ghost use Rattle.meaning.specs.Cell.{IsGiven, IsLonger, datum};
-ghost use Rattle.meaning.specs.Fault.{then_value};
+ghost use Rattle.meaning.specs.Fault.{FaultValue, then_value};
 ghost use Rattle.multi_index.specs.Axes.{HaveLevels};
 ghost use Rattle.column_operators.specs.Tasks.{operator_of};
 ghost use Rattle.table_meaning.specs.Table.{table_value};
 ghost use Rattle.table_meaning.specs.Value as value;
+ghost use Rattle.table_meaning.specs.Value.{Entry};
 ghost use Rattle.form_meaning.specs.Finish.{with_columns};
 ghost use Rattle.form_meaning.specs.Infix as meant;
 ghost use Rattle.form_meaning.specs.Infix.{same_tuples};
 ghost use Rattle.frame_store.specs.Shown.{Makes, labels_value};
 ghost use Rattle.frame_store.specs.World.{IsKnownTable};
+ghost use Rattle.form_parts.specs.Makes.{Passes};
+ghost use Rattle.frame_ops.specs.Joining.{joined_after, MayJoin};
 ghost use Rattle.frame_ops.specs.Pairs.{columns_for, IsOpposite, IsGivenOther};
 ghost use Rattle.frame_ops.specs.Namings.{named_by, IsNaming, IsSettledNaming};
 
@@ -79,6 +83,26 @@ pub(crate) fn scalar_infix(
     )
 }
 
+// Tests what tables of other labels must have: columns that the operator takes, and as many levels. None are compared.
+fn expect_joined(op: Binary, a: &ObjRef<'_>, b: &ObjRef<'_>) -> Result<(), OpFault>
+    requires { length b.now.columns ≡ length a.now.columns }
+    ensures fit { OnOk result (MayJoin (operator_of op) a.now b.now) }
+    ensures passes { (texts : List Text) (rest : Result Entry FaultValue)
+        → Passes texts result rest (joined_after (operator_of op)
+        (table_value texts a.now) (table_value texts b.now) rest) }
+{
+    if !columns_fit(op, a, b) {
+        return Err(OpFault::Refused(Code::WrongKind));
+    }
+    if a.levels() != b.levels() {
+        return Err(OpFault::Refused(Code::BadValue(Reason::Levels)));
+    }
+    if compares(op) {
+        return Err(OpFault::Refused(Code::BadValue(Reason::NotAligned)));
+    }
+    Ok(())
+}
+
 // Two tables whose columns meet in order and whose rows have other labels.
 fn unequal_infix(
     alloc: Global,
@@ -100,15 +124,7 @@ fn unequal_infix(
         (table_value dict.old a.now) (table_value dict.old b.now)
         (table_value dict.old (named_by a.now naming))) }
 {
-    if !columns_fit(op, a, b) {
-        return Err(OpFault::Refused(Code::WrongKind));
-    }
-    if a.levels() != b.levels() {
-        return Err(OpFault::Refused(Code::BadValue(Reason::Levels)));
-    }
-    if compares(op) {
-        return Err(OpFault::Refused(Code::BadValue(Reason::NotAligned)));
-    }
+    expect_joined(op, a, b)?;
     joined_infix(alloc, dict, op, a, b, naming)
 }
 
@@ -193,15 +209,7 @@ fn unequal_columns(
     ensures makes { Makes dict.new result (meant.unequal_columns (operator_of op)
         (table_value dict.old a.now) (table_value dict.old b.entry)) }
 {
-    if !columns_fit(op, a, &b) {
-        return Err(OpFault::Refused(Code::WrongKind));
-    }
-    if a.levels() != b.levels() {
-        return Err(OpFault::Refused(Code::BadValue(Reason::Levels)));
-    }
-    if compares(op) {
-        return Err(OpFault::Refused(Code::BadValue(Reason::NotAligned)));
-    }
+    expect_joined(op, a, &b)?;
     common_infix(alloc, dict, op, a, b)
 }
 

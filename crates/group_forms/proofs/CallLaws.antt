@@ -1,5 +1,5 @@
 -- Calls behind `groupby` and their arguments.
-use Rattle.std.proofs.Common.{◌≡◌, ◌∙◌, refl, ap, sym, subst, ℕ, List, [], ◌∷◌, Option, Some, None, Result, Ok, Err}
+use Rattle.std.proofs.Common.{◌≡◌, ◌∙◌, refl, ap, sym, subst, List, Option, Some, None, Result, Ok, Err}
 use Rattle.std.specs.Prelude.{option_map, slice_get}
 use Rattle.cell_core.specs.declared.code.Code.TheVariants.{WrongKind, BadValue}
 use Rattle.cell_core.specs.declared.code.Reason.TheVariants.{Argument}
@@ -7,7 +7,7 @@ use Rattle.cell_core.specs.declared.cell.TextId.{TextId}
 use Rattle.meaning.specs.Text.{Text}
 use Rattle.meaning.specs.Cell.{text_of}
 use Rattle.meaning.specs.Fault.{FaultValue}
-use Rattle.table_meaning.specs.Value.{Given, NamedGiven}
+use Rattle.table_meaning.specs.Value.{Given}
 use Rattle.form_meaning.specs.declared.Parameter.{Parameter}
 use Rattle.form_meaning.specs.Binding as plain
 use Rattle.form_meaning.specs.Binding.{bound, bound_of, argument_at, arguments_from, text_in, HasNoText}
@@ -16,7 +16,6 @@ use Rattle.method_meaning.specs.Groups as meant
 use Rattle.method_meaning.specs.Groups.{of_bound, transform_in, transform_of, transform_parameters, reduction_named}
 use Rattle.form_parts.specs.Makes.{MakesBy}
 use Rattle.frame_store.specs.declared.arguments.Named.{Named}
-use Rattle.frame_store.specs.declared.fault.OpFault.TheVariants.{Refused}
 use Rattle.frame_store.specs.Objects.{Tables}
 use Rattle.frame_store.specs.Shown.{Refuses}
 use Rattle.frame_store.specs.World.{World, arguments_in}

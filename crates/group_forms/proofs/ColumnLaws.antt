@@ -1,29 +1,28 @@
 -- Columns that are made by groups.
-use Rattle.std.proofs.Common.{◌≡◌, ◌≢◌, ◌∙◌, refl, ap, sym, subst, arith, append_assoc, ℕ, suc, ◌+◌, ◌<◌, ◌≤◌, Bool, true, false, ◌&&◌, List, [], ◌∷◌, ◌++◌, map, length, take, drop, slice_index_or, All, Option, Some, None, Result, Ok, Err, if◌then◌else◌}
+use Rattle.std.proofs.Common.{◌≡◌, ◌≢◌, ◌∙◌, refl, ap, sym, subst, append_assoc, ℕ, ◌+◌, ◌<◌, Bool, true, false, ◌&&◌, List, [], ◌∷◌, ◌++◌, map, length, take, slice_index_or, All, Some, Result, Ok, Err, if◌then◌else◌}
 use Rattle.std.specs.Prelude.{slice_get, IfOk}
 use Rattle.std.specs.List.{list_all}
 use Rattle.std.proofs.lemmas.List.{length-map, map-append, take_more}
 use Rattle.std.proofs.lemmas.List.FromFn.{length-map-range_with_len}
-use Rattle.std.proofs.lemmas.List.Elements.{All-nil, All-cons, All-head, All-tail, All-push, All-append}
+use Rattle.std.proofs.lemmas.List.Elements.{All-nil, All-cons, All-head, All-tail, All-push}
 use Rattle.std.proofs.lemmas.Option.{get_or_from_slice_get}
 use Rattle.cell_core.specs.declared.cell.Cell.{Cell}
 use Rattle.cell_core.specs.declared.cell.Kind.{Kind}
-use Rattle.cell_core.specs.declared.cell.Kind.TheVariants.{Int64}
 use Rattle.meaning.specs.Text.{Text}
-use Rattle.meaning.specs.Cell.{CellValue, na_cell, datum, AreGiven}
-use Rattle.meaning.specs.Column.{ColumnValue, ColumnFault, kind_mismatch, tabulate, gap_cell}
+use Rattle.meaning.specs.Cell.{CellValue, datum, AreGiven}
+use Rattle.meaning.specs.Column.{ColumnValue, ColumnFault, kind_mismatch}
 use Rattle.meaning.specs.Fault.{FaultValue, wrong_kind, then_value}
 use Rattle.column_core.specs.Blocks.{CellBlock}
 use Rattle.column_core.specs.Columns.{CellColumn}
 use Rattle.column_core.specs.Columns as kernel
 use Rattle.table_meaning.specs.Settled.{IsSettled}
 use Rattle.table_meaning.specs.Table.{ColumnOf, NumberedTable, Table, column_at, no_column, table_value, column_value}
-use Rattle.form_meaning.specs.Finish.{value_of_column, column_of_value, made_column, try_all}
+use Rattle.form_meaning.specs.Finish.{value_of_column, column_of_value, made_column}
 use Rattle.group_meaning.specs.Rows.{GroupsValue}
-use Rattle.group_meaning.specs.Reductions.{group_takes, group_kind, reduced_cells, column_if_taken, reduce_groups, transform_groups, running_cell, cumsum_groups}
+use Rattle.group_meaning.specs.Reductions.{group_takes, reduce_groups, transform_groups, running_cell, cumsum_groups}
 use Rattle.method_meaning.specs.Groups.{each_of}
 use Rattle.form_parts.specs.Makes.{blocks_value}
-use Rattle.frame_store.specs.Parts.{table_column, block_column, single_block, IsSingle, HaveRows, AreColumnsOf}
+use Rattle.frame_store.specs.Parts.{table_column, block_column, IsSingle, HaveRows, AreColumnsOf}
 use Rattle.frame_store.specs.Shown.{columns_value}
 use Rattle.frame_store.proofs.Settling.{columns_part, columns_given}
 use Rattle.selections.proofs.AnswerLaws.{column_seen}

@@ -1,12 +1,12 @@
 -- What a form answers, by what it reads.
-use Rattle.std.proofs.Common.{◌≡◌, ◌∙◌, ℕ, refl, ap, sym, subst, List, [], ◌++◌, Bool, true, false, Option, Some, None, Result, Ok, Err, if◌then◌else◌}
+use Rattle.std.proofs.Common.{◌≡◌, ◌∙◌, ℕ, refl, ap, sym, subst, List, ◌++◌, Bool, true, false, Option, Some, None, Result, Ok, Err, if◌then◌else◌}
 use Rattle.meaning.specs.Text.{Text}
 use Rattle.meaning.specs.Cell.{CellValue, IsLonger}
 use Rattle.meaning.specs.Fault.{FaultValue, then_value}
 use Rattle.table_meaning.specs.Settled.{IsSettled}
 use Rattle.table_meaning.specs.Table.{NumberedTable, Table, table_value}
 use Rattle.table_meaning.specs.Valid.{IsWhole}
-use Rattle.table_meaning.specs.Value.{Entry, Given, NamedGiven, GivenList, list_in}
+use Rattle.table_meaning.specs.Value.{Entry, Given, NamedGiven, list_in}
 use Rattle.form_meaning.specs.Binding.{each, is_scalar}
 use Rattle.cell_core.specs.declared.cell.Cell.{Cell}
 use Rattle.form_meaning.specs.Select.{cells_of}

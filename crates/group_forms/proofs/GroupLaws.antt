@@ -1,5 +1,5 @@
 -- Tables that have a row for each group.
-use Rattle.std.proofs.Common.{◌≡◌, ◌∙◌, refl, ap, sym, subst, arith, ℕ, pos, ◌+◌, ◌^◌, ◌<◌, ◌≤◌, Bool, true, false, ◌&&◌, List, [], ◌∷◌, ◌++◌, map, length, All, Option, Some, None, Result, Ok, Err, if◌then◌else◌}
+use Rattle.std.proofs.Common.{◌≡◌, ◌∙◌, refl, ap, sym, subst, ℕ, ◌+◌, ◌^◌, ◌≤◌, Bool, true, false, ◌&&◌, List, [], ◌∷◌, ◌++◌, map, length, All, Option, Some, None, Result, if◌then◌else◌}
 use Rattle.std.specs.Prelude.{IsSome}
 use Rattle.std.specs.List.{list_all, range_with_len}
 use Rattle.std.proofs.lemmas.List.{length-map, length-append, map-append}
@@ -9,16 +9,15 @@ use Rattle.cell_core.specs.declared.cell.Label.{Label}
 use Rattle.cell_core.specs.declared.code.Code.TheVariants.{WrongKind}
 use Rattle.cell_core.specs.declared.grid.Shape.TheVariants.{Frame}
 use Rattle.meaning.specs.Text.{Text}
-use Rattle.meaning.specs.Cell.{CellValue, LabelValue, int, datum, AreGiven}
+use Rattle.meaning.specs.Cell.{CellValue, LabelValue, datum, AreGiven}
 use Rattle.meaning.specs.Column.{ColumnValue}
-use Rattle.meaning.specs.Fault.{FaultValue, wrong_kind, then_value}
+use Rattle.meaning.specs.Fault.{FaultValue, then_value}
 use Rattle.column_core.specs.Blocks.{CellBlock}
 use Rattle.column_core.specs.Columns.{CellColumn}
 use Rattle.column_core.specs.Columns as kernel
 use Rattle.table_meaning.specs.Settled.{IsSettled}
-use Rattle.index_core.specs.Ranges.{number_label}
-use Rattle.multi_index.specs.Axes.{AxisValue, single_tuples, range_axis}
-use Rattle.table_meaning.specs.Table.{ColumnOf, NumberedTable, Table, column_at, table_value, heading_value, tuple_value, column_value}
+use Rattle.multi_index.specs.Axes.{AxisValue, range_axis}
+use Rattle.table_meaning.specs.Table.{ColumnOf, NumberedTable, Table, table_value, heading_value, tuple_value, column_value}
 use Rattle.table_meaning.specs.Valid.{IsWhole}
 use Rattle.table_meaning.specs.Value.{Entry}
 use Rattle.form_meaning.specs.Finish.{default_labels, finished, column_of_value}
@@ -31,12 +30,13 @@ use Rattle.group_by.specs.declared.ops.GroupOp.{GroupOp}
 use Rattle.group_by.specs.declared.ops.GroupOp.TheVariants.{First}
 use Rattle.group_by.specs.Operations.{reduction_of}
 use Rattle.form_parts.specs.Makes.{blocks_value}
+use Rattle.form_parts.proofs.LabelLaws.{default_seen}
 use Rattle.frame_store.specs.Parts.{block_column, table_column, AreColumnsOf}
 use Rattle.frame_store.specs.Shown.{headings_value, labels_value, Refuses}
 use Rattle.frame_store.proofs.Settling.{columns_name_part}
 use Rattle.selections.specs.Selected.{heading_of, headings_at}
-use Rattle.frame_methods.specs.Levels.{row_labels}
-use Rattle.frame_methods.proofs.IndexingLaws.{headings_seen}
+use Rattle.label_methods.specs.Levels.{row_labels}
+use Rattle.label_methods.proofs.IndexingLaws.{headings_seen}
 use Rattle.group_forms.specs.declared.columns.ColumnCall.TheVariants.{Reduced}
 use Rattle.group_forms.specs.declared.grouping.Grouping.{Grouping}
 use Rattle.group_forms.specs.declared.values.Values.{Values}
@@ -270,14 +270,6 @@ axis_counted texts t g axis is = sym (length-map axis.tuples (tuple_value texts)
 pub blocks_counted : (texts : List Text) (blocks : List CellBlock) (columns : List (ColumnOf CellValue)) → blocks_value texts blocks ≡ columns → length blocks ≡ length columns
 blocks_counted texts blocks columns is = sym (length-map (map block_column blocks) (column_value texts) ∙ length-map blocks block_column) ∙ ap (λ (l : List (ColumnOf CellValue)). length l) is
 
--- numbers as labels
-numbers_seen : (texts : List Text) (ns : List ℕ) → labels_value texts (single_tuples (map number_label ns)) ≡ map (λ row. int (pos row) ∷ []) ns
-numbers_seen texts [] = refl
-numbers_seen texts (n ∷ ns) = λ i. (int (pos n) ∷ []) ∷ numbers_seen texts ns i
-
-range_seen : (texts : List Text) (count : ℕ) → labels_value texts (range_axis count).tuples ≡ default_labels count
-range_seen texts count = numbers_seen texts (range_with_len 0 count)
-
 -- the axis of keys, or of numbers
 abbrev labels_by : Bool → Table → meant.Grouping → List (List LabelValue)
 labels_by b t g = if b then keys_of t g else default_labels (length (keys_of t g))
@@ -306,9 +298,9 @@ module _ (texts : List Text) (t : NumberedTable) (g : Grouping) (axis : AxisValu
   pub numbers_axis : (count : ℕ) → g.as_index ≡ false → count ≡ length (keys_of A (grouping_seen texts g)) → axis ≡ range_axis count → IsAxis texts (group_labels A (grouping_seen texts g)) (group_names A (grouping_seen texts g)) axis
   numbers_axis count by_numbers counted is =
       let seen : IsAxisBy false = record {
-        labels_seen = ap (λ (a : AxisValue). labels_value texts a.tuples) is ∙ range_seen texts count ∙ ap default_labels counted;
+        labels_seen = ap (λ (a : AxisValue). labels_value texts a.tuples) is ∙ default_seen texts count ∙ ap default_labels counted;
         names_seen = ap (λ (a : AxisValue). headings_value texts a.names) is;
-        labels_given = subst (IsSettled labels_value texts) (sym (ap (λ (a : AxisValue). a.tuples) is)) (λ more. range_seen (texts ++ more) count ∙ sym (range_seen texts count));
+        labels_given = subst (IsSettled labels_value texts) (sym (ap (λ (a : AxisValue). a.tuples) is)) (λ more. default_seen (texts ++ more) count ∙ sym (default_seen texts count));
         names_given = subst (IsSettled headings_value texts) (sym (ap (λ (a : AxisValue). a.names) is)) (λ more. refl);
       } in
       subst IsAxisBy (sym by_numbers) seen

@@ -1,102 +1,42 @@
 -- The groups of a frame's rows are those of the rows with their texts.
-use Rattle.std.proofs.Common.{◌≡◌, ◌∙◌, refl, ap, sym, subst, arith, zero-add, ℕ, suc, ◌+◌, ◌<◌, ◌≤◌, Bool, true, false, ◌&&◌, List, [], ◌∷◌, ◌++◌, map, length, take, slice_index_or, All, Option, Some, None}
+use Rattle.std.proofs.Common.{◌≡◌, ◌∙◌, refl, ap, sym, subst, zero-add, ℕ, ◌+◌, ◌<◌, ◌≤◌, Bool, List, [], ◌∷◌, ◌++◌, map, length, take, slice_index_or, All, Some}
 use Rattle.std.specs.Prelude.{slice_get, Result, Ok, Err, IfOk}
 use Rattle.std.specs.List.{range_with_len}
-use Rattle.std.specs.Cmp.Lexicographic.{pointwise}
-use Rattle.std.specs.Ordering.{is_eq}
 use Rattle.std.proofs.Math.ListN.{get_or-map}
 use Rattle.std.proofs.lemmas.List.{length-map, map-append, take_all, take_more}
 use Rattle.std.proofs.lemmas.Option.{get_or_from_slice_get}
-use Rattle.std.proofs.lemmas.List.FromFn.{length-range_with_len, length-map-range_with_len, get_or-map-range_with_len}
+use Rattle.std.proofs.lemmas.List.FromFn.{length-range_with_len, get_or-map-range_with_len}
 use Rattle.cell_core.specs.Texts.{AreDistinct}
 use Rattle.cell_core.specs.declared.cell.Cell.{Cell}
 use Rattle.cell_core.specs.declared.cell.Cell.TheVariants as cell
 use Rattle.cell_core.specs.declared.cell.Label.{Label}
 use Rattle.meaning.specs.Text.{Text}
-use Rattle.meaning.specs.Cell.{CellValue, na_cell, datum, LabelValue, label_cmp, label_datum}
+use Rattle.meaning.specs.Cell.{CellValue, na_cell, datum, LabelValue, label_datum}
 use Rattle.meaning.specs.Operator.{cell_label}
-use Rattle.column_core.specs.Columns.{CellColumn}
 use Rattle.table_meaning.specs.Settled.{IsSettled}
 use Rattle.table_meaning.specs.Table.{ColumnOf, NumberedTable, Table, column_at, table_value, tuple_value}
-use Rattle.index_core.specs.Labels.{same_number}
-use Rattle.index_core.proofs.NumberLaws.{label_decides}
 use Rattle.row_keys.specs.Keys.{same_tuple, place_among}
 use Rattle.multi_index.specs.Axes.{tuples_at}
-use Rattle.row_groups.specs.Labels.{label_of_cell}
-use Rattle.factorize.specs.Keys.{seen_rules, row_key, column_keys}
+use Rattle.factorize.specs.Keys.{seen_rules}
 use Rattle.factorize.specs.declared.factor.KeyGroups.{KeyGroups}
 use Rattle.factorize.proofs.GroupLaws.{rows_inside, tuples_there}
 use Rattle.group_meaning.specs.Keys.{tuple_rules, group_keys, group_codes}
 use Rattle.group_meaning.specs.Rows.{GroupsValue}
-use Rattle.group_meaning.proofs.ListLaws.{map_map, map_on}
+use Rattle.group_meaning.proofs.ListLaws.{map_on}
 use Rattle.group_meaning.proofs.SeenLaws.{keys_seen, codes_seen}
-use Rattle.method_meaning.specs.Rows.{cells_by_row}
 use Rattle.method_meaning.specs.Groups as meant
-use Rattle.form_meaning.specs.Binding.{same_label}
 use Rattle.form_parts.specs.Labels.{label_of}
-use Rattle.form_parts.proofs.LabelLaws.{same_by_number}
-use Rattle.form_parts.proofs.RowLaws.{tuples_settled}
-use Rattle.frame_store.specs.Parts.{table_column, AreRowsOf}
+use Rattle.form_parts.proofs.RowLaws.{tuple_by_number, tuples_settled}
+use Rattle.frame_store.specs.Parts.{AreRowsOf}
 use Rattle.frame_store.specs.Shown.{labels_value}
 use Rattle.frame_store.proofs.Settling.{settled_by}
 use Rattle.selections.specs.Across.{cell_across}
 use Rattle.selections.proofs.AnswerLaws.{column_seen}
-use Rattle.frame_methods.specs.Levels.{row_labels}
-use Rattle.frame_methods.specs.Rows.{row_cells}
-use Rattle.frame_methods.proofs.IndexingLaws.{all_rows, tuples_seen}
+use Rattle.label_methods.specs.Levels.{row_labels}
+use Rattle.label_methods.proofs.IndexingLaws.{all_rows, tuples_seen}
+use Rattle.key_columns.proofs.KeyLaws.{numbered_keys}
 use Rattle.group_forms.specs.Grouped.{grouping_seen}
 use Rattle.group_forms.specs.declared.grouping.Grouping.{Grouping}
-
--- the cells of columns as keys are the labels of rows
-label_is : (c : Cell) → label_of_cell c ≡ label_of c
-label_is cell.Na = refl
-label_is (cell.Int z) = refl
-label_is (cell.Bool b) = refl
-label_is (cell.Text id) = refl
-
-abbrev label_here : ℕ → ColumnOf Cell → Label
-label_here row c = label_of (slice_index_or c.cells row cell.Na)
-
-key_of_row : (columns : List CellColumn) (row : ℕ) → row_key columns row ≡ map (label_here row) (map table_column columns)
-key_of_row [] row = refl
-key_of_row (c ∷ cs) row = λ i. label_is (slice_index_or c.cells row cell.Na) i ∷ key_of_row cs row i
-
-labels_of_row : (t : NumberedTable) (places : List ℕ) (row : ℕ) → map (label_here row) (map (column_at t.columns) places) ≡ row_labels t places row
-labels_of_row t [] row = refl
-labels_of_row t (p ∷ ps) row = ap (λ l. label_of (cell_across t row p) ∷ l) (labels_of_row t ps row)
-
-keys_of_rows : (t : NumberedTable) (places : List ℕ) (columns : List CellColumn) (rows : List ℕ) → map table_column columns ≡ map (column_at t.columns) places → map (row_key columns) rows ≡ map (row_labels t places) rows
-keys_of_rows t places columns [] is = refl
-keys_of_rows t places columns (r ∷ rs) is = λ i. (key_of_row columns r ∙ ap (map (label_here r)) is ∙ labels_of_row t places r) i ∷ keys_of_rows t places columns rs is i
-
-abbrev pub numbered_keys : NumberedTable → List ℕ → List (List Label)
-numbered_keys t places = map (row_labels t places) (all_rows t)
-
-pub keys_are : (t : NumberedTable) (places : List ℕ) (columns : List CellColumn) (count : ℕ) → map table_column columns ≡ map (column_at t.columns) places → count ≡ length t.labels → column_keys columns count ≡ numbered_keys t places
-keys_are t places columns count is counted = ap (column_keys columns) counted ∙ keys_of_rows t places columns (all_rows t) is
-
--- tuples are told apart by their texts as by the numbers of these
-label_settled : (texts : List Text) (l : Label) (ls : List Label) → IsSettled tuple_value texts (l ∷ ls) → IsSettled label_datum texts l
-label_settled texts l ls settled = λ more. ap (first_or (label_datum texts l)) (settled more)
-  where
-    first_or : LabelValue → List LabelValue → LabelValue
-    first_or d [] = d
-    first_or d (x ∷ xs) = x
-
-rest_settled : (texts : List Text) (l : Label) (ls : List Label) → IsSettled tuple_value texts (l ∷ ls) → IsSettled tuple_value texts ls
-rest_settled texts l ls settled = λ more. ap rest (settled more)
-  where
-    rest : List LabelValue → List LabelValue
-    rest [] = []
-    rest (x ∷ xs) = xs
-
-same_seen : (texts : List Text) (a b : List Label) → AreDistinct texts → IsSettled tuple_value texts a → IsSettled tuple_value texts b → pointwise same_label (tuple_value texts a) (tuple_value texts b) ≡ same_tuple a b
-same_seen texts [] [] distinct f g = refl
-same_seen texts [] (b ∷ bs) distinct f g = refl
-same_seen texts (a ∷ as') [] distinct f g = refl
-same_seen texts (a ∷ as') (b ∷ bs) distinct f g =
-    λ i. sym (same_by_number texts a b (same_number a b) distinct (label_settled texts a as' f) (label_settled texts b bs g) (label_decides a b)) i
-    && same_seen texts as' bs distinct (rest_settled texts a as' f) (rest_settled texts b bs g) i
 
 -- a group for each row
 pub codes_counted : (texts : List Text) (t : NumberedTable) (g : Grouping) (groups : GroupsValue) → groups ≡ meant.groups_of (table_value texts t) (grouping_seen texts g) → length groups.codes ≡ length t.labels
@@ -124,12 +64,12 @@ module _ (texts : List Text) (t : NumberedTable) (g : Grouping) (distinct : AreD
   keys_with_texts : meant.keys_of T (grouping_seen texts g) ≡ map (tuple_value texts) (group_keys (seen_rules texts) g.sorted g.dropna K)
   keys_with_texts =
       ap (group_keys tuple_rules g.sorted g.dropna) seen
-      ∙ keys_seen (IsSettled tuple_value texts) (tuple_value texts) (seen_rules texts) tuple_rules (λ a b f h. same_seen texts a b distinct f h) (λ a b f h. refl) (λ a f. refl) g.sorted g.dropna K rows_settled
+      ∙ keys_seen (IsSettled tuple_value texts) (tuple_value texts) (seen_rules texts) tuple_rules (λ a b f h. tuple_by_number texts a b distinct f h) (λ a b f h. refl) (λ a f. refl) g.sorted g.dropna K rows_settled
 
   codes_with_texts : group_codes tuple_rules g.sorted g.dropna (meant.row_keys T g.keys) ≡ group_codes (seen_rules texts) g.sorted g.dropna K
   codes_with_texts =
       ap (group_codes tuple_rules g.sorted g.dropna) seen
-      ∙ codes_seen (IsSettled tuple_value texts) (tuple_value texts) (seen_rules texts) tuple_rules (λ a b f h. same_seen texts a b distinct f h) (λ a b f h. refl) (λ a f. refl) g.sorted g.dropna K rows_settled
+      ∙ codes_seen (IsSettled tuple_value texts) (tuple_value texts) (seen_rules texts) tuple_rules (λ a b f h. tuple_by_number texts a b distinct f h) (λ a b f h. refl) (λ a f. refl) g.sorted g.dropna K rows_settled
 
   pub groups_are : (groups : GroupsValue) → groups.count ≡ length (group_keys (seen_rules texts) g.sorted g.dropna K) → groups.codes ≡ group_codes (seen_rules texts) g.sorted g.dropna K → groups ≡ meant.groups_of T (grouping_seen texts g)
   groups_are groups counted coded =
@@ -207,12 +147,6 @@ label_datum_is texts cell.Na = refl
 label_datum_is texts (cell.Int z) = refl
 label_datum_is texts (cell.Bool b) = refl
 label_datum_is texts (cell.Text id) = refl
-
--- one column more
-pub one_more_ref : (t : NumberedTable) (places : List ℕ) (k place : ℕ) (c : CellColumn) (cs cs' : List CellColumn) → k < length places → slice_get places k ≡ Some place → column_at t.columns place ≡ table_column c → cs' ≡ cs ++ c ∷ []
-    → map table_column cs ≡ map (column_at t.columns) (take k places) → map table_column cs' ≡ map (column_at t.columns) (take (k + 1) places)
-one_more_ref t places k place c cs cs' lt at here pushed before =
-    one_more_of (column_at t.columns) places k place (table_column c) (map table_column cs) (map table_column cs') lt at (sym here) (ap (map table_column) pushed ∙ map-append table_column cs (c ∷ [])) before
 
 -- one tuple more
 pub one_more_tuple : (t : NumberedTable) (keys rows : List ℕ) (k row : ℕ) (tuple : List Label) (tuples tuples' : List (List Label)) → k < length rows → slice_get rows k ≡ Some row → tuple ≡ row_labels t keys row → tuples' ≡ tuples ++ tuple ∷ []

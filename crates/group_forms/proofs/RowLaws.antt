@@ -1,5 +1,5 @@
 -- Tables that have the rows of the frame.
-use Rattle.std.proofs.Common.{◌≡◌, ◌∙◌, refl, ap, sym, subst, arith, ℕ, ◌<◌, ◌≤◌, Bool, true, false, List, [], ◌∷◌, ◌++◌, map, length, All, Option, Some, None, Result, Ok, Err}
+use Rattle.std.proofs.Common.{◌≡◌, ◌∙◌, refl, ap, sym, subst, ℕ, ◌<◌, Bool, false, List, [], ◌∷◌, ◌++◌, map, length, All, Option, None, Result}
 use Rattle.std.specs.Prelude.{IsSome}
 use Rattle.std.specs.List.{list_all}
 use Rattle.std.proofs.lemmas.List.{length-map}
@@ -10,36 +10,34 @@ use Rattle.cell_core.specs.declared.cell.Label.{Label}
 use Rattle.cell_core.specs.declared.code.Code.TheVariants.{WrongKind}
 use Rattle.cell_core.specs.declared.grid.Shape.TheVariants.{Frame}
 use Rattle.meaning.specs.Text.{Text}
-use Rattle.meaning.specs.Cell.{CellValue, LabelValue, datum, AreGiven}
+use Rattle.meaning.specs.Cell.{CellValue, datum, AreGiven}
 use Rattle.meaning.specs.Column.{ColumnValue}
-use Rattle.meaning.specs.Fault.{FaultValue, wrong_kind, then_value}
+use Rattle.meaning.specs.Fault.{FaultValue, then_value}
 use Rattle.column_core.specs.Blocks.{CellBlock}
 use Rattle.column_core.specs.Columns.{CellColumn}
 use Rattle.column_core.specs.Columns as kernel
 use Rattle.multi_index.specs.Axes.{AxisValue}
 use Rattle.table_meaning.specs.Settled.{IsSettled}
-use Rattle.table_meaning.specs.Table.{ColumnOf, NumberedTable, Table, column_at, table_value, heading_value, tuple_value, column_value}
+use Rattle.table_meaning.specs.Table.{ColumnOf, NumberedTable, Table, table_value, tuple_value, column_value}
 use Rattle.table_meaning.specs.Valid.{IsWhole}
 use Rattle.table_meaning.specs.Value.{Entry}
 use Rattle.form_meaning.specs.Finish.{column_of_value}
-use Rattle.select_meaning.specs.Select.{shown_as}
 use Rattle.group_meaning.specs.Rows.{GroupsValue}
 use Rattle.group_meaning.specs.Reductions.{group_places}
-use Rattle.method_meaning.specs.Rows.{cells_by_row}
 use Rattle.method_meaning.specs.Groups as meant
 use Rattle.method_meaning.specs.Groups.{headings_of, each_of, same_rows, group_answer}
 use Rattle.form_parts.specs.Makes.{blocks_value}
-use Rattle.frame_store.specs.Parts.{block_column, table_column, axis_of, AreColumnsOf, IsSingle, HaveRows}
-use Rattle.frame_store.specs.Shown.{headings_value, labels_value, Refuses}
+use Rattle.frame_store.specs.Parts.{table_column, axis_of, AreColumnsOf, IsSingle}
+use Rattle.frame_store.specs.Shown.{headings_value, Refuses}
 use Rattle.frame_store.proofs.Settling.{headings_part, labels_part, level_names_part}
 use Rattle.selections.specs.Selected.{heading_of, headings_at}
-use Rattle.frame_methods.proofs.IndexingLaws.{tuples_seen, headings_seen, headings_settled, labelled}
+use Rattle.label_methods.proofs.IndexingLaws.{headings_seen, headings_settled, labelled}
 use Rattle.group_forms.specs.declared.columns.ColumnCall.{ColumnCall}
 use Rattle.group_forms.specs.declared.columns.ColumnCall.TheVariants.{Reduced, Transformed, Cumsum}
 use Rattle.group_forms.specs.declared.grouping.Grouping.{Grouping}
 use Rattle.group_forms.specs.declared.values.Values.{Values}
 use Rattle.group_forms.specs.Columns.{made_of, takes_at, made_at, rows_made, AreBlocks, row_call_of, IsByRow}
-use Rattle.group_forms.specs.Grouped.{grouping_seen, values_seen, AreValues}
+use Rattle.group_forms.specs.Grouped.{grouping_seen, values_seen}
 use Rattle.group_forms.specs.Tables.{HasHeadings, IsAxis}
 use Rattle.group_forms.proofs.ColumnLaws.{if_taken, each_is, boxed, one_more_block, one_more_value}
 use Rattle.group_forms.proofs.KeyLaws.{codes_counted}

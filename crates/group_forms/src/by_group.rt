@@ -8,7 +8,7 @@ ghost use Rattle.form_parts.specs.Makes.{blocks_value};
 ghost use Rattle.frame_store.specs.Parts.{AreRowsOf};
 ghost use Rattle.frame_store.specs.Shown.{labels_value, Makes};
 ghost use Rattle.frame_store.specs.World.{IsKnownTable};
-ghost use Rattle.frame_methods.specs.Levels.{row_labels};
+ghost use Rattle.label_methods.specs.Levels.{row_labels};
 ghost use Rattle.group_by.specs.Operations.{reduction_of};
 ghost use Rattle.group_forms.specs.Columns.{AreBlocks};
 ghost use Rattle.group_forms.specs.Grouped.{grouping_seen, values_seen, HasKeys, AreValues};

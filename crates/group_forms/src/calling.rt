@@ -10,7 +10,7 @@ ghost use Rattle.method_meaning.specs.Calls.{chain_result};
 ghost use Rattle.frame_store.specs.Arguments.{object_value, shape_at, IsLive, IsLiveObject};
 ghost use Rattle.frame_store.specs.Objects.{tables, table_at};
 ghost use Rattle.frame_store.specs.World.{world, entry_in, argument_in, arguments_in, IsSettledWorld, IsKnownArgument, AreKnownArguments, Forms};
-ghost use Rattle.frame_methods.specs.Calls.{chain_in, is_grouped, IsKnownChain};
+ghost use Rattle.label_methods.specs.Chains.{chain_in, is_grouped, IsKnownChain};
 ghost use Rattle.group_forms.specs.Calls.{call_of};
 ghost use Rattle.group_forms.specs.Grouped.{grouping_seen, values_seen, HasKeys, AreValues};
 
@@ -22,8 +22,8 @@ use crate::grouping::{Grouping, grouping_of};
 use crate::values::{Values, values_of};
 use cell_core::{Grid, Label, NoMemory, Shape, TextDict};
 use form_parts::placed;
-use frame_methods::no_attribute;
 use frame_store::{Argument, Chain, Named, NamedList, ObjId, OpFault, Store, Value};
+use label_methods::no_attribute;
 use std::alloc::Global;
 
 // The heading of sizes: none where they are a Series.

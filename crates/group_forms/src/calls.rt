@@ -14,9 +14,9 @@ ghost use Rattle.group_forms.specs.Calls.{call_of, call_seen, IsTransform};
 
 use cell_core::{Cell, Code, Reason, TextDict, TextId};
 use form_meaning::{Form, Listed, Omitted, Parameter, ParameterName};
-use frame_methods::no_attribute;
 use frame_store::{Named, OpFault, Store};
 use group_by::GroupOp;
+use label_methods::no_attribute;
 use signatures::{Bound, bind};
 use std::alloc::Global;
 

@@ -6,13 +6,13 @@ ghost use Rattle.frame_store.specs.Arguments.{object_value, IsLiveObject};
 ghost use Rattle.frame_store.specs.Objects.{tables, table_at};
 ghost use Rattle.frame_store.specs.World.{world, arguments_in, IsSettledWorld, AreKnownArguments};
 ghost use Rattle.selections.specs.Selected.{as_it_is};
-ghost use Rattle.frame_methods.specs.Named.{first_in, NamesColumns};
+ghost use Rattle.label_methods.specs.Named.{first_in, NamesColumns};
 ghost use Rattle.group_forms.specs.Grouped.{grouping_seen, HasKeys, AreKeys};
 
 use cell_core::{Code, Places, TextDict};
 use form_meaning::Method;
-use frame_methods::named_places;
 use frame_store::{Named, ObjId, OpFault, Store};
+use label_methods::named_places;
 use signatures::{Bound, bind, parameters};
 use std::alloc::Global;
 

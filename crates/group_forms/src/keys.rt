@@ -1,43 +1,25 @@
 // The groups of a frame's rows by the cells of its key columns, and the labels and columns of the keys.
-ghost use Rattle.std.specs.Prelude.{◌≡◌, ◌≤◌, length, map, All, IfOk};
-ghost use Rattle.table_meaning.specs.Table.{table_value, column_at};
+ghost use Rattle.std.specs.Prelude.{◌≡◌, ◌≤◌, length, map, IfOk};
+ghost use Rattle.table_meaning.specs.Table.{table_value};
 ghost use Rattle.table_meaning.specs.Valid.{IsWhole};
 ghost use Rattle.method_meaning.specs.Groups as meant;
-ghost use Rattle.frame_store.specs.Parts.{table_column, AreRowsOf, AreColumnsOf};
+ghost use Rattle.frame_store.specs.Parts.{AreRowsOf, AreColumnsOf};
 ghost use Rattle.frame_store.specs.Shown.{labels_value};
 ghost use Rattle.frame_store.specs.World.{IsKnownTable};
 ghost use Rattle.selections.specs.Selected.{headings_at};
-ghost use Rattle.frame_methods.specs.Levels.{row_labels};
+ghost use Rattle.label_methods.specs.Levels.{row_labels};
 ghost use Rattle.group_forms.specs.Grouped.{grouping_seen, HasKeys};
 
 use crate::grouping::Grouping;
 use cell_core::{Grid, NoMemory, Places, TextDict, Tuples};
 use column_core::ColRef;
 use factorize::{KeyColumns, KeyGroups, group_by_keys};
-use frame_methods::{named_axis, row_tuple};
 use frame_store::ObjRef;
+use key_columns::columns_at;
+use label_methods::{named_axis, row_tuple};
 use multi_index::Axis;
 use selections::headings_at;
 use std::alloc::Global;
-
-// The columns at these places.
-fn columns_at<'a>(
-    alloc: Global,
-    on: &'a ObjRef<'_>,
-    places: &Places,
-) -> Result<Vec<ColRef<'a>>, NoMemory>
-    requires { AreColumnsOf on.now places.now }
-    ensures columns { IfOk result (λ made. map table_column made.items
-        ≡ map (column_at on.now.columns) places.now) }
-    ensures rows { IfOk result (λ made.
-        All (λ column. length column.cells ≡ length on.now.labels) made.items) }
-{
-    let mut columns = Vec::new(alloc);
-    for k in 0..places.len() {
-        columns.push(on.column(*places.at(k)))?;
-    }
-    Ok(columns)
-}
 
 // The group of each row, and the first row of each group.
 pub(crate) fn groups_of(

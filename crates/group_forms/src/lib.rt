@@ -4,10 +4,10 @@
 //! object. What it answers is its definition on whole tables (`method_meaning/specs/Groups.antt`).
 //!
 //! The arguments of `groupby` are bound and its keys found (`grouping`), then the columns that the brackets name
-//! (`values`), then the last call with its arguments (`calls`). All kinds are tested (`kinds`), and the headings and the
-//! limits (`checks`), before a cell is made. The groups are found once, by the cells of the key columns (`keys`), and
-//! each column is made by one pass over the rows (`columns`); the table has a row for each group (`by_group`), or the
-//! rows of the frame (`by_row`).
+//! (`values`), then the last call with its arguments (`calls`). All kinds are tested (`kinds`), and the headings and
+//! the limits (`checks`), before a cell is made. The groups are found once, by the cells of the key columns (`keys`),
+//! and each column is made by one pass over the rows (`columns`); the table has a row for each group (`by_group`), or
+//! the rows of the frame (`by_row`).
 //!
 //! ```text
 //! // `f.groupby("city")["total"].sum()`

@@ -15,8 +15,8 @@ ghost use Rattle.group_forms.specs.Grouped.{values_seen, AreValues};
 
 use cell_core::{Cell, Code, Grid, Places, TextDict};
 use form_parts::label_of;
-use frame_methods::places_besides;
 use frame_store::{Argument, Item, ObjId, ObjRef, OpFault, Store};
+use label_methods::places_besides;
 use selections::{column_place, column_places, scalars_of};
 use std::alloc::Global;
 

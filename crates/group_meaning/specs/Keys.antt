@@ -1,10 +1,11 @@
 -- The keys of groups, and the group of each row.
-use Rattle.std.specs.Prelude.{ℕ, Bool, true, false, not, if◌then◌else◌, List, map, filter, Option}
+use Rattle.std.specs.Prelude.{ℕ, Bool, true, not, if◌then◌else◌, List, map, filter, Option}
 use Rattle.std.specs.List.{list_any, position}
 use Rattle.std.specs.Ordering.{is_lt, is_eq}
 use Rattle.std.specs.Cmp.Lexicographic.{pointwise, slice_cmp}
-use Rattle.meaning.specs.Cell.{LabelValue, na, label_cmp}
+use Rattle.meaning.specs.Cell.{LabelValue, label_cmp}
 use Rattle.meaning.specs.Reduce.{distinct}
+pub use Rattle.sorting.specs.Labels.{is_na}
 use Rattle.sorting.specs.Sorting.{in_order}
 
 -- how keys are told apart, which of two stands first, and whether one holds an NA
@@ -32,11 +33,6 @@ group_of same keys key = position (same key) keys
 -- the number of each row's group
 abbrev pub group_codes : {K : Type 0} → KeyRules K → Bool → Bool → List K → List (Option ℕ)
 group_codes rules sorted dropna rows = map (group_of rules.same (group_keys rules sorted dropna rows)) rows
-
--- a label that is missing
-abbrev pub is_na : LabelValue → Bool
-is_na na = true
-is_na label = false
 
 -- keys that are tuples of labels: they are told apart label by label, and the first different label decides their order
 abbrev pub tuple_rules : KeyRules (List LabelValue)

@@ -111,19 +111,35 @@ fn keys_stand_by_sight(rt: HostRuntime) -> Result<(), Fail> {
     Ok(())
 }
 
-#[test]
-fn tuples_have_codes(rt: HostRuntime) -> Result<(), Fail> {
-    let alloc = rt.alloc();
+// The codes of 7, NA and 5.
+fn assert_codes(
+    rt: &impl Abort,
+    alloc: Global,
+    sorted: bool,
+    dropna: bool,
+    wanted: &[Option<usize>; 3],
+) -> Result<(), Fail> {
     let dict = TextDict::new(alloc);
     let mut keys = Tuples::new(alloc);
     keys.push(Tuple::of(alloc, &[Label::Int(7)]))?;
     keys.push(Tuple::of(alloc, &[Label::Na]))?;
     keys.push(Tuple::of(alloc, &[Label::Int(5)]))?;
-    let codes = factorize(alloc, &dict, &keys, true, true)?;
+    let codes = factorize(alloc, &dict, &keys, sorted, dropna)?;
+    assert_eq!(rt; codes.keys().len(), if dropna { 2 } else { 3 });
     assert_eq!(rt; codes.len(), 3);
-    assert_eq!(rt; codes.keys().len(), 2);
-    assert_eq!(rt; codes.code(0), Some(1));
-    assert_eq!(rt; codes.code(1), None);
-    assert_eq!(rt; codes.code(2), Some(0));
+    for row in 0..3 {
+        assert_eq!(rt; codes.code(row), wanted[row], "row {row}");
+    }
+    Ok(())
+}
+
+// As `pd.factorize(keys, sort=.., use_na_sentinel=..)`.
+#[test]
+fn tuples_have_codes(rt: HostRuntime) -> Result<(), Fail> {
+    let alloc = rt.alloc();
+    assert_codes(&rt, alloc, true, true, &[Some(1), None, Some(0)])?;
+    assert_codes(&rt, alloc, true, false, &[Some(1), Some(2), Some(0)])?;
+    assert_codes(&rt, alloc, false, true, &[Some(0), None, Some(1)])?;
+    assert_codes(&rt, alloc, false, false, &[Some(0), Some(1), Some(2)])?;
     Ok(())
 }

@@ -1,6 +1,8 @@
-//! Tests of groups, joins and concatenations, with values from pandas.
+//! Tests of groups, joins and concatenations, with values from pandas, and of the numbers of keys on which they rest.
 #![tactic(auto)]
 
+#[cfg(test)]
+mod codes;
 #[cfg(test)]
 mod groups;
 #[cfg(test)]

@@ -1,5 +1,5 @@
 -- Answers and refusals that are handed on.
-use Rattle.std.proofs.Common.{◌≡◌, ◌∙◌, ap, sym, subst, arith, ℕ, ◌<◌, ◌==◌, ◌&&◌, Bool, true, false, nat_lt, if◌then◌else◌, List, [], ◌∷◌, All, Some, Result, Ok, Err, length, refl}
+use Rattle.std.proofs.Common.{◌≡◌, ◌∙◌, ap, sym, arith, ℕ, ◌<◌, ◌==◌, ◌&&◌, Bool, true, false, nat_lt, if◌then◌else◌, List, [], ◌∷◌, All, Some, Result, Ok, Err, length, refl}
 use Rattle.std.specs.Prelude.{IfOk, slice_get}
 use Rattle.std.specs.Cmp.Lexicographic.{pointwise}
 use Rattle.cell_core.specs.declared.cell.Label.{Label}
@@ -16,10 +16,7 @@ use Rattle.pick_meaning.proofs.RowLaws.{some_there, rows_where-same}
 use Rattle.indexers.specs.declared.keys.Picked.{Picked}
 use Rattle.indexers.specs.declared.keys.KeyFault.{KeyFault}
 use Rattle.indexers.specs.declared.keys.KeyFault.TheVariants as fault
-use Rattle.multi_index.specs.declared.fault.AxisFault.{AxisFault}
-use Rattle.multi_index.specs.declared.fault.AxisFault.TheVariants as axis
-use Rattle.multi_index.specs.Picks as axis_picks
-use Rattle.indexers.specs.Picks.{PicksBy, pick_of, as_it_is, IsSameFault}
+use Rattle.indexers.specs.Picks.{PicksBy, pick_of, as_it_is}
 
 -- what is picked lies within the axis where what is meant does
 pub picks_inside : (result : Result Picked KeyFault) (meant : Result Pick (PickFault (List Label))) (count : ℕ) → PicksBy pick_of result meant → ((pick : Pick) → meant ≡ Ok pick → All (λ row. row < count) pick.rows)
@@ -41,13 +38,6 @@ handed_on view view' (fault.OutOfRange z count) meant meant' on is = on _ is
 handed_on view view' (fault.NoMaskLabel key) meant meant' on is = on _ is
 handed_on view view' fault.StepZero meant meant' on is = on _ is
 handed_on view view' fault.NoMemory meant meant' on is = tt
-
--- a refusal of an axis, which no level too many is the cause of, as the refusal of a key
-pub same_fault : {A B : Type 0} (view : A → B) (given : AxisFault) (made : KeyFault) (meant : Result B (PickFault (List Label))) → IsSameFault given made → axis_picks.PicksBy view (Err given) meant → PicksBy view (Err made) meant
-same_fault view (axis.NotThere key) made meant same is = subst (λ f. PicksBy view (Err f) meant) (sym same) is
-same_fault view (axis.BoundNotUnique key) made meant same is = subst (λ f. PicksBy view (Err f) meant) (sym same) is
-same_fault view axis.TooManyLevels made meant same is = absurd same
-same_fault view axis.NoMemory made meant same is = subst (λ f. PicksBy view (Err f) meant) (sym same) tt
 
 -- an answer or a refusal that is seen otherwise
 pub seen_ok : {A K J : Type 0} (f : K → J) (r : Result A (PickFault K)) (a : A) → pick_seen f r ≡ Ok a → r ≡ Ok a

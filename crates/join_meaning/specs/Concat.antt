@@ -1,20 +1,14 @@
 -- Columns one below the other, and the labels of several axes.
-use Rattle.std.specs.Prelude.{ℕ, Bool, true, false, nat_lt, if◌then◌else◌, List, [], ◌∷◌, ◌++◌, map, filter, length, Option, Some, None, Result, Ok, Err}
+use Rattle.std.specs.Prelude.{Bool, true, false, nat_lt, if◌then◌else◌, List, [], ◌∷◌, ◌++◌, map, filter, length, Option, Some, None, Result, Ok, Err}
 use Rattle.std.specs.List.{list_any, list_all, flat_map}
 use Rattle.std.specs.Cmp.Lexicographic.{pointwise}
-use Rattle.cell_core.specs.declared.cell.Kind.{Kind}
-use Rattle.cell_core.specs.declared.cell.Kind.TheVariants.{Int64, Boolean, Text as string}
+use Rattle.cell_core.specs.declared.cell.Kind.TheVariants.{Int64}
 use Rattle.meaning.specs.Column.{ColumnValue}
 use Rattle.meaning.specs.Reduce.{distinct}
+pub use Rattle.table_meaning.specs.Table.{same_kind}
 use Rattle.align_meaning.specs.Joins.{most_rows}
 use Rattle.align_meaning.specs.Targets.{first_repeated}
 use Rattle.join_meaning.specs.Pairs.{or_else}
-
-abbrev pub same_kind : Kind → Kind → Bool
-same_kind Int64 Int64 = true
-same_kind Boolean Boolean = true
-same_kind string string = true
-same_kind a b = false
 
 -- why nothing is put together
 pub data ConcatRefusal (K : Type 0) : Type 0 where
@@ -38,7 +32,8 @@ column_within_limit (Some c) = if nat_lt most_rows (length c.cells) then Err too
 abbrev pub rows_concatenated : {K : Type 0} → List ColumnValue → Result ColumnValue (ConcatRefusal K)
 rows_concatenated parts = column_within_limit (column_below parts)
 
--- what stands in any of the lists, each once in the order of first sight; or what stands in all of them, in the order of the first
+-- what stands in any of the lists, each once in the order of first sight; or what stands in all of them, in the order
+-- of the first
 abbrev pub united : {K : Type 0} → (K → K → Bool) → Bool → List (List K) → List K
 united same inner [] = []
 united same true (first ∷ others) = filter (λ k. list_all (list_any (same k)) others) first
@@ -61,7 +56,7 @@ abbrev pub unless_repeated : {K : Type 0} → Option K → List K → Result (Li
 unless_repeated None labels = labels_within_limit labels
 unless_repeated (Some label) labels = Err (repeated_label label)
 
--- the labels of the first axis where all are equal
+-- the labels of the first axis; of none there are none
 abbrev pub first_axis : {K : Type 0} → List (List K) → List K
 first_axis [] = []
 first_axis (axis ∷ axes) = axis

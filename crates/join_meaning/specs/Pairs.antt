@@ -33,8 +33,8 @@ pairs_from same stays row (key ∷ keys) others = map (pair (Some row)) (partner
 abbrev pub pair_of_entry : {K : Type 0} → Entry K → Pair
 pair_of_entry e = pair e.left e.right
 
--- the rows that have equal keys: by left row, then right row; with the sides exchanged where the right side's stay; and by
--- the order of the keys where both sides' stay
+-- the rows that have equal keys: by left row, then right row; with the sides exchanged where the right side's stay; and
+-- by the order of the keys where both sides' stay
 abbrev pub key_pairs : {K : Type 0} → (K → K → Bool) → (K → K → Bool) → How → List K → List K → List Pair
 key_pairs same less Inner left right = pairs_from same false 0 left right
 key_pairs same less Left left right = pairs_from same true 0 left right

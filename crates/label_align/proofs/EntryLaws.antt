@@ -1,8 +1,6 @@
 -- Entries, one more at a time, and how many there are.
-use Rattle.std.proofs.Common.{◌≡◌, ◌<◌, ◌≤◌, ◌+◌, ◌*◌, ℕ, Bool, true, false, List, [], ◌∷◌, ◌++◌, refl, sym, ap, ◌∙◌, map, take, length, Option, Some, slice_index_or, arith, max, cond, Ok, Err, lt-ltb, le-ltb}
+use Rattle.std.proofs.Common.{◌≡◌, ◌<◌, ◌≤◌, ◌+◌, ◌*◌, ℕ, List, [], ◌∷◌, ◌++◌, refl, sym, ap, ◌∙◌, map, take, length, Option, Some, slice_index_or, arith, max, cond, Ok, Err, lt-ltb, le-ltb}
 use Rattle.std.specs.List.{flat_map, sum_by}
-use Rattle.std.specs.Bool.{Decides}
-use Rattle.std.proofs.lemmas.Bool.{false≢true}
 use Rattle.std.proofs.lemmas.List.{length-map, append-nil, take_more}
 use Rattle.std.proofs.lemmas.List.Sums.{sum_by-cons, sum_by-le-sum_by}
 use Rattle.std.proofs.lemmas.List.Concat.{length-flat_map, flat_map-append}
@@ -50,12 +48,9 @@ flat_map_more f xs i d lt =
     ap (flat_map f) (take_more xs i d lt) ∙ flat_map-append f (take i xs) (slice_index_or xs i d ∷ []) ∙ ap (λ z. flat_map f (take i xs) ++ z) (append-nil (f (slice_index_or xs i d)))
 
 -- too many entries, and few enough
-module _ {K : Type 0} (entries : List (Entry K)) (counted : ℕ) (few : Bool) (told : Decides few (counted ≤ most_rows)) (size : counted ≡ length entries) where
-  pub too_many : few ≡ false → within_limit entries ≡ Err too_large
-  too_many fails =
-      let many : counted ≤ most_rows → ⊥ = λ le. false≢true (sym fails ∙ told.1 le) in
-      ap (λ b. cond b (Err too_large) (Ok (lists_of entries))) (lt-ltb most_rows (length entries) (omega (arith, many, size)))
+module _ {K : Type 0} (entries : List (Entry K)) (counted : ℕ) (size : counted ≡ length entries) where
+  pub too_many : (counted ≤ most_rows → ⊥) → within_limit entries ≡ Err too_large
+  too_many many = ap (λ b. cond b (Err too_large) (Ok (lists_of entries))) (lt-ltb most_rows (length entries) (omega (arith, many, size)))
 
-  pub few_enough : few ≡ true → within_limit entries ≡ Ok (lists_of entries)
-  few_enough holds =
-      ap (λ b. cond b (Err too_large) (Ok (lists_of entries))) (le-ltb most_rows (length entries) (omega (arith, told.0 holds, size)))
+  pub few_enough : counted ≤ most_rows → within_limit entries ≡ Ok (lists_of entries)
+  few_enough few = ap (λ b. cond b (Err too_large) (Ok (lists_of entries))) (le-ltb most_rows (length entries) (omega (arith, few, size)))

@@ -1,5 +1,5 @@
 -- The rows of both sides in order, their runs and the entries of these are the outer join.
-use Rattle.std.proofs.Common.{◌≡◌, ◌∙◌, ◌<◌, ◌≤◌, ◌++◌, ℕ, zero, suc, List, [], ◌∷◌, map, length, ap, sym, subst, arith, All}
+use Rattle.std.proofs.Common.{◌≡◌, ◌∙◌, ◌<◌, ◌≤◌, ◌++◌, ℕ, zero, suc, List, [], ◌∷◌, map, length, ap, sym, subst, arith, All, Ok, Err}
 use Rattle.std.specs.List.{flat_map, range_with_len}
 use Rattle.std.specs.List.Sorted.{ties}
 use Rattle.std.proofs.lemmas.List.Elements.{All-head, All-tail, All-map}
@@ -10,15 +10,16 @@ use Rattle.multi_index.specs.Axes.{HaveLevels, tuples_at}
 use Rattle.pick_meaning.specs.Rows.{rows_where}
 use Rattle.sorting.specs.Sorting.{in_order}
 use Rattle.sorting.proofs.OrderLaws.{in_order_same}
-use Rattle.align_meaning.specs.Joins.{Entry, Lists, keys_in_order, outer_entries, lists_of}
+use Rattle.align_meaning.specs.Faults.{too_large}
+use Rattle.align_meaning.specs.Joins.{Entry, Lists, most_rows, keys_in_order, outer_entries, lists_of, within_limit}
 use Rattle.align_meaning.proofs.OrderLaws.{all_append, all_in_order}
 use Rattle.row_keys.specs.Keys.{same_tuple}
 use Rattle.label_align.specs.declared.runs.Run.{Run}
 use Rattle.label_align.specs.declared.joined.Entries.{Entries}
 use Rattle.label_align.specs.Tuples.{tuple_less, row_less}
-use Rattle.label_align.specs.Joined.{entries_seen}
+use Rattle.label_align.specs.Joined.{entries_seen, entries_shown}
 use Rattle.label_align.specs.Runs.{AreGivenTuples, tuple_of_row, same_row, no_run, runs_from, run_entries, total, counted}
-use Rattle.label_align.proofs.EntryLaws.{map-map}
+use Rattle.label_align.proofs.EntryLaws.{map-map, too_many, few_enough}
 use Rattle.label_align.proofs.LawOfJoins.{tuple_weak}
 use Rattle.label_align.proofs.OrderLaws.{row_agrees, below_range}
 use Rattle.label_align.proofs.RunLaws.{rows_are, runs_are, have_rows}
@@ -71,6 +72,10 @@ module _ (texts : List Text) (a b : List (List Label)) (levels : ℕ) (distinct 
         let size : total runs ≡ length rows = ap total runs_by_key ∙ total_is same_tuple (tuple_less texts) tuple_decides (tuple_weak texts) a b [] keys ∙ ap (λ (l : List ℕ). length l) (sym rows_by_key) in
         omega (arith, size)
 
+    -- too many entries are refused
+    pub outer_refused : (counted runs ≤ most_rows → ⊥) → within_limit (outer_entries same_tuple (tuple_less texts) a b) ≡ Err too_large
+    outer_refused = too_many (outer_entries same_tuple (tuple_less texts) a b) (counted runs) counted_outer
+
     abbrev entries : List (Entry ℕ)
     entries = run_entries (length a) runs rows
 
@@ -87,10 +92,14 @@ module _ (texts : List Text) (a b : List (List Label)) (levels : ℕ) (distinct 
           (subst (λ rs. All (λ e. e.key < length (a ++ b)) (run_entries (length a) rs rows)) (sym runs_by_key)
           (entries_inside same_tuple (tuple_less texts) tuple_decides (tuple_weak texts) a b [] keys rows (have_rows same_tuple (tuple_less texts) tuple_decides (tuple_weak texts) (a ++ b) []))))
 
-      pub lists_outer : (tuples : List (List Label)) → tuples ≡ tuples_at (a ++ b) out.rows.items → record { keys = tuples; left = out.left; right = out.right } ≡ lists_of (outer_entries same_tuple (tuple_less texts) a b)
-      lists_outer tuples is =
+      lists_outer : entries_shown (a ++ b) out ≡ lists_of (outer_entries same_tuple (tuple_less texts) a b)
+      lists_outer =
           let f = rekeyed (tuple_of_row (a ++ b)) in
-          let keyed : tuples ≡ map (λ e. e.key) (map f entries) = is ∙ ap (map (tuple_of_row (a ++ b))) (ap (λ (l : Lists ℕ). l.keys) seen) ∙ map-map (tuple_of_row (a ++ b)) (λ (e : Entry ℕ). e.key) entries ∙ sym (map-map (λ (e : Entry (List Label)). e.key) f entries) in
-          let left : out.left ≡ map (λ e. e.left) (map f entries) = ap (λ (l : Lists ℕ). l.left) seen ∙ sym (map-map (λ (e : Entry (List Label)). e.left) f entries) in
-          let right : out.right ≡ map (λ e. e.right) (map f entries) = ap (λ (l : Lists ℕ). l.right) seen ∙ sym (map-map (λ (e : Entry (List Label)). e.right) f entries) in
+          let keyed : tuples_at (a ++ b) out.rows.items ≡ map (λ e. e.key) (map f entries) = ap (map (tuple_of_row (a ++ b))) (ap (λ (l : Lists ℕ). l.keys) seen) ∙ map-map (tuple_of_row (a ++ b)) (λ (e : Entry ℕ). e.key) entries ∙ sym (map-map (λ (e : Entry (List Label)). e.key) f entries) in
+          let left : out.left.items ≡ map (λ e. e.left) (map f entries) = ap (λ (l : Lists ℕ). l.left) seen ∙ sym (map-map (λ (e : Entry (List Label)). e.left) f entries) in
+          let right : out.right.items ≡ map (λ e. e.right) (map f entries) = ap (λ (l : Lists ℕ). l.right) seen ∙ sym (map-map (λ (e : Entry (List Label)). e.right) f entries) in
           (λ i. record { keys = keyed i; left = left i; right = right i }) ∙ ap lists_of entries_outer
+
+      -- those of few enough are shown
+      pub outer_shown : counted runs ≤ most_rows → within_limit (outer_entries same_tuple (tuple_less texts) a b) ≡ Ok (entries_shown (a ++ b) out)
+      outer_shown few = few_enough (outer_entries same_tuple (tuple_less texts) a b) (counted runs) counted_outer few ∙ ap Ok (sym lists_outer)

@@ -5,7 +5,7 @@ ghost use Rattle.multi_index.specs.Axes.{HaveLevels};
 ghost use Rattle.sorting.specs.Sorting.{in_order};
 ghost use Rattle.label_align.specs.Tuples.{row_less};
 ghost use Rattle.label_align.specs.Both.{tuples_of};
-ghost use Rattle.label_align.specs.Runs.{AreGivenTuples, label_of_row, same_row};
+ghost use Rattle.label_align.specs.Runs.{label_of_row, same_row};
 
 use cell_core::{Label, NoMemory, Places, TextDict};
 use multi_index::Axis;
@@ -75,32 +75,19 @@ pub(crate) fn is_same_row(both: &BothSides<'_>, i: usize, j: usize) -> bool
     true
 }
 
-// These places, in a vector.
-fn listed(alloc: Global, places: &Places) -> Result<Vec<usize>, NoMemory>
-    ensures { IfOk result (λ made. made.items ≡ places.now) }
-{
-    let mut made = Vec::with_capacity(alloc, places.len())?;
-    for k in 0..places.len() {
-        made.push(*places.at(k))?;
-    }
-    Ok(made)
-}
-
 // All rows in the order of their tuples.
 pub(crate) fn rows_in_order(
     alloc: Global,
     dict: &TextDict,
     both: &BothSides<'_>,
-) -> Result<Vec<usize>, NoMemory>
-    requires alike { HaveLevels both.now.levels (tuples_of both.now) }
-    requires given { AreGivenTuples dict.now (tuples_of both.now) }
+) -> Result<Places, NoMemory>
+    requires { HaveLevels both.now.levels (tuples_of both.now) }
     ensures { let tuples = tuples_of both.now in
-        IfOk result (λ rows. rows.items
+        IfOk result (λ rows. rows
         ≡ in_order (row_less dict.now tuples both.now.levels) (range_with_len 0 (length tuples))) }
 {
     let Some(count) = both.left.len().checked_add(both.right.len()) else {
         return Err(NoMemory);
     };
-    let rows = rows_by_labels(alloc, dict, both, true, count)?;
-    listed(alloc, &rows)
+    rows_by_labels(alloc, dict, both, true, count)
 }

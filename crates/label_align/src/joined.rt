@@ -24,8 +24,8 @@ pub struct Joined {
 #[derive(Drop)]
 pub(crate) struct Entries {
     pub rows: Vec<usize>,
-    pub left: Gaps,
-    pub right: Gaps,
+    pub left: Vec<Option<usize>>,
+    pub right: Vec<Option<usize>>,
 }
 
 // Adds an entry.
@@ -83,21 +83,23 @@ fn push_key(
     Ok(())
 }
 
-// The entries of runs that stand one behind the other in rows, where the rows of the right side are numbered from a count on.
+// The entries of runs that stand one behind the other in rows, where the rows of the right side are numbered from a
+// count on, with room for as many as there are.
 pub(crate) fn entries_of_runs(
     alloc: Global,
     count: usize,
     runs: &[Run],
     rows: &[usize],
+    size: usize,
 ) -> Result<Entries, NoMemory>
     requires { total runs.now ≤ length rows.now }
     ensures { IfOk result (λ made. entries_seen made
         ≡ lists_of (run_entries count runs.now rows.now)) }
 {
     let mut out = Entries {
-        rows: Vec::new(alloc),
-        left: Gaps::new(alloc),
-        right: Gaps::new(alloc),
+        rows: Vec::with_capacity(alloc, size)?,
+        left: Vec::with_capacity(alloc, size)?,
+        right: Vec::with_capacity(alloc, size)?,
     };
     let mut from = 0usize;
     for run in runs {

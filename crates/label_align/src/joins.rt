@@ -1,11 +1,12 @@
 // The outer join of two axes.
-ghost use Rattle.std.specs.Prelude.{◌≡◌, ◌≤◌, ◌++◌, IfOk, None, length, replicate};
+ghost use Rattle.std.specs.Prelude.{◌≡◌, ◌<◌, ◌≤◌, ◌++◌, All, IfOk, None, length, replicate};
 ghost use Rattle.multi_index.specs.Axes.{HaveLevels};
 ghost use Rattle.align_meaning.specs.Joins as meant;
 ghost use Rattle.align_meaning.specs.OuterJoin.{IsOuterJoin};
 ghost use Rattle.row_keys.specs.Keys.{same_tuple};
 ghost use Rattle.label_align.specs.Tuples.{tuple_less};
-ghost use Rattle.label_align.specs.Joined.{lists_seen};
+ghost use Rattle.label_align.specs.Both.{tuples_of};
+ghost use Rattle.label_align.specs.Joined.{entries_shown, lists_seen};
 ghost use Rattle.label_align.specs.Answers.{AlignsBy};
 ghost use Rattle.label_align.specs.Runs.{AreGivenTuples};
 
@@ -13,8 +14,8 @@ use crate::axes::axis_of_rows;
 use crate::both::{BothSides, rows_in_order};
 use crate::fault::AlignFault;
 use crate::joined::{Entries, Joined, entries_of_runs};
-use crate::runs::{are_few, runs_of};
-use cell_core::TextDict;
+use crate::runs::{runs_of, size_of_runs};
+use cell_core::{Gaps, TextDict};
 use multi_index::Axis;
 use std::alloc::Global;
 
@@ -27,6 +28,30 @@ fn levels_of_both(a: &Axis, b: &Axis) -> usize
     ensures alike { HaveLevels result (a.now.tuples ++ b.now.tuples) }
 {
     a.levels().max(b.levels())
+}
+
+// The rows of both sides joined: put in order, and cut into runs that carry one tuple.
+fn joined_rows(alloc: Global, dict: &TextDict, both: &BothSides<'_>) -> Result<Entries, AlignFault>
+    requires alike { HaveLevels both.now.levels (tuples_of both.now) }
+    requires given { AreGivenTuples dict.now (tuples_of both.now) }
+    ensures inside { IfOk result (λ made.
+        All (λ row. row < length (tuples_of both.now)) made.rows.items) }
+    ensures rows { let left = both.now.left.now.tuples in
+        AlignsBy (entries_shown (tuples_of both.now)) result
+        (meant.outer same_tuple (tuple_less dict.now) left both.now.right.now.tuples) }
+{
+    // Equal texts have equal numbers: `TextDict::len` says so.
+    let _ = dict.len();
+    let rows = rows_in_order(alloc, dict, both)?;
+    let runs = runs_of(alloc, both, rows.as_slice())?;
+    match size_of_runs(&runs) {
+        Some(size) => {
+            let count = both.left.len();
+            let made = entries_of_runs(alloc, count, &runs, rows.as_slice(), size)?;
+            Ok(made)
+        }
+        None => Err(AlignFault::TooLarge),
+    }
 }
 
 /// The rows of two axes joined by their tuples: all tuples of both in order. One that stands p times on the
@@ -49,19 +74,16 @@ pub fn outer(alloc: Global, dict: &TextDict, a: &Axis, b: &Axis) -> Result<Joine
         IsOuterJoin same_tuple (tuple_less dict.now) a.now.tuples b.now.tuples (lists_seen joined)) }
     ensures names { IfOk result (λ joined. joined.axis.names ≡ replicate (length a.now.names) None) }
 {
-    // Equal texts have equal numbers: `TextDict::len` says so.
-    let _ = dict.len();
     let both = BothSides {
         left: a,
         right: b,
         levels: levels_of_both(a, b),
     };
-    let rows = rows_in_order(alloc, dict, &both)?;
-    let runs = runs_of(alloc, &both, &rows)?;
-    if !are_few(&runs) {
-        return Err(AlignFault::TooLarge);
-    }
-    let Entries { rows, left, right } = entries_of_runs(alloc, a.len(), &runs, &rows)?;
+    let Entries { rows, left, right } = joined_rows(alloc, dict, &both)?;
     let axis = axis_of_rows(alloc, dict, &both, &rows)?;
-    Ok(Joined { axis, left, right })
+    Ok(Joined {
+        axis,
+        left: Gaps::from(left),
+        right: Gaps::from(right),
+    })
 }

@@ -1,6 +1,5 @@
 // Runs of rows in order that carry one key.
-ghost use Rattle.std.specs.Prelude.{◌≡◌, ◌<◌, ◌≤◌, ◌+◌, ◌^◌, All, IfOk, drop, length, slice_index};
-ghost use Rattle.std.specs.Bool.{Decides};
+ghost use Rattle.std.specs.Prelude.{◌≡◌, ◌<◌, ◌≤◌, ◌+◌, ◌^◌, All, IfOk, SomeIff, drop, length, slice_index};
 ghost use Rattle.multi_index.specs.Axes.{HaveLevels};
 ghost use Rattle.align_meaning.specs.Joins.{most_rows};
 ghost use Rattle.label_align.specs.Both.{tuples_of};
@@ -86,9 +85,9 @@ pub(crate) fn runs_of(
     Ok(made)
 }
 
-// Whether the entries of runs are at most as many as a table may have rows.
-pub(crate) fn are_few(parts: &[Run]) -> bool
-    ensures { Decides result (runs.counted parts.now ≤ most_rows) }
+// How many entries runs have, where a table may have as many rows.
+pub(crate) fn size_of_runs(parts: &[Run]) -> Option<usize>
+    ensures { SomeIff result (runs.counted parts.now ≤ most_rows) (runs.counted parts.now) }
 {
     let mut total = 0usize;
     for run in parts {
@@ -96,8 +95,8 @@ pub(crate) fn are_few(parts: &[Run]) -> bool
         let right = run.rights.max(1);
         match left.checked_mul(right) {
             Some(size) if size <= MOST_ROWS - total => total += size,
-            _ => return false,
+            _ => return None,
         }
     }
-    true
+    Some(total)
 }

@@ -49,11 +49,11 @@ fn has_tuple(axis: &Axis, row: usize, tuple: &Tuple) -> bool
 fn all_rows(alloc: Global, count: usize) -> Result<Gaps, NoMemory>
     ensures { IfOk result (λ rows. rows ≡ map Some (range_with_len 0 count)) }
 {
-    let mut rows = Gaps::new(alloc);
+    let mut rows = Vec::with_capacity(alloc, count)?;
     for row in 0..count {
         rows.push(Some(row))?;
     }
-    Ok(rows)
+    Ok(Gaps::from(rows))
 }
 
 // The first of these codes that has more rows than one, by its place.
@@ -76,11 +76,11 @@ fn rows_of_codes(alloc: Global, rows: &Buckets, codes: &[usize]) -> Result<Gaps,
     ensures { IfOk result (λ gaps. gaps
         ≡ map (λ code. only_row (slice_index_or rows.now code [])) codes.now) }
 {
-    let mut gaps = Gaps::new(alloc);
+    let mut gaps = Vec::with_capacity(alloc, codes.len())?;
     for code in codes {
         gaps.push(row_if_one(rows.rows(*code)))?;
     }
-    Ok(gaps)
+    Ok(Gaps::from(gaps))
 }
 
 // Whether these are the numbers from 0 on, as codes by first sight are where no key stands twice.
@@ -99,11 +99,11 @@ fn are_in_sequence(codes: &[usize]) -> bool
 fn rows_below(alloc: Global, count: usize, codes: &[usize]) -> Result<Gaps, NoMemory>
     ensures { IfOk result (λ gaps. gaps ≡ map (row_below count) codes.now) }
 {
-    let mut gaps = Gaps::new(alloc);
+    let mut gaps = Vec::with_capacity(alloc, codes.len())?;
     for code in codes {
         gaps.push(if *code < count { Some(*code) } else { None })?;
     }
-    Ok(gaps)
+    Ok(Gaps::from(gaps))
 }
 
 // The row of a list that has just one.

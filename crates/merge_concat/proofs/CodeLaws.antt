@@ -1,10 +1,10 @@
 -- Rows meet by their keys as they meet by the numbers of the keys.
-use Rattle.std.proofs.Common.{◌≡◌, ◌∙◌, ◌<◌, ◌+◌, ◌==◌, ◌||◌, ◌++◌, ap, refl, sym, arith, ℕ, zero, suc, Bool, true, false, not, cond, List, [], ◌∷◌, map, filter, length, All, slice_index_or, nat_eq, nat_lt, Option, Some}
+use Rattle.std.proofs.Common.{◌≡◌, ◌∙◌, ◌<◌, ◌+◌, ◌==◌, ◌++◌, ap, refl, sym, arith, ℕ, zero, suc, Bool, true, false, not, cond, List, [], ◌∷◌, map, filter, length, All, slice_index_or, slice_index, take, set, min, length-append, nat_eq, nat_lt, Option, Some, inl, inr}
 use Rattle.std.specs.Prelude.{option_map}
 use Rattle.std.specs.List.{list_any, position_or_len, flat_map, range_with_len}
 use Rattle.std.specs.Cmp.{IsEquivalence}
-use Rattle.std.proofs.lemmas.Bool.{false≢true, true≢false}
-use Rattle.std.proofs.lemmas.List.{map-append}
+use Rattle.std.proofs.lemmas.Bool.{false≢true, eqb-true, eqb-false, cases_lt, lt-ltb, le-ltb}
+use Rattle.std.proofs.lemmas.List.{map-append, length-set, get_or-set_same, get_or-set_other}
 use Rattle.std.proofs.lemmas.List.FromFn.{fill_by_all, length-map-range_with_len, get_or-map-range_with_len}
 use Rattle.std.proofs.lemmas.List.Elements.{All-head, All-tail}
 use Rattle.std.proofs.lemmas.Simd.{map-map}
@@ -12,19 +12,16 @@ use Rattle.align_meaning.specs.Joins.{Entry, or_gap, entry, entries_with, entrie
 use Rattle.align_meaning.specs.Targets.{first_where, first_repeated}
 use Rattle.pick_meaning.specs.Rows.{rows_where}
 use Rattle.pick_meaning.proofs.RowLaws.{rows_where-map}
-use Rattle.join_meaning.specs.Pairs.{Pair, pair, partners, pairs_from, pair_of_entry}
+use Rattle.join_meaning.specs.Pairs.{pair, partners, pairs_from, pair_of_entry}
 use Rattle.row_keys.specs.Keys.{place_among}
 use Rattle.row_keys.specs.Buckets.{rows_of_code, buckets_of}
 use Rattle.row_keys.proofs.KeyLaws.{place_tells}
+use Rattle.row_keys.proofs.FillLaws.{rows_more}
 use Rattle.label_align.proofs.OrderLaws.{below_range}
-use Rattle.merge_concat.specs.Codes.{pairs_with, pairs_of, pairs_at, outer_pairs, repeated_from}
+use Rattle.merge_concat.specs.Codes.{pairs_with, pairs_of, pairs_at, outer_pairs, repeated_from, AreCounts}
 
 -- a list in which one element passes
 module _ {X : Type 0} (p : X → Bool) where
-  pub any_passes : (xs : List X) (x : X) (rest : List X) → filter p xs ≡ x ∷ rest → list_any p xs ≡ true
-  any_passes [] x rest h = cc
-  any_passes (y ∷ ys) x rest h = elim (p y) as (λ b. cond b (y ∷ filter p ys) (filter p ys) ≡ x ∷ rest → (b || list_any p ys) ≡ true) [ true ↦ λ e. refl | false ↦ λ e. any_passes ys x rest e ] h
-
   none_passes : (xs : List X) (g : ℕ) (d : X) → filter p xs ≡ [] → g < length xs → p (slice_index_or xs g d) ≡ true → ⊥
   none_passes [] g d h lt e = omega (arith, lt)
   none_passes (y ∷ ys) zero d h lt e = elim (p y) as (λ b. b ≡ true → cond b (y ∷ filter p ys) (filter p ys) ≡ [] → ⊥) [ true ↦ λ t n. cc | false ↦ λ t n. false≢true t ] e h
@@ -119,3 +116,32 @@ module _ (count code : ℕ) (codes : List ℕ) (rows : List (List ℕ)) (made : 
 
   pub bucket_is : slice_index_or rows code [] ≡ rows_of_code code codes
   bucket_is = ap (λ (l : List (List ℕ)). slice_index_or l code []) made ∙ get_or-map-range_with_len (λ c. rows_of_code c codes) 0 count code code [] lt (omega arith)
+
+-- one row more is counted, as far as a byte counts
+pub counts_more : (codes counts : List ℕ) (count i code n : ℕ) → i < length codes → code ≡ slice_index codes i → code < count → n ≡ min (slice_index counts code + 1) 255
+    → AreCounts (take i codes) count counts → AreCounts (take (i + 1) codes) count (set counts code n)
+counts_more codes counts count i code n lt at below is so_far = (
+  length-set counts code n ∙ so_far.0,
+  λ c inside.
+      let more = rows_more c codes i code lt (sym at) in
+      let long : length (rows_of_code c (take i codes) ++ cond (c == code) (i ∷ []) []) ≡ length (rows_of_code c (take i codes)) + length (cond (c == code) (i ∷ []) []) = length-append (rows_of_code c (take i codes)) (cond (c == code) (i ∷ []) []) in
+      let were = so_far.1 c inside in
+      elim (c == code) as (λ b. (c == code) ≡ b → slice_index (set counts code n) c ≡ min (length (rows_of_code c (take (i + 1) codes))) 255) [
+        | true ↦ λ e.
+            let same : c ≡ code = eqb-true c code e in
+            let one : length (cond (c == code) (i ∷ []) []) ≡ 1 = ap (λ b. length (cond b (i ∷ []) [])) e in
+            let here : slice_index (set counts code n) c ≡ n = ap (slice_index (set counts code n)) same ∙ get_or-set_same counts code n 0 (omega (arith, below, so_far.0)) in
+            let was : slice_index counts code ≡ slice_index counts c = ap (slice_index counts) (sym same) in
+            omega (arith, here, is, was, were, long, one, ap length more)
+        | false ↦ λ e.
+            let none : length (cond (c == code) (i ∷ []) []) ≡ 0 = ap (λ b. length (cond b (i ∷ []) [])) e in
+            let here : slice_index (set counts code n) c ≡ slice_index counts c = get_or-set_other counts code c n 0 (eqb-false c code e) in
+            omega (arith, here, were, long, none, ap length more)
+      ] refl,
+)
+
+pub told_twice : (counted n : ℕ) → counted ≡ min n 255 → nat_lt 1 counted ≡ nat_lt 1 n
+told_twice counted n is = elim (cases_lt 1 n) as (λ w. nat_lt 1 counted ≡ nat_lt 1 n) [
+  | inl lt ↦ lt-ltb 1 counted (omega (arith, is, lt)) ∙ sym (lt-ltb 1 n lt)
+  | inr le ↦ le-ltb 1 counted (omega (arith, is, le)) ∙ sym (le-ltb 1 n le)
+]

@@ -1,9 +1,6 @@
 -- How many pairs there are.
-use Rattle.std.proofs.Common.{◌≡◌, ◌∙◌, ◌<◌, ◌≤◌, ◌+◌, ◌*◌, ℕ, zero, suc, ◌-◌, take, slice_index_or, Bool, true, false, List, [], ◌∷◌, refl, sym, ap, map, length, length-append, Option, Some, arith, max, cond, Result, Ok, Err, lt-ltb, le-ltb, nat_eq, nat_lt}
-use Rattle.std.specs.Prelude.{if◌then◌else◌}
-use Rattle.std.specs.Bool.{Decides}
-use Rattle.std.specs.List.{sum_by, flat_map, range_with_len}
-use Rattle.std.proofs.lemmas.Bool.{false≢true}
+use Rattle.std.proofs.Common.{◌≡◌, ◌∙◌, ◌<◌, ◌≤◌, ◌+◌, ◌*◌, ℕ, zero, suc, ◌-◌, take, slice_index_or, Bool, true, false, List, [], ◌∷◌, refl, sym, ap, map, length, length-append, Some, arith, max, cond, Result, Ok, Err, lt-ltb, le-ltb, nat_eq, nat_lt}
+use Rattle.std.specs.List.{sum_by, range_with_len}
 use Rattle.std.proofs.lemmas.List.{length-map}
 use Rattle.std.proofs.lemmas.List.Sums.{sum_by-cons, sum_by-le-sum_by, sum_by_push, sum_by_more, sum_by-take-le}
 use Rattle.std.proofs.lemmas.List.Concat.{length-flat_map}
@@ -81,18 +78,15 @@ pub rows_more : (stays : Bool) (row : ℕ) (left right : List ℕ) → row < len
 rows_more stays row left right lt = sum_by_more (λ code. count_with stays (rows_of_code code right)) left row 0 lt
 
 -- too many pairs, and few enough
-module _ {K : Type 0} (pairs : List Pair) (counted : ℕ) (few : Bool) (told : Decides few (counted ≤ most_rows)) (size : length pairs ≡ counted) where
+module _ {K : Type 0} (pairs : List Pair) (counted : ℕ) (size : length pairs ≡ counted) where
   abbrev meant : Result (List Pair) (JoinRefusal K)
   meant = within_limit pairs
 
-  pub too_many : few ≡ false → meant ≡ Err too_large
-  too_many fails =
-      let many : counted ≤ most_rows → ⊥ = λ le. false≢true (sym fails ∙ told.1 le) in
-      ap (λ b. cond b (Err too_large) (Ok pairs)) (lt-ltb most_rows (length pairs) (omega (arith, many, size)))
+  pub too_many : most_rows < counted → meant ≡ Err too_large
+  too_many many = ap (λ b. cond b (Err too_large) (Ok pairs)) (lt-ltb most_rows (length pairs) (omega (arith, many, size)))
 
-  pub few_enough : few ≡ true → meant ≡ Ok pairs
-  few_enough holds =
-      ap (λ b. cond b (Err too_large) (Ok pairs)) (le-ltb most_rows (length pairs) (omega (arith, told.0 holds, size)))
+  pub few_enough : counted ≤ most_rows → meant ≡ Ok pairs
+  few_enough few = ap (λ b. cond b (Err too_large) (Ok pairs)) (le-ltb most_rows (length pairs) (omega (arith, few, size)))
 
 -- the sides exchanged
 within_ok : {K : Type 0} (ps qs : List Pair) (meant : Result (List Pair) (JoinRefusal K)) → meant ≡ within_limit ps → meant ≡ Ok qs → (nat_lt most_rows (length ps) ≡ false) × (qs ≡ ps)

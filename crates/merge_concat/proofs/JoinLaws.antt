@@ -1,5 +1,5 @@
 -- What is meant, by the numbers of the keys.
-use Rattle.std.proofs.Common.{◌≡◌, ◌∙◌, ◌<◌, ◌≤◌, ◌++◌, ap, refl, sym, arith, ℕ, Bool, true, false, cond, List, [], ◌∷◌, map, length, take, drop, All, slice_index_or, Option, Some, None, Ok, Err, Result}
+use Rattle.std.proofs.Common.{◌≡◌, ◌∙◌, ◌<◌, ◌≤◌, ◌++◌, ap, sym, arith, ℕ, Bool, true, false, cond, List, [], ◌∷◌, map, length, take, drop, All, Option, Some, None, Ok, Err, Result}
 use Rattle.std.specs.Prelude.{option_map, IfOk}
 use Rattle.cell_core.specs.declared.cell.Label.{Label}
 use Rattle.cell_core.specs.declared.cell.Label.TheVariants.{Na}

@@ -9,7 +9,6 @@ use Rattle.std.proofs.lemmas.List.Elements.{All-nil, All-cons, All-head, All-tai
 use Rattle.std.proofs.lemmas.List.Sums.{sum_by-cons}
 use Rattle.column_core.specs.Moves.{IsPlaceOf}
 use Rattle.meaning.specs.Reduce.{distinct}
-use Rattle.sorting.specs.Sorting.{in_order}
 use Rattle.align_meaning.specs.Joins.{or_gap, keys_in_order, entries_of, most_rows}
 use Rattle.align_meaning.proofs.OrderLaws.{all_append, all_flat, all_in_order}
 use Rattle.pick_meaning.specs.Rows.{rows_where}
@@ -22,7 +21,7 @@ use Rattle.row_keys.proofs.KeyLaws.{any_at}
 use Rattle.row_keys.proofs.RecodeLaws.{All-distinct}
 use Rattle.label_align.proofs.OuterJoinLaws.{in_order_keeps, once}
 use Rattle.merge_concat.specs.Codes.{pairs_with, pairs_of}
-use Rattle.merge_concat.specs.Joining.{same_row, how_often, once_if, keeps_left, keeps_right, IsJoin}
+use Rattle.merge_concat.specs.Joining.{how_often, once_if, IsJoin}
 use Rattle.merge_concat.proofs.CodeLaws.{with_seen}
 use Rattle.merge_concat.proofs.OftenLaws.{row_often, or_gap_there, gap_there, partner_there, partner_gap, never, met_there, often_exchanged, often_product, often_parts}
 
@@ -258,4 +257,4 @@ module _ {K : Type 0} (same less : K → K → Bool) (laws : IsEquivalence same)
     kept None = elim (nat_lt most_rows (length pairs_meant)) as (λ b. pairs_in (cond b (Err too_large) (Ok pairs_meant)) ≡ pairs_meant) [ true ↦ refl | false ↦ refl ]
 
     pub answer_is_join : (pairs : List Pair) → joined same less how once left right ≡ Ok pairs → IsJoin same how left right pairs
-    answer_is_join pairs e = subst (IsJoin same how left right) (sym (sym (ap pairs_in e) ∙ kept (repeated_key same once left right))) (pairs_are_join how)
+    answer_is_join ps e = subst (IsJoin same how left right) (sym (sym (ap pairs_in e) ∙ kept (repeated_key same once left right))) (pairs_are_join how)

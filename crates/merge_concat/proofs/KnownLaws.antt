@@ -1,5 +1,5 @@
 -- The keys of both sides, each once: each row's key is among them, and no two of them are the same.
-use Rattle.std.proofs.Common.{◌≡◌, ◌∙◌, ◌<◌, ◌++◌, ap, refl, sym, subst, arith, ℕ, Bool, true, false, cond, List, [], ◌∷◌, map, filter, length, take, drop, All, slice_index_or, nat_eq, Option, Some, None, Ok, Err, Result}
+use Rattle.std.proofs.Common.{◌≡◌, ◌∙◌, ◌<◌, ◌++◌, ap, refl, sym, subst, ℕ, Bool, true, false, cond, List, [], ◌∷◌, map, filter, length, take, drop, All, slice_index_or, None}
 use Rattle.std.specs.Prelude.{option_map}
 use Rattle.std.specs.List.{list_any, flat_map}
 use Rattle.std.proofs.Math.Seq.{take-append_seam, drop-append_seam}
@@ -24,17 +24,11 @@ use Rattle.label_align.specs.Tuples.{tuple_less}
 use Rattle.label_align.proofs.SameLaws.{tuple_decides}
 use Rattle.label_align.proofs.LawOfJoins.{tuple_weak}
 use Rattle.label_align.proofs.OuterJoinLaws.{in_order_keeps, once}
-use Rattle.group_meaning.specs.Keys.{group_of, group_codes, ordered_if}
-use Rattle.group_meaning.proofs.ListLaws.{map_map, map_on}
-use Rattle.factorize.specs.Keys.{seen_rules}
-use Rattle.factorize.proofs.PlaceLaws.{there}
-use Rattle.merge_concat.specs.Codes.{keys_of, number_in, is_outer, code_pairs, repeated_in, repeated_from}
+use Rattle.group_meaning.specs.Keys.{ordered_if}
+use Rattle.factorize.proofs.KeyNumberLaws as numbers
+use Rattle.merge_concat.specs.Codes.{keys_of, is_outer, code_pairs, repeated_in, repeated_from}
 use Rattle.merge_concat.proofs.CodeLaws as law
-use Rattle.merge_concat.proofs.CodeLaws.{any_passes, only_place}
-
-filter_true : {X : Type 0} (xs : List X) → filter (λ x. true) xs ≡ xs
-filter_true [] = refl
-filter_true (x ∷ xs) = ap (λ l. x ∷ l) (filter_true xs)
+use Rattle.merge_concat.proofs.CodeLaws.{only_place}
 
 pub all_left : {X : Type 0} (P : X → Type 0) (xs ys : List X) → All P (xs ++ ys) → All P xs
 all_left P xs ys all = subst (All P) (take-append_seam xs ys) (All-take P (length xs) (xs ++ ys) all)
@@ -56,7 +50,7 @@ module _ (texts : List Text) (sorted : Bool) (left right : List (List Label)) wh
   IsKnown key = list_any (same_tuple key) keys ≡ true
 
   keys_are : keys ≡ ordered_if sorted (tuple_less texts) (distinct same_tuple rows)
-  keys_are = filter_true (ordered_if sorted (tuple_less texts) (distinct same_tuple rows))
+  keys_are = numbers.keys_are texts sorted rows
 
   stands_once : (key : List Label) → list_any (same_tuple key) rows ≡ true → filter (same_tuple key) keys ≡ key ∷ []
   stands_once key stands =
@@ -81,7 +75,7 @@ module _ (texts : List Text) (sorted : Bool) (left right : List (List Label)) wh
       ])
 
   rows_known : All IsKnown rows
-  rows_known k d lt = let key = slice_index_or rows k d in any_passes (same_tuple key) keys key [] (stands_once key (rows_there k d lt))
+  rows_known = numbers.rows_known texts sorted rows
 
   pub left_known : All IsKnown left
   left_known = all_left IsKnown left right rows_known
@@ -91,12 +85,6 @@ module _ (texts : List Text) (sorted : Bool) (left right : List (List Label)) wh
 
   apart : (g : ℕ) → g < length keys → rank (slice_index_or keys g []) ≡ g
   apart g lt = let key = slice_index_or keys g [] in only_place (same_tuple key) keys key g [] (stands_once key (keys_there g [] lt)) lt (tuple_laws.refl key)
-
-  -- the numbers of the groups are those of the keys
-  pub numbers_are : map number_in (group_codes (seen_rules texts) sorted false rows) ≡ map rank rows
-  numbers_are =
-      map_map number_in (group_of same_tuple keys) rows
-      ∙ map_on IsKnown (λ key. number_in (group_of same_tuple keys key)) rank (λ key known. ap number_in (there (same_tuple key) keys (position_in (same_tuple key) keys known))) rows rows_known
 
   -- the numbers of either side
   module _ (codes part : List ℕ) (n : ℕ) (coded : codes ≡ map rank rows) (size : n ≡ length left) where

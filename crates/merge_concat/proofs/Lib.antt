@@ -10,3 +10,4 @@ pub mod JoinLaws
 pub mod EqualLaws
 pub mod AxisLaws
 pub mod UnitedLaws
+pub mod ExchangeLaws

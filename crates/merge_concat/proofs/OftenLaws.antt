@@ -7,7 +7,6 @@ use Rattle.std.proofs.lemmas.List.Sums.{sum_by-cons}
 use Rattle.align_meaning.specs.Joins.{or_gap}
 use Rattle.pick_meaning.specs.Rows.{rows_where}
 use Rattle.join_meaning.specs.Pairs.{Pair, pair, exchanged, partners, pairs_from}
-use Rattle.merge_concat.specs.Codes.{pairs_with, pairs_of}
 use Rattle.merge_concat.specs.Joining.{same_row, same_pair, how_often, once_if}
 
 module _ {X : Type 0} where

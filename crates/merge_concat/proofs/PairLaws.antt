@@ -1,34 +1,38 @@
 -- More pairs, and then more.
-use Rattle.std.proofs.Common.{◌≡◌, ◌<◌, ◌++◌, ◌∷◌, [], ◌+◌, ℕ, Bool, true, false, List, Option, Some, refl, sym, ap, ◌∙◌, arith, map, length, take, nat_eq, slice_index_or}
+use Rattle.std.proofs.Common.{◌≡◌, ◌<◌, ◌++◌, ◌∷◌, [], ◌+◌, ℕ, Bool, true, false, List, Option, Some, refl, sym, ap, ◌∙◌, arith, map, length, take, slice_index_or}
 use Rattle.std.specs.List.{flat_map, range_with_len}
-use Rattle.std.proofs.lemmas.List.{map-append, append-nil, append_assoc, take_more, length-take-le}
+use Rattle.std.proofs.lemmas.List.{map-id, map-append, append-nil, append_assoc, take_more, length-take-le}
+use Rattle.std.proofs.lemmas.List.Folds.{flat_map-map}
 use Rattle.std.proofs.lemmas.List.Concat.{flat_map-append}
 use Rattle.std.proofs.lemmas.List.FromFn.{map-range_with_len_more}
 use Rattle.std.proofs.lemmas.Simd.{map-map}
-use Rattle.align_meaning.specs.Joins.{or_gap}
 use Rattle.pick_meaning.specs.Rows.{rows_where}
 use Rattle.join_meaning.specs.Pairs.{Pair, pair, partners, pairs_from}
 use Rattle.merge_concat.specs.declared.pairs.Pairs.{Pairs}
+use Rattle.merge_concat.specs.declared.pairs.PairLists.{PairLists}
 use Rattle.merge_concat.specs.Codes.{pairs_with, pairs_of, pairs_at, outer_pairs}
-use Rattle.merge_concat.specs.Pairs.{ArePairs, HasMore}
+use Rattle.merge_concat.specs.Pairs.{ArePairs, AreListed, HasMore}
 
 step : {X Y : Type 0} (f : X → Y) (a b c : List Y) (es fs : List X) → b ≡ a ++ map f es → c ≡ b ++ map f fs → c ≡ a ++ map f (es ++ fs)
 step f a b c es fs p q = q ∙ ap (λ z. z ++ map f fs) p ∙ append_assoc a (map f es) (map f fs) ∙ ap (λ z. a ++ z) (sym (map-append f es fs))
 
-pub more_more : (a b c : Pairs) (es fs : List Pair) → HasMore a b es → HasMore b c fs → HasMore a c (es ++ fs)
+pub more_more : (a b c : PairLists) (es fs : List Pair) → HasMore a b es → HasMore b c fs → HasMore a c (es ++ fs)
 more_more a b c es fs p q = record {
-  left = step (λ e. e.left) a.left b.left c.left es fs p.left q.left;
-  right = step (λ e. e.right) a.right b.right c.right es fs p.right q.right;
+  left = step (λ e. e.left) a.left.items b.left.items c.left.items es fs p.left q.left;
+  right = step (λ e. e.right) a.right.items b.right.items c.right.items es fs p.right q.right;
 }
 
-pub more_none : (a : Pairs) → HasMore a a []
-more_none a = record { left = sym (append-nil a.left); right = sym (append-nil a.right) }
+pub more_none : (a : PairLists) → HasMore a a []
+more_none a = record { left = sym (append-nil a.left.items); right = sym (append-nil a.right.items) }
 
-pub pairs_more : (a b : Pairs) (es fs : List Pair) → ArePairs a es → HasMore a b fs → ArePairs b (es ++ fs)
+pub pairs_more : (a b : PairLists) (es fs : List Pair) → AreListed a es → HasMore a b fs → AreListed b (es ++ fs)
 pairs_more a b es fs p q = record {
-  left = step (λ e. e.left) [] a.left b.left es fs p.left q.left;
-  right = step (λ e. e.right) [] a.right b.right es fs p.right q.right;
+  left = step (λ e. e.left) [] a.left.items b.left.items es fs p.left q.left;
+  right = step (λ e. e.right) [] a.right.items b.right.items es fs p.right q.right;
 }
+
+pub pairs_listed : (lists : PairLists) (made : Pairs) (es : List Pair) → made.left ≡ lists.left.items → made.right ≡ lists.right.items → AreListed lists es → ArePairs made es
+pairs_listed lists made es l r p = record { left = l ∙ p.left; right = r ∙ p.right }
 
 -- one row more of a side
 pub flat_more : {X C : Type 0} (f : X → List C) (xs : List X) (i : ℕ) (d : X) → i < length xs → flat_map f (take (i + 1) xs) ≡ flat_map f (take i xs) ++ f (slice_index_or xs i d)
@@ -38,10 +42,6 @@ flat_more f xs i d lt =
 pub with_some : (left : Option ℕ) (rs : List ℕ) → 0 < length rs → map (λ r. pair left (Some r)) rs ≡ pairs_with rs left
 with_some left [] h = absurd (omega (arith, h))
 with_some left (r ∷ rs) h = ap (λ l. pair left (Some r) ∷ l) (sym (map-map (pair left) Some rs))
-
-flat_map-map : {A B C : Type 0} (f : B → List C) (g : A → B) (xs : List A) → flat_map f (map g xs) ≡ flat_map (λ x. f (g x)) xs
-flat_map-map f g [] = refl
-flat_map-map f g (x ∷ xs) = ap (λ l. f (g x) ++ l) (flat_map-map f g xs)
 
 pub of_some : (ls rs : List ℕ) → 0 < length ls → flat_map (λ l. pairs_with rs (Some l)) ls ≡ pairs_of ls rs
 of_some [] rs h = absurd (omega (arith, h))
@@ -71,13 +71,9 @@ module _ {K : Type 0} (same : K → K → Bool) (stays : Bool) (others : List K)
       ∙ from_append 0 (take i xs) (slice_index_or xs i d)
       ∙ ap (λ n. pairs_from same stays 0 (take i xs) others ++ pairs_in n (slice_index_or xs i d)) at
 
-map-same : {X : Type 0} (xs : List X) → map (λ x. x) xs ≡ xs
-map-same [] = refl
-map-same (x ∷ xs) = ap (λ l. x ∷ l) (map-same xs)
-
 -- one number more
 pub range_more : (n : ℕ) → range_with_len 0 (n + 1) ≡ range_with_len 0 n ++ n ∷ []
-range_more n = sym (map-same (range_with_len 0 (n + 1))) ∙ map-range_with_len_more (λ k. k) 0 n n (omega arith) ∙ ap (λ l. l ++ n ∷ []) (map-same (range_with_len 0 n))
+range_more n = sym (map-id (range_with_len 0 (n + 1))) ∙ map-range_with_len_more (λ k. k) 0 n n (omega arith) ∙ ap (λ l. l ++ n ∷ []) (map-id (range_with_len 0 n))
 
 pub outer_more : (n : ℕ) (left right : List ℕ) → outer_pairs (n + 1) left right ≡ outer_pairs n left right ++ pairs_at left right n
 outer_more n left right =

@@ -107,10 +107,6 @@ module _ (among tuples : List (List Label)) where
         ∙ ap (λ b. filter stands (take row tuples) ++ cond b (slice_index_or tuples row [] ∷ []) []) (sym (no_row (same_tuple (slice_index_or tuples row [])) 0 among few))
         ∙ sym (filter_more stands tuples row [] lt)
 
-pub all_pass : {X : Type 0} (xs : List X) → filter (λ x. true) xs ≡ xs
-all_pass [] = refl
-all_pass (x ∷ xs) = ap (λ l. x ∷ l) (all_pass xs)
-
 -- what passes one test, and then another
 both_first : {X : Type 0} (p q r : X → Bool) (x : X) (xs : List X) → r x ≡ (p x && q x) → filter q (filter p xs) ≡ filter r xs → (b : Bool) → p x ≡ b → filter q (filter p (x ∷ xs)) ≡ filter r (x ∷ xs)
 both_first p q r x xs both rest true e =

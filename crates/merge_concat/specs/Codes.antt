@@ -1,12 +1,12 @@
 -- Joins of rows by the numbers of their keys.
-use Rattle.std.specs.Prelude.{◌+◌, ◌*◌, ℕ, nat_eq, nat_lt, if◌then◌else◌, Bool, true, false, List, [], ◌∷◌, ◌++◌, map, max, length, slice_index_or, Option, Some, None, unwrap_or, option_map}
+use Rattle.std.specs.Prelude.{◌≡◌, ◌+◌, ◌*◌, ◌<◌, ◌≤◌, ℕ, nat_eq, nat_lt, if◌then◌else◌, Bool, true, false, List, [], ◌∷◌, ◌++◌, map, max, min, length, slice_index, slice_index_or, Option, Some, None, option_map}
 use Rattle.std.specs.List.{flat_map, sum_by, range_with_len}
 use Rattle.cell_core.specs.declared.cell.Label.{Label}
 use Rattle.meaning.specs.Text.{Text}
-use Rattle.align_meaning.specs.Joins.{or_gap}
+use Rattle.align_meaning.specs.Joins.{or_gap, most_rows}
 use Rattle.join_meaning.specs.declared.How.{How}
 use Rattle.join_meaning.specs.declared.How.TheVariants.{Inner, Left, Right, Outer}
-use Rattle.join_meaning.specs.Pairs.{Pair, pair, exchanged, partners, pairs_from}
+use Rattle.join_meaning.specs.Pairs.{Pair, pair, exchanged, pairs_from}
 use Rattle.row_keys.specs.Buckets.{rows_of_code}
 use Rattle.group_meaning.specs.Keys.{group_keys}
 use Rattle.factorize.specs.Keys.{seen_rules}
@@ -14,10 +14,6 @@ use Rattle.factorize.specs.Keys.{seen_rules}
 -- the keys of both sides, each once, in order where they are to be sorted
 abbrev pub keys_of : List Text → Bool → List (List Label) → List (List Label) → List (List Label)
 keys_of texts sorted left right = group_keys (seen_rules texts) sorted false (left ++ right)
-
--- the number of a group, if there is one
-abbrev pub number_in : Option ℕ → ℕ
-number_in group = unwrap_or group 0
 
 -- whether the keys are to be sorted
 abbrev pub is_outer : How → Bool
@@ -56,12 +52,20 @@ counted_by_row stays left right = sum_by (λ code. count_with stays (rows_of_cod
 abbrev pub counted_by_key : ℕ → List ℕ → List ℕ → ℕ
 counted_by_key count left right = sum_by (λ code. count_of (rows_of_code code left) (rows_of_code code right)) (range_with_len 0 count)
 
+-- a table may have as many rows
+abbrev pub IsCount : ℕ → ℕ → Type 0
+IsCount counted count = (count ≡ counted) × (counted ≤ most_rows)
+
 -- the rows whose keys have equal numbers
 abbrev pub code_pairs : How → ℕ → List ℕ → List ℕ → List Pair
 code_pairs Inner count left right = pairs_from nat_eq false 0 left right
 code_pairs Left count left right = pairs_from nat_eq true 0 left right
 code_pairs Right count left right = map exchanged (pairs_from nat_eq true 0 right left)
 code_pairs Outer count left right = outer_pairs count left right
+
+-- how many rows each number below a count has, as far as a byte counts
+abbrev pub AreCounts : List ℕ → ℕ → List ℕ → Type 0
+AreCounts codes count counts = (length counts ≡ count) × ((code : ℕ) → code < count → slice_index counts code ≡ min (length (rows_of_code code codes)) 255)
 
 -- the first row whose number stands twice on a side, of the rows from one on
 abbrev pub repeated_from : List ℕ → ℕ → List ℕ → Option ℕ

@@ -4,7 +4,7 @@ use Rattle.std.specs.List.{list_any}
 use Rattle.column_core.specs.Moves.{IsPlaceOf}
 use Rattle.join_meaning.specs.declared.How.{How}
 use Rattle.join_meaning.specs.declared.How.TheVariants.{Inner, Left, Right, Outer}
-use Rattle.join_meaning.specs.Pairs.{Pair, pair}
+use Rattle.join_meaning.specs.Pairs.{Pair, pair, exchanged}
 use Rattle.merge_concat.specs.declared.pairs.Pairs.{Pairs}
 use Rattle.merge_concat.specs.Pairs.{ArePairs}
 
@@ -49,6 +49,30 @@ pub record IsJoin {K : Type 0} (same : K → K → Bool) (how : How) (left right
   pub no_gaps : how_often (pair None None) pairs ≡ 0
   pub left_rows : All (λ p. IsPlaceOf (length left) p.left) pairs
   pub right_rows : All (λ p. IsPlaceOf (length right) p.right) pairs
+
+-- which rows stay, where the sides are exchanged
+abbrev pub turned : How → How
+turned Inner = Inner
+turned Left = Right
+turned Right = Left
+turned Outer = Outer
+
+-- pairs that differ in their order alone: each stands as often
+abbrev pub AreAlike : List Pair → List Pair → Type 0
+AreAlike ps qs = (p : Pair) → how_often p ps ≡ how_often p qs
+
+-- law: a join has one answer, but for the order of its rows
+abbrev pub JoinsAreAlike : {K : Type 0} → (K → K → Bool) → Type 0
+JoinsAreAlike {K} same = (how : How) (left right : List K) (ps qs : List Pair) → IsJoin same how left right ps → IsJoin same how left right qs → AreAlike ps qs
+
+-- law, where equality is symmetric: with its sides exchanged a join is a join of the exchanged sides; an inner or outer
+-- one is so again, and a left one is a right one
+abbrev pub SidesExchange : {K : Type 0} → (K → K → Bool) → Type 0
+SidesExchange {K} same = (how : How) (left right : List K) (pairs : List Pair) → IsJoin same how left right pairs → IsJoin same (turned how) right left (map exchanged pairs)
+
+-- law, where equality is symmetric: exchanging the sides of a join changes the order of its rows alone
+abbrev pub ExchangeChangesOrder : {K : Type 0} → (K → K → Bool) → Type 0
+ExchangeChangesOrder {K} same = (how : How) (left right : List K) (ps qs : List Pair) → IsJoin same how left right ps → IsJoin same (turned how) right left qs → AreAlike (map exchanged ps) qs
 
 -- the pairs that are made are a join
 pub record IsJoinOf {K : Type 0} (same : K → K → Bool) (how : How) (left right : List K) (made : Pairs) : Type 0 where

@@ -1,11 +1,12 @@
 -- What a join answers for what is meant.
-use Rattle.std.specs.Prelude.{◌≡◌, ℕ, List, ◌++◌, map, Option, Result, Ok, Err}
+use Rattle.std.specs.Prelude.{◌≡◌, List, ◌++◌, map, Result, Ok, Err}
 use Rattle.cell_core.specs.declared.cell.Label.{Label}
 use Rattle.meaning.specs.FaultOf.{side_of}
 use Rattle.join_meaning.specs.Pairs.{Pair, JoinRefusal, not_one_to_one, too_large}
 use Rattle.merge_concat.specs.declared.fault.MergeFault.{MergeFault}
 use Rattle.merge_concat.specs.declared.fault.MergeFault.TheVariants.{NotOneToOne, DuplicateLabels, MixedKinds, TooLarge, NoMemory}
 use Rattle.merge_concat.specs.declared.pairs.Pairs.{Pairs}
+use Rattle.merge_concat.specs.declared.pairs.PairLists.{PairLists}
 
 -- the rows of both sides, pair by pair
 pub record ArePairs (made : Pairs) (pairs : List Pair) : Type 0 where
@@ -27,7 +28,12 @@ JoinsBy (Err MixedKinds) meant = ⊥
 JoinsBy (Err TooLarge) meant = meant ≡ Err too_large
 JoinsBy (Err NoMemory) meant = Unit {0}
 
+-- the same of lists that are made
+pub record AreListed (made : PairLists) (pairs : List Pair) : Type 0 where
+  pub left : made.left.items ≡ map (λ p. p.left) pairs
+  pub right : made.right.items ≡ map (λ p. p.right) pairs
+
 -- the lists have more pairs
-pub record HasMore (old new : Pairs) (pairs : List Pair) : Type 0 where
-  pub left : new.left ≡ old.left ++ map (λ p. p.left) pairs
-  pub right : new.right ≡ old.right ++ map (λ p. p.right) pairs
+pub record HasMore (old new : PairLists) (pairs : List Pair) : Type 0 where
+  pub left : new.left.items ≡ old.left.items ++ map (λ p. p.left) pairs
+  pub right : new.right.items ≡ old.right.items ++ map (λ p. p.right) pairs

@@ -13,7 +13,7 @@ use crate::fault::MergeFault;
 use crate::numbers::numbers_of_both;
 use crate::pairs::{Pairs, joined_by_code};
 use crate::repeats::repeated_key;
-use crate::sides::coded_rows;
+use crate::sides::SideCodes;
 use cell_core::{Side, TextDict, Tuples};
 use factorize::{KeyLevels, KeyTuples};
 use join_meaning::{How, Validate};
@@ -55,12 +55,14 @@ pub fn join_rows<L: KeyLevels, R: KeyLevels>(
     let numbers = numbers_of_both(alloc, dict, left, right, is_outer(how))?;
     let codes: &[usize] = &numbers.codes;
     let (of_left, of_right) = codes.split_at(left.count());
-    let lefts = coded_rows(alloc, numbers.count, of_left)?;
-    let rights = coded_rows(alloc, numbers.count, of_right)?;
-    if let Some(key) = repeated_key(alloc, once.left, left, &lefts) {
+    let lefts = SideCodes::of(numbers.count, of_left);
+    let rights = SideCodes::of(numbers.count, of_right);
+    let on_left = repeated_key(alloc, once.left, left, &lefts)?;
+    if let Some(key) = on_left {
         return Err(MergeFault::NotOneToOne(Side::Left, key));
     }
-    if let Some(key) = repeated_key(alloc, once.right, right, &rights) {
+    let on_right = repeated_key(alloc, once.right, right, &rights)?;
+    if let Some(key) = on_right {
         return Err(MergeFault::NotOneToOne(Side::Right, key));
     }
     joined_by_code(alloc, how, &lefts, &rights)

@@ -3,34 +3,15 @@ ghost use Rattle.std.specs.Prelude.{◌≡◌, ◌++◌, map, length, IfOk};
 ghost use Rattle.multi_index.specs.Axes.{HaveLevels};
 ghost use Rattle.row_keys.specs.Keys.{place_among, same_tuple};
 ghost use Rattle.factorize.specs.Keys.{levels_of};
-ghost use Rattle.merge_concat.specs.Codes.{keys_of, number_in};
+ghost use Rattle.merge_concat.specs.Codes.{keys_of};
 
 use crate::sides::BothRows;
 use cell_core::{NoMemory, TextDict};
-use factorize::{KeyLevels, group_by_keys};
-use row_groups::Groups;
+use factorize::{KeyLevels, KeyNumbers, number_keys};
 use std::alloc::Global;
 
-/// How many keys there are, and the number of each row's key, those of the left side first.
-#[derive(Drop)]
-pub(crate) struct KeyNumbers {
-    pub count: usize,
-    pub codes: Vec<usize>,
-}
-
-// The number of each row's group.
-fn numbers_of(alloc: Global, groups: &Groups) -> Result<Vec<usize>, NoMemory>
-    ensures { IfOk result (λ numbers. numbers.items ≡ map number_in groups.now.codes) }
-{
-    let codes = groups.codes();
-    let mut numbers = Vec::with_capacity(alloc, codes.len())?;
-    for row in 0..codes.len() {
-        numbers.push(codes.at(row).unwrap_or(0))?;
-    }
-    Ok(numbers)
-}
-
-// Numbers the keys of both sides: in the order of the keys where they are to be sorted, and else by first sight.
+// Numbers the keys of both sides, those of the left side first: in the order of the keys where they are to be sorted,
+// and else by first sight.
 pub(crate) fn numbers_of_both<L: KeyLevels, R: KeyLevels>(
     alloc: Global,
     dict: &TextDict,
@@ -48,10 +29,6 @@ pub(crate) fn numbers_of_both<L: KeyLevels, R: KeyLevels>(
     let Some(both) = BothRows::of(left, right) else {
         return Err(NoMemory);
     };
-    let groups = group_by_keys(alloc, dict, &both, sorted, false)?.groups;
-    let codes = numbers_of(alloc, &groups)?;
-    Ok(KeyNumbers {
-        count: groups.count(),
-        codes,
-    })
+    let numbers = number_keys(alloc, dict, &both, sorted)?;
+    Ok(numbers)
 }

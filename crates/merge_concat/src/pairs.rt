@@ -1,14 +1,13 @@
 // Pairs of rows.
-ghost use Rattle.std.specs.Prelude.{◌≡◌, ◌∷◌, ◌≤◌, [], map, nat_eq, Some, OnOk, IfOk};
-ghost use Rattle.std.specs.Bool.{Decides};
+ghost use Rattle.std.specs.Prelude.{◌≡◌, ◌∷◌, ◌<◌, [], map, nat_eq, Some, OnOk, IfOk, MatchOption};
 ghost use Rattle.align_meaning.specs.Joins.{most_rows};
 ghost use Rattle.join_meaning.specs.Pairs.{pair, partners, pairs_from, within_limit};
 ghost use Rattle.merge_concat.specs.Codes.{pairs_with, pairs_of, outer_pairs, code_pairs};
-ghost use Rattle.merge_concat.specs.Codes.{counted_by_row, counted_by_key};
-ghost use Rattle.merge_concat.specs.Pairs.{ArePairs, HasMore, JoinsBy};
+ghost use Rattle.merge_concat.specs.Codes.{counted_by_row, counted_by_key, IsCount};
+ghost use Rattle.merge_concat.specs.Pairs.{ArePairs, AreListed, HasMore, JoinsBy};
 
 use crate::fault::MergeFault;
-use crate::sides::CodedRows;
+use crate::sides::{CodedRows, SideCodes, coded_rows};
 use cell_core::{Gaps, NoMemory};
 use join_meaning::How;
 use std::alloc::Global;
@@ -25,18 +24,35 @@ pub struct Pairs {
 // As many rows as a table may have.
 const MOST_ROWS: usize = 67108864;
 
-// No pair.
-fn no_pairs(alloc: Global) -> Pairs
-    ensures { ArePairs result [] }
+// Pairs while they are made.
+#[derive(Drop)]
+struct PairLists {
+    left: Vec<Option<usize>>,
+    right: Vec<Option<usize>>,
+}
+
+// No pair, and room for so many.
+fn no_pairs(alloc: Global, room: usize) -> Result<PairLists, NoMemory>
+    ensures { IfOk result (λ out. AreListed out []) }
+{
+    let left = Vec::with_capacity(alloc, room)?;
+    let right = Vec::with_capacity(alloc, room)?;
+    Ok(PairLists { left, right })
+}
+
+// The pairs that are made.
+fn pairs_made(lists: PairLists) -> Pairs
+    ensures left { result.left ≡ lists.left.items }
+    ensures right { result.right ≡ lists.right.items }
 {
     Pairs {
-        left: Gaps::new(alloc),
-        right: Gaps::new(alloc),
+        left: Gaps::from(lists.left),
+        right: Gaps::from(lists.right),
     }
 }
 
 // Adds a pair.
-fn push_pair(out: &mut Pairs, left: Option<usize>, right: Option<usize>) -> Result<(), NoMemory>
+fn push_pair(out: &mut PairLists, left: Option<usize>, right: Option<usize>) -> Result<(), NoMemory>
     ensures { OnOk result (HasMore out.old out.new (pair left right ∷ [])) }
 {
     out.left.push(left)?;
@@ -45,7 +61,7 @@ fn push_pair(out: &mut Pairs, left: Option<usize>, right: Option<usize>) -> Resu
 }
 
 // Adds a left row, or a gap, with each right row.
-fn push_left(out: &mut Pairs, left: Option<usize>, rights: &[usize]) -> Result<(), NoMemory>
+fn push_left(out: &mut PairLists, left: Option<usize>, rights: &[usize]) -> Result<(), NoMemory>
     ensures { OnOk result (HasMore out.old out.new (pairs_with rights.now left)) }
 {
     if rights.is_empty() {
@@ -58,7 +74,7 @@ fn push_left(out: &mut Pairs, left: Option<usize>, rights: &[usize]) -> Result<(
 }
 
 // Adds each left row of a key with each right row of it.
-fn push_key(out: &mut Pairs, lefts: &[usize], rights: &[usize]) -> Result<(), NoMemory>
+fn push_key(out: &mut PairLists, lefts: &[usize], rights: &[usize]) -> Result<(), NoMemory>
     ensures { OnOk result (HasMore out.old out.new (pairs_of lefts.now rights.now)) }
 {
     if lefts.is_empty() {
@@ -71,7 +87,7 @@ fn push_key(out: &mut Pairs, lefts: &[usize], rights: &[usize]) -> Result<(), No
 }
 
 // Adds a left row with the right rows that it meets; where it meets none, with a gap, if it stays.
-fn push_row(out: &mut Pairs, stays: bool, row: usize, rights: &[usize]) -> Result<(), NoMemory>
+fn push_row(out: &mut PairLists, stays: bool, row: usize, rights: &[usize]) -> Result<(), NoMemory>
     ensures { OnOk result (HasMore out.old out.new
         (map (pair (Some row)) (partners stays rights.now))) }
 {
@@ -84,42 +100,44 @@ fn push_row(out: &mut Pairs, stays: bool, row: usize, rights: &[usize]) -> Resul
 // Each left row with the right rows of its number.
 fn pairs_by_row(
     alloc: Global,
+    room: usize,
     stays: bool,
-    left: &CodedRows<'_>,
+    left: &SideCodes<'_>,
     right: &CodedRows<'_>,
 ) -> Result<Pairs, NoMemory>
     requires { left.now.count ≡ right.now.count }
     ensures { IfOk result (λ made. ArePairs made
         (pairs_from nat_eq stays 0 left.now.codes.now right.now.codes.now)) }
 {
-    let mut out = no_pairs(alloc);
+    let mut out = no_pairs(alloc, room)?;
     for row in 0..left.codes.len() {
         push_row(&mut out, stays, row, right.rows_of(left.code(row)))?;
     }
-    Ok(out)
+    Ok(pairs_made(out))
 }
 
-// Whether these are at most as many as a table may have rows.
-fn are_few_by_row(stays: bool, left: &CodedRows<'_>, right: &CodedRows<'_>) -> bool
+// How many pairs these are, if a table may have as many rows.
+fn count_by_row(stays: bool, left: &SideCodes<'_>, right: &CodedRows<'_>) -> Option<usize>
     requires { left.now.count ≡ right.now.count }
-    ensures { Decides result (counted_by_row stays left.now.codes.now right.now.codes.now
-        ≤ most_rows) }
+    ensures { let counted = counted_by_row stays left.now.codes.now right.now.codes.now in
+        MatchOption result (most_rows < counted) (λ count. IsCount counted count) }
 {
     let mut total = 0usize;
     for row in 0..left.codes.len() {
         let rights = right.rows_of(left.code(row)).len();
         let size = if stays { rights.max(1) } else { rights };
         if size > MOST_ROWS - total {
-            return false;
+            return None;
         }
         total += size;
     }
-    true
+    Some(total)
 }
 
 // The rows of each number, one number after the other.
 fn pairs_by_key(
     alloc: Global,
+    room: usize,
     left: &CodedRows<'_>,
     right: &CodedRows<'_>,
 ) -> Result<Pairs, NoMemory>
@@ -127,18 +145,18 @@ fn pairs_by_key(
     ensures { IfOk result (λ made. ArePairs made
         (outer_pairs left.now.count left.now.codes.now right.now.codes.now)) }
 {
-    let mut out = no_pairs(alloc);
+    let mut out = no_pairs(alloc, room)?;
     for code in 0..left.count {
         push_key(&mut out, left.rows_of(code), right.rows_of(code))?;
     }
-    Ok(out)
+    Ok(pairs_made(out))
 }
 
-// Whether these are at most as many as a table may have rows.
-fn are_few_by_key(left: &CodedRows<'_>, right: &CodedRows<'_>) -> bool
+// How many pairs these are, if a table may have as many rows.
+fn count_by_key(left: &CodedRows<'_>, right: &CodedRows<'_>) -> Option<usize>
     requires { left.now.count ≡ right.now.count }
-    ensures { Decides result (counted_by_key left.now.count left.now.codes.now right.now.codes.now
-        ≤ most_rows) }
+    ensures { let counted = counted_by_key left.now.count left.now.codes.now right.now.codes.now in
+        MatchOption result (most_rows < counted) (λ count. IsCount counted count) }
 {
     let mut total = 0usize;
     for code in 0..left.count {
@@ -146,45 +164,46 @@ fn are_few_by_key(left: &CodedRows<'_>, right: &CodedRows<'_>) -> bool
         let rights = right.rows_of(code).len().max(1);
         match lefts.checked_mul(rights) {
             Some(size) if size <= MOST_ROWS - total => total += size,
-            _ => return false,
+            _ => return None,
         }
     }
-    true
+    Some(total)
 }
 
 // Each left row with the right rows of its number, unless there are too many.
 fn joined_by_row(
     alloc: Global,
     stays: bool,
-    left: &CodedRows<'_>,
-    right: &CodedRows<'_>,
+    left: &SideCodes<'_>,
+    right: &SideCodes<'_>,
 ) -> Result<Pairs, MergeFault>
     requires { left.now.count ≡ right.now.count }
     ensures { JoinsBy result
         (within_limit (pairs_from nat_eq stays 0 left.now.codes.now right.now.codes.now)) }
 {
-    if !are_few_by_row(stays, left, right) {
-        return Err(MergeFault::TooLarge);
+    let rights = coded_rows(alloc, right)?;
+    match count_by_row(stays, left, &rights) {
+        Some(count) => Ok(pairs_by_row(alloc, count, stays, left, &rights)?),
+        None => Err(MergeFault::TooLarge),
     }
-    let pairs = pairs_by_row(alloc, stays, left, right)?;
-    Ok(pairs)
 }
 
 // The rows of each number, unless there are too many.
 fn joined_by_key(
     alloc: Global,
-    left: &CodedRows<'_>,
-    right: &CodedRows<'_>,
+    left: &SideCodes<'_>,
+    right: &SideCodes<'_>,
 ) -> Result<Pairs, MergeFault>
     requires { left.now.count ≡ right.now.count }
     ensures { JoinsBy result
         (within_limit (outer_pairs left.now.count left.now.codes.now right.now.codes.now)) }
 {
-    if !are_few_by_key(left, right) {
-        return Err(MergeFault::TooLarge);
+    let lefts = coded_rows(alloc, left)?;
+    let rights = coded_rows(alloc, right)?;
+    match count_by_key(&lefts, &rights) {
+        Some(count) => Ok(pairs_by_key(alloc, count, &lefts, &rights)?),
+        None => Err(MergeFault::TooLarge),
     }
-    let pairs = pairs_by_key(alloc, left, right)?;
-    Ok(pairs)
 }
 
 // The sides exchanged.
@@ -202,8 +221,8 @@ fn exchanged(pairs: Pairs) -> Pairs
 pub(crate) fn joined_by_code(
     alloc: Global,
     how: How,
-    left: &CodedRows<'_>,
-    right: &CodedRows<'_>,
+    left: &SideCodes<'_>,
+    right: &SideCodes<'_>,
 ) -> Result<Pairs, MergeFault>
     requires { left.now.count ≡ right.now.count }
     ensures { JoinsBy result

@@ -1,19 +1,42 @@
 // The first key that stands twice on a side.
-ghost use Rattle.std.specs.Prelude.{◌≡◌, ◌<◌, ◌≤◌, [], All, IfSome, length, slice_index_or};
-ghost use Rattle.merge_concat.specs.Codes.{repeated_from, repeated_in};
+ghost use Rattle.std.specs.Prelude.{◌≡◌, ◌<◌, ◌≤◌, [], All, IfOk, IfSome, length, nat_lt, slice_index_or};
+ghost use Rattle.row_keys.specs.Buckets.{rows_of_code};
+ghost use Rattle.merge_concat.specs.Codes.{repeated_from, repeated_in, AreCounts};
 
-use crate::sides::CodedRows;
-use cell_core::{Label, Tuple};
+use crate::sides::SideCodes;
+use cell_core::{Label, NoMemory, Tuple};
 use factorize::KeyLevels;
 use std::alloc::Global;
 
+// How many rows each number has, as far as a byte counts.
+fn counted_rows(alloc: Global, side: &SideCodes<'_>) -> Result<Vec<u8>, NoMemory>
+    ensures { IfOk result (λ counts. AreCounts side.now.codes.now side.now.count counts.items) }
+{
+    let mut counts = vec![in alloc; 0u8; side.count]?;
+    for row in 0..side.codes.len() {
+        let code = side.code(row);
+        counts[code] = counts[code].saturating_add(1);
+    }
+    Ok(counts)
+}
+
+// Whether a number has more than one row.
+fn stands_twice(side: &SideCodes<'_>, counts: &[u8], code: usize) -> bool
+    requires counts { AreCounts side.now.codes.now side.now.count counts.now }
+    requires below { code < side.now.count }
+    ensures { result ≡ nat_lt 1 (length (rows_of_code code side.now.codes.now)) }
+{
+    counts[code] > 1
+}
+
 // The first row whose number stands twice.
-fn first_repeat(side: &CodedRows<'_>) -> Option<usize>
+fn first_repeat(side: &SideCodes<'_>, counts: &[u8]) -> Option<usize>
+    requires { AreCounts side.now.codes.now side.now.count counts.now }
     ensures row { result ≡ repeated_from side.now.codes.now 0 side.now.codes.now }
     ensures below { IfSome result (λ row. row < length side.now.codes.now) }
 {
     for row in 0..side.codes.len() {
-        if side.rows_of(side.code(row)).len() > 1 {
+        if stands_twice(side, counts, side.code(row)) {
             return Some(row);
         }
     }
@@ -39,15 +62,19 @@ pub(crate) fn repeated_key<R: KeyLevels>(
     alloc: Global,
     once: bool,
     rows: &R,
-    side: &CodedRows<'_>,
-) -> Option<Tuple>
+    side: &SideCodes<'_>,
+) -> Result<Option<Tuple>, NoMemory>
     requires counted { length side.now.codes.now ≡ length (R.keys rows.now) }
     requires few { All (λ key. length key ≤ 4) (R.keys rows.now) }
-    ensures { result ≡ repeated_in once (R.keys rows.now) side.now.codes.now }
+    ensures { IfOk result (λ found. found
+        ≡ repeated_in once (R.keys rows.now) side.now.codes.now) }
 {
     if !once {
-        return None;
+        return Ok(None);
     }
-    let row = first_repeat(side)?;
-    Some(key_of_row(alloc, rows, row))
+    let counts = counted_rows(alloc, side)?;
+    match first_repeat(side, &counts) {
+        Some(row) => Ok(Some(key_of_row(alloc, rows, row))),
+        None => Ok(None),
+    }
 }

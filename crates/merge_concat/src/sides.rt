@@ -60,17 +60,24 @@ impl<L: KeyLevels, R: KeyLevels> KeyLevels for BothRows<'_, L, R> {
     }
 }
 
-/// The rows of a side by the numbers of their keys.
+/// The numbers of the keys of a side's rows, each below a count.
 #[derive(Drop)]
-pub(crate) struct CodedRows<'a> {
+pub(crate) struct SideCodes<'a> {
     pub count: usize,
     pub codes: &'a [usize],
-    pub rows: Buckets,
     ghost below: { All (λ code. code < count) codes.now },
-    ghost buckets: { rows ≡ buckets_of count codes.now },
 }
 
-impl CodedRows<'_> {
+impl<'a> SideCodes<'a> {
+    /// These numbers. Takes no memory.
+    pub fn of(count: usize, codes: &'a [usize]) -> SideCodes<'a>
+        requires { All (λ code. code < count) codes.now }
+        ensures count { result.count ≡ count }
+        ensures codes { result.codes.now ≡ codes.now }
+    {
+        SideCodes { count, codes }
+    }
+
     /// The number of a row's key. Takes no memory.
     pub fn code(&self, row: usize) -> usize
         requires { row < length self.now.codes.now }
@@ -79,7 +86,18 @@ impl CodedRows<'_> {
     {
         self.codes[row]
     }
+}
 
+/// The rows of a side by the numbers of their keys.
+#[derive(Drop)]
+pub(crate) struct CodedRows<'a> {
+    pub count: usize,
+    pub codes: &'a [usize],
+    rows: Buckets,
+    ghost buckets: { rows ≡ buckets_of count codes.now },
+}
+
+impl CodedRows<'_> {
     /// The rows whose keys have a number, in order. Takes no memory.
     pub fn rows_of(&self, code: usize) -> &[usize]
         requires { code < self.now.count }
@@ -89,16 +107,15 @@ impl CodedRows<'_> {
     }
 }
 
-// The rows of a side whose keys have these numbers.
-pub(crate) fn coded_rows<'a>(
-    alloc: Global,
-    count: usize,
-    codes: &'a [usize],
-) -> Result<CodedRows<'a>, NoMemory>
-    requires { All (λ code. code < count) codes.now }
-    ensures count { IfOk result (λ side. side.count ≡ count) }
-    ensures codes { IfOk result (λ side. side.codes.now ≡ codes.now) }
+// The rows of a side by the numbers of their keys.
+pub(crate) fn coded_rows<'a>(alloc: Global, side: &SideCodes<'a>) -> Result<CodedRows<'a>, NoMemory>
+    ensures count { IfOk result (λ made. made.count ≡ side.now.count) }
+    ensures codes { IfOk result (λ made. made.codes.now ≡ side.now.codes.now) }
 {
-    let rows = rows_by_code(alloc, count, codes)?;
-    Ok(CodedRows { count, codes, rows })
+    let rows = rows_by_code(alloc, side.count, side.codes)?;
+    Ok(CodedRows {
+        count: side.count,
+        codes: side.codes,
+        rows,
+    })
 }

@@ -40,7 +40,7 @@ use Rattle.frame_store.specs.Arguments.{object_value, shape_at, arguments_of, Ar
 use Rattle.frame_store.specs.Objects.{Tables, table_or}
 use Rattle.frame_store.specs.Shown.{cells_value, Makes}
 use Rattle.frame_store.specs.World.{World, entry_in, arguments_in, AreKnownArguments, Forms}
-use Rattle.frame_methods.specs.Calls.{chain_in}
+use Rattle.label_methods.specs.Chains.{chain_in}
 use Rattle.signatures.specs.Bound.{given_in, stands_at, IsBound}
 use Rattle.signatures.specs.Filled.{Fills}
 use Rattle.signatures.specs.declared.bound.Bound.{Bound as BoundArguments}

@@ -1,5 +1,5 @@
 -- The columns of joined rows, with texts by number and with texts.
-use Rattle.std.proofs.Common.{◌≡◌, ◌∙◌, ◌+◌, ◌<◌, ◌≤◌, ap, refl, sym, subst, arith, ℕ, suc, Bool, true, false, List, [], ◌∷◌, ◌++◌, map, take, drop, length, slice_get, slice_index_or, All, Option, Some, None, if◌then◌else◌, append_assoc, append-nil, nat_eq}
+use Rattle.std.proofs.Common.{◌≡◌, ◌∙◌, ◌+◌, ◌<◌, ◌≤◌, ap, refl, sym, subst, arith, ℕ, suc, Bool, true, false, not, ◌||◌, List, [], ◌∷◌, ◌++◌, map, take, drop, length, slice_get, slice_index_or, All, Option, Some, None, if◌then◌else◌, append_assoc, append-nil, nat_eq}
 use Rattle.std.specs.List.{range_with_len, position_or_len}
 use Rattle.std.proofs.Math.ListN.{get_or-map}
 use Rattle.std.proofs.Math.Seq.{drop-cons}
@@ -19,8 +19,9 @@ use Rattle.column_core.specs.Columns.{CellColumn}
 use Rattle.frame_store.specs.Parts.{table_column}
 use Rattle.frame_store.specs.Shown.{columns_value}
 use Rattle.method_meaning.specs.Rows.{all_places}
+use Rattle.method_meaning.specs.Merge as meant
 use Rattle.method_meaning.specs.Merge.{MergeKeys, is_key, right_key, right_places, key_cell, left_column, column_of_side}
-use Rattle.merge_forms.specs.Columns.{key_cell_at, key_cells, column_on, left_column_on, merged_columns}
+use Rattle.merge_forms.specs.Columns.{key_cell_at, key_cells, column_on, joined_or_left, left_column_on, merged_columns}
 
 -- what holds of all holds of one
 pub at_all : {X : Type 0} (P : X → Type 0) (xs : List X) (k : ℕ) (x : X) → All P xs → k < length xs → slice_get xs k ≡ Some x → P x
@@ -68,12 +69,11 @@ key_count na left right (l ∷ ls) (r ∷ rs) same = ap suc (key_count na left r
 
 module _ {C : Type 0} (na : C) (l r : List (ColumnOf C)) (keys : MergeKeys) (lefts rights : List (Option ℕ)) (same : length rights ≡ length lefts) where
   left_counted : (place : ℕ) → length (left_column_on na l r keys lefts rights place).cells ≡ length lefts
-  left_counted place = by (is_key keys.left place)
+  left_counted place = by (right_key keys place)
     where
-      by : (b : Bool)
-          → length (if b then record { kind = (column_at l place).kind; cells = key_cells na (column_at l place).cells (column_at r (right_key keys place)).cells lefts rights } else column_on na l lefts place).cells ≡ length lefts
-      by true = key_count na (column_at l place).cells (column_at r (right_key keys place)).cells lefts rights same
-      by false = length-map lefts (gap_cell na (column_at l place).cells)
+      by : (o : Option ℕ) → length (joined_or_left na l r lefts rights place o).cells ≡ length lefts
+      by (Some other) = key_count na (column_at l place).cells (column_at r other).cells lefts rights same
+      by None = length-map lefts (gap_cell na (column_at l place).cells)
 
   pub columns_counted : (places : List ℕ) → All (λ (c : ColumnOf C). length c.cells ≡ length lefts) (merged_columns na l r keys places lefts rights)
   columns_counted places =
@@ -81,21 +81,31 @@ module _ {C : Type 0} (na : C) (l r : List (ColumnOf C)) (keys : MergeKeys) (lef
       (All-map (λ (c : ColumnOf C). length c.cells ≡ length lefts) (left_column_on na l r keys lefts rights) (range_with_len 0 (length l)) (λ k d lt. left_counted (slice_index_or (range_with_len 0 (length l)) k d)))
       (All-map (λ (c : ColumnOf C). length c.cells ≡ length lefts) (column_on na r rights) places (λ k d lt. length-map rights (gap_cell na (column_at r (slice_index_or places k d)).cells) ∙ same))
 
+-- a column that is no key has none that stands for it
+pub no_right : (lefts rights : List ℕ) (place : ℕ) → length rights ≡ length lefts → is_key lefts place ≡ false → slice_get rights (position_or_len (nat_eq place) lefts) ≡ None
+no_right [] [] place same other = refl
+no_right [] (r ∷ rights) place same other = absurd (omega (arith, same))
+no_right (l ∷ lefts) [] place same other = absurd (omega (arith, same))
+no_right (l ∷ lefts) (r ∷ rights) place same other = by (nat_eq place l) (no_right lefts rights place (omega (arith, same))) other
+  where
+    by : (b : Bool) → (is_key lefts place ≡ false → slice_get rights (position_or_len (nat_eq place) lefts) ≡ None) → (b || is_key lefts place) ≡ false
+        → slice_get (r ∷ rights) (if not b then 1 + position_or_len (nat_eq place) lefts else 0) ≡ None
+    by true later is = cc
+    by false later is = let next : 1 + position_or_len (nat_eq place) lefts ≡ suc (position_or_len (nat_eq place) lefts) = omega arith in ap (slice_get (r ∷ rights)) next ∙ later is
+
 -- a column of the left side, a key or another one
 module _ (l r : List (ColumnOf Cell)) (keys : MergeKeys) (lefts rights : List (Option ℕ)) (place : ℕ) (a : CellColumn) (at : column_at l place ≡ table_column a) (made : CellColumn) where
-  pub key_is : (other k : ℕ) (b : CellColumn) → is_key keys.left place ≡ true → position_or_len (nat_eq place) keys.left ≡ k → slice_get keys.right k ≡ Some other → column_at r other ≡ table_column b
+  pub key_is : (other k : ℕ) (b : CellColumn) → position_or_len (nat_eq place) keys.left ≡ k → slice_get keys.right k ≡ Some other → column_at r other ≡ table_column b
       → made ≡ record { kind = a.kind; cells = key_cells Na a.cells b.cells lefts rights } → table_column made ≡ left_column_on Na l r keys lefts rights place
-  key_is other k b key first there at_other is =
-      let right_is : right_key keys place ≡ other = ap (λ n. slice_index_or keys.right n 0) first ∙ get_or_from_slice_get keys.right k other 0 there in
-      let right_at : column_at r (right_key keys place) ≡ table_column b = ap (column_at r) right_is ∙ at_other in
+  key_is other k b first there at_other is =
       ap table_column is
-      ∙ (λ i. record { kind = (sym at i).kind; cells = key_cells Na (sym at i).cells (sym right_at i).cells lefts rights })
-      ∙ ap (λ b. if b then record { kind = (column_at l place).kind; cells = key_cells Na (column_at l place).cells (column_at r (right_key keys place)).cells lefts rights } else column_on Na l lefts place) (sym key)
+      ∙ (λ i. record { kind = (sym at i).kind; cells = key_cells Na (sym at i).cells (sym at_other i).cells lefts rights })
+      ∙ ap (joined_or_left Na l r lefts rights place) (sym (ap (slice_get keys.right) first ∙ there))
 
-  pub other_is : is_key keys.left place ≡ false → made.kind ≡ a.kind → made.cells ≡ taken Na a.cells lefts → table_column made ≡ left_column_on Na l r keys lefts rights place
-  other_is key kind cells =
+  pub other_is : right_key keys place ≡ None → made.kind ≡ a.kind → made.cells ≡ taken Na a.cells lefts → table_column made ≡ left_column_on Na l r keys lefts rights place
+  other_is none kind cells =
       (λ i. record { kind = (kind ∙ ap (λ (c : ColumnOf Cell). c.kind) (sym at)) i; cells = (cells ∙ ap (λ (c : ColumnOf Cell). taken Na c.cells lefts) (sym at)) i })
-      ∙ ap (λ b. if b then record { kind = (column_at l place).kind; cells = key_cells Na (column_at l place).cells (column_at r (right_key keys place)).cells lefts rights } else column_on Na l lefts place) (sym key)
+      ∙ ap (joined_or_left Na l r lefts rights place) (sym none)
 
 -- as they are seen
 module _ (texts : List Text) where
@@ -129,20 +139,19 @@ module _ (texts : List Text) where
     abbrev key_on : {C : Type 0} → C → ColumnOf C → ColumnOf C → ColumnOf C
     key_on na a b = record { kind = a.kind; cells = key_cells na a.cells b.cells lefts rights }
 
-    key_column_seen : (place : ℕ) → column_value texts (key_on Na (column_at l place) (column_at r (right_key keys place))) ≡ key_on na_cell (column_at (columns_value texts l) place) (column_at (columns_value texts r) (right_key keys place))
-    key_column_seen place = λ i. record {
+    key_column_seen : (place other : ℕ) → column_value texts (key_on Na (column_at l place) (column_at r other)) ≡ key_on na_cell (column_at (columns_value texts l) place) (column_at (columns_value texts r) other)
+    key_column_seen place other = λ i. record {
       kind = (column_seen l place i).kind;
-      cells = (keys_seen (column_at l place).cells (column_at r (right_key keys place)).cells lefts rights
-          ∙ (λ j. key_cells na_cell (column_seen l place j).cells (column_seen r (right_key keys place) j).cells lefts rights)) i;
+      cells = (keys_seen (column_at l place).cells (column_at r other).cells lefts rights
+          ∙ (λ j. key_cells na_cell (column_seen l place j).cells (column_seen r other j).cells lefts rights)) i;
     }
 
     left_seen : (place : ℕ) → column_value texts (left_column_on Na l r keys lefts rights place) ≡ left_column_on na_cell (columns_value texts l) (columns_value texts r) keys lefts rights place
-    left_seen place = by (is_key keys.left place)
+    left_seen place = by (right_key keys place)
       where
-        by : (b : Bool) → column_value texts (if b then key_on Na (column_at l place) (column_at r (right_key keys place)) else column_on Na l lefts place)
-            ≡ (if b then key_on na_cell (column_at (columns_value texts l) place) (column_at (columns_value texts r) (right_key keys place)) else column_on na_cell (columns_value texts l) lefts place)
-        by true = key_column_seen place
-        by false = on_seen l lefts place
+        by : (o : Option ℕ) → column_value texts (joined_or_left Na l r lefts rights place o) ≡ joined_or_left na_cell (columns_value texts l) (columns_value texts r) lefts rights place o
+        by (Some other) = key_column_seen place other
+        by None = on_seen l lefts place
 
     each_seen : {A : Type 0} (f : A → ColumnOf Cell) (g : A → ColumnOf CellValue) → ((x : A) → column_value texts (f x) ≡ g x) → (xs : List A) → columns_value texts (map f xs) ≡ map g xs
     each_seen f g same [] = refl
@@ -167,10 +176,10 @@ cells_meant : (left right : List CellValue) (ps : List Pair) → key_cells na_ce
 cells_meant left right [] = refl
 cells_meant left right (p ∷ ps) = ap (λ l. key_cell left right p ∷ l) (cells_meant left right ps)
 
+left_meant : (l r : Table) (ps : List Pair) (place : ℕ) (o : Option ℕ) → joined_or_left na_cell l.columns r.columns (map (λ p. p.left) ps) (map (λ p. p.right) ps) place o ≡ meant.joined_or_left l r ps place o
+left_meant l r ps place None = refl
+left_meant l r ps place (Some other) = λ i. record { kind = (column_at l.columns place).kind; cells = cells_meant (column_at l.columns place).cells (column_at r.columns other).cells ps i }
+
 pub columns_meant : (l r : Table) (keys : MergeKeys) (ps : List Pair) → merged_columns na_cell l.columns r.columns keys (right_places r keys) (map (λ p. p.left) ps) (map (λ p. p.right) ps)
     ≡ map (left_column l r keys ps) (all_places l) ++ map (column_of_side r (map (λ p. p.right) ps)) (right_places r keys)
-columns_meant l r keys ps = λ i.
-    map (λ place. if is_key keys.left place
-    then record { kind = (column_at l.columns place).kind; cells = cells_meant (column_at l.columns place).cells (column_at r.columns (right_key keys place)).cells ps i }
-    else column_of_side l (map (λ p. p.left) ps) place) (all_places l)
-    ++ map (column_of_side r (map (λ p. p.right) ps)) (right_places r keys)
+columns_meant l r keys ps = λ i. map (λ place. left_meant l r ps place (right_key keys place) i) (all_places l) ++ map (column_of_side r (map (λ p. p.right) ps)) (right_places r keys)

@@ -26,8 +26,8 @@ use Rattle.selections.specs.Headings.{same_heading}
 use Rattle.selections.specs.Selected.{heading_of, headings_at}
 use Rattle.selections.proofs.HeadingLaws.{heading_decides, same_seen, head_settled, rest_settled}
 use Rattle.selections.proofs.PlaceLaws.{heading_seen, heading_settled}
-use Rattle.frame_methods.proofs.IndexingLaws.{headings_seen, headings_settled}
-use Rattle.frame_methods.proofs.ResetLaws.{text_seen, text_settled}
+use Rattle.label_methods.proofs.IndexingLaws.{headings_seen, headings_settled}
+use Rattle.label_methods.proofs.ResetLaws.{text_seen, text_settled}
 use Rattle.merge_forms.specs.Headings.{AreAmong, suffixed_if, label_beside, merged_headings}
 
 -- one heading more in a set

@@ -1,17 +1,16 @@
 -- The columns of two frames whose cells are the keys.
-use Rattle.std.proofs.Common.{◌≡◌, ◌∙◌, ◌+◌, ◌<◌, ◌≤◌, ap, refl, sym, subst, arith, ℕ, zero, suc, Bool, true, false, not, cond, ◌&&◌, ◌||◌, List, [], ◌∷◌, ◌++◌, append-nil, map, filter, take, drop, length, slice_get, slice_index_or, All, Option, Some, None, Result, Ok, Err, option_map, nat_lt, if◌then◌else◌}
-use Rattle.std.specs.List.{list_any, position_or_len, range_with_len}
+use Rattle.std.proofs.Common.{◌≡◌, ◌∙◌, ◌+◌, ◌<◌, ◌≤◌, ap, refl, sym, subst, arith, ℕ, zero, suc, Bool, true, false, cond, ◌&&◌, List, [], ◌∷◌, ◌++◌, append-nil, map, filter, take, drop, length, slice_get, slice_index_or, Option, Some, None, Result, Ok, Err, nat_lt, if◌then◌else◌}
+use Rattle.std.specs.Prelude.{filter_map}
+use Rattle.std.specs.List.{list_any, range_with_len}
 use Rattle.std.proofs.Math.ListN.{get_or-map}
 use Rattle.std.proofs.Math.Seq.{drop-cons}
 use Rattle.std.proofs.lemmas.Bool.Decides.{nat_tests}
 use Rattle.std.proofs.lemmas.List.{length-map, map-append, take_more, take_all, at_drop_all}
-use Rattle.std.proofs.lemmas.List.Elements.{All-cons, All-nil, All-head, All-tail, All-filter, filter_passes, filter-append}
-use Rattle.std.proofs.lemmas.List.Folds.{list_any_at}
+use Rattle.std.proofs.lemmas.List.Elements.{filter-append}
 use Rattle.std.proofs.lemmas.List.FromFn.{map-range_with_len_more}
 use Rattle.std.proofs.lemmas.Option.{slice_get_within, get_or_from_slice_get}
 use Rattle.cell_core.specs.declared.cell.Cell.{Cell}
 use Rattle.cell_core.specs.declared.cell.Kind.{Kind}
-use Rattle.cell_core.specs.declared.cell.Kind.TheVariants.{Int64, Boolean, Text as string}
 use Rattle.cell_core.specs.declared.cell.Label.{Label}
 use Rattle.cell_core.specs.declared.cell.Label.TheVariants as label
 use Rattle.meaning.specs.Text.{Text}
@@ -23,29 +22,29 @@ use Rattle.table_meaning.specs.Settled.{IsSettled}
 use Rattle.table_meaning.specs.Valid.{IsWhole}
 use Rattle.table_meaning.specs.Table.{ColumnOf, NumberedTable, Table, column_at, table_value, heading_value, column_value, no_column}
 use Rattle.table_meaning.specs.Value.{Given, GivenList, nothing, one, row, many, entries, scalar_in, list_in}
+use Rattle.table_meaning.proofs.KindLaws.{kind_is, kind_itself}
 use Rattle.form_meaning.specs.Binding.{is_nothing}
 use Rattle.form_meaning.specs.Finish as finish
 use Rattle.form_meaning.specs.Finish.{try_all, same_kind}
-use Rattle.form_meaning.specs.Select.{place_of_label, column_place, column_places, found, labels_of}
+use Rattle.form_meaning.specs.Select.{column_place, column_places, labels_of}
 use Rattle.form_parts.specs.Makes.{MakesBy}
-use Rattle.form_parts.proofs.LabelLaws.{value_decides}
 use Rattle.method_meaning.specs.Levels.{label_cell}
 use Rattle.method_meaning.specs.Rows.{labels_in}
-use Rattle.method_meaning.specs.Merge.{common_headings, places_in, keys_under, keys_on, kinds_at, are_same_kinds, checked_keys}
+use Rattle.method_meaning.specs.Merge.{common_labels, keys_named, keys_under, keys_on, kinds_at, are_same_kinds, checked_keys}
 use Rattle.frame_store.specs.declared.fault.OpFault.{OpFault}
 use Rattle.frame_store.specs.declared.fault.OpFault.TheVariants.{Refused, NoMemory}
 use Rattle.column_core.specs.Columns.{CellColumn}
 use Rattle.frame_store.specs.Parts.{table_column}
 use Rattle.frame_store.specs.Shown.{headings_value, cells_value}
-use Rattle.frame_methods.specs.LevelColumns.{cell_of}
-use Rattle.frame_methods.proofs.NamedLaws.{label_named, labels_named}
+use Rattle.label_methods.specs.LevelColumns.{cell_of}
+use Rattle.label_methods.proofs.NamedLaws.{label_named, labels_named}
 use Rattle.selections.specs.Headings.{same_heading}
 use Rattle.selections.specs.Selected.{headings_at}
-use Rattle.frame_methods.proofs.IndexingLaws.{headings_seen}
+use Rattle.label_methods.proofs.IndexingLaws.{headings_seen}
 use Rattle.merge_forms.specs.Headings.{AreAmong}
 use Rattle.merge_forms.proofs.HeadingLaws.{is_among}
 use Rattle.merge_forms.specs.declared.keys.MergeKeys.{MergeKeys}
-use Rattle.merge_forms.specs.Keys.{keys_value, cell_labels, labels_on, keys_named, keys_told, keys_checked, kinds_of, AreMergeKeys}
+use Rattle.merge_forms.specs.Keys.{keys_value, cell_labels, labels_on, keys_told, keys_checked, kinds_of, AreMergeKeys}
 
 -- the labels that `on` names
 pub none_told : (g : Given) → true ≡ is_nothing g → None ≡ labels_on g
@@ -187,49 +186,15 @@ cell_given texts l cells cells' here pushed given =
     label_more more = ap (label_or (label_datum texts l)) (here more)
 
 -- the columns of common labels
-same_itself : (h : Option LabelValue) → finish.same_heading h h ≡ true
-same_itself None = refl
-same_itself (Some l) = (value_decides l l).1 refl
+pub labels_of_some : (labels : List LabelValue) → filter_map (λ h. h) (map (λ label. Some label) labels) ≡ labels
+labels_of_some [] = refl
+labels_of_some (l ∷ labels) = ap (λ ls. l ∷ ls) (labels_of_some labels)
 
-among_itself : (hs : List (Option LabelValue)) → All (λ h. list_any (finish.same_heading h) hs ≡ true) hs
-among_itself hs k d lt = list_any_at (finish.same_heading (slice_index_or hs k d)) hs k d lt (same_itself (slice_index_or hs k d))
+pub common_meant : (l r : Table) (labels : List LabelValue) → labels ≡ common_labels l r → 1 ≤ length labels → keys_named l r labels ≡ keys_under l r (common_labels l r)
+common_meant l r [] is some = absurd (omega (arith, some))
+common_meant l r (x ∷ xs) is some = ap (keys_under l r) is
 
-place_found : (hs : List (Option LabelValue)) (l : LabelValue) → list_any (finish.same_heading (Some l)) hs ≡ true → place_of_label hs l ≡ Some (position_or_len (finish.same_heading (Some l)) hs)
-place_found [] l is = cc
-place_found (h ∷ hs) l is = go (finish.same_heading (Some l) h) (place_found hs l) is
-  where
-    go : (b : Bool) → (list_any (finish.same_heading (Some l)) hs ≡ true → place_of_label hs l ≡ Some (position_or_len (finish.same_heading (Some l)) hs)) → (b || list_any (finish.same_heading (Some l)) hs) ≡ true
-        → (if b then Some 0 else option_map suc (place_of_label hs l)) ≡ Some (cond (not b) (1 + position_or_len (finish.same_heading (Some l)) hs) 0)
-    go true later there = refl
-    go false later there = ap (option_map suc) (later there) ∙ ap Some (omega arith)
-
-all_found : (t : Table) (labels : List LabelValue) → All (λ l. list_any (finish.same_heading (Some l)) t.headings ≡ true) labels → column_places t labels ≡ Ok (places_in t (map (λ label. Some label) labels))
-all_found t [] all = refl
-all_found t (l ∷ labels) all =
-    let here : column_place t l ≡ Ok (position_or_len (finish.same_heading (Some l)) t.headings) =
-    ap (found l) (place_found t.headings l (All-head (λ l. list_any (finish.same_heading (Some l)) t.headings ≡ true) l labels all)) in
-    let later : column_places t labels ≡ Ok (places_in t (map (λ label. Some label) labels)) = all_found t labels (All-tail (λ l. list_any (finish.same_heading (Some l)) t.headings ≡ true) l labels all) in
-    λ i. then_value (here i) (λ y. then_value (later i) (λ ys. Ok (y ∷ ys)))
-
-all_labels : (P : Option LabelValue → Type 0) (labels : List LabelValue) (hs : List (Option LabelValue)) → map (λ label. Some label) labels ≡ hs → All P hs → All (λ l. P (Some l)) labels
-all_labels P labels hs is all = go labels (subst (All P) (sym is) all)
-  where
-    go : (ls : List LabelValue) → All P (map (λ label. Some label) ls) → All (λ l. P (Some l)) ls
-    go [] h = All-nil (λ l. P (Some l))
-    go (l ∷ ls) h = All-cons (λ l. P (Some l)) l ls (All-head P (Some l) (map (λ label. Some label) ls) h) (go ls (All-tail P (Some l) (map (λ label. Some label) ls) h))
-
-pub common_meant : (l r : Table) (labels : List LabelValue) → map (λ label. Some label) labels ≡ common_headings l r → 1 ≤ length labels → keys_named l r labels ≡ keys_under l r (common_headings l r)
-common_meant l r labels is some =
-    let of_left = all_found l labels (all_labels (λ h. list_any (finish.same_heading h) l.headings ≡ true) labels (common_headings l r) is
-    (All-filter (is_common r.headings) (λ h. list_any (finish.same_heading h) l.headings ≡ true) l.headings (among_itself l.headings))) in
-    let of_right = all_found r labels (all_labels (λ h. list_any (finish.same_heading h) r.headings ≡ true) labels (common_headings l r) is (filter_passes (is_common r.headings) l.headings)) in
-    (λ i. then_value (of_left i) (λ left. then_value (of_right i) (λ right. Ok record { left = left; right = right }))) ∙ by labels some ∙ ap (keys_under l r) is
-  where
-    by : (ls : List LabelValue) → 1 ≤ length ls → Ok record { left = places_in l (map (λ label. Some label) ls); right = places_in r (map (λ label. Some label) ls) } ≡ keys_under l r (map (λ label. Some label) ls)
-    by [] lt = absurd (omega (arith, lt))
-    by (x ∷ xs) lt = refl
-
-pub none_common : (l r : Table) (labels : List LabelValue) → map (λ label. Some label) labels ≡ common_headings l r → length labels ≡ 0 → keys_under l r (common_headings l r) ≡ Err no_common
+pub none_common : (l r : Table) (labels : List LabelValue) → labels ≡ common_labels l r → length labels ≡ 0 → keys_under l r (common_labels l r) ≡ Err no_common
 none_common l r [] is none = ap (keys_under l r) (sym is)
 none_common l r (x ∷ xs) is none = absurd (omega (arith, none))
 
@@ -241,25 +206,6 @@ pub kinds_seen : (texts : List Text) (t : NumberedTable) (places : List ℕ) →
 kinds_seen texts t [] = refl
 kinds_seen texts t (p ∷ ps) = λ i. kind_seen texts t.columns p i ∷ kinds_seen texts t ps i
 
-same_kind_is : (a b : Kind) → same_kind a b ≡ true → a ≡ b
-same_kind_is Int64 Int64 is = refl
-same_kind_is Int64 Boolean is = cc
-same_kind_is Int64 string is = cc
-same_kind_is Boolean Int64 is = cc
-same_kind_is Boolean Boolean is = refl
-same_kind_is Boolean string is = cc
-same_kind_is string Int64 is = cc
-same_kind_is string Boolean is = cc
-same_kind_is string string is = refl
-
-pub kind_itself : (a b : Kind) → a ≡ b → same_kind a b ≡ true
-kind_itself a b is = subst (λ x. same_kind a x ≡ true) is (by a)
-  where
-    by : (k : Kind) → same_kind k k ≡ true
-    by Int64 = refl
-    by Boolean = refl
-    by string = refl
-
 both_first : (a b : Bool) → a && b ≡ true → a ≡ true
 both_first true b e = refl
 both_first false b e = cc
@@ -269,11 +215,11 @@ both_second true b e = e
 both_second false b e = cc
 
 -- the kinds at a place
-pub kinds_agree : (as' bs : List Kind) (k : ℕ) (d e : Kind) → are_same_kinds as' bs ≡ true → k < length as' → length bs ≡ length as' → slice_index_or as' k d ≡ slice_index_or bs k e
-kinds_agree [] bs k d e same lt count = absurd (omega (arith, lt))
-kinds_agree (a ∷ as') [] k d e same lt count = absurd (omega (arith, count))
-kinds_agree (a ∷ as') (b ∷ bs) zero d e same lt count = same_kind_is a b (both_first (same_kind a b) (are_same_kinds as' bs) same)
-kinds_agree (a ∷ as') (b ∷ bs) (suc k) d e same lt count = kinds_agree as' bs k d e (both_second (same_kind a b) (are_same_kinds as' bs) same) (omega (arith, lt)) (omega (arith, count))
+pub kinds_agree : (as' bs : List Kind) (k : ℕ) (d e : Kind) → are_same_kinds as' bs ≡ true → k < length as' → slice_index_or as' k d ≡ slice_index_or bs k e
+kinds_agree [] bs k d e same lt = absurd (omega (arith, lt))
+kinds_agree (a ∷ as') [] k d e same lt = cc
+kinds_agree (a ∷ as') (b ∷ bs) zero d e same lt = kind_is a b (both_first (same_kind a b) (are_same_kinds as' bs) same)
+kinds_agree (a ∷ as') (b ∷ bs) (suc k) d e same lt = kinds_agree as' bs k d e (both_second (same_kind a b) (are_same_kinds as' bs) same) (omega (arith, lt))
 
 -- a key of the left side, and the one of the right that stands for it
 pub key_inside : (left right : List ℕ) (k place : ℕ) → slice_get left k ≡ Some place → length right ≡ length left → k < length right
@@ -284,8 +230,7 @@ pub kinds_of_key : (l r : NumberedTable) (keys : MergeKeys) → AreMergeKeys l r
 kinds_of_key l r keys are k place other a b here there at_left at_right =
     let lt : k < length keys.left = slice_get_within keys.left k place here in
     let lefts : length (kinds_of l keys.left) ≡ length keys.left = length-map keys.left _ in
-    let rights : length (kinds_of r keys.right) ≡ length keys.right = length-map keys.right _ in
-    let agree = kinds_agree (kinds_of l keys.left) (kinds_of r keys.right) k (column_at l.columns 0).kind (column_at r.columns 0).kind are.kinds (omega (arith, lt, lefts)) (omega (arith, lefts, rights, are.paired.same)) in
+    let agree = kinds_agree (kinds_of l keys.left) (kinds_of r keys.right) k (column_at l.columns 0).kind (column_at r.columns 0).kind are.kinds (omega (arith, lt, lefts)) in
     sym (ap (λ (c : ColumnOf Cell). c.kind) at_right)
     ∙ ap (λ p. (column_at r.columns p).kind) (sym (get_or_from_slice_get keys.right k other 0 there))
     ∙ sym (get_or-map (λ p. (column_at r.columns p).kind) keys.right k 0)
@@ -311,17 +256,17 @@ module _ (l r : NumberedTable) (keys : MergeKeys) (same : length keys.right ≡ 
       ∙ (λ i. same_kind (left_at i) (right_at i) && are_same_kinds (drop (next i) lefts) (drop (next i) rights))
 
   pub same_on : a ≡ b → (whole : Bool) → are_same_kinds (drop k lefts) (drop k rights) ≡ whole → are_same_kinds (drop (k + 1) lefts) (drop (k + 1) rights) ≡ whole
-  same_on is whole before = ap (λ t. t && are_same_kinds (drop (k + 1) lefts) (drop (k + 1) rights)) (sym (kind_itself a b is)) ∙ sym kinds_from ∙ before
+  same_on is whole before = ap (λ t. t && are_same_kinds (drop (k + 1) lefts) (drop (k + 1) rights)) (sym (subst (λ x. same_kind a x ≡ true) is (kind_itself a))) ∙ sym kinds_from ∙ before
 
   pub not_same : (a ≡ b → ⊥) → (whole : Bool) → are_same_kinds (drop k lefts) (drop k rights) ≡ whole → false ≡ whole
   not_same apart whole before = ap (λ t. t && are_same_kinds (drop (k + 1) lefts) (drop (k + 1) rights)) (sym (by (same_kind a b) refl)) ∙ sym kinds_from ∙ before
     where
       by : (t : Bool) → same_kind a b ≡ t → same_kind a b ≡ false
-      by true is = absurd (apart (same_kind_is a b is))
+      by true is = absurd (apart (kind_is a b is))
       by false is = is
 
-pub all_same : (ls rs : List Kind) (k : ℕ) (whole : Bool) → length ls ≤ k → are_same_kinds (drop k ls) (drop k rs) ≡ whole → true ≡ whole
-all_same ls rs k whole end before = sym (at_drop_all (λ l. are_same_kinds l (drop k rs)) ls k end) ∙ before
+pub all_same : (ls rs : List Kind) (k : ℕ) (whole : Bool) → length ls ≤ k → length rs ≤ k → are_same_kinds (drop k ls) (drop k rs) ≡ whole → true ≡ whole
+all_same ls rs k whole end end' before = sym (at_drop_all (λ l. are_same_kinds l (drop k rs)) ls k end ∙ at_drop_all (λ r. are_same_kinds [] r) rs k end') ∙ before
 
 -- the tests of keys
 pub many_keys : (n : ℕ) → 4 < n → nat_lt 4 n ≡ true

@@ -1,4 +1,5 @@
--- The pairs of rows are the same where keys are seen otherwise, as tuples with their texts; and their rows lie within their sides.
+-- The pairs of rows are the same where keys are seen otherwise, as tuples with their texts; and their rows lie within
+-- their sides.
 use Rattle.std.proofs.Common.{◌≡◌, ◌∙◌, ◌+◌, ◌<◌, ◌≤◌, ap, refl, sym, arith, ℕ, Bool, true, false, not, cond, List, [], ◌∷◌, ◌++◌, map, filter, length, All, Option, Some, None, nat_lt}
 use Rattle.std.specs.Prelude.{IfSome, option_map}
 use Rattle.std.specs.List.{flat_map}

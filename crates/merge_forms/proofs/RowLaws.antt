@@ -1,12 +1,11 @@
 -- The rows of two frames that have equal keys, with texts by number and with texts.
-use Rattle.std.proofs.Common.{◌≡◌, ◌∙◌, ◌+◌, ◌<◌, ◌≤◌, ◌^◌, ap, refl, sym, subst, arith, ℕ, Bool, true, false, cond, List, [], ◌∷◌, ◌++◌, map, take, length, slice_get, slice_index_or, All, Option, Some, None, Result, Ok, Err, option_map, nat_lt}
+use Rattle.std.proofs.Common.{◌≡◌, ◌∙◌, ◌+◌, ◌<◌, ◌≤◌, ◌^◌, ap, refl, sym, subst, arith, ℕ, Bool, true, false, cond, List, [], ◌∷◌, ◌++◌, map, length, All, Option, Some, None, Result, Ok, Err, option_map, nat_lt}
 use Rattle.std.specs.Prelude.{IfOk, IfSome}
 use Rattle.std.specs.List.{range_with_len}
 use Rattle.std.proofs.lemmas.Bool.Decides.{nat_tests}
-use Rattle.std.proofs.lemmas.List.{length-map, map-append}
+use Rattle.std.proofs.lemmas.List.{length-map}
 use Rattle.std.proofs.lemmas.List.Elements.{All-nil, All-map}
 use Rattle.std.proofs.lemmas.List.FromFn.{length-range_with_len}
-use Rattle.cell_core.specs.declared.cell.Cell.{Cell}
 use Rattle.cell_core.specs.declared.cell.Cell.TheVariants as cell
 use Rattle.cell_core.specs.declared.cell.Side.{Side}
 use Rattle.cell_core.specs.declared.cell.Label.{Label}
@@ -20,7 +19,6 @@ use Rattle.column_core.specs.Moves.{IsPlaceOf}
 use Rattle.multi_index.specs.Axes.{HaveLevels}
 use Rattle.row_keys.specs.Keys.{same_tuple as same_numbers}
 use Rattle.label_align.specs.Tuples.{tuple_less}
-use Rattle.row_groups.specs.Labels.{label_of_cell}
 use Rattle.factorize.specs.Keys.{row_key, column_keys, levels_of}
 use Rattle.align_meaning.proofs.OrderLaws.{all_append}
 use Rattle.join_meaning.specs.declared.How.{How}
@@ -32,66 +30,21 @@ use Rattle.merge_concat.specs.declared.fault.MergeFault.TheVariants as fault
 use Rattle.merge_concat.specs.declared.pairs.Pairs.{Pairs}
 use Rattle.merge_concat.specs.Pairs.{ArePairs, JoinsBy}
 use Rattle.table_meaning.specs.Settled.{IsSettled}
-use Rattle.table_meaning.specs.Table.{ColumnOf, NumberedTable, Table, column_at, table_value, tuple_value}
+use Rattle.table_meaning.specs.Table.{NumberedTable, Table, table_value, tuple_value}
 use Rattle.table_meaning.specs.Value.{Entry}
 use Rattle.form_meaning.specs.Infix.{same_tuple, tuple_before}
-use Rattle.form_parts.specs.Labels.{label_of}
 use Rattle.form_parts.proofs.RowLaws.{tuple_by_number, tuples_settled}
 use Rattle.method_meaning.specs.Groups.{row_keys}
 use Rattle.method_meaning.specs.Merge.{unless_twice}
-use Rattle.frame_store.specs.Parts.{table_column}
 use Rattle.frame_store.specs.Shown.{labels_value, Refuses}
 use Rattle.frame_store.proofs.Settling.{settled_by}
-use Rattle.selections.specs.Across.{cell_across}
-use Rattle.frame_methods.specs.Levels.{row_labels}
-use Rattle.frame_methods.proofs.IndexingLaws.{all_rows, tuples_seen}
+use Rattle.label_methods.specs.Levels.{row_labels}
+use Rattle.label_methods.proofs.IndexingLaws.{all_rows, tuples_seen}
+use Rattle.key_columns.proofs.KeyLaws.{numbered_keys}
 use Rattle.merge_forms.specs.declared.keys.MergeKeys.{MergeKeys}
 use Rattle.merge_forms.specs.Keys.{keys_value}
 use Rattle.merge_forms.specs.Rows.{repeated_in, pairs_in, met_result, AreRowsMet, MeetsBy, IsJoinFault}
-use Rattle.merge_forms.proofs.ColumnLaws.{one_more_at}
 use Rattle.merge_forms.proofs.PairLaws.{pairs_seen, again_seen, again_keeps, repeated_seen, pairs_inside, lefts_inside, rights_inside}
-
--- the cells of columns as keys are the labels of rows
-label_is : (c : Cell) → label_of_cell c ≡ label_of c
-label_is cell.Na = refl
-label_is (cell.Int z) = refl
-label_is (cell.Bool b) = refl
-label_is (cell.Text id) = refl
-
-abbrev label_here : ℕ → ColumnOf Cell → Label
-label_here row c = label_of (slice_index_or c.cells row cell.Na)
-
-key_of_row : (columns : List CellColumn) (row : ℕ) → row_key columns row ≡ map (label_here row) (map table_column columns)
-key_of_row [] row = refl
-key_of_row (c ∷ cs) row = λ i. label_is (slice_index_or c.cells row cell.Na) i ∷ key_of_row cs row i
-
-labels_of_row : (t : NumberedTable) (places : List ℕ) (row : ℕ) → map (label_here row) (map (column_at t.columns) places) ≡ row_labels t places row
-labels_of_row t [] row = refl
-labels_of_row t (p ∷ ps) row = ap (λ l. label_of (cell_across t row p) ∷ l) (labels_of_row t ps row)
-
-keys_of_rows : (t : NumberedTable) (places : List ℕ) (columns : List CellColumn) (rows : List ℕ) → map table_column columns ≡ map (column_at t.columns) places → map (row_key columns) rows ≡ map (row_labels t places) rows
-keys_of_rows t places columns [] is = refl
-keys_of_rows t places columns (r ∷ rs) is = λ i. (key_of_row columns r ∙ ap (map (label_here r)) is ∙ labels_of_row t places r) i ∷ keys_of_rows t places columns rs is i
-
-abbrev pub numbered_keys : NumberedTable → List ℕ → List (List Label)
-numbered_keys t places = map (row_labels t places) (all_rows t)
-
-pub keys_are : (t : NumberedTable) (places : List ℕ) (columns : List CellColumn) (count : ℕ) → map table_column columns ≡ map (column_at t.columns) places → count ≡ length t.labels → column_keys columns count ≡ numbered_keys t places
-keys_are t places columns count is counted = ap (column_keys columns) counted ∙ keys_of_rows t places columns (all_rows t) is
-
--- one column more
-pub one_more_ref : (t : NumberedTable) (places : List ℕ) (k place : ℕ) (c : CellColumn) (cs cs' : List CellColumn) → k < length places → slice_get places k ≡ Some place → column_at t.columns place ≡ table_column c → cs' ≡ cs ++ c ∷ []
-    → map table_column cs ≡ map (column_at t.columns) (take k places) → map table_column cs' ≡ map (column_at t.columns) (take (k + 1) places)
-one_more_ref t places k place c cs cs' lt at here pushed before =
-    one_more_at (column_at t.columns) places k place (table_column c) [] (map table_column cs) (map table_column cs') lt at (sym here) (ap (map table_column) pushed ∙ map-append table_column cs (c ∷ [])) before
-
-pub refs_counted : (t : NumberedTable) (places : List ℕ) (made refs : List CellColumn) → refs ≡ made → map table_column made ≡ map (column_at t.columns) places → length refs ≡ length places
-refs_counted t places made refs is are =
-    ap (λ (cs : List CellColumn). length cs) is ∙ sym (length-map made table_column) ∙ ap (λ (cs : List (ColumnOf Cell)). length cs) are ∙ length-map places (column_at t.columns)
-
-pub refs_alike : (made refs : List CellColumn) (n count : ℕ) → refs ≡ made → count ≡ n → All (λ (column : CellColumn). length column.cells ≡ n) made → All (λ (column : CellColumn). length column.cells ≡ count) refs
-refs_alike made refs n count is counted all =
-    subst (All (λ (column : CellColumn). length column.cells ≡ count)) (sym is) (subst (λ m. All (λ (column : CellColumn). length column.cells ≡ m) made) (sym counted) all)
 
 -- a label for each level
 keys_level : (columns : List CellColumn) (count : ℕ) → HaveLevels (length columns) (column_keys columns count)

@@ -18,7 +18,7 @@ use Rattle.meaning.specs.Fault.{FaultValue, limit, then_value}
 use Rattle.meaning.specs.FaultOf.{fault_of}
 use Rattle.column_core.specs.Blocks.{CellBlock}
 use Rattle.index_core.specs.Ranges.{number_label}
-use Rattle.multi_index.specs.Axes.{AxisValue, single_tuples, range_axis}
+use Rattle.multi_index.specs.Axes.{AxisValue, range_axis}
 use Rattle.join_meaning.specs.declared.How.{How}
 use Rattle.join_meaning.specs.declared.Validate.{Validate}
 use Rattle.join_meaning.specs.Pairs.{Pair, RepeatedKey}
@@ -29,6 +29,7 @@ use Rattle.table_meaning.specs.Table.{NumberedTable, Table, table_value, heading
 use Rattle.table_meaning.specs.Valid.{IsWhole}
 use Rattle.table_meaning.specs.Value.{Entry, table}
 use Rattle.form_meaning.specs.Finish.{within_limits, limited, first_repeated, unless_repeated, finished, default_labels, same_heading}
+use Rattle.form_parts.proofs.LabelLaws.{default_seen}
 use Rattle.form_meaning.specs.Infix.{common_name}
 use Rattle.form_meaning.specs.Select.{heading_at}
 use Rattle.method_meaning.specs.Rows.{all_places, places_besides}
@@ -37,12 +38,12 @@ use Rattle.method_meaning.specs.Merge.{MergeKeys, is_key, with_suffix, suffixed_
 use Rattle.frame_store.specs.declared.fault.OpFault.{OpFault}
 use Rattle.frame_store.specs.declared.fault.OpFault.TheVariants.{Refused, NoMemory}
 use Rattle.frame_store.specs.Parts.{HeadingList, HaveRows, columns_of, table_of}
-use Rattle.frame_store.specs.Shown.{labels_value, headings_value, columns_value, Makes, Refuses}
+use Rattle.frame_store.specs.Shown.{headings_value, columns_value, Makes, Refuses}
 use Rattle.frame_store.proofs.Settling.{table_settled, settled_later, seen_later, columns_part}
 use Rattle.selections.specs.Headings.{NamesRepeated, repeated_heading}
 use Rattle.selections.proofs.HeadingLaws.{repeated_seen, different}
 use Rattle.selections.proofs.RefusalLaws.{repeated_settled}
-use Rattle.frame_methods.proofs.TableLaws.{limited_within}
+use Rattle.label_methods.proofs.TableLaws.{limited_within}
 use Rattle.merge_forms.specs.Headings.{merged_headings}
 use Rattle.merge_forms.specs.Columns.{merged_columns}
 use Rattle.merge_forms.specs.Rows.{repeated_in, pairs_in, HasMet, MeetsBy}
@@ -87,14 +88,7 @@ within_few rows columns is = few (first (nat_le rows (2 ^ 26)) (nat_le columns (
     few : nat_le rows (2 ^ 26) ≡ true → rows ≤ 2 ^ 26
     few e = grind (arith, nat_tests)
 
--- the labels 0, 1 and so on
-range_from : (texts : List Text) (ns : List ℕ) → labels_value texts (single_tuples (map number_label ns)) ≡ map (λ k. int (pos k) ∷ []) ns
-range_from texts [] = refl
-range_from texts (n ∷ ns) = λ j. (int (pos n) ∷ []) ∷ range_from texts ns j
-
-range_seen : (texts : List Text) (count : ℕ) → labels_value texts (range_axis count).tuples ≡ default_labels count
-range_seen texts count = range_from texts (range_with_len 0 count)
-
+-- as many numbered rows
 pub rows_numbered : (count : ℕ) → length (range_axis count).tuples ≡ count
 rows_numbered count = length-map (map number_label (range_with_len 0 count)) (λ label. label ∷ []) ∙ length-map-range_with_len number_label 0 count
 
@@ -217,14 +211,14 @@ module _ (old new : List Text) (longer : IsLonger old new) (l r : NumberedTable)
       shape = Frame;
       columns_name = (seen_later heading_value old new name longer name_given ∙ named) i;
       level_names = None ∷ [];
-      labels = (range_seen new count ∙ ap default_labels (counted ∙ rows_are)) i;
+      labels = (default_seen new count ∙ ap default_labels (counted ∙ rows_are)) i;
       headings = labels_are i;
       columns = columns_are i;
     }
 
     whole_settled : IsSettled table_value new whole
     whole_settled =
-        table_settled new whole (settled_later heading_value old new name longer name_given) (λ more. refl) (λ more. range_seen (new ++ more) count ∙ sym (range_seen new count)) labels_given
+        table_settled new whole (settled_later heading_value old new name longer name_given) (λ more. refl) (λ more. default_seen (new ++ more) count ∙ sym (default_seen new count)) labels_given
         (columns_settled new l.columns r.columns keys made.left made.right rights (settled_later columns_value old new l.columns longer (columns_part old l left_given)) (settled_later columns_value old new r.columns longer (columns_part old r right_given)))
 
     -- the frame that is made is the one that is meant

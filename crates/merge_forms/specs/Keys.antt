@@ -1,5 +1,5 @@
 -- The columns of two frames whose cells are the keys.
-use Rattle.std.specs.Prelude.{◌≡◌, ℕ, ◌≤◌, true, List, map, length, Option, Some, None, Result, Ok}
+use Rattle.std.specs.Prelude.{◌≡◌, ℕ, ◌≤◌, true, List, map, length, Option, Some, None, Result}
 use Rattle.cell_core.specs.declared.cell.Cell.{Cell}
 use Rattle.cell_core.specs.declared.cell.Kind.{Kind}
 use Rattle.meaning.specs.Text.{Text}
@@ -8,10 +8,9 @@ use Rattle.meaning.specs.Operator.{cell_label}
 use Rattle.meaning.specs.Fault.{FaultValue, then_value}
 use Rattle.table_meaning.specs.Table.{NumberedTable, Table, column_at}
 use Rattle.table_meaning.specs.Value.{Given, nothing}
-use Rattle.form_meaning.specs.Select.{column_places}
 use Rattle.method_meaning.specs.Rows.{labels_in}
 use Rattle.method_meaning.specs.Merge as meant
-use Rattle.method_meaning.specs.Merge.{are_same_kinds, checked_keys, common_headings, keys_under}
+use Rattle.method_meaning.specs.Merge.{are_same_kinds, checked_keys, common_labels, keys_named, keys_under}
 use Rattle.frame_store.specs.Parts.{AreColumnsOf}
 use Rattle.frame_store.specs.Shown.{cells_value}
 use Rattle.merge_forms.specs.declared.keys.MergeKeys.{MergeKeys}
@@ -32,13 +31,9 @@ abbrev pub labels_on : Given → Option (List LabelValue)
 labels_on nothing = None
 labels_on g = Some (labels_in g)
 
--- the columns of these labels on both sides, all of them on the left first
-abbrev pub keys_named : Table → Table → List LabelValue → Result meant.MergeKeys FaultValue
-keys_named l r labels = then_value (column_places l labels) (λ left. then_value (column_places r labels) (λ right. Ok record { left = left; right = right }))
-
 -- the columns that are told; if none are, those of common labels
 abbrev pub keys_told : Table → Table → Option (List LabelValue) → Result meant.MergeKeys FaultValue
-keys_told l r None = keys_under l r (common_headings l r)
+keys_told l r None = keys_under l r (common_labels l r)
 keys_told l r (Some labels) = keys_named l r labels
 
 abbrev pub keys_checked : Table → Table → Option (List LabelValue) → Result meant.MergeKeys FaultValue

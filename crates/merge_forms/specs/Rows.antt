@@ -39,7 +39,8 @@ abbrev pub HasMet : Option Pairs → List Pair → Type 0
 HasMet (Some made) pairs = ArePairs made pairs × (length pairs ≤ 2 ^ 26)
 HasMet None pairs = 2 ^ 26 < length pairs
 
--- the pairs are those that are meant, and no key stands twice; or one does, and is refused. Want of memory may come in place of any answer.
+-- the pairs are those that are meant, and no key stands twice; or one does, and is refused. Want of memory may come in
+-- place of any answer.
 abbrev pub MeetsBy : List Text → Result (Option Pairs) OpFault → Option (RepeatedKey (List LabelValue)) → List Pair → Type 0
 MeetsBy texts (Ok met) again pairs = (again ≡ None) × HasMet met pairs
 MeetsBy texts (Err (Refused code)) again pairs = (rest : Result Entry FaultValue) → Refuses texts code (unless_twice again rest)

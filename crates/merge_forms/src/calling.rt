@@ -6,7 +6,7 @@ ghost use Rattle.method_meaning.specs.Calls as meant;
 ghost use Rattle.frame_store.specs.Arguments.{object_value, shape_at, IsLive, IsLiveObject};
 ghost use Rattle.frame_store.specs.Objects.{tables};
 ghost use Rattle.frame_store.specs.World.{world, entry_in, arguments_in, IsSettledWorld, AreKnownArguments, Forms};
-ghost use Rattle.frame_methods.specs.Calls.{chain_in};
+ghost use Rattle.label_methods.specs.Chains.{chain_in};
 ghost use Rattle.merge_forms.specs.Calls.{is_plain, merge_of};
 
 use crate::merging::merged;
@@ -68,23 +68,25 @@ fn merge_call(
 
 /// A method of a value by its name: `merge` of a frame, or any other.
 ///
-/// `left.merge(right, how="inner", on=None, validate=None)` answers a new frame of the rows of both frames whose cells in
-/// the key columns are equal, NA with NA ("Merge, join, concatenate and compare" in the pandas user guide). The keys are
-/// the columns that `on` names, or all whose labels both frames have. `inner` and `left` go through the left rows in
-/// order, each with its right rows in order, and `left` keeps a row without any; `right` is `left` with the sides
-/// exchanged; `outer` goes through all keys in order. The columns are those of the left, and then those of the right that
-/// are no keys; a label that both have, neither of them a key, gets `_x` on the left and `_y` on the right, behind its text.
-/// A cell is NA where the row doesn't come from the column's side, and that of a key comes from the side that has the row.
-/// The rows are numbered. No object that was there changes. Any other method is answered as `frame_methods::method` does.
+/// `left.merge(right, how="inner", on=None, validate=None)` answers a new frame of the rows of both frames whose cells
+/// in the key columns are equal, NA with NA ("Merge, join, concatenate and compare" in the pandas user guide). The keys
+/// are the columns that `on` names, or all whose labels both frames have. `inner` and `left` go through the left rows
+/// in order, each with its right rows in order, and `left` keeps a row without any; `right` is `left` with the sides
+/// exchanged; `outer` goes through all keys in order. The columns are those of the left, and then those of the right
+/// that are no keys; a label that both have, neither of them a key, gets `_x` on the left and `_y` on the right, behind
+/// its text. A cell is NA where the row doesn't come from the column's side, and that of a key comes from the side that
+/// has the row. The rows are numbered. No object that was there changes. Any other method is answered as
+/// `frame_methods::method` does.
 ///
 /// # Errors
 ///
-/// Of `merge`, in this order: `WrongKind` of arguments that are unknown, missing, too many, given twice or of another form;
-/// `BadValue(Argument)` of a `how` or a `validate` that isn't listed; `NoKey` of a label in `on` that no column of the left
-/// has, and then of one that no column of the right has; `NoCommon` where there is no `on` and no common label;
-/// `BadValue(KeyKinds)` of keys of different kinds; `Limit` of more than four keys; `BadMerge` of the first key that stands
-/// twice on a side on which `validate` lets each stand once, the left first; `BadValue(Repeated)` of a label that stands
-/// again in the answer; `Limit`. `NoMemory` may come in place of any answer. After a refusal all objects are as they were.
+/// Of `merge`, in this order: `WrongKind` of arguments that are unknown, missing, too many, given twice or of another
+/// form; `BadValue(Argument)` of a `how` or a `validate` that isn't listed; `NoKey` of a label in `on` that no column
+/// of the left has, and then of one that no column of the right has; `NoCommon` where there is no `on` and no common
+/// label; `BadValue(KeyKinds)` of keys of different kinds; `Limit` of more than four keys; `BadMerge` of the first key
+/// that stands twice on a side on which `validate` lets each stand once, the left first; `BadValue(Repeated)` of a
+/// label that stands again in the answer; `Limit`. `NoMemory` may come in place of any answer. After a refusal all
+/// objects are as they were.
 pub fn method(
     alloc: Global,
     store: &mut Store,

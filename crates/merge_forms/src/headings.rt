@@ -16,9 +16,9 @@ use crate::keys::MergeKeys;
 use crate::places::key_at;
 use crate::suffixes::heading_beside;
 use cell_core::{Grid, Label, NoMemory, Places, TextDict};
-use frame_methods::places_besides;
 use frame_store::ObjRef;
 use indexmap::IndexSet;
+use label_methods::places_besides;
 use selections::places_below;
 use std::alloc::Global;
 

@@ -1,5 +1,5 @@
 // The columns of two frames whose cells are the keys.
-ghost use Rattle.std.specs.Prelude.{◌≡◌, ◌≤◌, List, length, map, slice_get, Some, IfOk, IfSome};
+ghost use Rattle.std.specs.Prelude.{◌≡◌, ◌≤◌, List, length, slice_get, IfOk, IfSome};
 ghost use Rattle.std.specs.Option.{option_map};
 ghost use Rattle.cell_core.specs.declared.grid.Shape.TheVariants.{Frame};
 ghost use Rattle.meaning.specs.Text.{Text};
@@ -17,8 +17,8 @@ ghost use Rattle.merge_forms.specs.Keys.{cell_labels, labels_on, keys_seen, kind
 
 use crate::headings::heading_set;
 use cell_core::{Cells, Code, Grid, NoMemory, Places, Reason, TextDict};
-use frame_methods::{cell_of, scalars_of};
 use frame_store::{ObjRef, OpFault};
+use label_methods::{cell_of, scalars_of};
 use selections::{column_places, places_below};
 use signatures::Bound;
 use std::alloc::Global;
@@ -66,8 +66,8 @@ fn common_labels(
     requires right { IsKnownTable dict.now r.now }
     requires shape { l.now.shape ≡ Frame }
     ensures given { IfOk result (IsSettled cells_value dict.now) }
-    ensures labels { IfOk result (λ cells. map (λ label. Some label) (cell_labels dict.now cells)
-        ≡ meant.common_headings (table_value dict.now l.now) (table_value dict.now r.now)) }
+    ensures labels { IfOk result (λ cells. cell_labels dict.now cells
+        ≡ meant.common_labels (table_value dict.now l.now) (table_value dict.now r.now)) }
 {
     // Equal texts have equal numbers: `TextDict::len` says so.
     let _ = dict.len();
@@ -96,7 +96,7 @@ fn keys_named(
     requires right { IsKnownTable dict.now r.now }
     requires given { IsSettled cells_value dict.now labels.now }
     requires some { 1 ≤ length labels.now }
-    ensures answer { MakesBy keys_seen dict.now result (words.keys_named
+    ensures answer { MakesBy keys_seen dict.now result (meant.keys_named
         (table_value dict.now l.now) (table_value dict.now r.now) (cell_labels dict.now labels.now)) }
     ensures paired { IfOk result (ArePaired l.now r.now) }
 {

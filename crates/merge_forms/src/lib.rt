@@ -3,10 +3,10 @@
 //! [`method`] calls a method of a value by its name. `merge` of a frame is answered here, by its definition on whole
 //! tables (`method_meaning/specs/Merge.antt`); any other method is handed to `frame_methods`.
 //!
-//! The arguments are bound and read (`arguments`), and the key columns of both frames are found and tested (`keys`). The
-//! rows are joined by `merge_concat`, by the cells of the key columns (`rows`). A label that columns of both frames have,
-//! neither of them a key, gets a suffix (`suffixes`, `headings`). All labels are tested and the limits before a cell is taken;
-//! then the columns are made one by one (`columns`), and the table of them (`merging`).
+//! The arguments are bound and read (`arguments`), and the key columns of both frames are found and tested (`keys`).
+//! The rows are joined by `merge_concat`, by the cells of the key columns (`rows`). A label that columns of both frames
+//! have, neither of them a key, gets a suffix (`suffixes`, `headings`). All labels are tested and the limits before a
+//! cell is taken; then the columns are made one by one (`columns`), and the table of them (`merging`).
 //!
 //! ```text
 //! // `left.merge(right, on="city")`

@@ -1,7 +1,6 @@
 // The rows of two frames that have equal keys.
-ghost use Rattle.std.specs.Prelude.{◌≡◌, length, map, All, IfOk, IfSome};
-ghost use Rattle.table_meaning.specs.Table.{table_value, column_at};
-ghost use Rattle.frame_store.specs.Parts.{table_column, AreColumnsOf};
+ghost use Rattle.std.specs.Prelude.{◌≡◌, IfOk, IfSome};
+ghost use Rattle.table_meaning.specs.Table.{table_value};
 ghost use Rattle.frame_store.specs.World.{IsKnownTable};
 ghost use Rattle.merge_forms.specs.Keys.{keys_seen, AreMergeKeys};
 ghost use Rattle.merge_forms.specs.Rows.{repeated_in, pairs_in, met_result, AreRowsMet, MeetsBy, IsJoinFault};
@@ -12,27 +11,9 @@ use column_core::ColRef;
 use factorize::KeyColumns;
 use frame_store::{ObjRef, OpFault};
 use join_meaning::{How, Validate};
+use key_columns::columns_at;
 use merge_concat::{MergeFault, Pairs, join_rows};
 use std::alloc::Global;
-
-// The columns at these places.
-fn columns_at<'a>(
-    alloc: Global,
-    on: &'a ObjRef<'_>,
-    places: &Places,
-) -> Result<Vec<ColRef<'a>>, NoMemory>
-    requires { AreColumnsOf on.now places.now }
-    ensures columns { IfOk result (λ made. map table_column made.items
-        ≡ map (column_at on.now.columns) places.now) }
-    ensures rows { IfOk result (λ made.
-        All (λ column. length column.cells ≡ length on.now.labels) made.items) }
-{
-    let mut columns = Vec::new(alloc);
-    for k in 0..places.len() {
-        columns.push(on.column(*places.at(k)))?;
-    }
-    Ok(columns)
-}
 
 // What a join answers: no pairs where there are more than a table may have rows.
 fn met(joined: Result<Pairs, MergeFault>) -> Result<Option<Pairs>, OpFault>
@@ -50,8 +31,8 @@ fn met(joined: Result<Pairs, MergeFault>) -> Result<Option<Pairs>, OpFault>
     }
 }
 
-// The rows of both frames that have equal keys, NA with NA, and as `how` says those that meet none; no pairs where there
-// are more than a table may have rows. A key that stands twice on a side where each may stand once is refused.
+// The rows of both frames that have equal keys, NA with NA, and as `how` says those that meet none; no pairs where
+// there are more than a table may have rows. A key that stands twice on a side where each may stand once is refused.
 pub(crate) fn rows_met(
     alloc: Global,
     dict: &TextDict,

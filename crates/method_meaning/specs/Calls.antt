@@ -26,7 +26,8 @@ abbrev pub method_result : Entry → Text → List NamedGiven → Result Entry F
 method_result (cell c) name gs = Err (no_attribute name)
 method_result (table t) name gs = called (method_named t.shape name) name gs t
 
--- what stands between an object and the arguments of a call: the name of a method; the arguments of `groupby`, its brackets and the name behind them; or the name of windows
+-- what stands between an object and the arguments of a call: the name of a method; the arguments of `groupby`, its
+-- brackets and the name behind them; or the name of windows
 pub data ChainValue : Type 0 where
   plain : Text → ChainValue
   grouped : List NamedGiven → Option Given → Text → ChainValue

@@ -24,7 +24,8 @@ use Rattle.form_meaning.specs.Select.{labels_of}
 use Rattle.form_meaning.specs.Set.{of_length}
 use Rattle.method_meaning.specs.Levels.{on_levels}
 
--- what is told besides the axis: whether only what all parts have stays, whether the labels along the axis are 0, 1 and so on, and a label for each part
+-- what is told besides the axis: whether only what all parts have stays, whether the labels along the axis are 0, 1 and
+-- so on, and a label for each part
 pub record Concatenation : Type 0 where
   pub inner : Bool
   pub renumbered : Bool

@@ -25,7 +25,8 @@ use Rattle.group_meaning.specs.Reductions as groups
 use Rattle.group_meaning.specs.Reductions.{GroupReduction, reduced_cells, reduce_groups, transform_groups, cumsum_groups, group_sizes, group_places}
 use Rattle.method_meaning.specs.Rows.{cells_by_row, labels_in, places_besides}
 
--- what `groupby` is told: the columns whose cells are the keys, whether groups stand in the order of their keys, whether keys with an NA are dropped, and whether the keys are the labels of the rows
+-- what `groupby` is told: the columns whose cells are the keys, whether groups stand in the order of their keys,
+-- whether keys with an NA are dropped, and whether the keys are the labels of the rows
 pub record Grouping : Type 0 where
   pub keys : List ℕ
   pub sorted : Bool

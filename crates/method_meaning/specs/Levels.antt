@@ -1,4 +1,5 @@
--- Methods that give the rows other levels of labels: names of levels, columns as levels and levels as columns, levels that go or change places.
+-- Methods that give the rows other levels of labels: names of levels, columns as levels and levels as columns, levels
+-- that go or change places.
 use Rattle.std.specs.Prelude.{ℕ, nat_eq, nat_le, ◌&&◌, not, List, [], ◌∷◌, ◌++◌, map, length, remove, swap, slice_index_or, unwrap_or, codes, decimal, Option, Some, None, option_map, Result, Err, if◌then◌else◌}
 use Rattle.std.specs.List.{list_any, range_with_len}
 use Rattle.meaning.specs.Cell.{CellValue, na_cell, int_cell, truth_cell, text_cell, LabelValue, na, int, truth, text}
@@ -65,7 +66,8 @@ level_cells t level = map (λ tuple. label_cell (slice_index_or tuple level na))
 abbrev pub level_columns : Table → Result (List (ColumnOf CellValue)) FaultValue
 level_columns t = try_all (λ level. list_column (level_cells t level)) (range_with_len 0 (length t.level_names))
 
--- the label of the column of a level without a name: by its number, and of one level alone `index`, unless a column has that label
+-- the label of the column of a level without a name: by its number, and of one level alone `index`, unless a column has
+-- that label
 abbrev pub numbered_label : ℕ → LabelValue
 numbered_label level = text (codes "level_" ++ decimal level)
 
@@ -94,7 +96,8 @@ with_levels t columns =
 abbrev pub levels_reset : Table → Result Entry FaultValue
 levels_reset t = then_value (level_columns t) (λ columns. finished (with_levels t columns))
 
--- a level by its number, counted from the end where it is negative, or the first one of a name, which a text alone can be
+-- a level by its number, counted from the end where it is negative, or the first one of a name, which a text alone can
+-- be
 abbrev pub level_of : Table → Option CellValue → Result ℕ FaultValue
 level_of t (Some (int_cell z)) = found_pick (row_at (length t.level_names) z)
 level_of t (Some (text_cell name)) = found (text name) (place_of_label t.level_names (text name))

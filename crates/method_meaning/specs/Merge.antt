@@ -1,6 +1,7 @@
 -- `merge`: the rows of two frames whose keys are equal.
-use Rattle.std.specs.Prelude.{ℕ, nat_eq, nat_lt, Bool, true, false, ◌&&◌, ◌||◌, List, [], ◌∷◌, ◌++◌, map, filter, length, slice_index_or, codes, is_some, Option, Some, None, option_map, Result, Ok, Err, if◌then◌else◌}
+use Rattle.std.specs.Prelude.{ℕ, nat_eq, nat_lt, Bool, false, ◌||◌, List, [], ◌∷◌, ◌++◌, map, filter, filter_map, length, slice_get, codes, is_some, Option, Some, None, option_map, Result, Ok, Err, if◌then◌else◌}
 use Rattle.std.specs.List.{list_any, position_or_len}
+use Rattle.std.specs.Cmp.Lexicographic.{pointwise}
 use Rattle.cell_core.specs.declared.cell.Kind.{Kind}
 use Rattle.cell_core.specs.declared.grid.Shape.TheVariants.{Frame}
 use Rattle.meaning.specs.Text.{Text, same_text}
@@ -23,7 +24,7 @@ use Rattle.method_meaning.specs.Groups.{row_keys, headings_of}
 use Rattle.method_meaning.specs.Levels.{label_cell}
 use Rattle.method_meaning.specs.Texts.{cell_text}
 
--- the columns of either frame whose cells are the keys, one of the left for each of the right
+-- the columns of either frame whose cells are the keys, as many of the left as of the right, in pairs
 pub record MergeKeys : Type 0 where
   pub left : List ℕ
   pub right : List ℕ
@@ -32,25 +33,29 @@ pub record MergeKeys : Type 0 where
 abbrev pub common_headings : Table → Table → List (Option LabelValue)
 common_headings l r = filter (λ h. list_any (same_heading h) r.headings) l.headings
 
--- the places of labels that a frame has
-abbrev pub places_in : Table → List (Option LabelValue) → List ℕ
-places_in t hs = map (λ h. position_or_len (same_heading h) t.headings) hs
+-- each column of a frame has a label
+abbrev pub common_labels : Table → Table → List LabelValue
+common_labels l r = filter_map (λ h. h) (common_headings l r)
 
-abbrev pub keys_under : Table → Table → List (Option LabelValue) → Result MergeKeys FaultValue
+-- the columns of these labels, all of them on the left and then on the right
+abbrev pub keys_named : Table → Table → List LabelValue → Result MergeKeys FaultValue
+keys_named l r labels = then_value (column_places l labels) (λ left. then_value (column_places r labels) (λ right. Ok record { left = left; right = right }))
+
+abbrev pub keys_under : Table → Table → List LabelValue → Result MergeKeys FaultValue
 keys_under l r [] = Err no_common
-keys_under l r hs = Ok record { left = places_in l hs; right = places_in r hs }
+keys_under l r labels = keys_named l r labels
 
--- the columns that `on` names, all of them on the left and then on the right; without it those of common labels
+-- the columns that `on` names; without it those of common labels
 abbrev pub keys_on : Table → Table → Given → Result MergeKeys FaultValue
-keys_on l r nothing = keys_under l r (common_headings l r)
-keys_on l r labels = then_value (column_places l (labels_in labels)) (λ left. then_value (column_places r (labels_in labels)) (λ right. Ok record { left = left; right = right }))
+keys_on l r nothing = keys_under l r (common_labels l r)
+keys_on l r labels = keys_named l r (labels_in labels)
 
 abbrev pub kinds_at : Table → List ℕ → List Kind
 kinds_at t places = map (λ place. (column_at t.columns place).kind) places
 
+-- as many kinds on both sides, pair by pair the same
 abbrev pub are_same_kinds : List Kind → List Kind → Bool
-are_same_kinds (a ∷ as') (b ∷ bs) = same_kind a b && are_same_kinds as' bs
-are_same_kinds as' bs = true
+are_same_kinds as' bs = pointwise same_kind as' bs
 
 -- keys of the same kinds on both sides, of four labels at most
 abbrev pub checked_keys : Table → Table → MergeKeys → Result MergeKeys FaultValue
@@ -94,13 +99,17 @@ abbrev pub joined_key_column : Table → Table → List Pair → ℕ → ℕ →
 joined_key_column l r pairs place other =
     record { kind = (column_at l.columns place).kind; cells = map (key_cell (column_at l.columns place).cells (column_at r.columns other).cells) pairs }
 
--- the key of the right side that stands for this one of the left; it is asked of keys alone
-abbrev pub right_key : MergeKeys → ℕ → ℕ
-right_key keys place = slice_index_or keys.right (position_or_len (nat_eq place) keys.left) 0
+-- the key of the right side that stands for a column of the left, where that is a key
+abbrev pub right_key : MergeKeys → ℕ → Option ℕ
+right_key keys place = slice_get keys.right (position_or_len (nat_eq place) keys.left)
+
+-- a column of the left side, with the key of the right that stands for it, if there is one
+abbrev pub joined_or_left : Table → Table → List Pair → ℕ → Option ℕ → ColumnOf CellValue
+joined_or_left l r pairs place None = column_of_side l (map (λ p. p.left) pairs) place
+joined_or_left l r pairs place (Some other) = joined_key_column l r pairs place other
 
 abbrev pub left_column : Table → Table → MergeKeys → List Pair → ℕ → ColumnOf CellValue
-left_column l r keys pairs place =
-    if is_key keys.left place then joined_key_column l r pairs place (right_key keys place) else column_of_side l (map (λ p. p.left) pairs) place
+left_column l r keys pairs place = joined_or_left l r pairs place (right_key keys place)
 
 -- the columns of the left side, then those of the right side that are no keys; the rows are numbered
 abbrev pub merged : Table → Table → MergeKeys → List Pair → Table
@@ -142,7 +151,8 @@ abbrev pub validate_in : Option Text → Validate
 validate_in None = record { left = false; right = false }
 validate_in (Some t) = validate_named t
 
--- `left.merge(right, how, on, validate)`: the keys with their kinds and number, then repeated keys, equal labels of columns and the limits
+-- `left.merge(right, how, on, validate)`: the keys with their kinds and number, then repeated keys, equal labels of
+-- columns and the limits
 abbrev pub merge_result : Table → List Given → Result Entry FaultValue
 merge_result l (right ∷ h ∷ labels ∷ once ∷ []) =
     on (object_in right) (λ r. on (text_in h) (λ t. then_value (keys_of_merge l r labels) (merged_rows l r (how_named t) (validate_in (text_in once)))))

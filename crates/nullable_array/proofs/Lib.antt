@@ -9,3 +9,5 @@ pub mod TruthLaws
 pub mod MarkLaws
 pub mod PlaceLaws
 pub mod PairRows
+pub mod OrderedLaws
+pub mod ExtremeLaws

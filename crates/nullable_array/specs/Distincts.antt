@@ -1,5 +1,5 @@
 -- The values of rows that are present, and how many truth values there are among them.
-use Rattle.std.specs.Prelude.{◌≡◌, ℕ, ◌+◌, ◌<◌, ℤ, pos, ◌+ℤ◌, Bool, true, false, length, slice_index_or, ◌&&◌, ◌||◌, List, [], ◌∷◌, Option, Some, None, if◌then◌else◌}
+use Rattle.std.specs.Prelude.{◌≡◌, ℕ, ◌+◌, ◌<◌, ℤ, pos, ◌+ℤ◌, Bool, true, false, length, slice_index_or, ◌&&◌, ◌||◌, List, [], ◌∷◌, ◌++◌, Option, Some, None, if◌then◌else◌}
 use Rattle.std.specs.List.{list_any}
 use Rattle.std.specs.Ordering.{int_eq}
 use Rattle.nullable_array.specs.Folds.{folded}
@@ -8,6 +8,10 @@ abbrev pub present_values : {T : Type 0} → List (Option T) → List T
 present_values [] = []
 present_values (None ∷ rows) = present_values rows
 present_values (Some x ∷ rows) = x ∷ present_values rows
+
+-- the values with one more behind them
+abbrev pub then_value : {T : Type 0} → List T → T → List T
+then_value values x = values ++ x ∷ []
 
 -- how many different truth values there are, where this is whether one is True and whether all are
 abbrev pub truths_told : Bool → Bool → ℕ

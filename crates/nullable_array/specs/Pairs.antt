@@ -1,5 +1,6 @@
 -- Operations on the values of a row, told by flags.
-use Rattle.std.specs.Prelude.{◌≡◌, ℕ, ◌<◌, Bool, false, List, slice_get, slice_index_or, Option, Some, None, if◌then◌else◌}
+use Rattle.std.specs.Prelude.{◌≡◌, ℕ, ◌<◌, ◌≤◌, length, vec_len, vec_capacity, Bool, false, List, slice_get, slice_index_or, Option, Some, None, if◌then◌else◌}
+use Rattle.std.specs.Global.{Vec}
 use Rattle.std.proofs.Common.{ap}
 use Rattle.column_core.specs.Lanes.{option_at}
 use Rattle.column_core.specs.Rows.{flagged}
@@ -17,3 +18,10 @@ AreFlagged {X} {Y} flag xs ps ys qs count flags =
 abbrev pub AreValued : {X Y U : Type 0} → (X → Bool → Y → Bool → U) → (ℕ → Option X) → (ℕ → Bool) → (ℕ → Option Y) → (ℕ → Bool) → ℕ → List U → Type 0
 AreValued {X} {Y} value xs ps ys qs count values =
     (k : ℕ) → k < count → (x : X) × (y : Y) × (xs k ≡ Some x) × (ys k ≡ Some y) × (slice_get values k ≡ Some (value x (ps k) y (qs k)))
+
+-- the values of the rows up to one were pushed, with room for those of all
+pub record AreFilled {X Y U : Type 0} (value : X → Bool → Y → Bool → U) (xs : ℕ → Option X) (ps : ℕ → Bool) (ys : ℕ → Option Y) (qs : ℕ → Bool) (count so_far : ℕ) (values : Vec U) : Type 0 where
+  pub many : length values.items ≡ so_far
+  pub counted : vec_len values ≡ so_far
+  pub room : count ≤ vec_capacity values
+  pub valued : AreValued value xs ps ys qs so_far values.items

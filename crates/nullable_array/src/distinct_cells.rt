@@ -6,7 +6,7 @@ ghost use Rattle.meaning.specs.Cell.{AreDistinct, AreGiven};
 ghost use Rattle.meaning.specs.Column.{tabulate};
 ghost use Rattle.meaning.specs.Reduce.{distinct_count, distinct as each_once};
 ghost use Rattle.column_core.specs.Columns.{column_value};
-ghost use Rattle.nullable_array.specs.Distincts.{present_values, truths_of, AreMarked, IsMarkedMore};
+ghost use Rattle.nullable_array.specs.Distincts.{present_values, then_value, truths_of, AreMarked, IsMarkedMore};
 ghost use Rattle.nullable_array.specs.Folds.{step_row};
 
 use crate::folds::{AllTrue, AnyTrue, Greatest, Least, fold_rows, fold_until};
@@ -48,7 +48,65 @@ fn distinct_numbers<A: Source<i64>>(alloc: Global, a: &A) -> Result<u64, NoMemor
             return Ok(count);
         }
     }
-    distinct_values(alloc, a)
+    if let Some(count) = few_values(alloc, a)? {
+        return Ok(count);
+    }
+    count_ordered(alloc, a)
+}
+
+// So many different values are told by their hashes at most. Where there are more, a sort takes less than a table that
+// no cache holds.
+const MOST_HASHED: usize = 1 << 15;
+
+// How many different values there are, or `None` where these aren't few.
+fn few_values<T: Eq + Hash + Copy + Drop, A: Source<T>>(
+    alloc: Global,
+    a: &A,
+) -> Result<Option<u64>, NoMemory>
+    ensures { IfOk result (λ found. IfSome found (λ n. n
+        ≡ length (each_once T.eq (present_values (tabulate (A.count_of a.now) (A.row_of a.now)))))) }
+{
+    let mut seen = IndexSet::new(alloc);
+    for row in 0..a.count() {
+        note(&mut seen, a.get(row))?;
+        if MOST_HASHED < seen.len() {
+            return Ok(None);
+        }
+    }
+    Ok(Some(seen.len() as u64))
+}
+
+// How many different numbers there are: equal ones stand side by side in their order.
+fn count_ordered<A: Source<i64>>(alloc: Global, a: &A) -> Result<u64, NoMemory>
+    ensures { IfOk result (λ n. n
+        ≡ length (each_once int_eq
+        (present_values (tabulate (A.count_of a.now) (A.row_of a.now))))) }
+{
+    let mut numbers = present_numbers(alloc, a)?;
+    numbers.sort_unstable();
+    numbers.dedup();
+    Ok(numbers.len() as u64)
+}
+
+fn present_numbers<A: Source<i64>>(alloc: Global, a: &A) -> Result<Vec<i64>, NoMemory>
+    ensures { IfOk result (λ numbers. numbers.items
+        ≡ present_values (tabulate (A.count_of a.now) (A.row_of a.now))) }
+{
+    let mut numbers = Vec::with_capacity(alloc, a.count())?;
+    for row in 0..a.count() {
+        keep(&mut numbers, a.get(row))?;
+    }
+    Ok(numbers)
+}
+
+// Adds the number, where it is present.
+fn keep(numbers: &mut Vec<i64>, number: Option<i64>) -> Result<(), NoMemory>
+    ensures { OnOk result (numbers.new.items ≡ step_row then_value numbers.old.items number) }
+{
+    if let Some(number) = number {
+        numbers.push(number)?;
+    }
+    Ok(())
 }
 
 // How many different numbers there are, where each has a place among the marks.

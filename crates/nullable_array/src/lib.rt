@@ -17,6 +17,7 @@
 mod casts;
 mod cumulations;
 mod distinct_cells;
+mod extremes;
 mod folds;
 mod maps;
 mod membership;

@@ -30,6 +30,21 @@ impl Order<i64> for ByNumber {
     }
 }
 
+/// Numbers by value, the greatest first.
+#[derive(Drop)]
+pub(crate) struct Downward;
+
+impl Order<i64> for Downward {
+    ghost cmp = { λ _ x y. int_cmp y x };
+
+    #[inline(always)]
+    fn order(&self, x: i64, y: i64) -> Ordering
+        ensures { result ≡ int_cmp y x }
+    {
+        y.cmp(&x)
+    }
+}
+
 /// False before True.
 #[derive(Drop)]
 pub struct ByTruth;

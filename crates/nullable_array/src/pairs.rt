@@ -2,7 +2,7 @@
 ghost use Rattle.std.specs.Prelude.{◌≡◌, ◌<◌, ◌≤◌, ℕ, Bool, false, length, slice_get, slice_index_or, Option, Some, IfOk, OnOk};
 ghost use Rattle.std.proofs.Common.{refl};
 ghost use Rattle.column_core.specs.Rows.{flagged, AreWritten};
-ghost use Rattle.nullable_array.specs.Pairs.{AreFlagged, AreValued, flagged_at};
+ghost use Rattle.nullable_array.specs.Pairs.{AreFlagged, AreValued, AreFilled, flagged_at};
 
 use cell_core::NoMemory;
 use column_core::{Dense, Nothing, Owned, RowOp, Source};
@@ -107,6 +107,36 @@ fn row_flags<X: Copy, Y: Copy, U: Copy, O: PairOp<X, Y, U>, A: Side<X>, B: Side<
     Ok(flags)
 }
 
+// So many rows are written in one stretch. The numbers of several rows then go into one register of narrower values, as
+// of a comparison; row by row no more rows are taken at a time than a register has room for numbers.
+const STRETCH: usize = 32;
+
+// Adds the values of the rows from the one on and up to the other. There is room for them.
+#[inline(always)]
+fn push_values<X: Copy, Y: Copy, U: Copy, O: PairOp<X, Y, U>, A: Side<X>, B: Side<Y>>(
+    op: &O,
+    a: &A,
+    b: &B,
+    from: usize,
+    to: usize,
+    values: &mut Vec<U>,
+)
+    requires order { from ≤ to }
+    requires within { to ≤ A.count_of a.now }
+    requires same { A.count_of a.now ≡ B.count_of b.now }
+    requires so_far { AreFilled (O.value_of op.now) (A.value_at a.now) (A.flag_at a.now)
+        (B.value_at b.now) (B.flag_at b.now) (A.count_of a.now) from values.old }
+    ensures { AreFilled (O.value_of op.now) (A.value_at a.now) (A.flag_at a.now)
+        (B.value_at b.now) (B.flag_at b.now) (A.count_of a.now) to values.new }
+{
+    for row in from..to {
+        let x = a.value(row);
+        let y = b.value(row);
+        let value = op.value(x, a.flag(row), y, b.flag(row));
+        values.push_reserved(value);
+    }
+}
+
 // The value of each row.
 #[inline(always)]
 fn row_values<X: Copy, Y: Copy, U: Copy + Drop, O: PairOp<X, Y, U>, A: Side<X>, B: Side<Y>>(
@@ -121,12 +151,12 @@ fn row_values<X: Copy, Y: Copy, U: Copy + Drop, O: PairOp<X, Y, U>, A: Side<X>, 
         (A.flag_at a.now) (B.value_at b.now) (B.flag_at b.now) (A.count_of a.now) values.items) }
 {
     let mut values = Vec::with_capacity(alloc, a.count())?;
-    for row in 0..a.count() {
-        let x = a.value(row);
-        let y = b.value(row);
-        let value = op.value(x, a.flag(row), y, b.flag(row));
-        values.push_reserved(value);
+    let stretches = a.count() / STRETCH;
+    for stretch in 0..stretches {
+        let from = stretch * STRETCH;
+        push_values(op, a, b, from, from + STRETCH, &mut values);
     }
+    push_values(op, a, b, stretches * STRETCH, a.count(), &mut values);
     Ok(values)
 }
 

@@ -8,9 +8,11 @@ ghost use Rattle.column_core.specs.Views.{borrowed_column};
 ghost use Rattle.nullable_array.specs.Folds.{reduction_of, reduced_kind};
 ghost use Rattle.nullable_array.specs.Answers.{AnswersCell};
 
+use crate::extremes::{greatest_number, least_number};
 use crate::folds::{AllTrue, AnyTrue, Greatest, HowMany, Least, Total, fold_rows, fold_until};
 use crate::ops::{ArrayFault, Reduction};
 use crate::orders::{ByNumber, ByText, ByTruth};
+use crate::pairs::Side;
 use cell_core::{Cell, TextDict, TextId};
 use column_core::{Borrowed, ColRef, Lane, Source, cell_of_number, cell_of_text, cell_of_truth};
 
@@ -44,8 +46,26 @@ fn reduce_numbers(op: Reduction, a: &Lane<'_, i64>) -> Cell
         (column_value texts (borrowed_column (Borrowed.Ints a.now))).cells }
 {
     match a.dense() {
-        Some(side) => reduced_numbers(op, &side),
+        Some(side) => reduced_side(op, &side),
         None => reduced_numbers(op, a),
+    }
+}
+
+// The same of numbers that lie side by side.
+fn reduced_side<A: Side<i64>>(op: Reduction, a: &A) -> Cell
+    ensures given { (texts : List (List ℕ)) → IsGiven texts result }
+    ensures held { (texts : List (List ℕ)) →
+        holds (reduced_kind op Int64) (datum texts result) ≡ true }
+    ensures value { (texts : List (List ℕ)) →
+        datum texts result
+        ≡ reduction_cell (reduction_of op)
+        (column_value texts
+        (column_with Int64 number_cell (A.count_of a.now) (A.row_of a.now))).cells }
+{
+    match op {
+        Reduction::Min => cell_of_number(least_number(a)),
+        Reduction::Max => cell_of_number(greatest_number(a)),
+        _ => reduced_numbers(op, a),
     }
 }
 

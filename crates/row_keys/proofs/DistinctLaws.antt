@@ -71,7 +71,7 @@ module _ {K : Type 0} (eq : K → K → Bool) (laws : IsEquivalence eq) where
         | false ↦ λ t. ap (λ n. 1 + n) (place_found p xs ys t)
       ] h
 
-  place_new : (p : K → Bool) (xs : List K) (y : K) (ys : List K) → list_any p xs ≡ false → p y ≡ true → position_or_len p (xs ++ y ∷ ys) ≡ position_or_len p xs
+  pub place_new : (p : K → Bool) (xs : List K) (y : K) (ys : List K) → list_any p xs ≡ false → p y ≡ true → position_or_len p (xs ++ y ∷ ys) ≡ position_or_len p xs
   place_new p [] y ys h t = ap (λ b. cond (not b) (1 + position_or_len p ys) 0) t
   place_new p (x ∷ xs) y ys h t =
       elim (p x) as (λ b. (b || list_any p xs) ≡ false → cond (not b) (1 + position_or_len p (xs ++ y ∷ ys)) 0 ≡ cond (not b) (1 + position_or_len p xs) 0) [

@@ -7,3 +7,9 @@ pub mod FillLaws
 pub mod PartsLaws
 pub mod RoomLaws
 pub mod PartnerLaws
+pub mod StandLaws
+pub mod LeaderLaws
+pub mod RunLaws
+pub mod NotedLaws
+pub mod ValueLaws
+pub mod PairLaws

@@ -1,5 +1,5 @@
 -- Codes depend on which rows are equal alone.
-use Rattle.std.proofs.Common.{◌≡◌, ◌+◌, ◌==◌, ◌&&◌, ◌<◌, Bool, true, false, not, cond, ℕ, zero, suc, List, [], ◌∷◌, map, drop, refl, sym, ap, subst, ◌∙◌, length, slice_index_or, nat_eq, arith}
+use Rattle.std.proofs.Common.{◌≡◌, ◌+◌, ◌&&◌, ◌<◌, Bool, true, false, not, cond, ℕ, zero, suc, List, [], ◌∷◌, map, drop, refl, sym, ap, subst, ◌∙◌, length, slice_index_or, nat_eq, arith}
 use Rattle.std.specs.Bool.{Decides}
 use Rattle.std.proofs.lemmas.List.{get_or-map, length-map, drop_more, drop_all, map-id}
 use Rattle.std.proofs.lemmas.List.Sums.{passes_at_first, position_or_len_is}
@@ -9,7 +9,7 @@ use Rattle.std.specs.Cmp.{IsEquivalence}
 use Rattle.std.specs.Cmp.Lexicographic.{pointwise, lists_equiv}
 use Rattle.std.proofs.lemmas.List.Elements.{All-cons, All-nil, All-head, All-tail, All-filter, All-map}
 use Rattle.meaning.specs.Reduce.{distinct}
-use Rattle.row_keys.specs.Keys.{place_among, codes_of, first_rows}
+use Rattle.row_keys.specs.Keys.{place_among, codes_of, first_rows, same_pair}
 use Rattle.row_keys.proofs.KeyLaws.{place_tells, all_known, position_in, any_at}
 
 -- on elements that pass P
@@ -87,10 +87,6 @@ module _ {Z A : Type 0} (f : Z → A) (eq : A → A → Bool) where
   firsts_map zs =
       ap (map (place_among eq (map f zs))) (distinct_map zs)
       ∙ map_map (place_among eq (map f zs)) (place_among by zs) (λ z. position_map (eq (f z)) zs) (distinct by zs)
-
--- equal labels with equal codes of the labels below
-abbrev pub same_pair : {L : Type 0} → (L → L → Bool) → L × ℕ → L × ℕ → Bool
-same_pair eq p q = eq p.0 q.0 && (p.1 == q.1)
 
 -- labels level by level
 module _ {L : Type 0} (eq : L → L → Bool) (laws : IsEquivalence eq) where

@@ -1,5 +1,5 @@
 -- The numbers of keys, by first sight.
-use Rattle.std.specs.Prelude.{ℕ, Bool, List, map, slice_index_or}
+use Rattle.std.specs.Prelude.{ℕ, Bool, List, ◌==◌, ◌&&◌, map, slice_index_or}
 use Rattle.std.specs.List.{position_or_len}
 use Rattle.std.specs.Cmp.Lexicographic.{pointwise}
 use Rattle.meaning.specs.Reduce.{distinct}
@@ -10,6 +10,10 @@ use Rattle.index_core.specs.Labels.{same_number}
 -- equal tuples, where equal texts have one number
 abbrev pub same_tuple : List Label → List Label → Bool
 same_tuple = pointwise same_number
+
+-- equal labels, or whatever else, with equal numbers
+abbrev pub same_pair : {L : Type 0} → (L → L → Bool) → L × ℕ → L × ℕ → Bool
+same_pair eq p q = eq p.0 q.0 && (p.1 == q.1)
 
 -- the place of a key among keys
 abbrev pub place_among : {K : Type 0} → (K → K → Bool) → List K → K → ℕ

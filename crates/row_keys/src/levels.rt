@@ -3,30 +3,12 @@ ghost use Rattle.std.specs.Prelude.{◌≡◌, ◌<◌, ◌≤◌, [], ◌++◌,
 ghost use Rattle.multi_index.specs.Axes.{HaveLevels, tuples_at};
 ghost use Rattle.row_keys.specs.Keys.{same_tuple, codes_of, first_rows, label_in};
 
-use crate::factor::{Factors, factorize};
-use crate::rows::{Column, KeyRows, Level};
+use crate::codes::{label_codes, pair_codes};
+use crate::numbers::Numbers;
+use crate::rows::{Column, Level};
 use crate::sides::LevelRows;
 use cell_core::{Label, NoMemory, Tuple, Tuples};
 use std::alloc::Global;
-use std::hash::Hash;
-
-/// The number of each row's key by first sight, and the first row of each number.
-#[derive(Drop)]
-pub struct Numbers {
-    /// The number of each row's key.
-    pub codes: Vec<usize>,
-    /// The first row of each number.
-    pub firsts: Vec<usize>,
-}
-
-// The numbers and first rows alone.
-fn number<K: Eq + Hash + Drop, R: KeyRows<K>>(alloc: Global, rows: &R) -> Result<Numbers, NoMemory>
-    ensures codes { IfOk result (λ n. n.codes.items ≡ codes_of K.eq (R.keys rows.now)) }
-    ensures firsts { IfOk result (λ n. n.firsts.items ≡ first_rows K.eq (R.keys rows.now)) }
-{
-    let Factors { codes, firsts, .. } = factorize(alloc, rows)?;
-    Ok(Numbers { codes, firsts })
-}
 
 // The labels of a level, of the one side and then of the other.
 fn labels_at<A: LevelRows, B: LevelRows>(
@@ -61,11 +43,11 @@ pub fn numbered<A: LevelRows, B: LevelRows>(
 {
     let mut level = levels - 1;
     let labels = labels_at(alloc, left, right, level)?;
-    let mut numbers = number(alloc, &Column { labels: &labels })?;
+    let mut numbers = label_codes(alloc, &Column { labels: &labels })?;
     while level > 0 {
         level -= 1;
         let upper = labels_at(alloc, left, right, level)?;
-        numbers = number(
+        numbers = pair_codes(
             alloc,
             &Level {
                 labels: &upper,

@@ -10,17 +10,9 @@ use Rattle.table_meaning.specs.Value.{Given, nothing, one, row, many, entries, o
 use Rattle.form_meaning.specs.Binding.{text_in}
 use Rattle.form_meaning.specs.Select.{column_places}
 use Rattle.method_meaning.specs.Rows.{labels_in}
-use Rattle.method_meaning.specs.Merge.{MergeKeys, common_headings, keys_under, keys_on, kinds_at, are_same_kinds, checked_keys, keys_of_merge, merged, unless_twice, merged_rows, how_named, validate_in, merge_result}
+use Rattle.method_meaning.specs.Merge.{MergeKeys, common_labels, keys_named, keys_under, keys_on, kinds_at, are_same_kinds, checked_keys, keys_of_merge, merged, unless_twice, merged_rows, how_named, validate_in, merge_result}
 use Rattle.script_session.specs.FormFault.{HasFormFault}
 use Rattle.script_session.proofs.FormFaults.{if_fault, then_value_fault, finished_fault, column_places_fault, on_fault}
-
-under_fault : (l r : Table) (hs : List (Option LabelValue)) → HasFormFault (keys_under l r hs)
-under_fault l r [] = tt
-under_fault l r (h ∷ hs) = tt
-
--- the columns of these labels on both sides
-abbrev keys_named : Table → Table → List LabelValue → Result MergeKeys FaultValue
-keys_named l r ls = then_value (column_places l ls) (λ left. then_value (column_places r ls) (λ right. Ok record { left = left; right = right }))
 
 named_fault : (l r : Table) (ls : List LabelValue) → HasFormFault (keys_named l r ls)
 named_fault l r ls =
@@ -30,8 +22,12 @@ named_fault l r ls =
     keys : List ℕ → List ℕ → MergeKeys
     keys left right = record { left = left; right = right }
 
+under_fault : (l r : Table) (ls : List LabelValue) → HasFormFault (keys_under l r ls)
+under_fault l r [] = tt
+under_fault l r (label ∷ ls) = named_fault l r (label ∷ ls)
+
 keys_on_fault : (l r : Table) (g : Given) → HasFormFault (keys_on l r g)
-keys_on_fault l r nothing = under_fault l r (common_headings l r)
+keys_on_fault l r nothing = under_fault l r (common_labels l r)
 keys_on_fault l r (one v) = named_fault l r (labels_in (one v))
 keys_on_fault l r (row parts) = named_fault l r (labels_in (row parts))
 keys_on_fault l r (many parts) = named_fault l r (labels_in (many parts))

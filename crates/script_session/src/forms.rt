@@ -15,7 +15,7 @@ ghost use Rattle.method_meaning.specs.Functions.{function_result};
 ghost use Rattle.table_laws.specs.Validity.{IsHeldCell};
 ghost use Rattle.frame_store.specs.Objects.{tables};
 ghost use Rattle.frame_store.specs.Arguments.{entry_of, argument_of, IsLive};
-ghost use Rattle.frame_methods.specs.Calls.{chain_in, IsKnownChain};
+ghost use Rattle.label_methods.specs.Chains.{chain_in, IsKnownChain};
 ghost use Rattle.selections.specs.Selected.{way_of};
 ghost use Rattle.settings.specs.Assigned.{new_value, moved_object, IsLiveNew, IsOther};
 ghost use Rattle.column_operators.specs.Tasks.{operator_of};

@@ -15,6 +15,7 @@ use Rattle.meaning.specs.Cell.{CellValue}
 use Rattle.meaning.specs.Fault.{FaultValue, wrong_kind}
 use Rattle.column_core.specs.Columns.{CellColumn}
 use Rattle.table_meaning.specs.Table.{ColumnOf, NumberedTable, table_value, column_at}
+use Rattle.table_meaning.proofs.KindLaws.{kind_is, kind_itself}
 use Rattle.form_meaning.specs.Finish.{same_kind}
 use Rattle.select_meaning.specs.Select.{kind_across, one_kind}
 use Rattle.selections.specs.Across.{HaveKind, cell_across, cells_across}
@@ -35,22 +36,6 @@ kind_after (suc k) t places = first_kind t places
 
 abbrev pub all_of : Kind → NumberedTable → List ℕ → Bool
 all_of kind t places = list_all (λ p. same_kind (kind_at t p) kind) places
-
-pub kind_same : (kind : Kind) → same_kind kind kind ≡ true
-kind_same Int64 = refl
-kind_same Boolean = refl
-kind_same string = refl
-
-pub kind_one : (a b : Kind) → same_kind a b ≡ true → a ≡ b
-kind_one Int64 Int64 e = refl
-kind_one Int64 Boolean e = cc
-kind_one Int64 string e = cc
-kind_one Boolean Int64 e = cc
-kind_one Boolean Boolean e = refl
-kind_one Boolean string e = cc
-kind_one string Int64 e = cc
-kind_one string Boolean e = cc
-kind_one string string e = refl
 
 abbrev kind_if : Kind → Bool → Result Kind FaultValue
 kind_if kind b = if b then Ok kind else Err wrong_kind
@@ -117,7 +102,7 @@ each_kind : (kind : Kind) (t : NumberedTable) (places : List ℕ) → all_of kin
 each_kind kind t [] e = All-nil (λ p. kind_at t p ≡ kind)
 each_kind kind t (p ∷ ps) e =
     let here = both (same_kind (kind_at t p) kind) (all_of kind t ps) e in
-    All-cons (λ q. kind_at t q ≡ kind) p ps (kind_one (kind_at t p) kind here.0) (each_kind kind t ps here.1)
+    All-cons (λ q. kind_at t q ≡ kind) p ps (kind_is (kind_at t p) kind here.0) (each_kind kind t ps here.1)
 
 pub have_kind : (t : NumberedTable) (places : List ℕ) (k : ℕ) (kind : Kind) → k ≡ length places → kind ≡ kind_after k t places → all_of (first_kind t places) t (drop k places) ≡ all_of (first_kind t places) t places → HaveKind kind t places
 have_kind t places k kind end is before =
@@ -149,11 +134,11 @@ pub kind_next : (t : NumberedTable) (places : List ℕ) (k : ℕ) → first_kind
 kind_next t places k = let step : suc k ≡ k + 1 = omega arith in ap (λ n. kind_after n t places) step
 
 pub same_next : (next kind : Kind) → next ≡ kind → same_kind next kind ≡ true
-same_next next kind is = ap (λ k. same_kind k kind) is ∙ kind_same kind
+same_next next kind is = ap (λ k. same_kind k kind) is ∙ kind_itself kind
 
 pub other_kind : (next kind first : Kind) → kind ≡ first → next ≢ kind → same_kind next first ≡ false
 other_kind next kind first is apart = go (same_kind next first) refl
   where
     go : (b : Bool) → same_kind next first ≡ b → b ≡ false
-    go true e = absurd (apart (kind_one next first e ∙ sym is))
+    go true e = absurd (apart (kind_is next first e ∙ sym is))
     go false e = refl

@@ -13,8 +13,7 @@ use Rattle.cell_core.specs.declared.cell.Label.{Label}
 use Rattle.meaning.specs.Text.{Text}
 use Rattle.meaning.specs.Cell.{CellValue, LabelValue, int, datum, label_datum, na_cell, IsGiven, AreGiven}
 use Rattle.meaning.specs.Fault.{FaultValue, bad_value, length_of, then_value}
-use Rattle.index_core.specs.Ranges.{number_label}
-use Rattle.multi_index.specs.Axes.{AxisValue, range_axis, single_tuples}
+use Rattle.multi_index.specs.Axes.{AxisValue, range_axis}
 use Rattle.column_core.specs.Columns.{CellColumn}
 use Rattle.table_meaning.specs.Settled.{IsSettled}
 use Rattle.table_meaning.specs.Table.{ColumnOf, NumberedTable, Table, table_value, heading_value, tuple_value, column_value, column_at, no_column}
@@ -25,6 +24,7 @@ use Rattle.form_meaning.specs.Infix.{same_tuple, same_tuples}
 use Rattle.form_meaning.specs.Set.{of_length}
 use Rattle.select_meaning.specs.Set.{put_result, with_rows, has_none, list_set, column_at_rows, aligned_column, series_set}
 use Rattle.frame_store.specs.Parts.{axis_of}
+use Rattle.form_parts.proofs.LabelLaws.{default_seen}
 use Rattle.frame_store.specs.Shown.{labels_value, headings_value, columns_value, cells_value}
 use Rattle.frame_store.proofs.Settling.{cell_given, cells_given, columns_given, columns_part}
 use Rattle.cell_core.specs.declared.grid.Shape.TheVariants.{Series}
@@ -56,12 +56,9 @@ filled_given texts n c cells settled is = subst (AreGiven texts) (sym is) (go n)
     go (suc n) = All-cons (IsGiven texts) c (replicate n c) here (go n)
 
 -- the labels 0, 1 and so on
-range_from : (texts : List Text) (ns : List ℕ) → labels_value texts (single_tuples (map number_label ns)) ≡ map (λ k. int (pos k) ∷ []) ns
-range_from texts [] = refl
-range_from texts (n ∷ ns) = λ j. (int (pos n) ∷ []) ∷ range_from texts ns j
 
 pub range_seen : (texts : List Text) (n : ℕ) (axis : AxisValue) → axis ≡ range_axis n → labels_value texts axis.tuples ≡ default_labels n
-range_seen texts n axis is = ap (λ (a : AxisValue). labels_value texts a.tuples) is ∙ range_from texts (range_with_len 0 n)
+range_seen texts n axis is = ap (λ (a : AxisValue). labels_value texts a.tuples) is ∙ default_seen texts n
 
 pub range_names : (texts : List Text) (n : ℕ) (axis : AxisValue) → axis ≡ range_axis n → headings_value texts axis.names ≡ None ∷ []
 range_names texts n axis is = ap (λ (a : AxisValue). headings_value texts a.names) is

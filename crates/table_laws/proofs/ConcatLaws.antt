@@ -11,7 +11,7 @@ use Rattle.std.proofs.lemmas.List.FromFn.{length-map-range_with_len}
 use Rattle.std.proofs.lemmas.List.Elements.{All-nil, All-cons, All-head, All-tail, All-filter, All-append, All-weaker, filter_passes}
 use Rattle.std.proofs.lemmas.List.Kept.{AllPairs-cons, AllPairs-filter}
 use Rattle.cell_core.specs.declared.cell.Kind.{Kind}
-use Rattle.cell_core.specs.declared.cell.Kind.TheVariants.{Int64, Boolean, Text as string}
+use Rattle.cell_core.specs.declared.cell.Kind.TheVariants.{Int64}
 use Rattle.cell_core.specs.declared.grid.Shape.{Shape}
 use Rattle.cell_core.specs.declared.grid.Shape.TheVariants.{Series, Frame}
 use Rattle.meaning.specs.Cell.{CellValue, na_cell, LabelValue, int}
@@ -24,6 +24,7 @@ use Rattle.join_meaning.specs.Concat.{same_kind, united, are_equal, repeated_on_
 use Rattle.table_meaning.specs.Table.{ColumnOf, Table, column_at}
 use Rattle.table_meaning.specs.Valid.{IsValid, AreHeadings}
 use Rattle.table_meaning.specs.Value.{Entry, Given, NamedGiven, nothing, one, row, many, entries, list_in}
+use Rattle.table_meaning.proofs.KindLaws.{kind_is}
 use Rattle.form_meaning.specs.declared.Function.TheVariants as function
 use Rattle.form_meaning.specs.Signature.{function_parameters}
 use Rattle.form_meaning.specs.Binding.{argument_at, truth_in}
@@ -55,12 +56,6 @@ all_labels ts = flat_map (λ labels. labels) (labels_of_tables ts)
 
 -- columns one below the other
 
-kind_of : (a b : Kind) → same_kind a b ≡ true → a ≡ b
-kind_of Int64 Int64 e = refl
-kind_of Boolean Boolean e = refl
-kind_of string string e = refl
-kind_of a b e = Prim.cc
-
 abbrev AreColumns : (Table → ColumnOf CellValue) → List Table → Type 0
 AreColumns f ts = All (λ t. IsColumn (length t.labels) (f t)) ts
 
@@ -84,7 +79,7 @@ module _ (f : Table → ColumnOf CellValue) where
   cells_held kind (t ∷ ts) h alike =
       let both = both_true (same_kind kind (f t).kind) (list_all (λ (other : ColumnValue). same_kind kind other.kind) (parts ts)) alike in
       All-append (Held kind) (f t).cells (cells ts)
-      (subst (λ k. All (Held k) (f t).cells) (sym (kind_of kind (f t).kind both.0)) (All-head Fits t ts h).held) (cells_held kind ts (All-tail Fits t ts h) both.1)
+      (subst (λ k. All (Held k) (f t).cells) (sym (kind_is kind (f t).kind both.0)) (All-head Fits t ts h).held) (cells_held kind ts (All-tail Fits t ts h) both.1)
 
   below_held : (ts : List Table) → AreColumns f ts → IfOk (columns_below (map f ts)) (IsColumn (length (all_labels ts)))
   below_held [] h = record { filled = refl; held = All-nil (Held Int64) }

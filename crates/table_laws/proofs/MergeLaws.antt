@@ -1,6 +1,6 @@
 -- `merge` makes a valid frame of valid ones.
 use Rattle.std.proofs.Common.{◌≡◌, ◌∙◌, refl, sym, ap, subst, ℕ, suc, ◌+◌, ◌<◌, List, [], ◌∷◌, length, map, length-append, arith}
-use Rattle.std.specs.Prelude.{Bool, true, false, not, ◌||◌, nat_eq, nat_lt, slice_index_or, is_some, if◌then◌else◌, codes, Option, Some, None, IsSome, IfSome, Result, Ok, Err, IfOk, All}
+use Rattle.std.specs.Prelude.{Bool, true, false, not, nat_eq, nat_lt, slice_get, is_some, if◌then◌else◌, codes, Option, Some, None, IsSome, IfSome, Result, Ok, Err, IfOk, All}
 use Rattle.std.specs.List.{list_any, position_or_len}
 use Rattle.std.proofs.lemmas.Bool.{eqb-true}
 use Rattle.std.proofs.lemmas.List.{length-map}
@@ -17,23 +17,23 @@ use Rattle.join_meaning.specs.declared.Validate.{Validate}
 use Rattle.join_meaning.specs.Pairs.{Pair, RepeatedKey, repeated_key, key_pairs}
 use Rattle.table_meaning.specs.Table.{ColumnOf, Table, column_at, no_column}
 use Rattle.table_meaning.specs.Valid.{IsValid}
-use Rattle.table_meaning.specs.Value.{Given, NamedGiven, nothing, one, row, many, entries, object_in}
+use Rattle.table_meaning.specs.Value.{Given, NamedGiven, object_in}
+use Rattle.table_meaning.proofs.KindLaws.{kind_is}
 use Rattle.form_meaning.specs.declared.Method.TheVariants.{Merge}
 use Rattle.form_meaning.specs.Signature.{parameters_of}
 use Rattle.form_meaning.specs.Binding.{argument_at, text_in}
 use Rattle.form_meaning.specs.Finish.{same_heading, same_kind, finished}
 use Rattle.form_meaning.specs.Infix.{same_tuple, tuple_before}
-use Rattle.form_meaning.specs.Select.{column_place, column_places, heading_at}
-use Rattle.method_meaning.specs.Rows.{all_places, labels_in, places_besides}
+use Rattle.form_meaning.specs.Select.{heading_at}
+use Rattle.method_meaning.specs.Rows.{all_places, places_besides}
 use Rattle.method_meaning.specs.Groups.{row_keys, headings_of}
-use Rattle.method_meaning.specs.Merge.{MergeKeys, common_headings, keys_under, keys_on, kinds_at, are_same_kinds, checked_keys, keys_of_merge, with_suffix, suffixed_heading, right_places, is_key, left_heading, right_heading, column_of_side, key_cell, joined_key_column, right_key, left_column, merged, unless_twice, merged_rows, merge_result}
+use Rattle.method_meaning.specs.Merge.{MergeKeys, keys_on, kinds_at, are_same_kinds, checked_keys, keys_of_merge, with_suffix, suffixed_heading, right_places, is_key, left_heading, right_heading, column_of_side, key_cell, joined_key_column, right_key, joined_or_left, left_column, merged, unless_twice, merged_rows, merge_result}
 use Rattle.method_meaning.specs.Calls.{merge_call}
 use Rattle.table_laws.specs.Validity.{IsValidEntry, AreValidArguments}
-use Rattle.table_laws.proofs.ListLaws.{both_true, all_made, all_mapped, at_or, then_keeps, try_keeps, on_keeps, on_some_keeps}
+use Rattle.table_laws.proofs.ListLaws.{both_true, all_made, all_mapped, at_or, then_keeps, on_keeps, on_some_keeps}
 use Rattle.table_laws.proofs.CellLaws.{Held}
 use Rattle.table_laws.proofs.ColumnLaws.{IsColumn}
 use Rattle.table_laws.proofs.TableLaws.{IsShaped, shaped}
-use Rattle.table_laws.proofs.SelectLaws.{kind_is}
 use Rattle.table_laws.proofs.ReachLaws.{below_all}
 use Rattle.table_laws.proofs.InfixLaws.{gap_held}
 use Rattle.table_laws.proofs.GroupLaws.{AreLabels, frame_keeps}
@@ -41,53 +41,23 @@ use Rattle.table_laws.proofs.SetLaws.{length_default, default_levels}
 use Rattle.table_laws.proofs.ArgumentLaws.{argument_valid, object_valid, frame_at, bound_taken}
 
 -- as many keys on either side, of the same kinds
-abbrev AreEven : MergeKeys → Type 0
-AreEven keys = length keys.left ≡ length keys.right
+abbrev AreKeys : Table → Table → MergeKeys → Type 0
+AreKeys l r keys = are_same_kinds (kinds_at l keys.left) (kinds_at r keys.right) ≡ true
 
-record AreKeys (l r : Table) (keys : MergeKeys) : Type 0 where
-  even : AreEven keys
-  alike : are_same_kinds (kinds_at l keys.left) (kinds_at r keys.right) ≡ true
-
-under_even : (l r : Table) (hs : List (Option LabelValue)) → IfOk (keys_under l r hs) AreEven
-under_even l r [] = tt
-under_even l r (h ∷ hs) = ap suc (length-map hs (λ h. position_or_len (same_heading h) l.headings) ∙ sym (length-map hs (λ h. position_or_len (same_heading h) r.headings)))
-
-abbrev AreAsMany : List LabelValue → List ℕ → Type 0
-AreAsMany ls places = length places ≡ length ls
-
-as_many : (t : Table) (ls : List LabelValue) → IfOk (column_places t ls) (AreAsMany ls)
-as_many t ls = by (column_places t ls) (try_keeps (λ l. Unit {0}) (λ place. Unit {0}) (column_place t) (λ l _. any (column_place t l)) ls (λ k d lt. tt))
-  where
-    any : (r : Result ℕ FaultValue) → IfOk r (λ place. Unit {0})
-    any (Ok place) = tt
-    any (Err fault) = tt
-
-    by : (r : Result (List ℕ) FaultValue) → IfOk r (λ places. (length places ≡ length ls) × All (λ place. Unit {0}) places) → IfOk r (AreAsMany ls)
-    by (Ok places) h = h.0
-    by (Err fault) h = tt
-
-named_even : (l r : Table) (ls : List LabelValue) → IfOk (then_value (column_places l ls) (λ left. then_value (column_places r ls) (λ right. Ok record { left = left; right = right }))) AreEven
-named_even l r ls =
-    then_keeps (AreAsMany ls) AreEven (column_places l ls) _ (as_many l ls)
-    (λ left h. then_keeps (AreAsMany ls) AreEven (column_places r ls) _ (as_many r ls) (λ right k. h ∙ sym k))
-
-keys_even : (l r : Table) (labels : Given) → IfOk (keys_on l r labels) AreEven
-keys_even l r nothing = under_even l r (common_headings l r)
-keys_even l r (one v) = named_even l r (labels_in (one v))
-keys_even l r (row parts) = named_even l r (labels_in (row parts))
-keys_even l r (many parts) = named_even l r (labels_in (many parts))
-keys_even l r (entries pairs) = named_even l r (labels_in (entries pairs))
-
-checked_are : (l r : Table) (keys : MergeKeys) → AreEven keys → IfOk (checked_keys l r keys) (AreKeys l r)
-checked_are l r keys even = by (are_same_kinds (kinds_at l keys.left) (kinds_at r keys.right)) (nat_lt 4 (length keys.left)) refl
+checked_are : (l r : Table) (keys : MergeKeys) → IfOk (checked_keys l r keys) (AreKeys l r)
+checked_are l r keys = by (are_same_kinds (kinds_at l keys.left) (kinds_at r keys.right)) (nat_lt 4 (length keys.left)) refl
   where
     by : (a b : Bool) → are_same_kinds (kinds_at l keys.left) (kinds_at r keys.right) ≡ a → IfOk (if a then (if b then Err limit else Ok keys) else Err (bad_value key_kinds)) (AreKeys l r)
     by true true e = tt
-    by true false e = record { even = even; alike = e }
+    by true false e = e
     by false b e = tt
 
 keys_are : (l r : Table) (labels : Given) → IfOk (keys_of_merge l r labels) (AreKeys l r)
-keys_are l r labels = then_keeps AreEven (AreKeys l r) (keys_on l r labels) (checked_keys l r) (keys_even l r labels) (checked_are l r)
+keys_are l r labels = by (keys_on l r labels)
+  where
+    by : (o : Result MergeKeys FaultValue) → IfOk (then_value o (checked_keys l r)) (AreKeys l r)
+    by (Ok keys) = checked_are l r keys
+    by (Err fault) = tt
 
 -- cells of columns are held, also where there is no such column
 cells_held : (t : Table) → IsShaped t → (place : ℕ) → All (Held (column_at t.columns place).kind) (column_at t.columns place).cells
@@ -115,26 +85,29 @@ beside_some suffix others h some = by (list_any (same_heading h) others)
     by false = some
 
 -- the key of the right side is of the kind of the left
-kinds_meet : (l r : Table) (lefts rights : List ℕ) (place : ℕ) → length lefts ≡ length rights → are_same_kinds (kinds_at l lefts) (kinds_at r rights) ≡ true → is_key lefts place ≡ true
-    → (column_at l.columns place).kind ≡ (column_at r.columns (slice_index_or rights (position_or_len (nat_eq place) lefts) 0)).kind
-kinds_meet l r [] rights place even alike key = Prim.cc
-kinds_meet l r (a ∷ lefts) [] place even alike key = absurd (Prim.omega (arith, even))
-kinds_meet l r (a ∷ lefts) (b ∷ rights) place even alike key =
+kinds_meet : (l r : Table) (lefts rights : List ℕ) (place other : ℕ) → are_same_kinds (kinds_at l lefts) (kinds_at r rights) ≡ true → slice_get rights (position_or_len (nat_eq place) lefts) ≡ Some other
+    → (column_at l.columns place).kind ≡ (column_at r.columns other).kind
+kinds_meet l r [] [] place other alike found = Prim.cc
+kinds_meet l r [] (b ∷ rights) place other alike found = Prim.cc
+kinds_meet l r (a ∷ lefts) [] place other alike found = Prim.cc
+kinds_meet l r (a ∷ lefts) (b ∷ rights) place other alike found =
     let both = both_true (same_kind (column_at l.columns a).kind (column_at r.columns b).kind) (are_same_kinds (kinds_at l lefts) (kinds_at r rights)) alike in
-    by (nat_eq place a) refl key (kind_is (column_at l.columns a).kind (column_at r.columns b).kind both.0) (kinds_meet l r lefts rights place (Prim.omega (arith, even)) both.1)
+    by (nat_eq place a) refl found (kind_is (column_at l.columns a).kind (column_at r.columns b).kind both.0) (kinds_meet l r lefts rights place other both.1)
   where
-    by : (c : Bool) → nat_eq place a ≡ c → (c || is_key lefts place) ≡ true → (column_at l.columns a).kind ≡ (column_at r.columns b).kind
-        → (is_key lefts place ≡ true → (column_at l.columns place).kind ≡ (column_at r.columns (slice_index_or rights (position_or_len (nat_eq place) lefts) 0)).kind)
-        → (column_at l.columns place).kind ≡ (column_at r.columns (slice_index_or (b ∷ rights) (if not c then 1 + position_or_len (nat_eq place) lefts else 0) 0)).kind
-    by true e k here later = ap (λ p. (column_at l.columns p).kind) (eqb-true place a e) ∙ here
-    by false e k here later =
+    by : (c : Bool) → nat_eq place a ≡ c → slice_get (b ∷ rights) (if not c then 1 + position_or_len (nat_eq place) lefts else 0) ≡ Some other → (column_at l.columns a).kind ≡ (column_at r.columns b).kind
+        → (slice_get rights (position_or_len (nat_eq place) lefts) ≡ Some other → (column_at l.columns place).kind ≡ (column_at r.columns other).kind)
+        → (column_at l.columns place).kind ≡ (column_at r.columns other).kind
+    by true e f here later =
+        let same : b ≡ other = Prim.cc in
+        ap (λ p. (column_at l.columns p).kind) (eqb-true place a e) ∙ here ∙ ap (λ p. (column_at r.columns p).kind) same
+    by false e f here later =
         let next : suc (position_or_len (nat_eq place) lefts) ≡ 1 + position_or_len (nat_eq place) lefts = Prim.omega arith in
-        subst (λ n. (column_at l.columns place).kind ≡ (column_at r.columns (slice_index_or (b ∷ rights) n 0)).kind) next (later k)
+        later (ap (slice_get (b ∷ rights)) next ∙ f)
 
 -- the frame of two frames
 module _ (l r : Table) (s : IsShaped l) (w : IsShaped r) (is : l.shape ≡ Frame) (is' : r.shape ≡ Frame) (keys : MergeKeys) (are : AreKeys l r keys) (pairs : List Pair) where
-  key_held : (place : ℕ) → is_key keys.left place ≡ true → IsColumn (length pairs) (joined_key_column l r pairs place (right_key keys place))
-  key_held place key = record { filled = length-map pairs _; held = all_mapped (Held kind) (key_cell left right) each pairs }
+  key_held : (place other : ℕ) → right_key keys place ≡ Some other → IsColumn (length pairs) (joined_key_column l r pairs place other)
+  key_held place other key = record { filled = length-map pairs _; held = all_mapped (Held kind) (key_cell left right) each pairs }
     where
       kind : Kind
       kind = (column_at l.columns place).kind
@@ -143,10 +116,10 @@ module _ (l r : Table) (s : IsShaped l) (w : IsShaped r) (is : l.shape ≡ Frame
       left = (column_at l.columns place).cells
 
       right : List CellValue
-      right = (column_at r.columns (right_key keys place)).cells
+      right = (column_at r.columns other).cells
 
       right_held : All (Held kind) right
-      right_held = subst (λ k. All (Held k) right) (sym (kinds_meet l r keys.left keys.right place are.even are.alike key)) (cells_held r w (right_key keys place))
+      right_held = subst (λ k. All (Held k) right) (sym (kinds_meet l r keys.left keys.right place other are key)) (cells_held r w other)
 
       each : (p : Pair) → Held kind (key_cell left right p)
       each p = by (is_some p.left)
@@ -156,11 +129,11 @@ module _ (l r : Table) (s : IsShaped l) (w : IsShaped r) (is : l.shape ≡ Frame
           by false = gap_held kind right p.right right_held
 
   left_held : (place : ℕ) → IsColumn (length pairs) (left_column l r keys pairs place)
-  left_held place = by (is_key keys.left place) refl
+  left_held place = by (right_key keys place) refl
     where
-      by : (b : Bool) → is_key keys.left place ≡ b → IsColumn (length pairs) (if b then joined_key_column l r pairs place (right_key keys place) else column_of_side l (map (λ p. p.left) pairs) place)
-      by true e = key_held place e
-      by false e = side_column l s (map (λ p. p.left) pairs) (length pairs) (length-map pairs (λ p. p.left)) place
+      by : (o : Option ℕ) → right_key keys place ≡ o → IsColumn (length pairs) (joined_or_left l r pairs place o)
+      by (Some other) e = key_held place other e
+      by None e = side_column l s (map (λ p. p.left) pairs) (length pairs) (length-map pairs (λ p. p.left)) place
 
   left_some : (place : ℕ) → place < length l.columns → IsSome (left_heading l r keys place)
   left_some place lt = by (is_key keys.left place)

@@ -11,12 +11,13 @@ use Rattle.meaning.specs.Cell.{CellValue, text_cell, LabelValue, int, Kind, Bool
 use Rattle.meaning.specs.Column.{kind_mismatch}
 use Rattle.meaning.specs.Operator.{cell_label}
 use Rattle.meaning.specs.Reduce as reduction
-use Rattle.meaning.specs.Reduce.{Reduction, reduction_takes, reduction_cell, same_cell, distinct_count}
+use Rattle.meaning.specs.Reduce.{Reduction, reduction_takes, reduction_cell, distinct_count}
 use Rattle.meaning.specs.Cumulate as cumulation
 use Rattle.meaning.specs.Fault.{FaultValue, wrong_kind, bad_value, no_columns, not_built}
 use Rattle.table_meaning.specs.Table.{ColumnOf, Table, column_at}
 use Rattle.table_meaning.specs.Valid.{AreHeadings}
 use Rattle.table_meaning.specs.Value.{Entry, cell, table, Given, NamedGiven, nothing, scalar_in, list_in, dict_in}
+use Rattle.table_meaning.proofs.KindLaws.{kind_is}
 use Rattle.form_meaning.specs.declared.Method.{Method}
 use Rattle.form_meaning.specs.declared.Method.TheVariants as method
 use Rattle.form_meaning.specs.Signature.{method_named, parameters_of, either, series_alone, frame_alone}
@@ -33,7 +34,6 @@ use Rattle.table_laws.proofs.CellLaws.{Held, held_cell, wrap_fits, reduced_kind,
 use Rattle.table_laws.proofs.ColumnLaws.{IsColumn, mapped_keeps, filled_keeps, shifted_keeps, cast_keeps, cumulated_keeps}
 use Rattle.table_laws.proofs.TableLaws.{IsShaped, shaped, limited_keeps, with_columns_shaped, column_of_table, series_heading, frame_headings, one_column}
 use Rattle.table_laws.proofs.HeadingLaws.{different, finished_keeps}
-use Rattle.table_laws.proofs.SelectLaws.{kind_is}
 use Rattle.table_laws.proofs.RowLaws.{head_keeps, tail_keeps, dropna_keeps, duplicated_keeps, sort_values_keeps, sort_by_keeps, sorted_keeps, drop_keeps}
 use Rattle.table_laws.proofs.GroupLaws.{grouped_result_keeps}
 use Rattle.table_laws.proofs.LevelLaws.{rename_axis_keeps, set_index_keeps, renumbered_keeps, levels_reset_keeps, droplevel_keeps, swaplevel_keeps}

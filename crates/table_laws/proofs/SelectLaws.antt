@@ -7,11 +7,12 @@ use Rattle.std.proofs.lemmas.List.Elements.{All-nil, All-cons}
 use Rattle.cell_core.specs.declared.cell.Kind.{Kind}
 use Rattle.cell_core.specs.declared.grid.Shape.{Shape}
 use Rattle.cell_core.specs.declared.grid.Shape.TheVariants.{Series, Frame}
-use Rattle.meaning.specs.Cell.{CellValue, na_cell, LabelValue, Int64, Boolean, string, int}
+use Rattle.meaning.specs.Cell.{CellValue, na_cell, LabelValue, int}
 use Rattle.meaning.specs.Fault.{wrong_kind, then_value}
 use Rattle.table_meaning.specs.Table.{ColumnOf, Table, column_at}
 use Rattle.table_meaning.specs.Valid.{AreHeadings}
 use Rattle.table_meaning.specs.Value.{Entry, cell, table}
+use Rattle.table_meaning.proofs.KindLaws.{kind_is}
 use Rattle.form_meaning.specs.Finish.{limited, same_kind}
 use Rattle.form_meaning.specs.Select.{heading_at, length_result}
 use Rattle.select_meaning.specs.Keys.{Reach}
@@ -110,12 +111,6 @@ frame_keeps t count rows places s is left inside below =
     (λ none. leading_shaped (cut t rows places) count (cut_shaped t rows places t.shape t.columns_name s inside below (frame_headings t.shape t.columns_name (map (heading_at t) places) is some (different (map (heading_at t) places) some none))) left)
 
 -- a row across columns of one kind
-pub kind_is : (a b : Kind) → same_kind a b ≡ true → a ≡ b
-kind_is Int64 Int64 e = refl
-kind_is Boolean Boolean e = refl
-kind_is string string e = refl
-kind_is a b e = Prim.cc
-
 first_held : (count : ℕ) (kind : Kind) (c : ColumnOf CellValue) → IsColumn count c → same_kind c.kind kind ≡ true → Held kind (first_cell c)
 first_held count kind c h e = subst (λ k. Held k (first_cell c)) (kind_is c.kind kind e) (cell_of_column count c 0 h)
 

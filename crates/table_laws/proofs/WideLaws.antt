@@ -1,8 +1,8 @@
 -- Frames under joined labels of columns are valid.
 use Rattle.std.proofs.Common.{◌≡◌, ◌≢◌, ◌∙◌, ◌<◌, refl, ap, sym, subst, ℕ, zero, suc, pos, List, [], ◌∷◌, length, map, arith}
-use Rattle.std.specs.Prelude.{◌&&◌, replicate, slice_index_or, unwrap_or, Option, Some, None, IsSome, All, AllPairs}
+use Rattle.std.specs.Prelude.{replicate, slice_index_or, unwrap_or, Option, Some, None, IsSome, All, AllPairs}
 use Rattle.std.specs.Bool.{Decides}
-use Rattle.std.proofs.lemmas.Bool.Decides.{Decides-and, Decides-like}
+use Rattle.std.specs.Cmp.Lexicographic.{pointwise_decides}
 use Rattle.std.proofs.lemmas.List.{length-map}
 use Rattle.std.proofs.lemmas.List.Elements.{All-nil, All-cons, All-head, All-tail}
 use Rattle.cell_core.specs.declared.cell.Kind.{Kind}
@@ -11,7 +11,6 @@ use Rattle.cell_core.specs.declared.grid.Shape.TheVariants.{Series, Frame}
 use Rattle.meaning.specs.Cell.{CellValue, LabelValue, int, na_cell}
 use Rattle.align_meaning.proofs.InsideLaws.{IsRowOf}
 use Rattle.table_meaning.specs.Table.{ColumnOf, Table, column_at}
-use Rattle.form_meaning.specs.Binding.{same_label}
 use Rattle.form_meaning.specs.Finish.{first_repeated, column_of_value, column_labels}
 use Rattle.form_meaning.specs.Infix.{same_tuple, tuple_heading, column_or_missing, columns_or_missing, on_columns, spread, spread_series}
 use Rattle.table_laws.proofs.ListLaws.{all_made, all_mapped}
@@ -25,17 +24,9 @@ module _ {X : Type 0} where
   head_or d [] = d
   head_or d (x ∷ xs) = x
 
-  abbrev tail_of : List X → List X
-  tail_of [] = []
-  tail_of (x ∷ xs) = xs
-
 -- tuples of equal labels are the same
 pub tuple_decides : (a b : List LabelValue) → Decides (same_tuple a b) (a ≡ b)
-tuple_decides [] [] = (λ e. refl, λ e. refl)
-tuple_decides [] (b ∷ bs) = (λ e. Prim.cc, λ e. Prim.cc)
-tuple_decides (a ∷ as') [] = (λ e. Prim.cc, λ e. Prim.cc)
-tuple_decides (a ∷ as') (b ∷ bs) =
-    Decides-like (same_label a b && same_tuple as' bs) (λ h i. h.0 i ∷ h.1 i) (λ e. (ap (head_or a) e, ap tail_of e)) (Decides-and (same_label a b) (same_tuple as' bs) (label_decides a b) (tuple_decides as' bs))
+tuple_decides a b = pointwise_decides label_decides a b
 
 -- the labels of a frame's columns as tuples
 abbrev label_tuple : Option LabelValue → List LabelValue

@@ -61,21 +61,16 @@ LeavesValid (refused fault mark) = Unit {0}
 
 -- the literals that may come into a value's tables have 64 bits if they are numbers
 abbrev pub HasHeldLiterals : Expr → Type 0
-HasHeldLiterals (tree.name n) = Unit {0}
 HasHeldLiterals (tree.literal v) = IsHeldCell (cell_of v)
 HasHeldLiterals (tree.unary o x) = HasHeldLiterals x
 HasHeldLiterals (tree.binary o x y) = HasHeldLiterals x × HasHeldLiterals y
 HasHeldLiterals (tree.after x step) = HasHeldLiterals x
-HasHeldLiterals (tree.len x) = Unit {0}
-HasHeldLiterals (tree.make f args) = Unit {0}
 HasHeldLiterals (tree.paren x) = HasHeldLiterals x
+HasHeldLiterals x = Unit {0}
 
 abbrev pub IsHeldArgument : Arg → Type 0
 IsHeldArgument (tree.expr x) = HasHeldLiterals x
-IsHeldArgument (tree.many parts) = Unit {0}
-IsHeldArgument (tree.row parts) = Unit {0}
-IsHeldArgument (tree.table pairs) = Unit {0}
-IsHeldArgument tree.nothing = Unit {0}
+IsHeldArgument a = Unit {0}
 
 abbrev pub IsHeldForm : Form → Type 0
 IsHeldForm tree.import_pandas = Unit {0}

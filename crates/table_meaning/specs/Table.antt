@@ -1,8 +1,8 @@
 -- Whole tables.
-use Rattle.std.specs.Prelude.{ℕ, List, [], length, map, slice_index_or, Option, None}
+use Rattle.std.specs.Prelude.{ℕ, Bool, true, false, List, [], length, map, slice_index_or, Option, None}
 use Rattle.std.specs.Option.{option_map}
 use Rattle.cell_core.specs.declared.cell.Kind.{Kind}
-use Rattle.cell_core.specs.declared.cell.Kind.TheVariants.{Int64}
+use Rattle.cell_core.specs.declared.cell.Kind.TheVariants.{Int64, Boolean, Text as string}
 use Rattle.cell_core.specs.declared.cell.Cell.{Cell}
 use Rattle.cell_core.specs.declared.cell.Label.{Label}
 use Rattle.cell_core.specs.declared.grid.Shape.{Shape}
@@ -33,6 +33,13 @@ Table = TableOf LabelValue CellValue
 -- a table in which a text is its number in a dictionary
 abbrev pub NumberedTable : Type 0
 NumberedTable = TableOf Label Cell
+
+-- whether two kinds are one
+abbrev pub same_kind : Kind → Kind → Bool
+same_kind Int64 Int64 = true
+same_kind Boolean Boolean = true
+same_kind string string = true
+same_kind a b = false
 
 -- a column without cells
 abbrev pub no_column : {C : Type 0} → ColumnOf C

@@ -1,12 +1,11 @@
-use Rattle.std.proofs.Common.{◌≡◌, ◌∙◌, ◌<◌, ◌+◌, ◌-◌, ◌++◌, ℕ, List, Option, ap, sym, subst, length, take, take_all, arith}
-use Rattle.std.proofs.lemmas.List.{length-set, append-nil, length-map}
+use Rattle.std.proofs.Common.{◌≡◌, ◌∙◌, ◌<◌, ◌+◌, ◌-◌, List, Option, ap, sym, subst, length, take, arith}
+use Rattle.std.proofs.lemmas.List.{length-set, append-nil}
 use Rattle.cell_core.specs.declared.cell.Label.{Label}
 use Rattle.multi_index.specs.Axes.{AxisValue}
 use Rattle.table_meaning.specs.Settled.{IsSettled}
 use Rattle.table_meaning.specs.Table.{heading_value}
 use Rattle.frame_store.specs.Shown.{headings_value}
 use Rattle.concat_forms.specs.Parts.{parts_value}
-use Rattle.concat_forms.specs.Axes.{names_of_levels}
 use Rattle.concat_forms.proofs.NameLaws.{level_more, given_more}
 use Rattle.concat_forms.proofs.PlaceLaws.{taken_seen}
 use Rattle.concat_forms.proofs.axes.named.Goals as goal

@@ -1,6 +1,4 @@
-use Rattle.std.proofs.Common.{◌≡◌, ◌∙◌, ◌<◌, ◌-◌, ap, sym, subst, length, List, Option, Some, None, map, take, refl}
-use Rattle.std.specs.Option.{option_map}
-use Rattle.cell_core.specs.declared.cell.Label.{Label}
+use Rattle.std.proofs.Common.{◌≡◌, ◌∙◌, ◌-◌, ap, sym, subst, length, Some, None, map, take}
 use Rattle.multi_index.specs.Axes.{AxisValue}
 use Rattle.table_meaning.specs.Settled.{IsSettled}
 use Rattle.table_meaning.specs.Table.{NumberedTable}

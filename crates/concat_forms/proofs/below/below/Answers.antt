@@ -1,4 +1,4 @@
-use Rattle.std.proofs.Common.{◌≡◌, ◌∙◌, ap, sym, subst, refl, Result}
+use Rattle.std.proofs.Common.{◌∙◌, sym, subst, refl, Result}
 use Rattle.meaning.specs.Fault.{FaultValue}
 use Rattle.table_meaning.specs.Value.{Entry}
 use Rattle.frame_store.specs.Shown.{Makes}

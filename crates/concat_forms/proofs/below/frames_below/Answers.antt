@@ -1,4 +1,4 @@
-use Rattle.std.proofs.Common.{◌≡◌, ◌∙◌, ap, sym, subst, refl, None, List, Option, Result}
+use Rattle.std.proofs.Common.{◌∙◌, ap, sym, subst, refl, None, List, Option, Result}
 use Rattle.cell_core.specs.declared.cell.Label.{Label}
 use Rattle.cell_core.specs.declared.grid.Shape.TheVariants.{Frame}
 use Rattle.meaning.specs.Fault.{FaultValue}

@@ -1,4 +1,4 @@
-use Rattle.std.proofs.Common.{◌≡◌, ◌∙◌, ◌∷◌, [], ap, sym, subst, refl, Result, Option}
+use Rattle.std.proofs.Common.{◌∙◌, ◌∷◌, [], ap, sym, subst, refl, Result, Option}
 use Rattle.meaning.specs.Cell.{LabelValue}
 use Rattle.meaning.specs.Fault.{FaultValue}
 use Rattle.cell_core.specs.declared.grid.Shape.TheVariants.{Series}

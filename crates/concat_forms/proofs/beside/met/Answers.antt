@@ -1,12 +1,10 @@
-use Rattle.std.proofs.Common.{◌≡◌, ◌∙◌, ap, sym, subst, refl, length, map, List, Result, Ok, Err, false}
+use Rattle.std.proofs.Common.{◌∙◌, ap, sym, subst, length, map, List, Result, Ok, Err}
 use Rattle.cell_core.specs.declared.cell.Label.{Label}
-use Rattle.cell_core.specs.declared.tuple.Tuple.{Tuple}
 use Rattle.meaning.specs.Fault.{FaultValue}
 use Rattle.join_meaning.specs.Concat.{are_equal, united, labels_concatenated}
 use Rattle.multi_index.specs.Axes.{AxisValue, HaveLevels}
 use Rattle.row_keys.specs.Keys.{same_tuple}
 use Rattle.table_meaning.specs.Settled.{IsSettled}
-use Rattle.table_meaning.specs.Table.{NumberedTable}
 use Rattle.table_meaning.specs.Value.{Entry}
 use Rattle.form_meaning.specs.Finish.{finished}
 use Rattle.method_meaning.specs.Concat.{table_beside}

@@ -1,10 +1,9 @@
-use Rattle.std.proofs.Common.{◌≡◌, ◌∙◌, ◌-◌, ap, sym, subst, refl, length, take, true, false, List, Option, None, ℕ, rules, arith}
+use Rattle.std.proofs.Common.{◌≡◌, ◌∙◌, ◌-◌, ap, sym, subst, refl, length, take, true, false, List, Option, rules, arith}
 use Rattle.std.proofs.lemmas.Result.{err_from_is_err_and}
 use Rattle.std.proofs.lemmas.List.{length-map}
 use Rattle.cell_core.specs.declared.cell.Label.{Label}
-use Rattle.multi_index.specs.Axes.{AxisValue}
 use Rattle.table_meaning.specs.Settled.{IsSettled}
-use Rattle.table_meaning.specs.Table.{NumberedTable, tuple_value, table_value}
+use Rattle.table_meaning.specs.Table.{tuple_value, table_value}
 use Rattle.form_meaning.specs.Finish.{within_limits}
 use Rattle.frame_store.specs.Shown.{labels_value, headings_value}
 use Rattle.selections.specs.Headings.{NamesRepeated, repeated_heading}

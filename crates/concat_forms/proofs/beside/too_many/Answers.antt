@@ -1,8 +1,8 @@
-use Rattle.std.proofs.Common.{◌≡◌, ◌∙◌, ap, subst, sym, List, Option, None, refl}
+use Rattle.std.proofs.Common.{◌∙◌, ap, subst, sym, List, Option, refl}
 use Rattle.std.proofs.lemmas.Result.{err_from_is_err_and}
 use Rattle.cell_core.specs.declared.cell.Label.{Label}
 use Rattle.selections.specs.Headings.{NamesRepeated, repeated_heading}
-use Rattle.concat_forms.proofs.FrameLaws.{all_numbered, headings_refused, too_many_rows}
+use Rattle.concat_forms.proofs.FrameLaws.{headings_refused, too_many_rows}
 use Rattle.concat_forms.proofs.beside.too_many.Goals as goal
 
 pub returns-in_err-different_headings : goal.returns-in_err-different_headings

@@ -1,4 +1,4 @@
-use Rattle.std.proofs.Common.{◌≡◌, ◌∙◌, ◌<◌, ◌++◌, ap, length, subst, sym, arith, take_all, All}
+use Rattle.std.proofs.Common.{◌∙◌, ◌<◌, ◌++◌, ap, length, subst, sym, arith, take_all, All}
 use Rattle.std.proofs.lemmas.List.{append-nil}
 use Rattle.cell_core.specs.declared.cell.Cell.TheVariants.{Na}
 use Rattle.column_core.specs.Moves.{IsPlaceOf}

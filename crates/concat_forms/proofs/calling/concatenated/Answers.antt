@@ -1,4 +1,4 @@
-use Rattle.std.proofs.Common.{◌≡◌, ◌∙◌, ◌<◌, ap, sym, subst, true, false, length, arith, rules}
+use Rattle.std.proofs.Common.{◌≡◌, ◌∙◌, ◌<◌, ap, sym, subst, true, false, length, rules}
 use Rattle.std.proofs.lemmas.List.{length-map}
 use Rattle.table_meaning.specs.Table.{table_value}
 use Rattle.method_meaning.specs.Concat as meant

@@ -1,4 +1,4 @@
-use Rattle.std.proofs.Common.{◌≡◌, ◌∙◌, ap, sym, subst, List, Some}
+use Rattle.std.proofs.Common.{◌∙◌, ap, sym, subst, List, Some}
 use Rattle.std.specs.Option.{option_map}
 use Rattle.method_meaning.specs.Concat.{concat_call}
 use Rattle.frame_store.specs.declared.arguments.Named.{Named}

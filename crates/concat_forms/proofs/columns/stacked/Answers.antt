@@ -1,6 +1,4 @@
-use Rattle.std.proofs.Common.{◌≡◌, ◌∙◌, ap, sym, List, [], map, Ok, Err}
-use Rattle.meaning.specs.Text.{Text}
-use Rattle.column_core.specs.Columns.{CellColumn, column_value as seen_column}
+use Rattle.std.proofs.Common.{◌∙◌, ap, [], Ok, Err}
 use Rattle.merge_concat.specs.declared.fault.MergeFault.TheVariants.{NotOneToOne, DuplicateLabels, MixedKinds, TooLarge}
 use Rattle.concat_forms.proofs.ColumnLaws.{stacked_is, never_fault}
 use Rattle.concat_forms.proofs.columns.stacked.Goals as goal

@@ -1,5 +1,4 @@
-use Rattle.std.proofs.Common.{◌≡◌, ◌∙◌, ◌<◌, ap, sym, length, List, All, refl}
-use Rattle.meaning.specs.Text.{Text}
+use Rattle.std.proofs.Common.{refl}
 use Rattle.form_parts.proofs.GapLaws.{single_on}
 use Rattle.concat_forms.proofs.ColumnLaws.{one_more_stacked}
 use Rattle.concat_forms.proofs.columns.stacked_columns.Goals as goal

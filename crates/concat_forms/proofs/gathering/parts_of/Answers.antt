@@ -1,4 +1,4 @@
-use Rattle.std.proofs.Common.{◌≡◌, ◌∙◌, ◌++◌, ◌∷◌, [], ap, sym, subst, Some, None, List}
+use Rattle.std.proofs.Common.{◌∙◌, ◌++◌, ◌∷◌, [], ap, sym, subst, Some}
 use Rattle.frame_store.specs.Objects.{tables}
 use Rattle.concat_forms.specs.Parts.{AreSettledParts}
 use Rattle.concat_forms.proofs.PartLists.{object_live, no_part, part_more, known_more, seen_table}

@@ -1,4 +1,4 @@
-use Rattle.std.proofs.Common.{◌≡◌, ◌∙◌, ◌++◌, ap, sym}
+use Rattle.std.proofs.Common.{◌∙◌, ◌++◌, ap}
 use Rattle.meaning.specs.Reduce.{distinct}
 use Rattle.concat_forms.specs.Parts.{same_heading}
 use Rattle.concat_forms.proofs.HeadingLaws.{all_united}

@@ -1,4 +1,4 @@
-use Rattle.std.proofs.Common.{◌≡◌, ◌<◌, ◌≤◌, ◌-◌, ap, sym, subst, length, take, drop, arith}
+use Rattle.std.proofs.Common.{◌<◌, ◌-◌, sym, subst, length, take, drop, arith}
 use Rattle.table_meaning.specs.Settled.{IsSettled}
 use Rattle.table_meaning.specs.Table.{heading_value}
 use Rattle.frame_store.specs.World.{IsKnownTable}

@@ -1,4 +1,4 @@
-use Rattle.std.proofs.Common.{◌≡◌, ◌<◌, length, arith}
+use Rattle.std.proofs.Common.{◌<◌, length, arith}
 use Rattle.concat_forms.proofs.PartLaws.{one_more_heading}
 use Rattle.concat_forms.proofs.parts.headings_of.Goals as goal
 

@@ -1,29 +1,43 @@
-use Rattle.std.proofs.Common.{◌<◌, ◌∙◌, [], ◌∷◌, ◌++◌, None, length, get_or, subst, arith}
+use Rattle.std.proofs.Common.{◌≡◌, ◌<◌, ◌∙◌, [], ◌∷◌, ◌++◌, None, length, get_or, ap, subst, arith}
 use Rattle.std.proofs.lemmas.List.{length-map, length-set, get_or_default}
 use Rattle.csv.specs.Records.{fields_of}
+use Rattle.csv_meaning.specs.CsvRead.{is_misfit}
 use Rattle.csv_frames.specs.Views.{column_fields}
 use Rattle.csv_frames.specs.Growing.{Grown}
 use Rattle.csv_frames.specs.declared.growing.Growing.TheVariants as growing
 use Rattle.csv_frames.proofs.SettledLaws.{longer_twice}
+use Rattle.csv_frames.proofs.MisfitLaws.{misfit_more, misfit_all}
 use Rattle.csv_frames.proofs.GrowthLaws.{push_one}
 use Rattle.csv_frames.proofs.growth.push_fields.Goals as goal
 
 pub loop-place-preserved : goal.loop-place-preserved
 loop-place-preserved c =
     let inv = c.loop-place.invariant in
+    let kinds = c.args.kinds.now in
+    let fields = fields_of c.args.row.now in
     let old = c.loop-place.dict in
     let new = c.push.new.dict in
     let place = c.loop-place.place in
+    let column = c.index-columns-place.result in
     let longer = c.push.ensures.longer in
-    let lt : place < length c.args.kinds.now = omega arith in
+    let lt : place < length kinds = omega arith in
+    let named = get_or kinds place None in
+    let here : get_or c.loop-place.columns place growing.Missing ≡ get_or c.loop-place.columns place column = get_or_default c.loop-place.columns place growing.Missing column (omega (arith, inv.count, lt)) in
     record {
       longer = longer_twice c.args.dict.now old new inv.longer longer;
       count = length-set c.loop-place.columns place c.push.new.self ∙ inv.count;
       pushed = λ before size grown.
-          push_one c.args.kinds.now before (fields_of c.args.row.now) old new c.loop-place.columns place c.push.new.self longer lt
+          push_one kinds before fields old new c.loop-place.columns place c.push.new.self longer lt
           (λ was.
-          subst (λ t. Grown new (get_or c.args.kinds.now place None) (column_fields place before ++ t ∷ []) c.push.new.self) c.field_in.ensures
-          (c.in_ok-push.ensures.grown (column_fields place before) (length-map before _ ∙ size)
-          (subst (Grown old (get_or c.args.kinds.now place None) (column_fields place before)) (get_or_default c.loop-place.columns place growing.Missing c.index-columns-place.result (omega (arith, inv.count, lt))) was)))
+          subst (λ t. Grown new named (column_fields place before ++ t ∷ []) c.push.new.self) c.field_in-field.ensures
+          (c.in_ok-misfit.ensures.grown (column_fields place before) (length-map before _ ∙ size) (subst (Grown old named (column_fields place before)) here was)))
           (inv.pushed before size grown);
+      misfit = λ before size grown.
+          let was = (inv.pushed before size grown).left place (omega arith) lt in
+          misfit_more kinds fields place c.loop-place.misfit (inv.misfit before size grown) c.in_ok-misfit.field-0 lt
+          (c.in_ok-misfit.ensures.misfit (column_fields place before) (subst (Grown old named (column_fields place before)) here was) ∙ ap (is_misfit named) c.field_in-field.ensures);
     }
+
+pub returns-clause-misfit : goal.returns-clause-misfit
+returns-clause-misfit c = λ before size grown.
+    misfit_all c.args.kinds.now (fields_of c.args.row.now) c.loop-place.place c.loop-place.misfit (c.loop-place.invariant.misfit before size grown) (omega arith)

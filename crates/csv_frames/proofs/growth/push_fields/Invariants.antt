@@ -1,6 +1,7 @@
-use Rattle.std.proofs.Common.{◌≡◌, List, ℕ, length}
+use Rattle.std.proofs.Common.{◌≡◌, ◌||◌, List, ℕ, length, drop}
 use Rattle.csv.specs.Records.{fields_of}
 use Rattle.meaning.specs.Cell.{IsLonger}
+use Rattle.csv_meaning.specs.CsvRead.{has_misfit}
 use Rattle.csv_frames.specs.Growing.{AreGrown}
 use Rattle.csv_frames.proofs.GrowthLaws.{ArePushed}
 use Rattle.csv_frames.proofs.growth.push_fields.Given as goal
@@ -11,4 +12,5 @@ invariant-loop-place l = record {
   longer : IsLonger l.fn.dict l.dict;
   count : length l.columns ≡ length l.kinds;
   pushed : (before : List (List (List ℕ))) → length before ≡ l.rows → AreGrown l.fn.dict l.kinds before l.fn.columns → ArePushed l.dict l.kinds before (fields_of l.row) l.place l.columns;
+  misfit : (before : List (List (List ℕ))) → length before ≡ l.rows → AreGrown l.fn.dict l.kinds before l.fn.columns → (l.misfit || has_misfit (drop l.place l.kinds) (drop l.place (fields_of l.row))) ≡ has_misfit l.kinds (fields_of l.row);
 }

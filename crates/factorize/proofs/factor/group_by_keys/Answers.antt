@@ -1,52 +1,69 @@
-use Rattle.std.proofs.Common.{◌∙◌, ap, sym, subst, slice_index_or}
-use Rattle.column_core.specs.Moves.{IsPlaceOf}
+use Rattle.std.proofs.Common.{◌≡◌, ◌∙◌, false, ap, rules}
 use Rattle.group_meaning.specs.Rows.{GroupsValue}
-use Rattle.factorize.proofs.GroupLaws.{below_count, codes_below, codes_are_places, codes_are, groups_counted, rows_are, law_of}
+use Rattle.factorize.proofs.GroupLaws.{below_count, codes_below, codes_are, groups_counted, rows_are, law_of}
+use Rattle.factorize.proofs.KeyNumberLaws.{all_counted, all_firsts, all_codes}
 use Rattle.factorize.proofs.factor.group_by_keys.Goals as goal
 
-pub places_among-requires : goal.places_among-requires
-places_among-requires g c =
-    below_count c.args.dict.now (g.R.KeyLevels.keys c.args.rows.now) c.levels-levels.result c.levels-levels.ensures.alike c.args.sorted c.args.dropna c.deref-firsts.result.now c.in_ok-ordered.ordered c.in_ok-kept.kept
-    (c.deref-firsts.ensures.value ∙ c.in_ok-numbers.ensures.firsts) c.in_ok-ordered.ensures (c.in_ok-kept.ensures c.args.dict.now)
+pub groups_of_all-requires : goal.groups_of_all-requires
+groups_of_all-requires g c =
+    codes_below c.args.dict.now (g.R.KeyLevels.keys c.args.rows.now) c.levels-levels.result c.levels-levels.ensures.alike c.args.sorted c.args.dropna
+    c.in_ok-numbers.numbers.firsts.items c.in_ok-numbers.ensures.firsts c.in_ok-numbers.numbers.codes.items c.in_ok-numbers.ensures.codes
 
-pub codes_by-requires : goal.codes_by-requires
-codes_by-requires g c =
-    codes_below c.args.dict.now (g.R.KeyLevels.keys c.args.rows.now) c.levels-levels.result c.levels-levels.ensures.alike c.args.sorted c.args.dropna c.deref-firsts.result.now c.in_ok-ordered.ordered c.in_ok-kept.kept
-    (c.deref-firsts.ensures.value ∙ c.in_ok-numbers.ensures.firsts) c.in_ok-ordered.ensures (c.in_ok-kept.ensures c.args.dict.now)
-    c.deref-2.result.now (c.deref-2.ensures.value ∙ c.in_ok-numbers.ensures.codes) c.deref.result.now (c.deref.ensures.value ∙ c.in_ok-places.ensures)
+pub returns-then-not-dropna-clause-count : goal.returns-then-not-dropna-clause-count
+returns-then-not-dropna-clause-count g c =
+    let unsorted : c.args.sorted ≡ false = search rules in
+    let whole : c.args.dropna ≡ false = search rules in
+    ap (λ (v : GroupsValue). v.count) c.in_ok-all.ensures.groups
+    ∙ all_counted c.args.dict.now (g.R.KeyLevels.keys c.args.rows.now) c.args.sorted c.args.dropna unsorted whole c.in_ok-numbers.numbers.firsts.items c.in_ok-numbers.ensures.firsts
 
-pub of-groups-requires : goal.of-groups-requires
-of-groups-requires g c k d lt =
-    subst (λ n. IsPlaceOf n (slice_index_or c.in_ok-codes.codes k d)) (sym c.len.ensures) (codes_are_places c.args.dict.now (g.R.KeyLevels.keys c.args.rows.now) c.levels-levels.result c.levels-levels.ensures.alike c.args.sorted c.args.dropna c.deref-firsts.result.now c.in_ok-ordered.ordered c.in_ok-kept.kept
-    (c.deref-firsts.ensures.value ∙ c.in_ok-numbers.ensures.firsts) c.in_ok-ordered.ensures (c.in_ok-kept.ensures c.args.dict.now)
-    c.deref-2.result.now (c.deref-2.ensures.value ∙ c.in_ok-numbers.ensures.codes) c.deref.result.now (c.deref.ensures.value ∙ c.in_ok-places.ensures) c.in_ok-codes.codes c.in_ok-codes.ensures k d lt)
+pub returns-then-not-dropna-clause-codes : goal.returns-then-not-dropna-clause-codes
+returns-then-not-dropna-clause-codes g c =
+    let unsorted : c.args.sorted ≡ false = search rules in
+    let whole : c.args.dropna ≡ false = search rules in
+    ap (λ (v : GroupsValue). v.codes) c.in_ok-all.ensures.groups
+    ∙ all_codes c.args.dict.now (g.R.KeyLevels.keys c.args.rows.now) c.args.sorted c.args.dropna unsorted whole c.in_ok-numbers.numbers.codes.items c.in_ok-numbers.ensures.codes
+
+pub returns-then-not-dropna-clause-firsts : goal.returns-then-not-dropna-clause-firsts
+returns-then-not-dropna-clause-firsts g c =
+    let unsorted : c.args.sorted ≡ false = search rules in
+    let whole : c.args.dropna ≡ false = search rules in
+    c.in_ok-all.ensures.firsts
+    ∙ all_firsts c.args.dict.now (g.R.KeyLevels.keys c.args.rows.now) c.args.sorted c.args.dropna unsorted whole c.in_ok-numbers.numbers.firsts.items c.in_ok-numbers.ensures.firsts
+
+pub returns-then-not-dropna-clause-law : goal.returns-then-not-dropna-clause-law
+returns-then-not-dropna-clause-law g c =
+    law_of c.args.dict.now (g.R.KeyLevels.keys c.args.rows.now) c.args.sorted c.args.dropna c.in_ok-all.all.firsts c.in_ok-all.all.groups.codes
+    (returns-then-not-dropna-clause-firsts g c) (returns-then-not-dropna-clause-codes g c)
+
+pub groups_of_kept-requires-clause-kept : goal.groups_of_kept-requires-clause-kept
+groups_of_kept-requires-clause-kept g c =
+    below_count c.args.dict.now (g.R.KeyLevels.keys c.args.rows.now) c.levels-levels.result c.levels-levels.ensures.alike c.args.sorted c.args.dropna
+    c.in_ok-numbers.numbers.firsts.items c.in_ok-numbers.ensures.firsts c.as_slice.result.now (c.as_slice.ensures ∙ c.in_ok-kept.ensures)
+
+pub groups_of_kept-requires-clause-codes : goal.groups_of_kept-requires-clause-codes
+groups_of_kept-requires-clause-codes g c =
+    codes_below c.args.dict.now (g.R.KeyLevels.keys c.args.rows.now) c.levels-levels.result c.levels-levels.ensures.alike c.args.sorted c.args.dropna
+    c.in_ok-numbers.numbers.firsts.items c.in_ok-numbers.ensures.firsts c.in_ok-numbers.numbers.codes.items c.in_ok-numbers.ensures.codes
 
 pub returns-clause-count : goal.returns-clause-count
 returns-clause-count g c =
-    ap (λ (v : GroupsValue). v.count) c.of-groups.ensures ∙ c.len.ensures
-    ∙ groups_counted c.args.dict.now (g.R.KeyLevels.keys c.args.rows.now) c.levels-levels.result c.levels-levels.ensures.alike c.args.sorted c.args.dropna c.deref-firsts.result.now c.in_ok-ordered.ordered c.in_ok-kept.kept
-    (c.deref-firsts.ensures.value ∙ c.in_ok-numbers.ensures.firsts) c.in_ok-ordered.ensures (c.in_ok-kept.ensures c.args.dict.now)
+    ap (λ (v : GroupsValue). v.count) c.in_ok-made.ensures.groups
+    ∙ groups_counted c.args.dict.now (g.R.KeyLevels.keys c.args.rows.now) c.levels-levels.result c.levels-levels.ensures.alike c.args.sorted c.args.dropna
+    c.in_ok-numbers.numbers.firsts.items c.in_ok-numbers.ensures.firsts c.as_slice.result.now (c.as_slice.ensures ∙ c.in_ok-kept.ensures)
 
 pub returns-clause-codes : goal.returns-clause-codes
 returns-clause-codes g c =
-    ap (λ (v : GroupsValue). v.codes) c.of-groups.ensures
-    ∙ codes_are c.args.dict.now (g.R.KeyLevels.keys c.args.rows.now) c.levels-levels.result c.levels-levels.ensures.alike c.args.sorted c.args.dropna c.deref-firsts.result.now c.in_ok-ordered.ordered c.in_ok-kept.kept
-    (c.deref-firsts.ensures.value ∙ c.in_ok-numbers.ensures.firsts) c.in_ok-ordered.ensures (c.in_ok-kept.ensures c.args.dict.now)
-    c.deref-2.result.now (c.deref-2.ensures.value ∙ c.in_ok-numbers.ensures.codes) c.deref.result.now (c.deref.ensures.value ∙ c.in_ok-places.ensures) c.in_ok-codes.codes c.in_ok-codes.ensures
+    codes_are c.args.dict.now (g.R.KeyLevels.keys c.args.rows.now) c.levels-levels.result c.levels-levels.ensures.alike c.args.sorted c.args.dropna
+    c.in_ok-numbers.numbers.firsts.items c.in_ok-numbers.ensures.firsts c.as_slice.result.now (c.as_slice.ensures ∙ c.in_ok-kept.ensures)
+    c.in_ok-numbers.numbers.codes.items c.in_ok-numbers.ensures.codes c.in_ok-made.made.groups.codes (ap (λ (v : GroupsValue). v.codes) c.in_ok-made.ensures.groups)
 
 pub returns-clause-firsts : goal.returns-clause-firsts
 returns-clause-firsts g c =
-    rows_are c.args.dict.now (g.R.KeyLevels.keys c.args.rows.now) c.levels-levels.result c.levels-levels.ensures.alike c.args.sorted c.args.dropna c.deref-firsts.result.now c.in_ok-ordered.ordered c.in_ok-kept.kept
-    (c.deref-firsts.ensures.value ∙ c.in_ok-numbers.ensures.firsts) c.in_ok-ordered.ensures (c.in_ok-kept.ensures c.args.dict.now)
-    c.in_ok-firsts.firsts c.in_ok-firsts.ensures
+    rows_are c.args.dict.now (g.R.KeyLevels.keys c.args.rows.now) c.levels-levels.result c.levels-levels.ensures.alike c.args.sorted c.args.dropna
+    c.in_ok-numbers.numbers.firsts.items c.in_ok-numbers.ensures.firsts c.as_slice.result.now (c.as_slice.ensures ∙ c.in_ok-kept.ensures)
+    c.in_ok-made.made.firsts c.in_ok-made.ensures.firsts
 
 pub returns-clause-law : goal.returns-clause-law
 returns-clause-law g c =
-    law_of c.args.dict.now (g.R.KeyLevels.keys c.args.rows.now) c.args.sorted c.args.dropna c.in_ok-firsts.firsts c.of-groups.result.codes
-    (rows_are c.args.dict.now (g.R.KeyLevels.keys c.args.rows.now) c.levels-levels.result c.levels-levels.ensures.alike c.args.sorted c.args.dropna c.deref-firsts.result.now c.in_ok-ordered.ordered c.in_ok-kept.kept
-    (c.deref-firsts.ensures.value ∙ c.in_ok-numbers.ensures.firsts) c.in_ok-ordered.ensures (c.in_ok-kept.ensures c.args.dict.now)
-    c.in_ok-firsts.firsts c.in_ok-firsts.ensures)
-    (ap (λ (v : GroupsValue). v.codes) c.of-groups.ensures
-    ∙ codes_are c.args.dict.now (g.R.KeyLevels.keys c.args.rows.now) c.levels-levels.result c.levels-levels.ensures.alike c.args.sorted c.args.dropna c.deref-firsts.result.now c.in_ok-ordered.ordered c.in_ok-kept.kept
-    (c.deref-firsts.ensures.value ∙ c.in_ok-numbers.ensures.firsts) c.in_ok-ordered.ensures (c.in_ok-kept.ensures c.args.dict.now)
-    c.deref-2.result.now (c.deref-2.ensures.value ∙ c.in_ok-numbers.ensures.codes) c.deref.result.now (c.deref.ensures.value ∙ c.in_ok-places.ensures) c.in_ok-codes.codes c.in_ok-codes.ensures)
+    law_of c.args.dict.now (g.R.KeyLevels.keys c.args.rows.now) c.args.sorted c.args.dropna c.in_ok-made.made.firsts c.in_ok-made.made.groups.codes
+    (returns-clause-firsts g c) (returns-clause-codes g c)

@@ -2,4 +2,4 @@ use Rattle.sorting.proofs.RangeLaws.{one_more}
 use Rattle.factorize.proofs.order.in_sequence.Goals as goal
 
 pub loop-number-preserved : goal.loop-number-preserved
-loop-number-preserved c = one_more c.loop-number.numbers c.push.new.self c.loop-number.number c.loop-number.invariant c.in_ok-push.ensures.ok
+loop-number-preserved c = one_more c.loop-number.numbers.items c.push.new.self.items c.loop-number.number c.loop-number.invariant c.in_ok-push.ensures.items

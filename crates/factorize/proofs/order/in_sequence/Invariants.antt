@@ -3,4 +3,4 @@ use Rattle.std.specs.List.{range_with_len}
 use Rattle.factorize.proofs.order.in_sequence.Given as goal
 
 abbrev pub invariant-loop-number : goal.invariant-loop-number
-invariant-loop-number l = l.numbers ≡ range_with_len 0 l.number
+invariant-loop-number l = l.numbers.items ≡ range_with_len 0 l.number

@@ -1,8 +1,7 @@
-use Rattle.std.proofs.Common.{◌≡◌, ◌∙◌, ◌<◌, ◌≤◌, ◌==◌, ◌+◌, ◌++◌, ◌∷◌, [], None, length, take, ap, sym, subst, arith, refl, slice_index_or}
+use Rattle.std.proofs.Common.{◌≡◌, ◌∙◌, ◌<◌, ◌≤◌, ◌==◌, ◌+◌, ◌++◌, ◌∷◌, [], None, length, take, ap, sym, arith, refl, slice_index_or}
 use Rattle.std.specs.List.{position}
 use Rattle.std.proofs.lemmas.List.{take_all, take_more, length-take-le}
 use Rattle.std.proofs.lemmas.List.FromFn.{fill_by_all}
-use Rattle.std.proofs.lemmas.Option.{get_or_from_slice_get}
 use Rattle.factorize.specs.Numbers.{placed}
 use Rattle.factorize.proofs.PlaceLaws.{placed_size, placed_more}
 use Rattle.factorize.proofs.places.place_all.Goals as goal
@@ -15,13 +14,12 @@ loop-place-preserved c =
     let kept = c.args.kept.now in
     let place = c.loop-place.place in
     let count = length c.args.places.now in
-    let number = c.at.result.now in
+    let number = slice_index_or kept place 0 in
     let lt : place < length kept = omega arith in
-    let at : slice_index_or kept place 0 ≡ number = get_or_from_slice_get kept place number 0 c.at.ensures in
-    let below : number < count = subst (λ n. n < count) at (c.requires.below place 0 lt) in
+    let below : number < count = c.requires.below place 0 lt in
     let long : length (take place kept) ≡ place = length-take-le place kept (omega arith) in
     let is : c.place_first.new.places ≡ placed c.loop-place.places number (length (take place kept)) = c.place_first.ensures ∙ ap (placed c.loop-place.places number) (sym long) in
-    let grown : take (place + 1) kept ≡ take place kept ++ number ∷ [] = take_more kept place 0 lt ∙ ap (λ n. take place kept ++ n ∷ []) at in
+    let grown : take (place + 1) kept ≡ take place kept ++ number ∷ [] = take_more kept place 0 lt in
     record {
       size = placed_size (take place kept) count number c.loop-place.places c.place_first.new.places below c.loop-place.invariant.size c.loop-place.invariant.at is;
       at = λ n below'. placed_more (take place kept) count number c.loop-place.places c.place_first.new.places below c.loop-place.invariant.size c.loop-place.invariant.at is n below' ∙ ap (position (λ k. n == k)) (sym grown);

@@ -1,4 +1,4 @@
-use Rattle.std.proofs.Common.{◌≡◌, ◌∙◌, subst, sym, Err, Ok, List, Option, Result, ℕ}
+use Rattle.std.proofs.Common.{◌≡◌, subst, sym, Err, Ok, List, Option, Result, ℕ}
 use Rattle.align_meaning.specs.Targets.{reindexed}
 use Rattle.row_keys.specs.Keys.{same_tuple}
 use Rattle.label_align.specs.Answers.{AlignsBy, as_it_is}

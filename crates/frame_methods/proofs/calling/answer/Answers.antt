@@ -17,7 +17,8 @@ use Rattle.frame_methods.specs.Built.{method_of}
 use Rattle.frame_methods.specs.Calls.{answer_in}
 use Rattle.frame_methods.specs.declared.built.Built.TheVariants as built
 use Rattle.frame_methods.specs.Summaries.{summary_value}
-use Rattle.frame_methods.proofs.AnswerLaws.{known_table, answer_is, answer_by, forms_so, summary_meant}
+use Rattle.label_methods.proofs.AnswerLaws.{known_table, forms_so}
+use Rattle.frame_methods.proofs.AnswerLaws.{answer_is, answer_by, summary_meant}
 use Rattle.frame_methods.proofs.RenameLaws.{pairs_settled}
 use Rattle.frame_methods.proofs.calling.answer.Goals as goal
 
@@ -60,14 +61,14 @@ returns-in-Tail c =
     ∙ answer_by w (method_of call.built) method.Tail call.bound t (λ a. on (whole_in (a 0)) (tail_result t)) (ap method_of c.in-Tail.is) c.requires.call.parameters refl)
     (simp to_z-of_z at (c.tail.ensures c.args.dict.now c.requires.settled))
 
--- a table of rows
-pub returns-in-Rows : goal.returns-in-Rows
-returns-in-Rows c =
+-- a table of rows, levels or labels
+pub returns-in-Table : goal.returns-in-Table
+returns-in-Table c =
     let w = world c.args.store.now c.args.dict.now in
     let call = c.args.call.now in
     let t = table_value c.args.dict.now (table_at (tables c.args.store.now) c.args.on.0) in
-    forms_so _ _ _ _ _ (ap (λ b. answer_in w (method_of b) call.bound t) (sym c.in-Rows.is))
-    (c.placed.ensures.answers c.args.dict.now _ (longer_self c.args.dict.now) c.requires.settled c.rows_made-table.ensures)
+    forms_so _ _ _ _ _ (ap (λ b. answer_in w (method_of b) call.bound t) (sym c.in-Table.is))
+    (c.placed.ensures.answers c.args.dict.now _ c.table_made-table.ensures.longer c.requires.settled c.table_made-table.ensures.answer)
 
 -- a name
 pub rename_series-requires-clause-name : goal.rename_series-requires-clause-name
@@ -98,21 +99,3 @@ returns-in-ToCsv c =
     (ap (λ o. on o (λ b. csv_answer b t)) (c.truth.ensures w.tables w.texts)
     ∙ answer_by w (method_of call.built) method.ToCsv call.bound t (λ a. on (truth_in (a 0)) (λ b. csv_answer b t)) (ap method_of c.in-ToCsv.is) c.requires.call.parameters refl)
     (c.answer_made-in-ToCsv.ensures c.args.dict.now _ c.to_csv-text.ensures.longer c.requires.settled c.to_csv-text.ensures.answer)
-
--- a table under other labels
-pub returns-in-Levels : goal.returns-in-Levels
-returns-in-Levels c =
-    let w = world c.args.store.now c.args.dict.now in
-    let call = c.args.call.now in
-    let t = table_value c.args.dict.now (table_at (tables c.args.store.now) c.args.on.0) in
-    forms_so _ _ _ _ _ (ap (λ b. answer_in w (method_of b) call.bound t) (sym c.in-Levels.is))
-    (c.placed-in-Levels.ensures.answers c.args.dict.now _ c.levels_made-table.ensures.longer c.requires.settled c.levels_made-table.ensures.answer)
-
--- a table of the rows, or the columns, of labels
-pub returns-in-Labels : goal.returns-in-Labels
-returns-in-Labels c =
-    let w = world c.args.store.now c.args.dict.now in
-    let call = c.args.call.now in
-    let t = table_value c.args.dict.now (table_at (tables c.args.store.now) c.args.on.0) in
-    forms_so _ _ _ _ _ (ap (λ b. answer_in w (method_of b) call.bound t) (sym c.in-Labels.is))
-    (c.placed-in-Labels.ensures.answers c.args.dict.now _ (longer_self c.args.dict.now) c.requires.settled c.labels_made-table.ensures)

@@ -11,7 +11,8 @@ use Rattle.signatures.proofs.ToldLaws.{scalar_given}
 use Rattle.signatures.proofs.ScalarLaws.{items_settled}
 use Rattle.frame_methods.specs.Built.{column_method}
 use Rattle.frame_methods.specs.Listed.{listed_column}
-use Rattle.frame_methods.proofs.AnswerLaws.{answer_by, forms_so}
+use Rattle.frame_methods.proofs.AnswerLaws.{answer_by}
+use Rattle.label_methods.proofs.AnswerLaws.{forms_so}
 use Rattle.frame_methods.proofs.ListedLaws.{isin_meant}
 use Rattle.frame_methods.proofs.calling.columns_answer.Goals as goal
 

@@ -3,7 +3,7 @@ use Rattle.table_meaning.specs.Table.{NumberedTable, table_value}
 use Rattle.method_meaning.specs.Methods.{each_column}
 use Rattle.frame_store.specs.World.{world}
 use Rattle.frame_store.specs.Objects.{tables, table_at, table_or}
-use Rattle.frame_methods.proofs.AnswerLaws.{known_table, forms_so}
+use Rattle.label_methods.proofs.AnswerLaws.{known_table, forms_so}
 use Rattle.frame_methods.proofs.calling.columns_placed.Goals as goal
 
 pub columns_table-table-requires-clause-known : goal.columns_table-table-requires-clause-known

@@ -1,5 +1,5 @@
-use Rattle.std.proofs.Common.{◌≡◌, ◌∙◌, ap, sym, subst, refl, None, Some, Option}
-use Rattle.table_meaning.specs.Table.{NumberedTable, table_value}
+use Rattle.std.proofs.Common.{◌≡◌, ap, sym, refl, None, Option}
+use Rattle.table_meaning.specs.Table.{table_value}
 use Rattle.table_meaning.specs.Value.{GivenList, scalar_in, list_in}
 use Rattle.form_meaning.specs.Make.{on}
 use Rattle.form_meaning.specs.declared.Method.TheVariants as method
@@ -9,10 +9,11 @@ use Rattle.frame_store.specs.Objects.{tables, table_at, table_or}
 use Rattle.frame_store.specs.World.{world}
 use Rattle.signatures.proofs.ToldLaws.{scalar_given, told_settled}
 use Rattle.frame_methods.specs.Built.{label_method}
-use Rattle.frame_methods.specs.Reindexed.{list_lent}
-use Rattle.frame_methods.proofs.AnswerLaws.{known_table, makes_by}
-use Rattle.frame_methods.proofs.LevelMoveLaws.{option_given}
-use Rattle.frame_methods.proofs.ReindexLaws.{frame_fits}
+use Rattle.label_methods.specs.Reindexed.{list_lent}
+use Rattle.label_methods.proofs.AnswerLaws.{known_table}
+use Rattle.frame_methods.proofs.AnswerLaws.{makes_by}
+use Rattle.label_methods.proofs.LevelMoveLaws.{option_given}
+use Rattle.frame_methods.proofs.ShapeLaws.{frame_fits}
 use Rattle.frame_methods.proofs.calling.labels_made.Goals as goal
 
 -- labels of rows

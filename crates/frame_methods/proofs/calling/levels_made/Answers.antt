@@ -19,10 +19,11 @@ use Rattle.frame_store.specs.World.{world}
 use Rattle.frame_store.proofs.Settling.{object_settled}
 use Rattle.selections.specs.Selected.{as_it_is}
 use Rattle.frame_methods.specs.Built.{level_method}
-use Rattle.frame_methods.specs.Named.{first_in}
-use Rattle.frame_methods.proofs.AnswerLaws.{known_table, makes_by}
-use Rattle.frame_methods.proofs.LevelNameLaws.{names_given}
-use Rattle.frame_methods.proofs.LevelMoveLaws.{option_given}
+use Rattle.label_methods.specs.Named.{first_in}
+use Rattle.label_methods.proofs.AnswerLaws.{known_table}
+use Rattle.frame_methods.proofs.AnswerLaws.{makes_by}
+use Rattle.label_methods.proofs.LevelNameLaws.{names_given}
+use Rattle.label_methods.proofs.LevelMoveLaws.{option_given}
 use Rattle.frame_methods.proofs.calling.levels_made.Goals as goal
 
 pub set_index-requires-clause-known : goal.set_index-requires-clause-known

@@ -14,11 +14,12 @@ use Rattle.frame_store.proofs.Settling.{object_settled}
 use Rattle.selections.specs.Selected.{as_it_is}
 use Rattle.selections.proofs.PickedLaws.{places_inside}
 use Rattle.frame_methods.specs.Built.{row_method}
-use Rattle.frame_methods.specs.Named.{first_in}
+use Rattle.label_methods.specs.Named.{first_in}
 use Rattle.frame_store.specs.Parts.{AreColumnsOf}
 use Rattle.frame_methods.specs.Rows.{duplicated_among}
-use Rattle.frame_methods.proofs.AnswerLaws.{known_table, makes_by}
-use Rattle.frame_methods.proofs.NamedLaws.{all_are}
+use Rattle.label_methods.proofs.AnswerLaws.{known_table}
+use Rattle.frame_methods.proofs.AnswerLaws.{makes_by}
+use Rattle.label_methods.proofs.NamedLaws.{all_are}
 use Rattle.frame_methods.proofs.calling.rows_made.Goals as goal
 
 pub returns-in-Dropna : goal.returns-in-Dropna

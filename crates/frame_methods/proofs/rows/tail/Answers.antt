@@ -4,7 +4,7 @@ use Rattle.std.proofs.lemmas.Int.{to_z-of_z}
 use Rattle.frame_store.specs.Arguments.{object_value}
 use Rattle.frame_store.specs.Objects.{tables}
 use Rattle.pick_meaning.specs.Positions.{rows_before}
-use Rattle.frame_methods.proofs.AnswerLaws.{forms_so}
+use Rattle.label_methods.proofs.AnswerLaws.{forms_so}
 use Rattle.frame_methods.proofs.RowLaws.{run, run_result, last_meant, rows_read}
 use Rattle.frame_methods.proofs.rows.tail.Goals as goal
 

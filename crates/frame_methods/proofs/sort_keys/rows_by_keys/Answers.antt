@@ -1,9 +1,6 @@
 use Rattle.std.proofs.Common.{◌≡◌, List, ℕ, subst, IfOk}
-use Rattle.frame_methods.proofs.SortLaws.{rows_keyed, given_keys}
+use Rattle.frame_methods.proofs.SortLaws.{rows_keyed}
 use Rattle.frame_methods.proofs.sort_keys.rows_by_keys.Goals as goal
-
-pub rows_by_labels-requires : goal.rows_by_labels-requires
-rows_by_labels-requires c = given_keys c.args.dict.now c.args.keys.now c.args.rows c.requires
 
 pub returns : goal.returns
 returns c =

@@ -19,4 +19,4 @@ returns c = λ all are.
     let t = c.args.on.now in
     makes_so dict c.rows_table.result _ _
     (ap (λ (rows : List ℕ). limited (rows_taken (table_value dict t) rows)) (c.in_ok-rows.ensures ∙ ap (λ (n : ℕ). in_order (stands_before c.args.ascending (keys_of dict c.args.keys.now)) (range_with_len 0 n)) c.rows.ensures ∙ sorted_so dict c.args.keys.now c.args.ascending (length t.labels) all are))
-    (c.rows_table.ensures dict c.requires.known.given)
+    (c.rows_table.ensures dict c.requires.given)

@@ -29,4 +29,4 @@ returns-clause-makes c =
     let rows : same_tuples (labels_value c.args.dict.now c.args.a.now.labels) (labels_value c.args.dict.now c.args.b.labels) ≡ true =
     sym (axes_same c.args.dict.now c.axis.result.now c.axis-2.result.now c.args.a.now c.args.b c.axis.ensures c.axis-2.ensures) ∙ sym c.same_rows.ensures ∙ same in
     makes_as _ _ _ _ c.table_met.ensures.makes
-    (rows_are_meant (operator_of c.args.op) c.args.dict.now c.args.a.now c.args.b (table_value c.args.dict.now (named_by c.args.a.now c.args.naming)) c.requires.columns (length-map c.args.a.now.labels (tuple_value c.args.dict.now)) rows)
+    (rows_are_meant (operator_of c.args.op) c.args.dict.now c.args.a.now c.args.b c.requires.columns (table_value c.args.dict.now (named_by c.args.a.now c.args.naming)) (length-map c.args.a.now.labels (tuple_value c.args.dict.now)) rows)

@@ -1,35 +1,21 @@
-use Rattle.std.proofs.Common.{◌≡◌, length, true, false, arith, rules, refl}
-use Rattle.std.specs.Prelude.{◌≢◌}
-use Rattle.std.specs.List.{list_all}
+use Rattle.std.proofs.Common.{sym}
+use Rattle.std.proofs.lemmas.Result.{err_from_is_err_and}
 use Rattle.column_operators.specs.Tasks.{operator_of}
-use Rattle.form_meaning.specs.Infix.{compares}
-use Rattle.frame_ops.specs.declared.other.Other.TheVariants.{Beside}
-use Rattle.frame_ops.specs.Pairs.{kinds_meet, pairs_from}
-use Rattle.frame_ops.proofs.InfixLaws.{makes_as, under_kinds, under_levels, under_compared, under_common}
+use Rattle.table_meaning.specs.Table.{table_value}
+use Rattle.form_meaning.specs.Infix.{common_infix}
+use Rattle.frame_ops.proofs.InfixLaws.{makes_as, test_refused}
 use Rattle.frame_ops.proofs.tables.unequal_columns.Goals as goal
 
-pub returns-then-not-columns_fit-clause-makes : goal.returns-then-not-columns_fit-clause-makes
-returns-then-not-columns_fit-clause-makes c =
-    let kinds : list_all (kinds_meet (operator_of c.args.op)) (pairs_from (Beside c.args.b) 0 c.args.a.now.columns) ≡ false = search rules in
-    (under_kinds (operator_of c.args.op) c.args.dict.now c.args.a.now c.args.b c.requires.columns kinds, λ more. refl)
-
-pub returns-then-levels-clause-makes : goal.returns-then-levels-clause-makes
-returns-then-levels-clause-makes c =
-    let kinds : list_all (kinds_meet (operator_of c.args.op)) (pairs_from (Beside c.args.b) 0 c.args.a.now.columns) ≡ true = search rules in
-    let apart : length c.args.a.now.level_names ≢ length c.args.b.level_names = λ e. omega arith in
-    (under_levels (operator_of c.args.op) c.args.dict.now c.args.a.now c.args.b c.requires.columns kinds apart, λ more. refl)
-
-pub returns-then-compares-clause-makes : goal.returns-then-compares-clause-makes
-returns-then-compares-clause-makes c =
-    let kinds : list_all (kinds_meet (operator_of c.args.op)) (pairs_from (Beside c.args.b) 0 c.args.a.now.columns) ≡ true = search rules in
-    let levels : length c.args.a.now.level_names ≡ length c.args.b.level_names = omega arith in
-    let compared : compares (operator_of c.args.op) ≡ true = search rules in
-    (under_compared (operator_of c.args.op) c.args.dict.now c.args.a.now c.args.b c.requires.columns kinds levels compared, λ more. refl)
+pub returns-in_err-expect_joined-clause-makes : goal.returns-in_err-expect_joined-clause-makes
+returns-in_err-expect_joined-clause-makes c =
+    let dict = c.args.dict.now in
+    let rest = common_infix (operator_of c.args.op) (table_value dict c.args.a.now) (table_value dict c.args.b) in
+    let fault = c.in_err-expect_joined.field-0.0 in
+    let p = err_from_is_err_and c.from_residual.result c.from_residual.ensures.1 in
+    rw (p.1, p.2) (test_refused dict fault rest _ (c.in_err-expect_joined.ensures.passes dict rest))
 
 pub returns-clause-makes : goal.returns-clause-makes
 returns-clause-makes c =
-    let kinds : list_all (kinds_meet (operator_of c.args.op)) (pairs_from (Beside c.args.b) 0 c.args.a.now.columns) ≡ true = search rules in
-    let levels : length c.args.a.now.level_names ≡ length c.args.b.level_names = omega arith in
-    let compared : compares (operator_of c.args.op) ≡ false = search rules in
-    makes_as _ _ _ _ c.common_infix.ensures.makes
-    (under_common (operator_of c.args.op) c.args.dict.now c.args.a.now c.args.b c.requires.columns kinds levels compared)
+    let dict = c.args.dict.now in
+    let rest = common_infix (operator_of c.args.op) (table_value dict c.args.a.now) (table_value dict c.args.b) in
+    makes_as _ _ _ _ c.common_infix.ensures.makes (sym (c.in_ok-expect_joined.ensures.passes dict rest))

@@ -1,37 +1,32 @@
-use Rattle.std.proofs.Common.{◌≡◌, length, true, false, arith, rules, refl}
-use Rattle.std.specs.Prelude.{◌≢◌}
-use Rattle.std.specs.List.{list_all}
+use Rattle.std.proofs.Common.{◌∙◌, sym, Err}
+use Rattle.std.proofs.lemmas.Result.{err_from_is_err_and}
+use Rattle.meaning.specs.Fault.{then_value}
 use Rattle.column_operators.specs.Tasks.{operator_of}
 use Rattle.table_meaning.specs.Table.{table_value}
-use Rattle.form_meaning.specs.Infix.{compares}
-use Rattle.frame_ops.specs.declared.other.Other.TheVariants.{Beside}
+use Rattle.form_meaning.specs.Infix.{joined_rows, joined_infix}
 use Rattle.frame_ops.specs.Namings.{named_by}
-use Rattle.frame_ops.specs.Pairs.{kinds_meet, pairs_from}
-use Rattle.frame_ops.proofs.InfixLaws.{makes_as, kinds_differ, levels_differ, not_compared, are_joined}
+use Rattle.frame_ops.proofs.InfixLaws.{makes_as, rows_unequal, test_refused}
 use Rattle.frame_ops.proofs.tables.unequal_infix.Goals as goal
 
-pub returns-then-not-columns_fit-clause-makes : goal.returns-then-not-columns_fit-clause-makes
-returns-then-not-columns_fit-clause-makes c =
-    let kinds : list_all (kinds_meet (operator_of c.args.op)) (pairs_from (Beside c.args.b.now) 0 c.args.a.now.columns) ≡ false = search rules in
-    (kinds_differ (operator_of c.args.op) c.args.dict.now c.args.a.now c.args.b.now (table_value c.args.dict.now (named_by c.args.a.now c.args.naming)) c.requires.columns c.requires.unequal kinds, λ more. refl)
-
-pub returns-then-levels-clause-makes : goal.returns-then-levels-clause-makes
-returns-then-levels-clause-makes c =
-    let kinds : list_all (kinds_meet (operator_of c.args.op)) (pairs_from (Beside c.args.b.now) 0 c.args.a.now.columns) ≡ true = search rules in
-    let apart : length c.args.a.now.level_names ≢ length c.args.b.now.level_names = λ e. omega arith in
-    (levels_differ (operator_of c.args.op) c.args.dict.now c.args.a.now c.args.b.now (table_value c.args.dict.now (named_by c.args.a.now c.args.naming)) c.requires.columns c.requires.unequal kinds apart, λ more. refl)
-
-pub returns-then-compares-clause-makes : goal.returns-then-compares-clause-makes
-returns-then-compares-clause-makes c =
-    let kinds : list_all (kinds_meet (operator_of c.args.op)) (pairs_from (Beside c.args.b.now) 0 c.args.a.now.columns) ≡ true = search rules in
-    let levels : length c.args.a.now.level_names ≡ length c.args.b.now.level_names = omega arith in
-    let compared : compares (operator_of c.args.op) ≡ true = search rules in
-    (not_compared (operator_of c.args.op) c.args.dict.now c.args.a.now c.args.b.now (table_value c.args.dict.now (named_by c.args.a.now c.args.naming)) c.requires.columns c.requires.unequal kinds levels compared, λ more. refl)
+pub returns-in_err-expect_joined-clause-makes : goal.returns-in_err-expect_joined-clause-makes
+returns-in_err-expect_joined-clause-makes c =
+    let dict = c.args.dict.now in
+    let op = operator_of c.args.op in
+    let L = table_value dict c.args.a.now in
+    let R = table_value dict c.args.b.now in
+    let t = table_value dict (named_by c.args.a.now c.args.naming) in
+    let rest = then_value (joined_rows L.labels R.labels) (joined_infix op L R t) in
+    let fault = c.in_err-expect_joined.field-0.0 in
+    let p = err_from_is_err_and c.from_residual.result c.from_residual.ensures.1 in
+    rw (p.1, p.2) (makes_as dict (Err fault) _ _ (test_refused dict fault rest _ (c.in_err-expect_joined.ensures.passes dict rest)) (sym (rows_unequal op dict c.args.a.now c.args.b.now c.requires.columns t c.requires.unequal)))
 
 pub returns-clause-makes : goal.returns-clause-makes
 returns-clause-makes c =
-    let kinds : list_all (kinds_meet (operator_of c.args.op)) (pairs_from (Beside c.args.b.now) 0 c.args.a.now.columns) ≡ true = search rules in
-    let levels : length c.args.a.now.level_names ≡ length c.args.b.now.level_names = omega arith in
-    let compared : compares (operator_of c.args.op) ≡ false = search rules in
+    let dict = c.args.dict.now in
+    let op = operator_of c.args.op in
+    let L = table_value dict c.args.a.now in
+    let R = table_value dict c.args.b.now in
+    let t = table_value dict (named_by c.args.a.now c.args.naming) in
+    let rest = then_value (joined_rows L.labels R.labels) (joined_infix op L R t) in
     makes_as _ _ _ _ c.joined_infix.ensures.makes
-    (are_joined (operator_of c.args.op) c.args.dict.now c.args.a.now c.args.b.now (table_value c.args.dict.now (named_by c.args.a.now c.args.naming)) c.requires.columns c.requires.unequal kinds levels compared)
+    (sym (c.in_ok-expect_joined.ensures.passes dict rest) ∙ sym (rows_unequal op dict c.args.a.now c.args.b.now c.requires.columns t c.requires.unequal))

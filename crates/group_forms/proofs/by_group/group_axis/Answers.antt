@@ -1,10 +1,10 @@
-use Rattle.std.proofs.Common.{◌≡◌, ◌∙◌, ◌≤◌, ◌^◌, ap, sym, length, map, List, arith}
+use Rattle.std.proofs.Common.{◌≡◌, ◌∙◌, ap, sym, length, map, List, arith}
 use Rattle.std.proofs.lemmas.List.{length-map}
 use Rattle.meaning.specs.Cell.{LabelValue}
 use Rattle.table_meaning.specs.Table.{table_value, tuple_value}
 use Rattle.multi_index.specs.Axes.{AxisValue, range_axis}
 use Rattle.selections.specs.Selected.{headings_at}
-use Rattle.frame_methods.specs.Levels.{row_labels}
+use Rattle.label_methods.specs.Levels.{row_labels}
 use Rattle.group_forms.specs.Grouped.{grouping_seen}
 use Rattle.group_forms.specs.Tables.{IsAxis, group_labels, group_names}
 use Rattle.group_forms.proofs.KeyLaws.{if_ok}

@@ -1,4 +1,4 @@
-use Rattle.std.proofs.Common.{◌≡◌, ◌∙◌, ap, sym, subst, refl, [], ◌∷◌, length, map, List, Option, ℕ}
+use Rattle.std.proofs.Common.{◌∙◌, ap, sym, subst, refl, [], ◌∷◌, length, map, List, Option, ℕ}
 use Rattle.std.proofs.lemmas.Result.{err_from_is_err_and}
 use Rattle.cell_core.specs.declared.cell.Label.{Label}
 use Rattle.group_meaning.specs.Rows.{GroupsValue}

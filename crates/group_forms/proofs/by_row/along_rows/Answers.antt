@@ -1,20 +1,17 @@
-use Rattle.std.proofs.Common.{◌≡◌, ◌∙◌, ap, sym, subst, refl, true, false, length, map, List, Option, ℕ, rules}
+use Rattle.std.proofs.Common.{◌≡◌, ◌∙◌, ap, sym, subst, true, false, length, map, ℕ, rules}
 use Rattle.std.specs.List.{list_all}
 use Rattle.std.proofs.lemmas.List.{length-map}
 use Rattle.std.proofs.lemmas.Result.{err_from_is_err_and}
-use Rattle.cell_core.specs.declared.cell.Cell.{Cell}
-use Rattle.cell_core.specs.declared.cell.Label.{Label}
-use Rattle.meaning.specs.Cell.{CellValue}
 use Rattle.multi_index.specs.Axes.{AxisValue}
 use Rattle.table_meaning.specs.Settled.{IsSettled}
-use Rattle.table_meaning.specs.Table.{ColumnOf, table_value, heading_value}
+use Rattle.table_meaning.specs.Table.{table_value, heading_value}
 use Rattle.frame_store.specs.Parts.{HeadingList, block_column, HaveRows}
 use Rattle.frame_store.proofs.Settling.{columns_name_part}
 use Rattle.group_forms.specs.Columns.{takes_at, made_at}
 use Rattle.group_forms.proofs.ColumnLaws.{all_taken}
 use Rattle.group_forms.proofs.GroupLaws.{blocks_counted}
 use Rattle.group_forms.proofs.KeyLaws.{codes_counted}
-use Rattle.group_forms.proofs.RowLaws.{own_settled, own_labelled, labels_counted, own_axis, along_refused, along_meant, along_headings, along_table, blocks_begin, rows_by_row, blocks_placed, headings_are}
+use Rattle.group_forms.proofs.RowLaws.{own_settled, own_labelled, labels_counted, own_axis, along_refused, along_meant, along_headings, along_table, blocks_begin, rows_by_row, blocks_placed}
 use Rattle.group_forms.proofs.ShownLaws.{made_is, refused_is}
 use Rattle.group_forms.proofs.by_row.along_rows.Goals as goal
 

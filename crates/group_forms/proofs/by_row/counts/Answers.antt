@@ -1,4 +1,4 @@
-use Rattle.std.proofs.Common.{◌≡◌, ◌∙◌, ap, sym, subst, refl, true, [], ◌∷◌, None, length, map, ℕ}
+use Rattle.std.proofs.Common.{◌∙◌, ap, sym, subst, refl, true, [], ◌∷◌, None, length, map, ℕ}
 use Rattle.std.proofs.lemmas.Result.{err_from_is_err_and}
 use Rattle.multi_index.specs.Axes.{AxisValue}
 use Rattle.frame_store.specs.Parts.{block_column, HaveRows}

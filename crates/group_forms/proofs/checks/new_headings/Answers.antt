@@ -1,6 +1,6 @@
-use Rattle.std.proofs.Common.{◌≡◌, sym, subst, Option, None}
+use Rattle.std.proofs.Common.{◌≡◌, sym, subst, None}
 use Rattle.std.specs.Prelude.{IfOk}
-use Rattle.cell_core.specs.declared.grid.Shape.TheVariants.{Series, Frame}
+use Rattle.cell_core.specs.declared.grid.Shape.TheVariants.{Series}
 use Rattle.table_meaning.specs.Valid.{AreHeadings}
 use Rattle.frame_store.specs.Parts.{HeadingList}
 use Rattle.group_forms.specs.Tables.{shape_if, headings_if, MayShow}

@@ -1,5 +1,5 @@
 use Rattle.std.proofs.Common.{◌<◌, ◌≤◌, length, arith}
-use Rattle.frame_methods.specs.Levels.{row_labels}
+use Rattle.label_methods.specs.Levels.{row_labels}
 use Rattle.group_forms.proofs.KeyLaws.{one_more_tuple, all_of}
 use Rattle.group_forms.proofs.keys.key_tuples.Goals as goal
 

@@ -1,5 +1,4 @@
-use Rattle.std.proofs.Common.{◌≡◌, ◌∙◌, ◌<◌, ◌≤◌, ap, sym, true, false, drop, length, arith}
-use Rattle.std.specs.List.{list_all}
+use Rattle.std.proofs.Common.{◌∙◌, ◌≤◌, ap, sym, true, false, length, arith}
 use Rattle.group_forms.specs.Columns.{takes, takes_at}
 use Rattle.group_forms.proofs.KindLaws.{passed_on, not_passed, all_passed}
 use Rattle.group_forms.proofs.kinds.all_taken.Goals as goal

@@ -1,4 +1,4 @@
-use Rattle.std.proofs.Common.{◌≡◌, ◌∙◌, ap, sym, Option, option_map, List}
+use Rattle.std.proofs.Common.{◌∙◌, ap, sym, Option, option_map, List}
 use Rattle.cell_core.specs.declared.cell.Cell.{Cell}
 use Rattle.frame_store.specs.Shown.{cells_value}
 use Rattle.group_forms.proofs.FormLaws.{listed_settled}

@@ -9,7 +9,7 @@ use Rattle.frame_store.specs.declared.arguments.Argument.{Argument}
 use Rattle.frame_store.specs.Arguments.{items_of}
 use Rattle.frame_store.specs.Objects.{tables, table_at, table_or}
 use Rattle.frame_store.specs.World.{world, argument_in, IsKnownArgument}
-use Rattle.frame_methods.proofs.NamedLaws.{others_inside}
+use Rattle.label_methods.proofs.NamedLaws.{others_inside}
 use Rattle.group_forms.specs.Grouped.{values_seen}
 use Rattle.group_forms.proofs.FormLaws.{known_table, items_known, many_values}
 use Rattle.group_forms.proofs.values.values_of.Goals as goal

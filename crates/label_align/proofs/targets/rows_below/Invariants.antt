@@ -3,4 +3,4 @@ use Rattle.label_align.specs.Targets.{row_below}
 use Rattle.label_align.proofs.targets.rows_below.Given as goal
 
 abbrev pub invariant-loop-code : goal.invariant-loop-code
-invariant-loop-code l = l.gaps ≡ map (row_below l.count) (take l.code-index l.codes)
+invariant-loop-code l = l.gaps.items ≡ map (row_below l.count) (take l.code-index l.codes)

@@ -4,4 +4,4 @@ use Rattle.label_align.proofs.targets.rows_of_codes.Given as goal
 
 -- the rows so far
 abbrev pub invariant-loop-code : goal.invariant-loop-code
-invariant-loop-code l = l.gaps ≡ map (λ code. only_row (slice_index_or l.rows code [])) (take l.code-index l.codes)
+invariant-loop-code l = l.gaps.items ≡ map (λ code. only_row (slice_index_or l.rows code [])) (take l.code-index l.codes)

@@ -8,13 +8,14 @@ use Rattle.multi_index.specs.Axes.{HaveLevels}
 use Rattle.row_keys.specs.Keys.{same_tuple}
 use Rattle.merge_concat.specs.Axes.{tuples_of_each}
 use Rattle.merge_concat.proofs.AxisLaws.{tuples_there}
-use Rattle.merge_concat.proofs.UnitedLaws.{all_pass, both_pass}
+use Rattle.factorize.proofs.NumberLaws.{filter_all}
+use Rattle.merge_concat.proofs.UnitedLaws.{both_pass}
 use Rattle.merge_concat.proofs.beside.those_on_all.Goals as goal
 
 pub loop-other-init : goal.loop-other-init
 loop-other-init c = record {
   levels = subst (HaveLevels c.levels-levels.result) (sym c.in_ok-kept.ensures) c.levels-levels.ensures.alike;
-  kept = c.in_ok-kept.ensures ∙ sym (all_pass c.args.first.now.tuples);
+  kept = c.in_ok-kept.ensures ∙ sym (filter_all c.args.first.now.tuples);
 }
 
 pub loop-other-preserved : goal.loop-other-preserved

@@ -1,17 +1,17 @@
-use Rattle.std.proofs.Common.{◌∙◌, sym, ap, subst}
+use Rattle.std.proofs.Common.{◌∙◌, sym, subst}
 use Rattle.join_meaning.specs.Pairs.{within_limit}
 use Rattle.merge_concat.specs.Codes.{code_pairs}
 use Rattle.merge_concat.specs.Pairs.{JoinsBy}
 use Rattle.merge_concat.proofs.JoinLaws.{few_left, few_right, left_below, right_below, refused_left, refused_right, allowed, law_of}
 use Rattle.merge_concat.proofs.joins.join_rows.Goals as goal
 
-pub coded_rows-requires : goal.coded_rows-requires
-coded_rows-requires g c =
+pub of-lefts-requires : goal.of-lefts-requires
+of-lefts-requires g c =
     left_below c.args.dict.now c.args.how c.args.once (g.L.KeyLevels.keys c.args.left.now) (g.R.KeyLevels.keys c.args.right.now) c.is_outer.result c.is_outer.ensures c.in_ok-numbers.numbers.count c.in_ok-numbers.ensures.count
     c.deref-codes.result.now (c.deref-codes.ensures.value ∙ c.in_ok-numbers.ensures.codes) c.count.result c.count.ensures c.split_at.result.0.now c.split_at.result.1.now c.split_at.ensures.front c.split_at.ensures.back
 
-pub coded_rows-requires-2 : goal.coded_rows-requires-2
-coded_rows-requires-2 g c =
+pub of-rights-requires : goal.of-rights-requires
+of-rights-requires g c =
     right_below c.args.dict.now c.args.how c.args.once (g.L.KeyLevels.keys c.args.left.now) (g.R.KeyLevels.keys c.args.right.now) c.is_outer.result c.is_outer.ensures c.in_ok-numbers.numbers.count c.in_ok-numbers.ensures.count
     c.deref-codes.result.now (c.deref-codes.ensures.value ∙ c.in_ok-numbers.ensures.codes) c.count.result c.count.ensures c.split_at.result.0.now c.split_at.result.1.now c.split_at.ensures.front c.split_at.ensures.back
 
@@ -25,24 +25,24 @@ pub returns-in-Some-clause-pairs : goal.returns-in-Some-clause-pairs
 returns-in-Some-clause-pairs g c =
     refused_left c.args.dict.now c.args.how c.args.once (g.L.KeyLevels.keys c.args.left.now) (g.R.KeyLevels.keys c.args.right.now) c.is_outer.result c.is_outer.ensures c.in_ok-numbers.numbers.count c.in_ok-numbers.ensures.count
     c.deref-codes.result.now (c.deref-codes.ensures.value ∙ c.in_ok-numbers.ensures.codes) c.count.result c.count.ensures
-    c.in_ok-lefts.lefts.codes.now c.in_ok-rights.rights.codes.now (c.in_ok-lefts.ensures.codes ∙ c.split_at.ensures.front) (c.in_ok-rights.ensures.codes ∙ c.split_at.ensures.back)
-    c.in-Some.key (sym c.repeated_key.ensures ∙ c.in-Some.is)
+    c.of-lefts.result.codes.now c.of-rights.result.codes.now (c.of-lefts.ensures.codes ∙ c.split_at.ensures.front) (c.of-rights.ensures.codes ∙ c.split_at.ensures.back)
+    c.in-Some.key (sym c.in_ok-on_left.ensures ∙ c.in-Some.is)
 
-pub returns-in-Some-repeated_key-clause-pairs : goal.returns-in-Some-repeated_key-clause-pairs
-returns-in-Some-repeated_key-clause-pairs g c =
+pub returns-in-Some-on_right-clause-pairs : goal.returns-in-Some-on_right-clause-pairs
+returns-in-Some-on_right-clause-pairs g c =
     refused_right c.args.dict.now c.args.how c.args.once (g.L.KeyLevels.keys c.args.left.now) (g.R.KeyLevels.keys c.args.right.now) c.is_outer.result c.is_outer.ensures c.in_ok-numbers.numbers.count c.in_ok-numbers.ensures.count
     c.deref-codes.result.now (c.deref-codes.ensures.value ∙ c.in_ok-numbers.ensures.codes) c.count.result c.count.ensures
-    c.in_ok-lefts.lefts.codes.now c.in_ok-rights.rights.codes.now (c.in_ok-lefts.ensures.codes ∙ c.split_at.ensures.front) (c.in_ok-rights.ensures.codes ∙ c.split_at.ensures.back)
-    c.in-Some-repeated_key.key (sym c.repeated_key.ensures ∙ c.in_default.is) (sym c.repeated_key-2.ensures ∙ c.in-Some-repeated_key.is)
+    c.of-lefts.result.codes.now c.of-rights.result.codes.now (c.of-lefts.ensures.codes ∙ c.split_at.ensures.front) (c.of-rights.ensures.codes ∙ c.split_at.ensures.back)
+    c.in-Some-on_right.key (sym c.in_ok-on_left.ensures ∙ c.in_default.is) (sym c.in_ok-on_right.ensures ∙ c.in-Some-on_right.is)
 
 pub returns-clause-pairs : goal.returns-clause-pairs
 returns-clause-pairs g c =
     subst (JoinsBy c.joined_by_code.result)
     (sym (allowed c.args.dict.now c.args.how c.args.once (g.L.KeyLevels.keys c.args.left.now) (g.R.KeyLevels.keys c.args.right.now) c.is_outer.result c.is_outer.ensures c.in_ok-numbers.numbers.count c.in_ok-numbers.ensures.count
     c.deref-codes.result.now (c.deref-codes.ensures.value ∙ c.in_ok-numbers.ensures.codes) c.count.result c.count.ensures
-    c.in_ok-lefts.lefts.codes.now c.in_ok-rights.rights.codes.now (c.in_ok-lefts.ensures.codes ∙ c.split_at.ensures.front) (c.in_ok-rights.ensures.codes ∙ c.split_at.ensures.back)
-    (sym c.repeated_key.ensures ∙ c.in_default.is) (sym c.repeated_key-2.ensures ∙ c.in_default-repeated_key.is)))
-    (subst (λ n. JoinsBy c.joined_by_code.result (within_limit (code_pairs c.args.how n c.in_ok-lefts.lefts.codes.now c.in_ok-rights.rights.codes.now))) c.in_ok-lefts.ensures.count c.joined_by_code.ensures)
+    c.of-lefts.result.codes.now c.of-rights.result.codes.now (c.of-lefts.ensures.codes ∙ c.split_at.ensures.front) (c.of-rights.ensures.codes ∙ c.split_at.ensures.back)
+    (sym c.in_ok-on_left.ensures ∙ c.in_default.is) (sym c.in_ok-on_right.ensures ∙ c.in_default-on_right.is)))
+    (subst (λ n. JoinsBy c.joined_by_code.result (within_limit (code_pairs c.args.how n c.of-lefts.result.codes.now c.of-rights.result.codes.now))) c.of-lefts.ensures.count c.joined_by_code.ensures)
 
 pub returns-clause-law : goal.returns-clause-law
 returns-clause-law g c = law_of c.args.dict.now c.args.how c.args.once (g.L.KeyLevels.keys c.args.left.now) (g.R.KeyLevels.keys c.args.right.now) c.joined_by_code.result (returns-clause-pairs g c)

@@ -1,24 +1,25 @@
-use Rattle.std.proofs.Common.{rules, ◌≡◌, true, false}
+use Rattle.std.proofs.Common.{◌∙◌, sym}
+use Rattle.join_meaning.specs.Pairs.{within_limit}
 use Rattle.merge_concat.specs.Codes.{outer_pairs, counted_by_key}
 use Rattle.merge_concat.proofs.CountLaws.{length-outer, too_many, few_enough}
 use Rattle.merge_concat.proofs.pairs.joined_by_key.Goals as goal
 
-pub returns-then-not-are_few_by_key : goal.returns-then-not-are_few_by_key
-returns-then-not-are_few_by_key c =
-    let n = c.args.left.now.count in
-    let left = c.args.left.now.codes.now in
-    let right = c.args.right.now.codes.now in
-    let fails : c.are_few_by_key.result ≡ false = search rules in
-    too_many (outer_pairs n left right) (counted_by_key n left right) c.are_few_by_key.result c.are_few_by_key.ensures (length-outer n left right) fails
-
 pub returns : goal.returns
 returns c =
-    let n = c.args.left.now.count in
-    let left = c.args.left.now.codes.now in
-    let right = c.args.right.now.codes.now in
-    let holds : c.are_few_by_key.result ≡ true = search rules in
+    let n = c.in_ok-lefts.lefts.count in
+    let lefts = c.in_ok-lefts.lefts.codes.now in
+    let rights = c.in_ok-rights.rights.codes.now in
+    sym (λ i. within_limit (outer_pairs (c.in_ok-lefts.ensures.count i) (c.in_ok-lefts.ensures.codes i) (c.in_ok-rights.ensures.codes i)))
+    ∙ too_many (outer_pairs n lefts rights) (counted_by_key n lefts rights) (length-outer n lefts rights) c.in-None.ensures
+
+pub returns-in-Some : goal.returns-in-Some
+returns-in-Some c =
+    let n = c.in_ok-lefts.lefts.count in
+    let lefts = c.in_ok-lefts.lefts.codes.now in
+    let rights = c.in_ok-rights.rights.codes.now in
     record {
-      pairs = outer_pairs n left right;
-      are = few_enough (outer_pairs n left right) (counted_by_key n left right) c.are_few_by_key.result c.are_few_by_key.ensures (length-outer n left right) holds;
-      seen = c.in_ok-pairs.ensures;
+      pairs = outer_pairs n lefts rights;
+      are = sym (λ i. within_limit (outer_pairs (c.in_ok-lefts.ensures.count i) (c.in_ok-lefts.ensures.codes i) (c.in_ok-rights.ensures.codes i)))
+          ∙ few_enough (outer_pairs n lefts rights) (counted_by_key n lefts rights) (length-outer n lefts rights) c.in-Some.ensures.1;
+      seen = c.in_ok-pairs_by_key-in-Some.ensures;
     }

@@ -1,7 +1,7 @@
 use Rattle.merge_concat.specs.Codes.{outer_pairs}
-use Rattle.merge_concat.specs.Pairs.{ArePairs}
+use Rattle.merge_concat.specs.Pairs.{AreListed}
 use Rattle.merge_concat.proofs.pairs.pairs_by_key.Given as goal
 
 -- the pairs of the numbers so far
 abbrev pub invariant-loop-code : goal.invariant-loop-code
-invariant-loop-code l = ArePairs l.out (outer_pairs l.code l.left.codes.now l.right.codes.now)
+invariant-loop-code l = AreListed l.out (outer_pairs l.code l.left.codes.now l.right.codes.now)

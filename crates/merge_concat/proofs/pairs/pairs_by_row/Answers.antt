@@ -1,8 +1,9 @@
-use Rattle.std.proofs.Common.{◌<◌, ◌∙◌, ap, sym, subst, length, map, take, nat_eq, Some, arith}
+use Rattle.std.proofs.Common.{◌≤◌, ◌<◌, ◌∙◌, ap, sym, subst, length, map, take, nat_eq, Some, arith}
+use Rattle.std.proofs.lemmas.List.{take_all}
 use Rattle.join_meaning.specs.Pairs.{pair, partners, pairs_from}
 use Rattle.row_keys.specs.Buckets.{rows_of_code}
-use Rattle.merge_concat.specs.Pairs.{ArePairs, HasMore}
-use Rattle.merge_concat.proofs.PairLaws.{from_more, pairs_more}
+use Rattle.merge_concat.specs.Pairs.{ArePairs, AreListed, HasMore}
+use Rattle.merge_concat.proofs.PairLaws.{from_more, pairs_more, pairs_listed}
 use Rattle.merge_concat.proofs.pairs.pairs_by_row.Goals as goal
 
 pub loop-row-preserved : goal.loop-row-preserved
@@ -10,6 +11,14 @@ loop-row-preserved c =
     let left = c.args.left.now.codes.now in
     let right = c.args.right.now.codes.now in
     let lt : c.loop-row.row < length left = omega arith in
-    subst (ArePairs c.push_row.new.out) (sym (from_more nat_eq c.args.stays right left c.loop-row.row 0 lt))
+    subst (AreListed c.push_row.new.out) (sym (from_more nat_eq c.args.stays right left c.loop-row.row 0 lt))
     (pairs_more c.loop-row.out c.push_row.new.out (pairs_from nat_eq c.args.stays 0 (take c.loop-row.row left) right) _ c.loop-row.invariant
     (subst (HasMore c.loop-row.out c.push_row.new.out) (ap (λ rows. map (pair (Some c.loop-row.row)) (partners c.args.stays rows)) (c.rows_of.ensures ∙ ap (λ code. rows_of_code code right) c.code.ensures.code)) c.in_ok-push_row.ensures))
+
+pub returns : goal.returns
+returns c =
+    let left = c.args.left.now.codes.now in
+    let right = c.args.right.now.codes.now in
+    let end : length left ≤ c.loop-row.row = omega arith in
+    subst (λ codes. ArePairs c.pairs_made.result (pairs_from nat_eq c.args.stays 0 codes right)) (take_all c.loop-row.row left end)
+    (pairs_listed c.loop-row.out c.pairs_made.result (pairs_from nat_eq c.args.stays 0 (take c.loop-row.row left) right) c.pairs_made.ensures.left c.pairs_made.ensures.right c.loop-row.invariant)

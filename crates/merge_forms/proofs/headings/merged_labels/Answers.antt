@@ -1,7 +1,7 @@
 use Rattle.std.proofs.Common.{◌∙◌, ◌++◌, ap, length, List, map}
 use Rattle.table_meaning.specs.Table.{table_value}
 use Rattle.frame_store.proofs.Settling.{longer_twice}
-use Rattle.frame_methods.proofs.NamedLaws.{others_inside, others_meant, all_are}
+use Rattle.label_methods.proofs.NamedLaws.{others_inside, others_meant, all_are}
 use Rattle.selections.proofs.PickedLaws.{places_inside}
 use Rattle.merge_forms.specs.Keys.{keys_value}
 use Rattle.merge_forms.specs.Headings.{label_beside}

@@ -45,6 +45,8 @@ returns c =
     let l = c.args.l.now in
     let r = c.args.r.now in
     let keys = c.args.keys.now in
-    let count : length (kinds_of l keys.left) ≡ length keys.left = length-map keys.left _ in
-    let end : length (kinds_of l keys.left) ≤ c.loop-k.k = omega (arith, count) in
-    all_same (kinds_of l keys.left) (kinds_of r keys.right) c.loop-k.k (are_same_kinds (kinds_of l keys.left) (kinds_of r keys.right)) end c.loop-k.invariant
+    let lefts : length (kinds_of l keys.left) ≡ length keys.left = length-map keys.left _ in
+    let rights : length (kinds_of r keys.right) ≡ length keys.right = length-map keys.right _ in
+    let end : length (kinds_of l keys.left) ≤ c.loop-k.k = omega (arith, lefts) in
+    let end' : length (kinds_of r keys.right) ≤ c.loop-k.k = omega (arith, rights, c.requires.same) in
+    all_same (kinds_of l keys.left) (kinds_of r keys.right) c.loop-k.k (are_same_kinds (kinds_of l keys.left) (kinds_of r keys.right)) end end' c.loop-k.invariant

@@ -1,4 +1,5 @@
 use Rattle.std.proofs.Common.{◌≡◌, ◌∙◌, ◌<◌, ◌≤◌, ◌++◌, ◌∷◌, [], ap, sym, subst, length, true, false, List, Option, Some, arith, rules, map, filter}
+use Rattle.std.specs.Prelude.{filter_map}
 use Rattle.std.specs.List.{list_any}
 use Rattle.std.proofs.lemmas.List.{take_all, length-map}
 use Rattle.cell_core.specs.declared.cell.Cell.{Cell}
@@ -11,7 +12,7 @@ use Rattle.selections.specs.Headings.{same_heading}
 use Rattle.selections.proofs.PickedLaws.{places_inside}
 use Rattle.selections.proofs.PlaceLaws.{heading_settled}
 use Rattle.merge_forms.specs.Keys.{cell_labels}
-use Rattle.merge_forms.proofs.KeyLaws.{is_common, common_by, cell_given, one_more_common, no_more_common}
+use Rattle.merge_forms.proofs.KeyLaws.{is_common, labels_of_some, common_by, cell_given, one_more_common, no_more_common}
 use Rattle.merge_forms.proofs.keys.common_labels.Goals as goal
 use Rattle.merge_forms.proofs.keys.common_labels.Goals.{then-contains+in_ok-push, else-contains}
 
@@ -53,4 +54,5 @@ returns-clause-labels c =
     let hs = headings_value c.args.dict.now c.args.l.now.headings in
     let count : length hs ≡ length c.args.l.now.headings = length-map c.args.l.now.headings (heading_value c.args.dict.now) in
     let end : length hs ≤ c.loop-place.place = omega (arith, count, c.requires.left.whole.headed) in
-    c.loop-place.invariant.labels ∙ ap (filter (is_common (headings_value c.args.dict.now c.args.r.now.headings))) (take_all c.loop-place.place hs end)
+    sym (labels_of_some (cell_labels c.args.dict.now c.loop-place.cells))
+    ∙ ap (filter_map (λ h. h)) (c.loop-place.invariant.labels ∙ ap (filter (is_common (headings_value c.args.dict.now c.args.r.now.headings))) (take_all c.loop-place.place hs end))

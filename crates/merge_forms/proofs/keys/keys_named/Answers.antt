@@ -9,7 +9,8 @@ use Rattle.form_meaning.specs.Select.{column_places}
 use Rattle.frame_store.specs.Shown.{cells_value}
 use Rattle.frame_store.proofs.Settling.{headings_part}
 use Rattle.selections.specs.Selected.{as_it_is}
-use Rattle.merge_forms.specs.Keys.{keys_seen, cell_labels, keys_named}
+use Rattle.method_meaning.specs.Merge.{keys_named}
+use Rattle.merge_forms.specs.Keys.{keys_seen, cell_labels}
 use Rattle.merge_forms.proofs.KeyLaws.{stops, goes_on, fails_so, places_count}
 use Rattle.merge_forms.proofs.keys.keys_named.Goals as goal
 

@@ -9,7 +9,7 @@ use Rattle.method_meaning.specs.Merge.{validate_in}
 use Rattle.frame_store.specs.Objects.{tables}
 use Rattle.frame_store.specs.Shown.{Makes}
 use Rattle.frame_store.specs.World.{world}
-use Rattle.frame_methods.proofs.AnswerLaws.{known_table}
+use Rattle.label_methods.proofs.AnswerLaws.{known_table}
 use Rattle.merge_forms.specs.Keys.{keys_value, keys_seen, keys_checked, cell_labels}
 use Rattle.merge_forms.proofs.KeyLaws.{goes_on}
 use Rattle.merge_forms.proofs.CallLaws.{told_given, told_some, read_is, shape_read, right_shape, keys_refused}

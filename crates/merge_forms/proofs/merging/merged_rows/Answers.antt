@@ -12,7 +12,7 @@ use Rattle.form_meaning.specs.Infix.{common_name}
 use Rattle.method_meaning.specs.Merge.{merged}
 use Rattle.frame_store.proofs.Settling.{columns_name_part}
 use Rattle.selections.specs.Headings.{repeated_heading, NamesRepeated}
-use Rattle.frame_methods.proofs.NamedLaws.{others_meant}
+use Rattle.label_methods.proofs.NamedLaws.{others_meant}
 use Rattle.merge_forms.specs.Keys.{keys_value}
 use Rattle.merge_forms.specs.Rows.{repeated_in, pairs_in, AreRowsMet}
 use Rattle.merge_forms.proofs.TableLaws.{met_refused, refused_is, may_repeated, may_many, may_beyond, may_within, within_few, is_headed, rows_meant, labels_some, made_is, parts_fit, rights_inside, pairs_counted, met_some, met_none}

@@ -3,7 +3,7 @@ use Rattle.std.specs.List.{list_any}
 use Rattle.meaning.specs.Cell.{IsLonger}
 use Rattle.table_meaning.specs.Table.{heading_value}
 use Rattle.frame_store.proofs.Settling.{longer_self}
-use Rattle.frame_methods.proofs.ResetLaws.{interned}
+use Rattle.label_methods.proofs.ResetLaws.{interned}
 use Rattle.selections.specs.Headings.{same_heading}
 use Rattle.merge_forms.specs.Headings.{suffixed_if}
 use Rattle.merge_forms.proofs.HeadingLaws.{suffix_put, none_put, text_given}

@@ -8,4 +8,4 @@ use Rattle.nullable_array.proofs.reductions.reduce_numbers.Goals as goal
 
 pub returns-in-Some-clause-value : goal.returns-in-Some-clause-value
 returns-in-Some-clause-value c = λ texts.
-    c.reduced_numbers.ensures.value texts ∙ ap (λ (col : CellColumn). reduction_cell (reduction_of c.args.op) (column_value texts col).cells) (same_column Int64 number_cell _ _ _ _ c.in-Some.ensures.count c.in-Some.ensures.rows)
+    c.reduced_side.ensures.value texts ∙ ap (λ (col : CellColumn). reduction_cell (reduction_of c.args.op) (column_value texts col).cells) (same_column Int64 number_cell _ _ _ _ c.in-Some.ensures.count c.in-Some.ensures.rows)

@@ -37,7 +37,7 @@ use Rattle.script_session.proofs.FormFaults.{sign_result_fault, infix_result_fau
 use Rattle.script_session.proofs.SelectFaults.{select_result_fault}
 use Rattle.script_session.proofs.CallFaults.{call_result_fault}
 use Rattle.meaning.specs.Text.{Text}
-use Rattle.frame_methods.specs.Calls.{chain_in, IsKnownChain}
+use Rattle.label_methods.specs.Chains.{chain_in, IsKnownChain}
 use Rattle.table_meaning.specs.Value.{Given, NamedGiven}
 use Rattle.script_session.specs.Links.{link_name, chain_behind, chain_meant, after_brackets, after_link, linked}
 use Rattle.script_session.specs.declared.link.Link.{Link}

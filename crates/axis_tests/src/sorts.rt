@@ -1,0 +1,85 @@
+// Rows in an order, and by their labels.
+ghost use Rattle.axis_tests.specs.Orders.{is_sooner, sooner_is_weak};
+
+use crate::picks::are;
+use cell_core::{Label, TextDict};
+use sorting::{LabelKeys, RowOrder, rows_by_labels, sorted_rows};
+use std::cmp::Ordering;
+use std::test::Fail;
+
+// Even rows before odd ones.
+struct EvenFirst;
+
+impl RowOrder for EvenFirst {
+    ghost less = { λ _. is_sooner };
+
+    ghost weak = { λ _. sooner_is_weak };
+
+    fn compare(&self, i: usize, j: usize) -> Ordering {
+        (i % 2).cmp(&(j % 2))
+    }
+}
+
+#[test]
+fn rows_that_tie_stay_as_they_stood(rt: HostRuntime) -> Result<(), Fail> {
+    let rows = sorted_rows(rt.alloc(), 5, &EvenFirst)?;
+    assert!(rt; are(&rows, &[0, 2, 4, 1, 3]));
+    Ok(())
+}
+
+// Rows of one label each.
+#[derive(Clone, Copy)]
+struct Single<'a> {
+    labels: &'a [Label],
+}
+
+impl LabelKeys for Single<'_> {
+    ghost use Rattle.axis_tests.specs.Orders.{label_at};
+
+    ghost keys = { λ _. 1 };
+
+    ghost label_at = { λ s row _. label_at s.labels.now row };
+
+    fn count(&self) -> usize {
+        1
+    }
+
+    fn at(&self, row: usize, _: usize) -> Label {
+        if row < self.labels.len() {
+            self.labels[row]
+        } else {
+            Label::Na
+        }
+    }
+}
+
+#[test]
+fn texts_without_a_number_tie(rt: HostRuntime) -> Result<(), Fail> {
+    let mut other = TextDict::new(rt.alloc());
+    let first = Label::Text(other.intern("a")?);
+    let second = Label::Text(other.intern("b")?);
+    let third = Label::Text(other.intern("c")?);
+    let mut dict = TextDict::new(rt.alloc());
+    dict.intern("z")?;
+    let labels = [first, third, Label::Int(7), second];
+    let keys = Single { labels: &labels };
+    let rows = rows_by_labels(rt.alloc(), &dict, &keys, true, 4)?;
+    assert!(rt; are(&rows, &[2, 1, 3, 0]));
+    let turned = rows_by_labels(rt.alloc(), &dict, &keys, false, 4)?;
+    assert!(rt; are(&turned, &[0, 1, 3, 2]));
+    Ok(())
+}
+
+// From the least whole number to the greatest there is no room for a row beside the number.
+#[test]
+fn values_without_room_are_in_order(rt: HostRuntime) -> Result<(), Fail> {
+    let dict = TextDict::new(rt.alloc());
+    let (least, most) = (Label::Int(i64::MIN), Label::Int(i64::MAX));
+    let labels = [most, least, Label::Int(0), most, least];
+    let keys = Single { labels: &labels };
+    let rows = rows_by_labels(rt.alloc(), &dict, &keys, true, 5)?;
+    assert!(rt; are(&rows, &[1, 4, 2, 0, 3]));
+    let turned = rows_by_labels(rt.alloc(), &dict, &keys, false, 5)?;
+    assert!(rt; are(&turned, &[0, 3, 2, 1, 4]));
+    Ok(())
+}

@@ -1,7 +1,0 @@
-use Rattle.std.proofs.Common.{◌≡◌, map, take}
-use Rattle.form_parts.specs.Labels.{label_of}
-use Rattle.frame_methods.proofs.indexing.cell_labels.Given as goal
-
--- the labels so far
-abbrev pub invariant-loop-row : goal.invariant-loop-row
-invariant-loop-row l = l.labels.items ≡ map label_of (take l.row l.column.cells)

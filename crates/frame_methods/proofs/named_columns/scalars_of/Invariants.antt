@@ -1,9 +1,0 @@
-use Rattle.std.proofs.Common.{◌≡◌, List, ◌++◌, drop}
-use Rattle.meaning.specs.Text.{Text}
-use Rattle.frame_store.specs.Shown.{cells_value}
-use Rattle.signatures.specs.Scalars.{scalars}
-use Rattle.frame_methods.proofs.named_columns.scalars_of.Given as goal
-
--- the scalars so far, before the others
-abbrev pub invariant-loop-item : goal.invariant-loop-item
-invariant-loop-item l = (texts : List Text) → cells_value texts l.cells ++ scalars texts (drop l.item-index l.items) ≡ scalars texts l.items

@@ -1,7 +1,0 @@
-use Rattle.std.proofs.Common.{◌≡◌, map, take}
-use Rattle.frame_methods.specs.Labels.{column_tuple}
-use Rattle.frame_methods.proofs.series.column_tuples.Given as goal
-
--- the tuples of the columns so far
-abbrev pub invariant-loop-place : goal.invariant-loop-place
-invariant-loop-place l = l.tuples ≡ map column_tuple (take l.place l.on.headings)

@@ -1,7 +1,0 @@
-use Rattle.std.proofs.Common.{sym, subst}
-use Rattle.multi_index.specs.Axes.{HaveLevels}
-use Rattle.frame_methods.proofs.SeriesLaws.{tuples_alike}
-use Rattle.frame_methods.proofs.series.columns_axis.Goals as goal
-
-pub from_tuples-requires-clause-alike : goal.from_tuples-requires-clause-alike
-from_tuples-requires-clause-alike c = subst (HaveLevels 1) (sym c.in_ok-tuples.ensures) (tuples_alike c.args.on.now.headings)

@@ -1,0 +1,10 @@
+use Rattle.std.proofs.Common.{◌≡◌, ◌≤◌, take}
+use Rattle.label_align.specs.Runs.{counted}
+use Rattle.label_align.proofs.runs.size_of_runs.Given as goal
+
+-- the entries so far are few
+abbrev pub invariant-loop-run : goal.invariant-loop-run
+invariant-loop-run l = record {
+  total : l.total ≡ counted (take l.run-index l.parts);
+  fits : l.total ≤ 67108864;
+}

@@ -1,0 +1,29 @@
+-- The labels of columns as labels of rows.
+use Rattle.std.proofs.Common.{◌≡◌, refl, pos, List, [], ◌∷◌, map, length, Option, Some, None, slice_index_or, unwrap_or}
+use Rattle.std.proofs.lemmas.List.Elements.{All-map}
+use Rattle.cell_core.specs.declared.cell.Label.{Label}
+use Rattle.meaning.specs.Text.{Text}
+use Rattle.meaning.specs.Cell.{LabelValue, int}
+use Rattle.multi_index.specs.Axes.{HaveLevels}
+use Rattle.table_meaning.specs.Table.{heading_value, tuple_value}
+use Rattle.frame_store.specs.Shown.{labels_value, headings_value}
+use Rattle.label_methods.specs.Labels.{column_tuple}
+
+single : (h : Option Label) → length (column_tuple h) ≡ 1
+single None = refl
+single (Some l) = refl
+
+pub tuples_alike : (hs : List (Option Label)) → HaveLevels 1 (map column_tuple hs)
+tuples_alike hs = All-map (λ (tuple : List Label). length tuple ≡ 1) column_tuple hs (λ k d lt. single (slice_index_or hs k d))
+
+-- the label of a column as a tuple, with texts
+abbrev pub label_tuple : Option LabelValue → List LabelValue
+label_tuple h = unwrap_or h (int (pos 0)) ∷ []
+
+tuple_seen : (texts : List Text) (h : Option Label) → label_tuple (heading_value texts h) ≡ tuple_value texts (column_tuple h)
+tuple_seen texts None = refl
+tuple_seen texts (Some l) = refl
+
+pub tuples_seen : (texts : List Text) (hs : List (Option Label)) → map label_tuple (headings_value texts hs) ≡ labels_value texts (map column_tuple hs)
+tuples_seen texts [] = refl
+tuples_seen texts (h ∷ hs) = λ j. tuple_seen texts h j ∷ tuples_seen texts hs j

@@ -1,0 +1,102 @@
+-- Levels that go, or change places with one another.
+use Rattle.std.proofs.Common.{◌≡◌, ◌∙◌, refl, ap, sym, subst, ℕ, suc, ◌<◌, ◌≤◌, Bool, true, false, ℤ, List, [], ◌∷◌, ◌++◌, map, take, drop, length, slice_index_or, Option, Some, None, Result, Ok, Err, if◌then◌else◌, arith}
+use Rattle.std.specs.Prelude.{IfSome, nat_le, remove, swap, slice_set}
+use Rattle.std.specs.Option.{option_map}
+use Rattle.std.proofs.Math.ListN.{get_or-map}
+use Rattle.std.proofs.lemmas.Bool.Decides.{nat_tests}
+use Rattle.std.proofs.lemmas.List.{length-map, map-append, take-map, map-set}
+use Rattle.std.specs.List.{drop-map}
+use Rattle.cell_core.specs.Texts.{IsGiven}
+use Rattle.cell_core.specs.declared.cell.Cell.{Cell}
+use Rattle.cell_core.specs.declared.cell.Label.{Label}
+use Rattle.meaning.specs.Text.{Text}
+use Rattle.meaning.specs.Cell.{datum, label_datum}
+use Rattle.meaning.specs.Fault.{FaultValue, bad_value, levels}
+use Rattle.meaning.specs.Place.{place_of}
+use Rattle.multi_index.specs.Axes.{AxisValue, without_level, with_swapped}
+use Rattle.pick_meaning.specs.Positions.{row_at, row_or_fault}
+use Rattle.select_meaning.specs.Keys.{found_pick}
+use Rattle.table_meaning.specs.Change.{with_labels}
+use Rattle.table_meaning.specs.Settled.{IsSettled}
+use Rattle.table_meaning.specs.Table.{NumberedTable, table_value, heading_value}
+use Rattle.table_meaning.specs.Value.{Entry, scalar_in}
+use Rattle.form_meaning.specs.Finish.{limited}
+use Rattle.method_meaning.specs.Levels.{level_dropped, level_gone, levels_swapped}
+use Rattle.frame_store.specs.Arguments.{arguments_of}
+use Rattle.frame_store.specs.Objects.{Tables}
+use Rattle.frame_store.specs.Parts.{axis_of}
+use Rattle.frame_store.specs.Shown.{labels_value}
+use Rattle.frame_store.proofs.Settling.{settled_by, cell_given}
+use Rattle.signatures.specs.Bound.{Tells}
+use Rattle.signatures.specs.declared.bound.Bound.{Bound}
+use Rattle.signatures.proofs.ToldLaws.{told_settled, some_same}
+
+-- the texts of an argument were given
+pub option_given : (b : Bound) (place : ℕ) (o : Option Cell) (live : Tables) (texts : List Text) → Tells b place scalar_in (λ _ ts. option_map (datum ts) o) → IsSettled (arguments_of live) texts b.args.now → IfSome o (IsGiven texts)
+option_given b place None live texts tells settled = tt
+option_given b place (Some c) live texts tells settled = cell_given texts c (λ more. some_same _ _ (told_settled b place scalar_in (λ _ ts. Some (datum ts c)) live texts tells settled more))
+
+-- a level by its number
+pub number_found : (count : ℕ) (z : ℤ) (o : Option ℕ) (level : ℕ) → o ≡ place_of z count → o ≡ Some level → found_pick (row_at count z) ≡ Ok level
+number_found count z o level is some = ap (λ p. found_pick (row_or_fault count z p)) (sym is ∙ some)
+
+pub number_lost : (count : ℕ) (z : ℤ) (o : Option ℕ) → o ≡ place_of z count → o ≡ None → found_pick (row_at count z) ≡ Err (Rattle.meaning.specs.Fault.out_of_range z count)
+number_lost count z o is none = ap (λ p. found_pick (row_or_fault count z p)) (sym is ∙ none)
+
+-- what is made of a list, item by item
+map-remove : {X Y : Type 0} (f : X → Y) (xs : List X) (i : ℕ) → map f (remove xs i) ≡ remove (map f xs) i
+map-remove f xs i = map-append f (take i xs) (drop (suc i) xs) ∙ (λ j. sym (take-map f i xs) j ++ sym (drop-map f (suc i) xs) j)
+
+map-swap : {X Y : Type 0} (f : X → Y) (xs : List X) (i j : ℕ) → map f (swap xs i j) ≡ swap (map f xs) i j
+map-swap f [] i j = refl
+map-swap f (x ∷ xs) i j =
+    map-set f (slice_set (x ∷ xs) i (slice_index_or (x ∷ xs) j x)) j (slice_index_or (x ∷ xs) i x)
+    ∙ ap (λ l. slice_set l j (f (slice_index_or (x ∷ xs) i x))) (map-set f (x ∷ xs) i (slice_index_or (x ∷ xs) j x))
+    ∙ (λ k. slice_set (slice_set (map f (x ∷ xs)) i (sym (get_or-map f (x ∷ xs) j x) k)) j (sym (get_or-map f (x ∷ xs) i x) k))
+
+each_removed : (texts : List Text) (tuples : List (List Label)) (level : ℕ) → labels_value texts (map (λ tuple. remove tuple level) tuples) ≡ map (λ tuple. remove tuple level) (labels_value texts tuples)
+each_removed texts [] level = refl
+each_removed texts (t ∷ ts) level = λ j. map-remove (label_datum texts) t level j ∷ each_removed texts ts level j
+
+each_swapped : (texts : List Text) (tuples : List (List Label)) (a b : ℕ) → labels_value texts (map (λ tuple. swap tuple a b) tuples) ≡ map (λ tuple. swap tuple a b) (labels_value texts tuples)
+each_swapped texts [] a b = refl
+each_swapped texts (t ∷ ts) a b = λ j. map-swap (label_datum texts) t a b j ∷ each_swapped texts ts a b j
+
+-- the table without a level
+pub dropped_seen : (texts : List Text) (t : NumberedTable) (axis : AxisValue) (level : ℕ) → axis ≡ without_level (axis_of t) level → table_value texts (with_labels t axis.tuples axis.names) ≡ level_dropped (table_value texts t) level
+dropped_seen texts t axis level is =
+    ap (λ (a : AxisValue). table_value texts (with_labels t a.tuples a.names)) is
+    ∙ (λ j. record (table_value texts t) { labels = each_removed texts t.labels level j; level_names = map-remove (heading_value texts) t.level_names level j })
+
+pub dropped_settled : (texts : List Text) (t : NumberedTable) (axis : AxisValue) (level : ℕ) → axis ≡ without_level (axis_of t) level → IsSettled table_value texts t → IsSettled table_value texts (with_labels t axis.tuples axis.names)
+dropped_settled texts t axis level is settled =
+    settled_by table_value table_value (λ v. level_dropped v level) texts t (with_labels t axis.tuples axis.names) (λ ts. sym (dropped_seen ts t axis level is)) settled
+
+-- another level stays, or none does
+abbrev if_several : Bool → Result Entry FaultValue → Result Entry FaultValue
+if_several b rest = if b then rest else Err (bad_value levels)
+
+levels_counted : (texts : List Text) (t : NumberedTable) → length (table_value texts t).level_names ≡ length t.level_names
+levels_counted texts t = length-map t.level_names (heading_value texts)
+
+pub level_stays : (texts : List Text) (t : NumberedTable) (level : ℕ) → 2 ≤ length t.level_names → level_gone (table_value texts t) level ≡ limited (level_dropped (table_value texts t) level)
+level_stays texts t level several = ap (λ b. if_several b (limited (level_dropped (table_value texts t) level))) (yes (length (table_value texts t).level_names) (subst (λ n. 2 ≤ n) (sym (levels_counted texts t)) several))
+  where
+    yes : (n : ℕ) → 2 ≤ n → nat_le 2 n ≡ true
+    yes n h = grind (arith, nat_tests)
+
+pub only_level : (texts : List Text) (t : NumberedTable) (level : ℕ) → length t.level_names < 2 → level_gone (table_value texts t) level ≡ Err (bad_value levels)
+only_level texts t level one = ap (λ b. if_several b (limited (level_dropped (table_value texts t) level))) (no (length (table_value texts t).level_names) (subst (λ n. n < 2) (sym (levels_counted texts t)) one))
+  where
+    no : (n : ℕ) → n < 2 → nat_le 2 n ≡ false
+    no n h = grind (arith, nat_tests)
+
+-- the table with two levels exchanged
+pub swapped_seen : (texts : List Text) (t : NumberedTable) (axis : AxisValue) (a b : ℕ) → axis ≡ with_swapped (axis_of t) a b → table_value texts (with_labels t axis.tuples axis.names) ≡ levels_swapped (table_value texts t) a b
+swapped_seen texts t axis a b is =
+    ap (λ (x : AxisValue). table_value texts (with_labels t x.tuples x.names)) is
+    ∙ (λ j. record (table_value texts t) { labels = each_swapped texts t.labels a b j; level_names = map-swap (heading_value texts) t.level_names a b j })
+
+pub swapped_settled : (texts : List Text) (t : NumberedTable) (axis : AxisValue) (a b : ℕ) → axis ≡ with_swapped (axis_of t) a b → IsSettled table_value texts t → IsSettled table_value texts (with_labels t axis.tuples axis.names)
+swapped_settled texts t axis a b is settled =
+    settled_by table_value table_value (λ v. levels_swapped v a b) texts t (with_labels t axis.tuples axis.names) (λ ts. sym (swapped_seen ts t axis a b is)) settled

@@ -1,0 +1,75 @@
+-- Names of levels that an argument is.
+use Rattle.std.proofs.Common.{◌≡◌, ◌∙◌, append_assoc, append-nil, ap, sym, ℕ, ◌+◌, ◌<◌, ◌≤◌, List, [], ◌∷◌, ◌++◌, length, drop, get_or, map, Option, Some, None, option_map}
+use Rattle.std.proofs.lemmas.List.{map-append, at_drop_all}
+use Rattle.column_core.proofs.CellRows.{map-map}
+use Rattle.cell_core.specs.declared.cell.Cell.{Cell}
+use Rattle.cell_core.specs.declared.cell.Label.{Label}
+use Rattle.meaning.specs.Cell.{LabelValue, datum, label_datum}
+use Rattle.meaning.specs.Operator.{cell_label}
+use Rattle.meaning.specs.Text.{Text}
+use Rattle.table_meaning.specs.Table.{heading_value}
+use Rattle.table_meaning.specs.Value.{Given, nothing, one, row, many, entries, scalar_in, list_in}
+use Rattle.table_meaning.specs.Settled.{IsSettled}
+use Rattle.form_meaning.specs.Binding.{argument_at}
+use Rattle.form_meaning.specs.Select.{cells_of, labels_of}
+use Rattle.method_meaning.specs.Levels.{names_in}
+use Rattle.frame_store.specs.Objects.{Tables}
+use Rattle.frame_store.specs.Arguments.{items_of, arguments_of}
+use Rattle.frame_store.specs.Shown.{headings_value}
+use Rattle.frame_store.specs.declared.arguments.Item.{Item}
+use Rattle.signatures.specs.Bound.{stands_at}
+use Rattle.signatures.specs.declared.bound.Bound.{Bound}
+use Rattle.signatures.specs.Scalars.{scalars}
+use Rattle.signatures.proofs.ScalarLaws.{scalars_are}
+use Rattle.signatures.proofs.ToldLaws.{some_same}
+use Rattle.label_methods.specs.Levels.{some_labels}
+use Rattle.label_methods.proofs.ScalarLaws.{IsScalarOf, scalars_from}
+
+-- one name more
+pub names_more : (texts : List Text) (items : List Item) (i : ℕ) (item : Item) (c : Cell) (l : Label) (names names' : List (Option Label)) (whole : List (Option LabelValue)) → i < length items → item ≡ get_or items i item → IsScalarOf (Some c) item
+    → label_datum texts l ≡ cell_label (datum texts c) → names' ≡ names ++ Some l ∷ [] → headings_value texts names ++ some_labels (scalars texts (drop i items)) ≡ whole → headings_value texts names' ++ some_labels (scalars texts (drop (i + 1) items)) ≡ whole
+names_more texts items i item c l names names' whole lt is scalar seen pushed before =
+    let rest = some_labels (scalars texts (drop (i + 1) items)) in
+    ap (λ ns. headings_value texts ns ++ rest) pushed
+    ∙ ap (λ ns. ns ++ rest) (map-append (heading_value texts) names (Some l ∷ []))
+    ∙ append_assoc (headings_value texts names) (Some (label_datum texts l) ∷ []) rest
+    ∙ ap (λ v. headings_value texts names ++ Some v ∷ rest) seen
+    ∙ ap (λ cs. headings_value texts names ++ some_labels cs) (sym (scalars_from texts items i item (Some c) lt is scalar))
+    ∙ before
+
+pub names_same : (texts : List Text) (items : List Item) (i : ℕ) (item : Item) (names : List (Option Label)) (whole : List (Option LabelValue)) → i < length items → item ≡ get_or items i item → IsScalarOf None item
+    → headings_value texts names ++ some_labels (scalars texts (drop i items)) ≡ whole → headings_value texts names ++ some_labels (scalars texts (drop (i + 1) items)) ≡ whole
+names_same texts items i item names whole lt is scalar before =
+    ap (λ cs. headings_value texts names ++ some_labels cs) (sym (scalars_from texts items i item None lt is scalar)) ∙ before
+
+pub names_all : (texts : List Text) (items : List Item) (i : ℕ) (names : List (Option Label)) (whole : List (Option LabelValue)) → length items ≤ i → headings_value texts names ++ some_labels (scalars texts (drop i items)) ≡ whole → headings_value texts names ≡ whole
+names_all texts items i names whole end before =
+    sym (append-nil (headings_value texts names)) ∙ sym (at_drop_all (λ l. headings_value texts names ++ some_labels (scalars texts l)) items i end) ∙ before
+
+-- the names of a list
+pub listed_names : (live : Tables) (texts : List Text) (items : List Item) (g : Given) (names : List (Option Label)) → Some (items_of live texts items) ≡ list_in g → headings_value texts names ≡ some_labels (scalars texts items)
+    → headings_value texts names ≡ names_in g
+listed_names live texts items (many parts) names is made =
+    made
+    ∙ ap some_labels (sym (scalars_are live texts items))
+    ∙ sym (map-map cell_label (λ l. Some l) (cells_of (items_of live texts items)))
+    ∙ ap (λ ps. map (λ l. Some l) (labels_of ps)) (some_same (items_of live texts items) parts is)
+listed_names live texts items (one v) names is made = cc
+listed_names live texts items nothing names is made = cc
+listed_names live texts items (row parts) names is made = cc
+listed_names live texts items (entries pairs) names is made = cc
+
+-- or one name
+pub single_name : (texts : List Text) (g : Given) (name : Option Label) (names : List (Option Label)) → None ≡ list_in g → heading_value texts name ≡ option_map cell_label (scalar_in g) → names ≡ name ∷ []
+    → headings_value texts names ≡ names_in g
+single_name texts (many parts) name names none scalar is = cc
+single_name texts (one v) name names none scalar is = ap (headings_value texts) is ∙ ap (λ n. n ∷ []) scalar
+single_name texts nothing name names none scalar is = ap (headings_value texts) is ∙ ap (λ n. n ∷ []) scalar
+single_name texts (row parts) name names none scalar is = ap (headings_value texts) is ∙ ap (λ n. n ∷ []) scalar
+single_name texts (entries pairs) name names none scalar is = ap (headings_value texts) is ∙ ap (λ n. n ∷ []) scalar
+
+-- names that were given
+pub names_given : (b : Bound) (place : ℕ) (names : List (Option Label)) (live : Tables) (texts : List Text) → ((live : Tables) (texts : List Text) → headings_value texts names ≡ names_in (stands_at live texts b place))
+    → IsSettled (arguments_of live) texts b.args.now → IsSettled headings_value texts names
+names_given b place names live texts told settled = λ more.
+    told live (texts ++ more) ∙ ap (λ gs. names_in (argument_at b.parameters.now gs place)) (settled more) ∙ sym (told live texts)

@@ -1,0 +1,17 @@
+pub mod Lists
+pub mod FrontLaws
+pub mod TableLaws
+pub mod AnswerLaws
+pub mod RowLaws
+pub mod ScalarLaws
+pub mod ColumnLabelLaws
+pub mod NamedLaws
+pub mod UnderLaws
+pub mod LevelNameLaws
+pub mod IndexingLaws
+pub mod LevelColumnLaws
+pub mod ResetLaws
+pub mod ResetTableLaws
+pub mod LevelMoveLaws
+pub mod ReindexLaws
+pub mod SectionLaws

@@ -1,0 +1,16 @@
+-- The cells of rows.
+use Rattle.std.proofs.Common.{◌≡◌, ℕ, List, map, length, slice_index_or}
+use Rattle.std.specs.List.{range_with_len}
+use Rattle.column_core.proofs.CellRows.{map-map}
+use Rattle.meaning.specs.Cell.{CellValue, na_cell}
+use Rattle.meaning.specs.Column.{tabulate}
+use Rattle.table_meaning.specs.Table.{Table, row_of, column_at}
+use Rattle.form_meaning.specs.Select.{columns_frame}
+use Rattle.method_meaning.specs.Rows.{cells_by_row}
+
+-- the cells of a row in the columns at these places, and of all rows
+abbrev pub cells_in : Table → List ℕ → ℕ → List CellValue
+cells_in t places row = map (λ c. slice_index_or c.cells row na_cell) (map (column_at t.columns) places)
+
+pub by_rows : (t : Table) (places : List ℕ) → cells_by_row t places ≡ tabulate (length t.labels) (cells_in t places)
+by_rows t places = map-map (row_of na_cell (columns_frame t places)) (λ r. r.cells) (range_with_len 0 (length t.labels))

@@ -1,0 +1,25 @@
+-- The scalars of a list from a part on.
+use Rattle.std.proofs.Common.{◌≡◌, ◌∙◌, ◌<◌, ◌+◌, ap, sym, ℕ, suc, List, ◌∷◌, length, drop, get_or, Option, None, arith}
+use Rattle.std.specs.Option.{option_map}
+use Rattle.std.proofs.Math.Seq.{drop-cons}
+use Rattle.cell_core.specs.declared.cell.Cell.{Cell}
+use Rattle.meaning.specs.Text.{Text}
+use Rattle.meaning.specs.Cell.{datum}
+use Rattle.table_meaning.specs.Value.{scalar_in}
+use Rattle.frame_store.specs.Objects.{Tables}
+use Rattle.frame_store.specs.Arguments.{item_of, items_of}
+use Rattle.frame_store.specs.declared.arguments.Item.{Item}
+use Rattle.signatures.proofs.ScalarLaws.{cells_of_more}
+use Rattle.signatures.specs.Scalars.{scalars, with_cell}
+
+-- the scalars from a part on
+abbrev pub IsScalarOf : Option Cell → Item → Type 0
+IsScalarOf o item = (live : Tables) (texts : List Text) → option_map (datum texts) o ≡ scalar_in (item_of live texts item)
+
+pub scalars_from : (texts : List Text) (items : List Item) (i : ℕ) (item : Item) (o : Option Cell) → i < length items → item ≡ get_or items i item → IsScalarOf o item
+    → scalars texts (drop i items) ≡ with_cell (option_map (datum texts) o) (scalars texts (drop (i + 1) items))
+scalars_from texts items i item o lt is scalar =
+    let next : suc i ≡ i + 1 = omega arith in
+    ap (scalars texts) (drop-cons items i item lt ∙ (λ j. sym is j ∷ drop (next j) items))
+    ∙ cells_of_more (item_of (λ id. None) texts item) (items_of (λ id. None) texts (drop (i + 1) items))
+    ∙ ap (λ c. with_cell c (scalars texts (drop (i + 1) items))) (sym (scalar (λ id. None) texts))

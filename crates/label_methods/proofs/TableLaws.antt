@@ -1,0 +1,13 @@
+-- Tables within the limits.
+use Rattle.std.proofs.Common.{◌≡◌, ◌∙◌, ap, Bool, true, length, Result, Ok, Err, if◌then◌else◌}
+use Rattle.meaning.specs.Fault.{FaultValue, limit, then_value}
+use Rattle.table_meaning.specs.Table.{Table}
+use Rattle.table_meaning.specs.Value.{Entry, table}
+use Rattle.form_meaning.specs.Finish.{within_limits, limited}
+
+abbrev unless_beyond : Table → Bool → Result Entry FaultValue
+unless_beyond t within = then_value (if within then Ok t else Err limit) (λ t. Ok (table t))
+
+-- a table within the limits
+pub limited_within : (t : Table) (rows columns : Rattle.std.specs.Prelude.ℕ) → length t.labels ≡ rows → length t.columns ≡ columns → within_limits rows columns ≡ true → limited t ≡ Ok (table t)
+limited_within t rows columns r c within = ap (unless_beyond t) ((λ j. within_limits (r j) (c j)) ∙ within)

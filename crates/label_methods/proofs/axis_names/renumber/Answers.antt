@@ -1,0 +1,17 @@
+use Rattle.std.proofs.Common.{◌≡◌, ◌∙◌, true, false, length, rules}
+use Rattle.form_meaning.specs.Finish.{within_limits}
+use Rattle.label_methods.proofs.ResetTableLaws.{range_rows, renumbered_beyond, renumbered_made}
+use Rattle.label_methods.proofs.axis_names.renumber.Goals as goal
+
+pub returns-then-not-within_limits : goal.returns-then-not-within_limits
+returns-then-not-within_limits c = λ texts settled.
+    let beyond : within_limits (length c.args.on.now.labels) (length c.args.on.now.columns) ≡ false = search rules in
+    (renumbered_beyond texts c.args.on.now beyond, λ more. Rattle.std.proofs.Common.refl)
+
+pub table_under_axis-requires-clause-rows : goal.table_under_axis-requires-clause-rows
+table_under_axis-requires-clause-rows c = range_rows c.rows-2.result c.in_ok-axis.axis c.in_ok-axis.ensures ∙ c.rows-2.ensures
+
+pub returns : goal.returns
+returns c = λ texts settled.
+    let within : within_limits (length c.args.on.now.labels) (length c.args.on.now.columns) ≡ true = search rules in
+    renumbered_made texts c.args.on.now c.in_ok-table_under_axis.field-0 c.in_ok-axis.axis c.rows-2.result c.in_ok-axis.ensures c.rows-2.ensures within settled c.in_ok-table_under_axis.ensures

@@ -1,0 +1,23 @@
+use Rattle.std.proofs.Common.{◌∙◌, sym, subst, length}
+use Rattle.table_meaning.specs.Table.{NumberedTable}
+use Rattle.table_meaning.specs.Valid.{IsWhole}
+use Rattle.selections.proofs.PickedLaws.{places_inside}
+use Rattle.label_methods.proofs.SectionLaws.{section_made, section_whole}
+use Rattle.label_methods.proofs.cross_section.rows_without_level.Goals as goal
+
+pub chosen_blocks-requires-clause-columns : goal.chosen_blocks-requires-clause-columns
+chosen_blocks-requires-clause-columns c = places_inside c.in_ok-columns.columns c.columns.result (length c.args.on.now.columns) c.in_ok-columns.ensures c.columns.ensures
+
+pub new-requires-clause-whole : goal.new-requires-clause-whole
+new-requires-clause-whole c =
+    let t = c.args.on.now in
+    subst (λ (n : NumberedTable). IsWhole n)
+    (sym (section_made t c.args.rows.now c.in_ok-columns.columns c.args.level c.columns.result c.shape.result c.axis.result.now c.in_ok-taken.taken c.in_ok-axis.axis c.in_ok-headings.headings c.in_ok-blocks.blocks
+    c.shape.ensures c.axis.ensures c.in_ok-taken.ensures c.in_ok-axis.ensures c.in_ok-headings.ensures c.in_ok-columns.ensures c.columns.ensures c.in_ok-blocks.ensures.columns))
+    (section_whole t c.args.rows.now c.args.level c.requires.whole)
+
+pub returns : goal.returns
+returns c =
+    c.new.ensures
+    ∙ section_made c.args.on.now c.args.rows.now c.in_ok-columns.columns c.args.level c.columns.result c.shape.result c.axis.result.now c.in_ok-taken.taken c.in_ok-axis.axis c.in_ok-headings.headings c.in_ok-blocks.blocks
+    c.shape.ensures c.axis.ensures c.in_ok-taken.ensures c.in_ok-axis.ensures c.in_ok-headings.ensures c.in_ok-columns.ensures c.columns.ensures c.in_ok-blocks.ensures.columns

@@ -1,0 +1,13 @@
+use Rattle.std.proofs.Common.{◌∙◌, ◌<◌, ap, length, map, arith}
+use Rattle.std.proofs.lemmas.List.{take_all}
+use Rattle.form_parts.specs.Labels.{label_of}
+use Rattle.label_methods.proofs.IndexingLaws.{one_more_label}
+use Rattle.label_methods.proofs.indexing.cell_labels.Goals as goal
+
+pub loop-row-preserved : goal.loop-row-preserved
+loop-row-preserved c =
+    let lt : c.loop-row.row < length c.args.column.now.cells = omega arith in
+    one_more_label c.args.column.now.cells c.loop-row.row c.cell.result c.label_of.result c.loop-row.labels.items c.push.new.self.items lt c.cell.ensures.cell c.label_of.ensures.label c.loop-row.invariant c.in_ok-push.ensures.items
+
+pub returns : goal.returns
+returns c = c.loop-row.invariant ∙ ap (map label_of) (take_all c.loop-row.row c.args.column.now.cells (omega arith))

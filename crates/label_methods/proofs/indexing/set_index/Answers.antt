@@ -1,0 +1,73 @@
+use Rattle.std.proofs.Common.{◌≡◌, ◌<◌, ◌≤◌, ◌∙◌, ap, sym, subst, refl, true, false, length, List, Option, arith, rules}
+use Rattle.std.proofs.lemmas.Result.{err_from_is_err_and}
+use Rattle.cell_core.specs.declared.cell.Label.{Label}
+use Rattle.table_meaning.specs.Table.{table_value}
+use Rattle.form_meaning.specs.Finish.{within_limits, limited}
+use Rattle.method_meaning.specs.Levels.{indexed_by}
+use Rattle.selections.specs.Headings.{NamesRepeated, repeated_heading}
+use Rattle.label_methods.proofs.NamedLaws.{others_inside}
+use Rattle.label_methods.proofs.IndexingLaws.{kept_meant, index_repeated, index_beyond, without_level, beyond_levels, beyond_cells, index_whole, made_index, index_made}
+use Rattle.label_methods.proofs.indexing.set_index.Goals as goal
+use Rattle.label_methods.proofs.indexing.set_index.Goals.{then-levels-eq0-via-then-levels-eq0, then-levels-eq0-via-else-levels-eq0+then-levels-gt4, then-levels-eq0-via-else-levels-eq0+else-levels-gt4+then-not-within_limits}
+
+pub headings_at-requires : goal.headings_at-requires
+headings_at-requires c = others_inside c.args.places.now c.in_ok-kept.kept c.columns.result (length c.args.on.now.columns) c.in_ok-kept.ensures c.columns.ensures
+
+pub copied_columns-requires : goal.copied_columns-requires
+copied_columns-requires c = others_inside c.args.places.now c.in_ok-kept.kept c.columns.result (length c.args.on.now.columns) c.in_ok-kept.ensures c.columns.ensures
+
+-- a heading that stands again
+pub returns-in_err-headings : goal.returns-in_err-headings
+returns-in_err-headings c =
+    let labels = c.as_slice.ensures.value ∙ c.in_ok-labels.ensures in
+    let p = err_from_is_err_and c.from_residual-in_err-headings.result c.from_residual-in_err-headings.ensures.1 in
+    rw (p.1, p.2)
+    (index_repeated c.args.dict.now c.args.on.now c.args.places.now c.in_ok-kept.kept c.in_err-headings.field-0.0 c.len.ensures.distinct c.requires.known.given
+    (kept_meant c.args.on.now c.args.places.now c.in_ok-kept.kept c.columns.result c.in_ok-kept.ensures c.columns.ensures)
+    (subst (λ (hs : List (Option Label)). NamesRepeated c.in_err-headings.field-0.0 (repeated_heading hs)) labels c.in_err-headings.ensures.refused))
+
+-- too many levels, or cells
+pub returns-then-levels-eq0 : goal.returns-then-levels-eq0
+returns-then-levels-eq0 c =
+    let dict = c.args.dict.now in
+    let t = c.args.on.now in
+    let places = c.args.places.now in
+    let labels = c.as_slice.ensures.value ∙ c.in_ok-labels.ensures in
+    let besides = kept_meant t places c.in_ok-kept.kept c.columns.result c.in_ok-kept.ensures c.columns.ensures in
+    let none = ap repeated_heading (sym labels) ∙ c.in_ok-headings.ensures.different in
+    let rest = limited (indexed_by (table_value dict t) places) in
+    elim c.then-levels-eq0.branch [
+      | then-levels-eq0-via-then-levels-eq0 w ↦
+          let zero_levels : length places ≡ 0 = sym c.len-levels.ensures ∙ w.if-levels-eq0.true in
+          (index_beyond dict t places c.in_ok-kept.kept c.len.ensures.distinct c.requires.known.given besides none (without_level (length places) rest zero_levels), λ more. refl)
+      | then-levels-eq0-via-else-levels-eq0+then-levels-gt4 w ↦
+          let many : 4 < length places = omega (arith, c.len-levels.ensures, w.if-levels-gt4.true) in
+          (index_beyond dict t places c.in_ok-kept.kept c.len.ensures.distinct c.requires.known.given besides none (beyond_levels (length places) rest many), λ more. refl)
+      | then-levels-eq0-via-else-levels-eq0+else-levels-gt4+then-not-within_limits w ↦
+          let beyond : within_limits (length t.labels) (length c.in_ok-kept.kept) ≡ false = search rules in
+          (index_beyond dict t places c.in_ok-kept.kept c.len.ensures.distinct c.requires.known.given besides none (beyond_cells dict t places c.in_ok-kept.kept besides beyond), λ more. refl)
+    ]
+
+pub new-requires-clause-whole : goal.new-requires-clause-whole
+new-requires-clause-whole c =
+    let t = c.args.on.now in
+    let labels = c.as_slice.ensures.value ∙ c.in_ok-labels.ensures in
+    let named = c.in_ok-headings.ensures.made ∙ (λ j. record { columns_name = c.columns_name.ensures j; labels = labels j }) in
+    index_whole t c.in_ok-axis.axis c.in_ok-headings.headings c.in_ok-blocks.blocks c.args.places.now c.in_ok-kept.kept c.requires.known.whole c.requires.shape
+    (others_inside c.args.places.now c.in_ok-kept.kept c.columns.result (length t.columns) c.in_ok-kept.ensures c.columns.ensures)
+    (ap repeated_heading (sym labels) ∙ c.in_ok-headings.ensures.different) c.in_ok-axis.ensures named c.in_ok-blocks.ensures.columns
+
+pub returns : goal.returns
+returns c =
+    let dict = c.args.dict.now in
+    let t = c.args.on.now in
+    let places = c.args.places.now in
+    let kept = c.in_ok-kept.kept in
+    let labels = c.as_slice.ensures.value ∙ c.in_ok-labels.ensures in
+    let named = c.in_ok-headings.ensures.made ∙ (λ j. record { columns_name = c.columns_name.ensures j; labels = labels j }) in
+    let within : within_limits (length t.labels) (length kept) ≡ true = search rules in
+    let some : 1 ≤ length places = omega arith in
+    let few : length places ≤ 4 = omega (arith, c.len-levels.ensures, c.if-levels-gt4.false) in
+    index_made dict t c.new.result places kept c.len.ensures.distinct c.requires.known.given c.requires.shape
+    (kept_meant t places kept c.columns.result c.in_ok-kept.ensures c.columns.ensures) (ap repeated_heading (sym labels) ∙ c.in_ok-headings.ensures.different) some few within
+    (c.new.ensures ∙ made_index t c.in_ok-axis.axis c.in_ok-headings.headings c.in_ok-blocks.blocks places kept c.in_ok-axis.ensures named c.in_ok-blocks.ensures.columns)

@@ -1,0 +1,21 @@
+use Rattle.std.proofs.Common.{◌∙◌, arith}
+use Rattle.std.proofs.lemmas.Result.{err_from_is_err_and}
+use Rattle.label_methods.proofs.LevelColumnLaws.{held_step, held_refused, held_ends}
+use Rattle.label_methods.proofs.level_columns.column_of_kind.Goals as goal
+
+pub returns-in_err-push_held : goal.returns-in_err-push_held
+returns-in_err-push_held c = λ texts.
+    let p = err_from_is_err_and c.from_residual.result c.from_residual.ensures.1 in
+    rw (p.1, p.2) (held_refused texts c.args.kind c.args.axis.now c.loop-row.row c.args.level c.label.result c.cell_of-cell.result c.loop-row.column c.in_err-push_held.field-0.0 _
+    c.label.ensures c.cell_of-cell.ensures c.loop-row.invariant.kind c.in_err-push_held.ensures.err (c.loop-row.invariant.cells texts))
+
+pub loop-row-preserved : goal.loop-row-preserved
+loop-row-preserved c =
+    record {
+      kind = c.push_held.ensures.kind ∙ c.loop-row.invariant.kind;
+      cells = λ texts. held_step texts c.args.kind c.args.axis.now c.loop-row.row c.args.level c.label.result c.cell_of-cell.result c.loop-row.column c.push_held.new.column _
+          c.label.ensures c.cell_of-cell.ensures c.loop-row.invariant.kind c.in_ok-push_held.ensures.ok (c.loop-row.invariant.cells texts);
+    }
+
+pub returns : goal.returns
+returns c = λ texts. held_ends texts c.args.kind c.args.axis.now c.loop-row.row c.args.level c.loop-row.column (omega arith) c.loop-row.invariant.kind (c.loop-row.invariant.cells texts)

@@ -1,0 +1,11 @@
+use Rattle.std.proofs.Common.{subst}
+use Rattle.cell_core.specs.declared.cell.Kind.{Kind}
+use Rattle.form_parts.specs.Makes.{MakesBy}
+use Rattle.frame_store.specs.Shown.{cells_value}
+use Rattle.label_methods.specs.Columns.{seen_column}
+use Rattle.label_methods.specs.LevelColumns.{level_cells, held_column}
+use Rattle.label_methods.proofs.level_columns.level_column.Goals as goal
+
+pub returns : goal.returns
+returns c = λ texts.
+    subst (λ (kind : Kind). MakesBy seen_column texts c.column_of_kind.result (held_column kind (cells_value texts (level_cells c.args.axis.now c.args.level)))) (c.level_kind.ensures texts) (c.column_of_kind.ensures texts)

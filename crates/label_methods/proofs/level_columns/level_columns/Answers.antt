@@ -1,0 +1,23 @@
+use Rattle.std.proofs.Common.{◌∙◌, ◌++◌, ◌∷◌, [], ap, sym, subst, refl, arith, All}
+use Rattle.std.proofs.lemmas.List.Elements.{All-append, All-cons, All-nil}
+use Rattle.std.proofs.lemmas.Result.{err_from_is_err_and}
+use Rattle.frame_store.specs.Parts.{IsSingle, single_block, table_column}
+use Rattle.label_methods.proofs.LevelColumnLaws.{level_step, level_refused, levels_end}
+use Rattle.label_methods.proofs.level_columns.level_columns.Goals as goal
+
+pub returns-in_err-column-clause-columns : goal.returns-in_err-column-clause-columns
+returns-in_err-column-clause-columns c = λ texts.
+    let p = err_from_is_err_and c.from_residual.result c.from_residual.ensures.1 in
+    rw (p.1, p.2) (level_refused texts c.args.axis.now c.loop-level.level c.loop-level.blocks c.in_err-column.field-0.0 (omega arith) (c.in_err-column.ensures texts) (c.loop-level.invariant.columns texts))
+
+pub loop-level-preserved : goal.loop-level-preserved
+loop-level-preserved c =
+    let more = c.in_ok-push.ensures.ok ∙ ap (λ b. c.loop-level.blocks ++ b ∷ []) c.into_block.ensures in
+    let new = c.in_ok-column.column in
+    record {
+      single = subst (All IsSingle) (sym more) (All-append IsSingle c.loop-level.blocks (single_block (table_column new) ∷ []) c.loop-level.invariant.single (All-cons IsSingle (single_block (table_column new)) [] refl (All-nil IsSingle)));
+      columns = λ texts. level_step texts c.args.axis.now c.loop-level.level c.loop-level.blocks c.push.new.self new (omega arith) more (c.in_ok-column.ensures texts) (c.loop-level.invariant.columns texts);
+    }
+
+pub returns-clause-columns : goal.returns-clause-columns
+returns-clause-columns c = λ texts. levels_end texts c.args.axis.now c.loop-level.level c.loop-level.blocks (omega arith) (c.loop-level.invariant.columns texts)

@@ -1,0 +1,13 @@
+use Rattle.std.proofs.Common.{◌≡◌, List, All}
+use Rattle.meaning.specs.Text.{Text}
+use Rattle.frame_store.specs.Parts.{IsSingle}
+use Rattle.label_methods.specs.LevelColumns as levels
+use Rattle.label_methods.proofs.LevelColumnLaws.{columns_from}
+use Rattle.label_methods.proofs.level_columns.level_columns.Given as goal
+
+-- the levels so far, before the others
+abbrev pub invariant-loop-level : goal.invariant-loop-level
+invariant-loop-level l = record {
+  single : All IsSingle l.blocks;
+  columns : (texts : List Text) → columns_from texts l.axis l.level l.blocks ≡ levels.level_columns texts l.axis;
+}

@@ -1,0 +1,10 @@
+use Rattle.std.proofs.Common.{◌≡◌, List, drop}
+use Rattle.meaning.specs.Text.{Text}
+use Rattle.form_meaning.specs.Set.{first_kind}
+use Rattle.frame_store.specs.Shown.{cells_value}
+use Rattle.label_methods.specs.LevelColumns.{level_cells}
+use Rattle.label_methods.proofs.level_columns.level_kind.Given as goal
+
+-- no label so far is present
+abbrev pub invariant-loop-row : goal.invariant-loop-row
+invariant-loop-row l = (texts : List Text) → first_kind (cells_value texts (drop l.row (level_cells l.axis l.level))) ≡ first_kind (cells_value texts (level_cells l.axis l.level))

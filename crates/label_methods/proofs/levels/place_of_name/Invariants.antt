@@ -1,0 +1,11 @@
+use Rattle.std.proofs.Common.{◌≡◌, drop}
+use Rattle.meaning.specs.Cell.{label_datum}
+use Rattle.form_meaning.specs.Select.{place_of_label}
+use Rattle.frame_store.specs.Shown.{headings_value}
+use Rattle.selections.proofs.PlaceLaws.{moved}
+use Rattle.label_methods.proofs.levels.place_of_name.Given as goal
+
+-- no level so far has the name
+abbrev pub invariant-loop-level : goal.invariant-loop-level
+invariant-loop-level l =
+    moved l.level (place_of_label (drop l.level (headings_value l.dict l.on.level_names)) (label_datum l.dict l.name)) ≡ place_of_label (headings_value l.dict l.on.level_names) (label_datum l.dict l.name)

@@ -1,0 +1,18 @@
+use Rattle.std.proofs.Common.{◌≡◌, ◌≤◌, ◌∙◌, ap, sym, subst, length, Result, arith}
+use Rattle.meaning.specs.Fault.{FaultValue}
+use Rattle.multi_index.specs.Axes.{AxisValue, without_level}
+use Rattle.table_meaning.specs.Value.{Entry}
+use Rattle.form_meaning.specs.Finish.{limited}
+use Rattle.frame_store.specs.Parts.{axis_of}
+use Rattle.frame_store.specs.Shown.{Makes}
+use Rattle.label_methods.proofs.LevelMoveLaws.{dropped_seen, dropped_settled, level_stays}
+use Rattle.label_methods.proofs.levels.without_level.Goals as goal
+
+pub returns : goal.returns
+returns c = λ texts settled.
+    let t = c.args.on.now in
+    let is : c.in_ok-axis.axis ≡ without_level (axis_of t) c.args.level = c.in_ok-axis.ensures ∙ ap (λ (a : AxisValue). without_level a c.args.level) c.axis.ensures in
+    let several : 2 ≤ length t.level_names = omega arith in
+    subst (λ (r : Result Entry FaultValue). Makes texts c.under_within.result r)
+    (ap limited (dropped_seen texts t c.in_ok-axis.axis c.args.level is) ∙ sym (level_stays texts t c.args.level several))
+    (c.under_within.ensures texts (dropped_settled texts t c.in_ok-axis.axis c.args.level is settled))

@@ -1,0 +1,7 @@
+use Rattle.std.proofs.Common.{take}
+use Rattle.label_methods.specs.Named.{AreMarks}
+use Rattle.label_methods.proofs.named_columns.marked.Given as goal
+
+-- the marks of the places so far
+abbrev pub invariant-loop-k : goal.invariant-loop-k
+invariant-loop-k l = AreMarks l.marks.items l.count (take l.k l.places)

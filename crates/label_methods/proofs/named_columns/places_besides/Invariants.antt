@@ -1,0 +1,9 @@
+use Rattle.std.proofs.Common.{◌≡◌}
+use Rattle.std.specs.Prelude.{filter}
+use Rattle.std.specs.List.{range_with_len}
+use Rattle.label_methods.proofs.NamedLaws.{is_other}
+use Rattle.label_methods.proofs.named_columns.places_besides.Given as goal
+
+-- the other places so far
+abbrev pub invariant-loop-place : goal.invariant-loop-place
+invariant-loop-place l = l.others ≡ filter (is_other l.places) (range_with_len 0 l.place)

@@ -1,0 +1,12 @@
+use Rattle.std.proofs.Common.{◌≡◌, Some}
+use Rattle.std.specs.List.{list_any}
+use Rattle.table_meaning.specs.Table.{heading_value}
+use Rattle.form_meaning.specs.Finish.{same_heading}
+use Rattle.frame_store.specs.Shown.{headings_value}
+use Rattle.label_methods.specs.Resets.{frame_headings}
+use Rattle.label_methods.proofs.ResetLaws.{stands_from}
+use Rattle.label_methods.proofs.resetting.has_label.Given as goal
+
+-- no column so far has the label
+abbrev pub invariant-loop-place : goal.invariant-loop-place
+invariant-loop-place l = stands_from l.dict l.label l.on l.place ≡ list_any (same_heading (heading_value l.dict (Some l.label))) (headings_value l.dict (frame_headings l.on))

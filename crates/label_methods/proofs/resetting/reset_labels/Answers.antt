@@ -1,0 +1,13 @@
+use Rattle.table_meaning.specs.Table.{table_value}
+use Rattle.frame_store.proofs.Settling.{settled_later}
+use Rattle.label_methods.proofs.ResetLaws.{labels_given, labels_meant}
+use Rattle.label_methods.proofs.resetting.reset_labels.Goals as goal
+
+pub returns-clause-given : goal.returns-clause-given
+returns-clause-given c =
+    labels_given c.level_labels.new.dict c.args.on.now c.in_ok-labels.labels.items c.push_headings.new.labels.items c.in_ok-labels.ensures.given
+    (settled_later table_value c.args.dict.now c.level_labels.new.dict c.args.on.now c.in_ok-labels.ensures.longer c.requires.given) c.in_ok-push_headings.ensures
+
+pub returns-clause-labels : goal.returns-clause-labels
+returns-clause-labels c =
+    labels_meant c.args.dict.now c.level_labels.new.dict c.args.on.now c.in_ok-labels.labels.items c.push_headings.new.labels.items c.in_ok-labels.ensures.longer c.requires.given c.in_ok-push_headings.ensures c.in_ok-labels.ensures.labels

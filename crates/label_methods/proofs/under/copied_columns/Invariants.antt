@@ -1,0 +1,11 @@
+use Rattle.std.proofs.Common.{◌≡◌, map, take, All}
+use Rattle.table_meaning.specs.Table.{column_at}
+use Rattle.frame_store.specs.Parts.{block_column, IsSingle}
+use Rattle.label_methods.proofs.under.copied_columns.Given as goal
+
+-- the columns so far
+abbrev pub invariant-loop-k : goal.invariant-loop-k
+invariant-loop-k l = record {
+  columns : map block_column l.blocks ≡ map (column_at l.on.columns) (take l.k l.places);
+  single : All IsSingle l.blocks;
+}

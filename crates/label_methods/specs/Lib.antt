@@ -1,0 +1,11 @@
+pub mod Chains
+pub mod Columns
+pub mod Faults
+pub mod Labels
+pub mod Rows
+pub mod Levels
+pub mod Named
+pub mod Reindexed
+pub mod Section
+pub mod LevelColumns
+pub mod Resets

@@ -1,0 +1,109 @@
+-- The sides of a join exchanged, and two joins of the same sides.
+use Rattle.std.proofs.Common.{◌≡◌, ◌∙◌, ◌<◌, ◌≤◌, ◌&&◌, ap, refl, sym, subst, arith, ℕ, Bool, true, false, not, cond, List, [], ◌∷◌, map, filter, length, All, slice_index_or, Option, Some, None, inl, inr}
+use Rattle.std.specs.List.{list_any}
+use Rattle.std.proofs.lemmas.Bool.{false≢true, eqb-true, cases_lt}
+use Rattle.std.proofs.lemmas.List.Elements.{All-head, All-tail, All-map}
+use Rattle.column_core.specs.Moves.{IsPlaceOf}
+use Rattle.join_meaning.specs.declared.How.{How}
+use Rattle.join_meaning.specs.declared.How.TheVariants.{Inner, Left, Right, Outer}
+use Rattle.join_meaning.specs.Pairs.{Pair, pair, exchanged}
+use Rattle.cell_core.specs.declared.cell.Label.{Label}
+use Rattle.row_keys.specs.Keys.{same_tuple}
+use Rattle.row_keys.proofs.PartnerLaws.{tuple_laws}
+use Rattle.merge_concat.specs.declared.pairs.Pairs.{Pairs}
+use Rattle.merge_concat.specs.Joining.{keeps_left, keeps_right, same_row, same_pair, how_often, once_if, turned, AreAlike, IsJoin, IsJoinOf, JoinsAreAlike, SidesExchange, ExchangeChangesOrder}
+use Rattle.merge_concat.proofs.OftenLaws.{often_exchanged}
+
+-- a row of the one side that stays is one of the other
+keeps_turned : (how : How) → keeps_right how ≡ keeps_left (turned how)
+keeps_turned Inner = refl
+keeps_turned Left = refl
+keeps_turned Right = refl
+keeps_turned Outer = refl
+
+turned_keeps : (how : How) → keeps_left how ≡ keeps_right (turned how)
+turned_keeps Inner = refl
+turned_keeps Left = refl
+turned_keeps Right = refl
+turned_keeps Outer = refl
+
+pub sides_exchange : {K : Type 0} (same : K → K → Bool) → ((a b : K) → same a b ≡ same b a) → SidesExchange same
+sides_exchange same symmetric how left right pairs join = record {
+  together = λ j i k inside lt. often_exchanged (pair (Some j) (Some i)) pairs ∙ join.together i j k lt inside ∙ ap once_if (symmetric (slice_index_or left i k) (slice_index_or right j k));
+  left_alone = λ j k lt.
+      often_exchanged (pair (Some j) None) pairs ∙ join.right_alone j k lt
+      ∙ ap (λ b. once_if (b && not (list_any (same (slice_index_or right j k)) left))) (keeps_turned how);
+  right_alone = λ i k lt.
+      often_exchanged (pair None (Some i)) pairs ∙ join.left_alone i k lt
+      ∙ ap (λ b. once_if (b && not (list_any (same (slice_index_or left i k)) right))) (turned_keeps how);
+  no_gaps = often_exchanged (pair None None) pairs ∙ join.no_gaps;
+  left_rows = All-map (λ p. IsPlaceOf (length right) p.left) exchanged pairs join.right_rows;
+  right_rows = All-map (λ p. IsPlaceOf (length left) p.right) exchanged pairs join.left_rows;
+}
+
+-- what has not a property of all pairs isn't among them
+same_row_is : (a b : Option ℕ) → same_row a b ≡ true → a ≡ b
+same_row_is None None e = refl
+same_row_is None (Some j) e = absurd (false≢true e)
+same_row_is (Some i) None e = absurd (false≢true e)
+same_row_is (Some i) (Some j) e = ap Some (eqb-true i j e)
+
+same_pair_is : (p q : Pair) → same_pair p q ≡ true → p ≡ q
+same_pair_is p q = elim (same_row p.left q.left) as (λ b. same_row p.left q.left ≡ b → (b && same_row p.right q.right) ≡ true → p ≡ q) [
+  | true ↦ λ l r i. pair (same_row_is p.left q.left l i) (same_row_is p.right q.right r i)
+  | false ↦ λ l r. absurd (false≢true r)
+] refl
+
+never : (P : Pair → Type 0) (p : Pair) → (P p → ⊥) → (ps : List Pair) → All P ps → how_often p ps ≡ 0
+never P p none [] all = refl
+never P p none (q ∷ ps) all = elim (same_pair p q) as (λ b. same_pair p q ≡ b → length (cond b (q ∷ filter (same_pair p) ps) (filter (same_pair p) ps)) ≡ 0) [
+  | true ↦ λ e. absurd (none (subst P (sym (same_pair_is p q e)) (All-head P q ps all)))
+  | false ↦ λ e. never P p none ps (All-tail P q ps all)
+] refl
+
+element : {K : Type 0} (xs : List K) (i : ℕ) → i < length xs → K
+element [] i lt = absurd (omega (arith, lt))
+element (x ∷ xs) i lt = x
+
+module _ {K : Type 0} (same : K → K → Bool) (how : How) (left right : List K) (ps qs : List Pair) (one : IsJoin same how left right ps) (other : IsJoin same how left right qs) where
+  abbrev IsAlike : Option ℕ → Option ℕ → Type 0
+  IsAlike a b = how_often (pair a b) ps ≡ how_often (pair a b) qs
+
+  behind_left : (i : ℕ) (b : Option ℕ) → length left ≤ i → IsAlike (Some i) b
+  behind_left i b le =
+      let outside : i < length left → ⊥ = λ lt. omega (arith, lt, le) in
+      never (λ p. IsPlaceOf (length left) p.left) (pair (Some i) b) outside ps one.left_rows ∙ sym (never (λ p. IsPlaceOf (length left) p.left) (pair (Some i) b) outside qs other.left_rows)
+
+  behind_right : (a : Option ℕ) (j : ℕ) → length right ≤ j → IsAlike a (Some j)
+  behind_right a j le =
+      let outside : j < length right → ⊥ = λ lt. omega (arith, lt, le) in
+      never (λ p. IsPlaceOf (length right) p.right) (pair a (Some j)) outside ps one.right_rows ∙ sym (never (λ p. IsPlaceOf (length right) p.right) (pair a (Some j)) outside qs other.right_rows)
+
+  with_left : (i : ℕ) → i < length left → (b : Option ℕ) → IsAlike (Some i) b
+  with_left i lt None = let k = element left i lt in one.left_alone i k lt ∙ sym (other.left_alone i k lt)
+  with_left i lt (Some j) = elim (cases_lt j (length right)) as (λ w. IsAlike (Some i) (Some j)) [
+    | inl inside ↦ let k = element left i lt in one.together i j k lt inside ∙ sym (other.together i j k lt inside)
+    | inr le ↦ behind_right (Some i) j le
+  ]
+
+  alike : (a b : Option ℕ) → IsAlike a b
+  alike None None = one.no_gaps ∙ sym other.no_gaps
+  alike None (Some j) = elim (cases_lt j (length right)) as (λ w. IsAlike None (Some j)) [
+    | inl lt ↦ let k = element right j lt in one.right_alone j k lt ∙ sym (other.right_alone j k lt)
+    | inr le ↦ behind_right None j le
+  ]
+  alike (Some i) b = elim (cases_lt i (length left)) as (λ w. IsAlike (Some i) b) [
+    | inl lt ↦ with_left i lt b
+    | inr le ↦ behind_left i b le
+  ]
+
+pub joins_alike : {K : Type 0} (same : K → K → Bool) → JoinsAreAlike same
+joins_alike same how left right ps qs one other p = alike same how left right ps qs one other p.left p.right
+
+pub exchange_changes_order : {K : Type 0} (same : K → K → Bool) → ((a b : K) → same a b ≡ same b a) → ExchangeChangesOrder same
+exchange_changes_order same symmetric how left right ps qs one other =
+    joins_alike same (turned how) right left (map exchanged ps) qs (sides_exchange same symmetric how left right ps one) other
+
+-- what is made of the keys of two tables and of the same tables exchanged has the same pairs
+pub made_alike : (how : How) (left right : List (List Label)) (one other : Pairs) (a : IsJoinOf same_tuple how left right one) (b : IsJoinOf same_tuple (turned how) right left other) → AreAlike (map exchanged a.pairs) b.pairs
+made_alike how left right one other a b = exchange_changes_order same_tuple (λ x y. tuple_laws.symm x y) how left right a.pairs b.pairs a.join b.join

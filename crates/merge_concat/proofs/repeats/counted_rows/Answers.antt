@@ -1,0 +1,21 @@
+use Rattle.std.proofs.Common.{◌≡◌, ◌∙◌, ◌<◌, ◌≤◌, ◌+◌, length, slice_index, min, ap, subst, arith}
+use Rattle.std.proofs.lemmas.List.{take_all, get_or_read}
+use Rattle.merge_concat.specs.Codes.{AreCounts}
+use Rattle.merge_concat.proofs.CodeLaws.{counts_more}
+use Rattle.merge_concat.proofs.repeats.counted_rows.Goals as goal
+
+pub loop-row-preserved : goal.loop-row-preserved
+loop-row-preserved c =
+    let codes = c.args.side.now.codes.now in
+    let counts = c.loop-row.counts.items in
+    let code = c.code-code.result in
+    let lt : c.loop-row.row < length codes = omega arith in
+    let room : code < length counts = omega (arith, c.code-code.ensures.below, c.loop-row.invariant.0) in
+    let read : c.index.result.now ≡ slice_index counts code = get_or_read counts code c.index.result.now room c.index.ensures 0 in
+    counts_more codes counts c.args.side.now.count c.loop-row.row code c.saturating_add.result lt c.code-code.ensures.code c.code-code.ensures.below
+    (c.saturating_add.ensures ∙ ap (λ n. min (n + 1) 255) read) c.loop-row.invariant
+
+pub returns : goal.returns
+returns c =
+    let end : length c.args.side.now.codes.now ≤ c.loop-row.row = omega arith in
+    subst (λ codes. AreCounts codes c.args.side.now.count c.loop-row.counts.items) (take_all c.loop-row.row c.args.side.now.codes.now end) c.loop-row.invariant

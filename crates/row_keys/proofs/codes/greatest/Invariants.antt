@@ -1,0 +1,6 @@
+use Rattle.std.proofs.Common.{◌≤◌, ℕ, take, All}
+use Rattle.cell_core.specs.declared.cell.Label.{Label}
+use Rattle.row_keys.proofs.codes.greatest.Given as goal
+
+abbrev pub invariant-loop-row : goal.invariant-loop-row
+invariant-loop-row g l = All (λ (pair : Label × ℕ). pair.1 ≤ l.most) (take l.row (g.R.KeyRows.keys l.rows))

@@ -1,0 +1,7 @@
+use Rattle.std.proofs.Common.{◌≡◌, map}
+use Rattle.std.specs.List.{range_with_len}
+use Rattle.row_keys.proofs.PairLaws.{pair_number}
+use Rattle.row_keys.proofs.codes.paired.Given as goal
+
+abbrev pub invariant-loop-row : goal.invariant-loop-row
+invariant-loop-row g l = l.numbers.items ≡ map (pair_number l.labels.numbers.items (g.R.KeyRows.keys l.rows) l.room.scale) (range_with_len 0 l.row)

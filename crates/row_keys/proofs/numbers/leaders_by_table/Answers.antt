@@ -1,0 +1,26 @@
+use Rattle.std.proofs.Common.{◌≡◌, ◌<◌, ◌≤◌, ℕ, length, refl, ap, ◌∙◌, min, arith}
+use Rattle.std.specs.Prelude.{slice_index}
+use Rattle.std.proofs.lemmas.Grind.{common_steps}
+use Rattle.std.proofs.lemmas.List.{length-set}
+use Rattle.row_keys.specs.Numbers.{first_with}
+use Rattle.row_keys.proofs.LeaderLaws.{table_leads, table_more, leaders_more}
+use Rattle.row_keys.proofs.numbers.leaders_by_table.Goals as goal
+
+pub loop-row-preserved : goal.loop-row-preserved
+loop-row-preserved c =
+    let numbers = c.args.numbers.now in
+    let table = c.loop-row.table.items in
+    let row : ℕ = c.loop-row.row in
+    let n : ℕ = slice_index numbers row in
+    let leader : ℕ = c.min-leader.result in
+    let lt : row < length numbers = omega arith in
+    let known : n ≤ c.args.end = c.requires.up_to row 0 lt in
+    let inside : n < length table = omega (arith, known, c.loop-row.invariant.long) in
+    let read : c.index.result.now ≡ slice_index table n = grind (arith, common_steps) in
+    let made : leader ≡ min (slice_index table n) row = c.min-leader.ensures ∙ ap (λ m. min m row) read in
+    let leads : leader ≡ first_with numbers n = table_leads numbers table row lt c.loop-row.invariant.table inside n leader refl made in
+    record {
+      long = length-set table n leader ∙ c.loop-row.invariant.long;
+      table = table_more numbers table row lt c.loop-row.invariant.table _ n leader refl leads inside refl;
+      leaders = leaders_more numbers c.loop-row.leaders.items c.push.new.self.items row leader lt c.loop-row.invariant.leaders leads c.in_ok-push.ensures.items;
+    }

@@ -1,0 +1,6 @@
+use Rattle.std.proofs.Common.{take, All}
+use Rattle.row_keys.specs.Values.{IsSpanned}
+use Rattle.row_keys.proofs.values.span_of.Given as goal
+
+abbrev pub invariant-loop-row : goal.invariant-loop-row
+invariant-loop-row g l = All (IsSpanned l.class l.span.low l.span.high) (take l.row (g.R.KeyRows.keys l.rows))
