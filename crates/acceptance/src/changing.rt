@@ -1,8 +1,7 @@
 // Files that don't tell what they hold.
-use crate::harness::{AMPLE, assert_left, run_words};
+use crate::harness::{BOTH_AMPLE, Left, leaves};
 use outside_io::{Fetch, Files, Got};
 use script_run::Status;
-use std::test::Fail;
 
 const SCRIPT: &[u8] =
     b"print(len(pd.read_csv('t')))\nprint(len(pd.read_csv('t')))\nprint(len(pd.read_csv('t')))\n";
@@ -59,7 +58,7 @@ impl Files for ChangingFiles {
 }
 
 #[test]
-fn a_file_that_changes_is_read_anew(rt: HostRuntime) -> Result<(), Fail> {
+fn a_file_that_changes_is_read_anew(rt: HostRuntime) {
     let mut files = ChangingFiles {
         left: b"",
         absences: 0,
@@ -67,8 +66,10 @@ fn a_file_that_changes_is_read_anew(rt: HostRuntime) -> Result<(), Fail> {
         taken: 0,
     };
     let words = ["pdscript", "s", "t=t"];
-    let ran = run_words(rt.alloc(), &words, &mut files, AMPLE, AMPLE)?;
-    let errors = b"line 3: FileNotFoundError: t\n";
-    assert_left(&rt, &ran, Status::Fault, b"1\n2\n", errors, 0);
-    Ok(())
+    let left = Left {
+        status: Status::Fault,
+        output: b"1\n2\n",
+        errors: b"line 3: FileNotFoundError: t\n",
+    };
+    assert!(rt; leaves(rt.alloc(), &words, &mut files, BOTH_AMPLE, left) == Ok(true));
 }

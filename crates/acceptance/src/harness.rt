@@ -3,7 +3,6 @@ use cell_core::NoMemory;
 use outside_io::{Files, MemFiles, MemSink};
 use script_run::{Status, run};
 use std::alloc::{AllocError, Global};
-use std::process::Abort;
 
 /// Room enough for all that these runs print.
 pub const AMPLE: usize = 4096;
@@ -11,15 +10,30 @@ pub const AMPLE: usize = 4096;
 /// The number of a call of the files that is never made.
 pub const NEVER: u64 = 99;
 
+/// The room of the two sinks of a run.
+#[derive(Clone, Copy)]
+pub struct Rooms {
+    /// That of the output.
+    pub output: usize,
+    /// That of the errors.
+    pub errors: usize,
+}
+
+/// Ample room in both sinks.
+pub const BOTH_AMPLE: Rooms = Rooms {
+    output: AMPLE,
+    errors: AMPLE,
+};
+
 /// What a run leaves.
-#[derive(Drop)]
-pub struct Report {
+#[derive(Clone, Copy)]
+pub struct Left<'a> {
     /// How it ended.
     pub status: Status,
     /// What it printed.
-    pub output: MemSink,
+    pub output: &'a [u8],
     /// What it wrote on the errors.
-    pub errors: MemSink,
+    pub errors: &'a [u8],
 }
 
 // The words as `run` takes them.
@@ -31,53 +45,41 @@ fn words_of(alloc: Global, words: &[&str]) -> Result<Vec<String>, AllocError> {
     Ok(all)
 }
 
-/// Runs the words over these files, with sinks of this room.
-pub fn run_words<F: Files>(
+/// Whether the words leave this, over these files and sinks of this room.
+pub fn leaves<F: Files>(
     alloc: Global,
     words: &[&str],
     files: &mut F,
-    output_room: usize,
-    error_room: usize,
-) -> Result<Report, NoMemory> {
+    rooms: Rooms,
+    left: Left<'_>,
+) -> Result<bool, NoMemory> {
     let words = words_of(alloc, words)?;
-    let mut output = MemSink::with_room(alloc, output_room)?;
-    let mut errors = MemSink::with_room(alloc, error_room)?;
+    let mut output = MemSink::with_room(alloc, rooms.output)?;
+    let mut errors = MemSink::with_room(alloc, rooms.errors)?;
     let status = run(alloc, &words, files, &mut output, &mut errors);
-    Ok(Report {
-        status,
-        output,
-        errors,
-    })
+    Ok(status == left.status && output.written() == left.output && errors.written() == left.errors)
 }
 
-/// Runs the script, which has a file of two rows by the name `t` and one of three by `u`. The call of the files with
-/// this number fails.
-pub fn run_failing(
-    alloc: Global,
-    script: &[u8],
-    call: u64,
-    output_room: usize,
-    error_room: usize,
-) -> Result<Report, NoMemory> {
-    let mut files = MemFiles::new(alloc);
+fn hold_files(files: &mut MemFiles, script: &[u8], call: u64) -> Result<(), NoMemory> {
     files.hold("s", script)?;
     files.hold("t", b"a\n1\n2\n")?;
     files.hold("u", b"b\n1\n2\n3\n")?;
-    files.fail_at(call)?;
-    let words = ["pdscript", "s", "t=t", "u=u"];
-    run_words(alloc, &words, &mut files, output_room, error_room)
+    files.fail_at(call)
 }
 
-/// The run left this status and these bytes.
-pub fn assert_left(
-    rt: &impl Abort,
-    ran: &Report,
-    status: Status,
-    output: &[u8],
-    errors: &[u8],
-    place: u64,
-) {
-    assert_eq!(rt; ran.status, status, "at {place}");
-    assert_eq!(rt; ran.output.written(), output, "at {place}");
-    assert_eq!(rt; ran.errors.written(), errors, "at {place}");
+/// Whether the script leaves this. It has a file of two rows by the name `t` and one of three by `u`, and the call of the
+/// files with this number fails.
+pub fn script_leaves(
+    alloc: Global,
+    script: &[u8],
+    call: u64,
+    rooms: Rooms,
+    left: Left<'_>,
+) -> bool {
+    let mut files = MemFiles::new(alloc);
+    if hold_files(&mut files, script, call).is_err() {
+        return false;
+    }
+    let words = ["pdscript", "s", "t=t", "u=u"];
+    leaves(alloc, &words, &mut files, rooms, left) == Ok(true)
 }

@@ -1,8 +1,8 @@
 // Files and sinks that fail.
-use crate::harness::{AMPLE, NEVER, assert_left, run_failing, run_words};
+use crate::harness::{AMPLE, BOTH_AMPLE, Left, NEVER, Rooms, leaves, script_leaves};
 use outside_io::MemFiles;
 use script_run::Status;
-use std::test::Fail;
+use std::alloc::Global;
 
 // A script that prints two lines and then faults.
 const PRINTS: &[u8] =
@@ -22,6 +22,52 @@ const ERRORS: &[u8] = b"line 4: warning: ChainedAssignmentError\nline 7: NameErr
 
 const WARNING: &[u8] = b"line 4: warning: ChainedAssignmentError\n";
 
+// A script that writes on the errors before it prints.
+const WARNS: &[u8] = b"a = pd.Series([1])\na.copy().iloc[0] = 2\nprint(a.iloc[0])\nprint(b)\n";
+
+// Whether the script leaves this where a call of the files fails.
+fn fails_at(
+    alloc: Global,
+    script: &[u8],
+    call: u64,
+    status: Status,
+    output: &[u8],
+    errors: &[u8],
+) -> bool {
+    let left = Left {
+        status,
+        output,
+        errors,
+    };
+    script_leaves(alloc, script, call, BOTH_AMPLE, left)
+}
+
+// Whether the script leaves this, and ends with a full sink, where the sinks have this room.
+fn fills(alloc: Global, script: &[u8], rooms: Rooms, output: &[u8], errors: &[u8]) -> bool {
+    let left = Left {
+        status: Status::Output,
+        output,
+        errors,
+    };
+    script_leaves(alloc, script, NEVER, rooms, left)
+}
+
+// Ample room for the output, and this for the errors.
+fn room_for_errors(errors: usize) -> Rooms {
+    Rooms {
+        output: AMPLE,
+        errors,
+    }
+}
+
+// Ample room for the errors, and this for the output.
+fn room_for_output(output: usize) -> Rooms {
+    Rooms {
+        output,
+        errors: AMPLE,
+    }
+}
+
 // What stands on the two streams before the call of the files that fails: the fetch, the read of the bytes or the read
 // that finds the end, of the script, of `t` or of `u`.
 fn streams_before(call: u64) -> (&'static [u8], &'static [u8]) {
@@ -36,53 +82,56 @@ fn streams_before(call: u64) -> (&'static [u8], &'static [u8]) {
 }
 
 #[test]
-fn a_failing_call_ends_the_run_after_what_stands_before_it(rt: HostRuntime) -> Result<(), Fail> {
+fn a_failing_call_ends_the_run_after_what_stands_before_it(rt: HostRuntime) {
     for call in 0..9 {
-        let ran = run_failing(rt.alloc(), READS, call, AMPLE, AMPLE)?;
         let (output, errors) = streams_before(call);
-        assert_left(&rt, &ran, Status::Input, output, errors, call);
+        assert!(rt;
+            fails_at(rt.alloc(), READS, call, Status::Input, output, errors),
+            "at {call}"
+        );
     }
-    Ok(())
 }
 
 #[test]
-fn a_call_that_is_not_made_fails_nothing(rt: HostRuntime) -> Result<(), Fail> {
-    let ran = run_failing(rt.alloc(), READS, 9, AMPLE, AMPLE)?;
-    assert_left(&rt, &ran, Status::Fault, OUTPUT, ERRORS, 9);
-    let ran = run_failing(rt.alloc(), PRINTS, 3, AMPLE, AMPLE)?;
-    assert_left(&rt, &ran, Status::Fault, PRINTED, FAULT, 3);
-    Ok(())
+fn a_call_that_is_not_made_fails_nothing(rt: HostRuntime) {
+    assert!(rt; fails_at(rt.alloc(), READS, 9, Status::Fault, OUTPUT, ERRORS));
+    assert!(rt; fails_at(rt.alloc(), PRINTS, 3, Status::Fault, PRINTED, FAULT));
 }
 
 #[test]
-fn a_script_that_can_not_be_read_is_not_begun(rt: HostRuntime) -> Result<(), Fail> {
+fn a_script_that_can_not_be_read_is_not_begun(rt: HostRuntime) {
     for call in 0..3 {
-        let ran = run_failing(rt.alloc(), PRINTS, call, AMPLE, AMPLE)?;
-        assert_left(&rt, &ran, Status::Input, b"", b"input failed\n", call);
+        let errors = b"input failed\n";
+        assert!(rt;
+            fails_at(rt.alloc(), PRINTS, call, Status::Input, b"", errors),
+            "at {call}"
+        );
     }
-    Ok(())
 }
 
 // The calls 0 to 2 of the files are those for the script, and no other is made.
 #[test]
-fn a_file_is_fetched_when_its_call_is_reached(rt: HostRuntime) -> Result<(), Fail> {
-    let ran = run_failing(rt.alloc(), b"print(5)\n", 3, AMPLE, AMPLE)?;
-    assert_left(&rt, &ran, Status::Done, b"5\n", b"", 0);
+fn a_file_is_fetched_when_its_call_is_reached(rt: HostRuntime) {
+    assert!(rt; fails_at(rt.alloc(), b"print(5)\n", 3, Status::Done, b"5\n", b""));
     let script = b"print(pd.read_csv('t', dtype={'a': 'x'}))\n";
-    let ran = run_failing(rt.alloc(), script, 3, AMPLE, AMPLE)?;
     let errors = b"line 1: ValueError: argument\n";
-    assert_left(&rt, &ran, Status::Fault, b"", errors, 1);
-    Ok(())
+    assert!(rt; fails_at(rt.alloc(), script, 3, Status::Fault, b"", errors));
 }
 
 #[test]
-fn input_failed_is_written_as_far_as_it_fits(rt: HostRuntime) -> Result<(), Fail> {
+fn input_failed_is_written_as_far_as_it_fits(rt: HostRuntime) {
     let line = b"input failed\n";
     for room in 0..line.len() {
-        let ran = run_failing(rt.alloc(), READS, 3, AMPLE, room)?;
-        assert_left(&rt, &ran, Status::Input, b"1\n", &line[..room], room as u64);
+        let left = Left {
+            status: Status::Input,
+            output: b"1\n",
+            errors: &line[..room],
+        };
+        assert!(rt;
+            script_leaves(rt.alloc(), READS, 3, room_for_errors(room), left),
+            "at {room}"
+        );
     }
-    Ok(())
 }
 
 // The output that stands before a line of errors of which so many bytes fit.
@@ -95,36 +144,26 @@ fn output_before(room: usize) -> &'static [u8] {
 }
 
 #[test]
-fn a_full_error_stream_leaves_the_output_before_its_line(rt: HostRuntime) -> Result<(), Fail> {
+fn a_full_error_stream_leaves_the_output_before_its_line(rt: HostRuntime) {
     for room in 0..ERRORS.len() {
-        let ran = run_failing(rt.alloc(), READS, NEVER, AMPLE, room)?;
-        let output = output_before(room);
-        assert_left(
-            &rt,
-            &ran,
-            Status::Output,
-            output,
-            &ERRORS[..room],
-            room as u64,
+        let (output, errors) = (output_before(room), &ERRORS[..room]);
+        let rooms = room_for_errors(room);
+        assert!(rt;
+            fills(rt.alloc(), READS, rooms, output, errors),
+            "at {room}"
         );
     }
-    Ok(())
 }
 
 #[test]
-fn a_full_error_stream_leaves_all_output_before_a_fault(rt: HostRuntime) -> Result<(), Fail> {
+fn a_full_error_stream_leaves_all_output_before_a_fault(rt: HostRuntime) {
     for room in 0..FAULT.len() {
-        let ran = run_failing(rt.alloc(), PRINTS, NEVER, AMPLE, room)?;
-        assert_left(
-            &rt,
-            &ran,
-            Status::Output,
-            PRINTED,
-            &FAULT[..room],
-            room as u64,
+        let rooms = room_for_errors(room);
+        assert!(rt;
+            fills(rt.alloc(), PRINTS, rooms, PRINTED, &FAULT[..room]),
+            "at {room}"
         );
     }
-    Ok(())
 }
 
 // The errors that stand before a print of which so many bytes of all output fit.
@@ -133,65 +172,56 @@ fn errors_before(room: usize) -> &'static [u8] {
 }
 
 #[test]
-fn a_full_output_leaves_the_errors_before_its_text(rt: HostRuntime) -> Result<(), Fail> {
+fn a_full_output_leaves_the_errors_before_its_text(rt: HostRuntime) {
     for room in 0..OUTPUT.len() {
-        let ran = run_failing(rt.alloc(), READS, NEVER, room, AMPLE)?;
-        let errors = errors_before(room);
-        assert_left(
-            &rt,
-            &ran,
-            Status::Output,
-            &OUTPUT[..room],
-            errors,
-            room as u64,
+        let (output, errors) = (&OUTPUT[..room], errors_before(room));
+        let rooms = room_for_output(room);
+        assert!(rt;
+            fills(rt.alloc(), READS, rooms, output, errors),
+            "at {room}"
         );
     }
-    Ok(())
 }
 
 #[test]
-fn a_full_output_ends_the_run_at_once(rt: HostRuntime) -> Result<(), Fail> {
+fn a_full_output_ends_the_run_at_once(rt: HostRuntime) {
     for room in 0..PRINTED.len() {
-        let ran = run_failing(rt.alloc(), PRINTS, NEVER, room, AMPLE)?;
-        assert_left(
-            &rt,
-            &ran,
-            Status::Output,
-            &PRINTED[..room],
-            b"",
-            room as u64,
+        let rooms = room_for_output(room);
+        assert!(rt;
+            fills(rt.alloc(), PRINTS, rooms, &PRINTED[..room], b""),
+            "at {room}"
         );
     }
-    Ok(())
 }
 
-// A warning and a fault's line are written byte by byte, up to the full stream.
+// A warning and a fault's line are written byte by byte, up to the full stream. The value is printed behind the warning.
 #[test]
-fn a_full_error_stream_ends_at_a_warning_too(rt: HostRuntime) -> Result<(), Fail> {
-    let script = b"a = pd.Series([1])\na.copy().iloc[0] = 2\nprint(a.iloc[0])\nprint(b)\n";
+fn a_full_error_stream_ends_at_a_warning_too(rt: HostRuntime) {
     let errors = b"line 2: warning: ChainedAssignmentError\nline 4: NameError: b\n";
     for room in [0, 1, 39, 40, 41, 59] {
-        let ran = run_failing(rt.alloc(), script, NEVER, AMPLE, room)?;
-        assert_eq!(rt; ran.status, Status::Output, "room {room}");
-        assert_eq!(rt; ran.errors.written(), &errors[..room], "room {room}");
+        let output: &[u8] = if room < 40 { b"" } else { b"1\n" };
+        let rooms = room_for_errors(room);
+        assert!(rt;
+            fills(rt.alloc(), WARNS, rooms, output, &errors[..room]),
+            "at {room}"
+        );
     }
-    Ok(())
 }
 
 // With ample memory a run is never refused for want of it.
 #[test]
-fn run_always_want_of_memory(rt: HostRuntime) -> Result<(), Fail> {
-    let ran = run_failing(rt.alloc(), PRINTS, NEVER, AMPLE, AMPLE)?;
-    assert_left(&rt, &ran, Status::Fault, PRINTED, FAULT, 0);
-    Ok(())
+fn run_always_want_of_memory(rt: HostRuntime) {
+    assert!(rt; fails_at(rt.alloc(), PRINTS, NEVER, Status::Fault, PRINTED, FAULT));
 }
 
 // Not even the program's name is there.
 #[test]
-fn no_word_is_no_run(rt: HostRuntime) -> Result<(), Fail> {
+fn no_word_is_no_run(rt: HostRuntime) {
     let mut files = MemFiles::new(rt.alloc());
-    let ran = run_words(rt.alloc(), &[], &mut files, AMPLE, AMPLE)?;
-    let usage = b"usage: pdscript [--stats] [--demo N | SCRIPT] [NAME=PATH ..]\n";
-    assert_left(&rt, &ran, Status::Usage, b"", usage, 0);
-    Ok(())
+    let left = Left {
+        status: Status::Usage,
+        output: b"",
+        errors: b"usage: pdscript [--stats] [--demo N | SCRIPT] [NAME=PATH ..]\n",
+    };
+    assert!(rt; leaves(rt.alloc(), &[], &mut files, BOTH_AMPLE, left) == Ok(true));
 }

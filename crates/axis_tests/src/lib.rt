@@ -1,4 +1,4 @@
-//! Tests of the crates from cells to columns, axes and keys: what no clause says, and what no script reaches.
+//! Tests of the crates from cells to columns and axes: what no clause says, and what no script reaches.
 #![tactic(auto)]
 
 #[cfg(test)]

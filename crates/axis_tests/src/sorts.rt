@@ -2,10 +2,10 @@
 ghost use Rattle.axis_tests.specs.Orders.{is_sooner, sooner_is_weak};
 
 use crate::picks::are;
-use cell_core::{Label, TextDict};
+use cell_core::{Label, NoMemory, TextDict, TextId};
 use sorting::{LabelKeys, RowOrder, rows_by_labels, sorted_rows};
+use std::alloc::Global;
 use std::cmp::Ordering;
-use std::test::Fail;
 
 // Even rows before odd ones.
 struct EvenFirst;
@@ -21,7 +21,7 @@ impl RowOrder for EvenFirst {
 }
 
 #[test]
-fn rows_that_tie_stay_as_they_stood(rt: HostRuntime) -> Result<(), Fail> {
+fn rows_that_tie_stay_as_they_stood(rt: HostRuntime) -> Result<(), NoMemory> {
     let rows = sorted_rows(rt.alloc(), 5, &EvenFirst)?;
     assert!(rt; are(&rows, &[0, 2, 4, 1, 3]));
     Ok(())
@@ -53,33 +53,42 @@ impl LabelKeys for Single<'_> {
     }
 }
 
+// Whether the rows of the labels stand in this order, the other way round where they aren't `ascending`.
+fn stand(
+    alloc: Global,
+    dict: &TextDict,
+    labels: &[Label],
+    ascending: bool,
+    wanted: &[usize],
+) -> bool {
+    let keys = Single { labels };
+    match rows_by_labels(alloc, dict, &keys, ascending, labels.len()) {
+        Ok(rows) => are(&rows, wanted),
+        Err(_) => false,
+    }
+}
+
+fn text(number: u64) -> Label {
+    Label::Text(TextId(number))
+}
+
+// Only the text 0 has a number.
 #[test]
-fn texts_without_a_number_tie(rt: HostRuntime) -> Result<(), Fail> {
-    let mut other = TextDict::new(rt.alloc());
-    let first = Label::Text(other.intern("a")?);
-    let second = Label::Text(other.intern("b")?);
-    let third = Label::Text(other.intern("c")?);
+fn texts_without_a_number_tie(rt: HostRuntime) -> Result<(), NoMemory> {
     let mut dict = TextDict::new(rt.alloc());
     dict.intern("z")?;
-    let labels = [first, third, Label::Int(7), second];
-    let keys = Single { labels: &labels };
-    let rows = rows_by_labels(rt.alloc(), &dict, &keys, true, 4)?;
-    assert!(rt; are(&rows, &[2, 1, 3, 0]));
-    let turned = rows_by_labels(rt.alloc(), &dict, &keys, false, 4)?;
-    assert!(rt; are(&turned, &[0, 1, 3, 2]));
+    let labels = [text(0), text(2), Label::Int(7), text(1)];
+    assert!(rt; stand(rt.alloc(), &dict, &labels, true, &[2, 1, 3, 0]));
+    assert!(rt; stand(rt.alloc(), &dict, &labels, false, &[0, 1, 3, 2]));
     Ok(())
 }
 
 // From the least whole number to the greatest there is no room for a row beside the number.
 #[test]
-fn values_without_room_are_in_order(rt: HostRuntime) -> Result<(), Fail> {
+fn values_without_room_are_in_order(rt: HostRuntime) {
     let dict = TextDict::new(rt.alloc());
     let (least, most) = (Label::Int(i64::MIN), Label::Int(i64::MAX));
     let labels = [most, least, Label::Int(0), most, least];
-    let keys = Single { labels: &labels };
-    let rows = rows_by_labels(rt.alloc(), &dict, &keys, true, 5)?;
-    assert!(rt; are(&rows, &[1, 4, 2, 0, 3]));
-    let turned = rows_by_labels(rt.alloc(), &dict, &keys, false, 5)?;
-    assert!(rt; are(&turned, &[0, 3, 2, 1, 4]));
-    Ok(())
+    assert!(rt; stand(rt.alloc(), &dict, &labels, true, &[1, 4, 2, 0, 3]));
+    assert!(rt; stand(rt.alloc(), &dict, &labels, false, &[0, 3, 2, 1, 4]));
 }

@@ -11,7 +11,7 @@ use column_core::Column;
 use std::alloc::Global;
 
 /// What a column is made of. One cell in eight is missing.
-#[derive(Clone, Copy, Debug)]
+#[derive(Clone, Copy)]
 pub enum Data {
     /// Whole numbers of both signs.
     Numbers,

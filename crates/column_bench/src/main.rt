@@ -17,7 +17,7 @@ mod work;
 use cell_core::{NoMemory, TextDict};
 use nullable_array::ArrayFault;
 use operation::Operation;
-use std::alloc::AllocError;
+use std::alloc::{AllocError, Global};
 use std::rt::Clock;
 use std::time::Instant;
 use std::{env, io};
@@ -66,12 +66,19 @@ impl From<NoMemory> for Failure {
 
 fn main(rt: HostRuntime) -> Result<(), Failure> {
     let words: Vec<String> = env::args(&rt)?.collect(rt.alloc())?;
-    match words.as_slice() {
-        [_] => measure_all(&rt, FEW_CELLS, false),
-        [_, name] => measure_named(&rt, name.as_str(), FEW_CELLS, false),
-        [_, name, cells] => measure_named(&rt, name.as_str(), count_of(cells.as_str())?, false),
+    measure_worded(&rt, &words)
+}
+
+fn measure_worded(
+    rt: &(impl Clock + Print + AllocGlobal),
+    words: &[String],
+) -> Result<(), Failure> {
+    match words {
+        [_] => measure_all(rt, FEW_CELLS, false),
+        [_, name] => measure_named(rt, name.as_str(), FEW_CELLS, false),
+        [_, name, cells] => measure_named(rt, name.as_str(), count_of(cells.as_str())?, false),
         [_, name, cells, word] if word.as_str() == "time" => {
-            measure_named(&rt, name.as_str(), count_of(cells.as_str())?, true)
+            measure_named(rt, name.as_str(), count_of(cells.as_str())?, true)
         }
         _ => Err(Failure::Usage),
     }
@@ -120,10 +127,18 @@ fn measure(
     if timed {
         time(rt, operation.name(), &work)?;
     }
-    let mut dict = TextDict::new(rt.alloc());
-    let answer = work.run(rt.alloc(), &mut dict)?;
-    println!(rt; "{} {}", operation.name(), answer.number())?;
+    let number = number_of(rt.alloc(), &work)?;
+    println!(rt; "{} {number}", operation.name())?;
     Ok(())
+}
+
+// The number of the cells that are answered.
+fn number_of(alloc: Global, work: &Work) -> Result<i64, ArrayFault>
+    requires { IsReady work.now }
+{
+    let mut dict = TextDict::new(alloc);
+    let answer = work.run(alloc, &mut dict)?;
+    Ok(answer.number())
 }
 
 // A line for each time that the operation is done.

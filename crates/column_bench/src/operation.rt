@@ -12,7 +12,7 @@ use column_operators::Binary;
 use std::alloc::Global;
 
 /// An operation on columns.
-#[derive(Clone, Copy, Debug)]
+#[derive(Clone, Copy)]
 pub enum Operation {
     /// `+` of two columns of whole numbers.
     Add,

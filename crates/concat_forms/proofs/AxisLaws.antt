@@ -1,52 +1,23 @@
 -- The rows of parts one below the other.
-use Rattle.std.proofs.Common.{◌≡◌, ◌∙◌, ◌<◌, ◌+◌, ◌-◌, refl, ap, sym, subst, arith, ℕ, zero, suc, pos, nat_eq, Bool, true, false, ◌&&◌, List, [], ◌∷◌, ◌++◌, map, fold, length, take, replicate, slice_index_or, All, Option, Some, None, Result, Ok, Err, if◌then◌else◌}
-use Rattle.std.specs.Prelude.{IfOk}
-use Rattle.std.specs.Borrow.{Bor}
-use Rattle.std.specs.Option.{option_map}
-use Rattle.std.specs.List.{list_all, flat_map, range_with_len}
-use Rattle.std.proofs.lemmas.List.{length-map, length-append, length-replicate, map-append}
-use Rattle.std.proofs.lemmas.List.Elements.{All-nil, All-cons, All-head, All-tail}
-use Rattle.std.proofs.lemmas.List.Concat.{length-flat_map}
-use Rattle.std.proofs.lemmas.Bool.Decides.{nat_tests}
-use Rattle.std.specs.Global.{Vec}
-use Rattle.cell_core.specs.declared.cell.Label.{Label}
+use Rattle.{
+  form_parts.proofs.LabelLaws.{default_seen},
+  std.{proofs.{lemmas.{List.{length-map, length-append, length-replicate, map-append, FromFn.{length-range_with_len}, Elements.{All-nil, All-cons, All-head, All-tail}, Concat.{length-flat_map}}, Bool.{and_parts, Decides.{nat_tests}}}, Common.{◌≡◌, ◌∙◌, ◌<◌, ◌+◌, ◌-◌, refl, ap, sym, subst, arith, ℕ, zero, suc, pos, nat_eq, Bool, true, false, ◌&&◌, List, [], ◌∷◌, ◌++◌, map, fold, length, take, replicate, slice_index_or, All, Option, Some, None, Result, Ok, Err, if◌then◌else◌}}, specs.{Prelude.{IfOk}, Borrow.{Bor}, Option.{option_map}, List.{list_all, flat_map, range_with_len}, Global.{Vec}}},
+  cell_core.specs.declared.{cell.Label.{Label}, memory.NoMemory.{NoMemory}},
+  meaning.specs.{Text.{Text}, Cell.{LabelValue, label_datum, int}},
+  join_meaning.specs.Concat.{labels_under},
+  multi_index.specs.Axes.{AxisValue, range_axis, nameless_axis},
+  table_meaning.specs.{Settled.{IsSettled}, Table.{NumberedTable, Table, tuple_value, heading_value, table_value}},
+  form_meaning.specs.Finish.{default_labels},
+  method_meaning.specs.Concat.{rows_below, labels_of_tables, level_names_of_all, name_of_all},
+  frame_store.{specs.{Parts.{axis_of}, Shown.{labels_value, headings_value}, World.{IsKnownTable}}, proofs.Settling.{labels_part}},
+  merge_concat.specs.Axes.{HaveLevelsOfFirst, levels_of_first, tuples_below, levels_below},
+  concat_forms.{specs.{declared.{asked.Asked.{Asked}, parts.Naming.TheVariants.{Level}}, Parts.{parts_value, have_same_levels, name_at, AreKnownParts}, Columns.{rows_in}, Asked.{keys_value, KeysFit}, Axes.{axis_seen, levels_with, levels_for, levels_of, names_of_levels, named_after}}, proofs.NameLaws.{level_names_by}},
+}
 use Rattle.cell_core.specs.declared.cell.Label.TheVariants as label
-use Rattle.cell_core.specs.declared.memory.NoMemory.{NoMemory}
-use Rattle.meaning.specs.Text.{Text}
-use Rattle.meaning.specs.Cell.{LabelValue, label_datum, int}
-use Rattle.join_meaning.specs.Concat.{labels_under}
-use Rattle.multi_index.specs.Axes.{AxisValue, range_axis, nameless_axis}
-use Rattle.table_meaning.specs.Settled.{IsSettled}
-use Rattle.table_meaning.specs.Table.{NumberedTable, Table, tuple_value, heading_value, table_value}
-use Rattle.form_meaning.specs.Finish.{default_labels}
-use Rattle.method_meaning.specs.Concat.{rows_below, labels_of_tables, level_names_of_all, name_of_all}
-use Rattle.frame_store.specs.Parts.{axis_of}
-use Rattle.frame_store.specs.Shown.{labels_value, headings_value}
-use Rattle.frame_store.specs.World.{IsKnownTable}
-use Rattle.frame_store.proofs.Settling.{labels_part}
-use Rattle.merge_concat.specs.Axes.{HaveLevelsOfFirst, levels_of_first, tuples_below, levels_below}
-use Rattle.concat_forms.specs.declared.asked.Asked.{Asked}
-use Rattle.concat_forms.specs.declared.parts.Naming.TheVariants.{Level}
-use Rattle.concat_forms.specs.Parts.{parts_value, have_same_levels, name_at, AreKnownParts}
-use Rattle.concat_forms.specs.Columns.{rows_in}
-use Rattle.concat_forms.specs.Asked.{keys_value, KeysFit}
-use Rattle.concat_forms.specs.Axes.{axis_seen, levels_with, levels_for, levels_of, names_of_levels, named_after}
-use Rattle.concat_forms.proofs.NameLaws.{level_names_by}
 
--- the labels 0, 1 and so on
-numbers_seen : (texts : List Text) (from n : ℕ) → labels_value texts (map (λ l. l ∷ []) (map (λ k. label.Int (pos k)) (range_with_len from n))) ≡ map (λ row. int (pos row) ∷ []) (range_with_len from n)
-numbers_seen texts from zero = refl
-numbers_seen texts from (suc n) = ap (λ l. (int (pos from) ∷ []) ∷ l) (numbers_seen texts (from + 1) n)
-
-range_seen : (texts : List Text) (n : ℕ) → labels_value texts (range_axis n).tuples ≡ default_labels n
-range_seen texts n = numbers_seen texts 0 n
-
-range_count : (from n : ℕ) → length (range_with_len from n) ≡ n
-range_count from zero = refl
-range_count from (suc n) = ap suc (range_count (from + 1) n)
-
+-- as many numbered rows
 pub range_rows : (n : ℕ) → length (range_axis n).tuples ≡ n
-range_rows n = length-map (map (λ k. label.Int (pos k)) (range_with_len 0 n)) (λ l. l ∷ []) ∙ length-map (range_with_len 0 n) (λ k. label.Int (pos k)) ∙ range_count 0 n
+range_rows n = length-map (map (λ k. label.Int (pos k)) (range_with_len 0 n)) (λ l. l ∷ []) ∙ length-map (range_with_len 0 n) (λ k. label.Int (pos k)) ∙ length-range_with_len 0 n
 
 -- how many rows there are
 abbrev numbered_labels : List NumberedTable → List (List (List Label))
@@ -76,16 +47,16 @@ under_flat (k ∷ ks) (l ∷ ls) same =
 
 pub rows_count : (texts : List Text) (renumbered : Bool) (keys : Option (Vec Label)) (ts : List NumberedTable) → KeysFit (length ts) keys → length (rows_below renumbered (keys_value texts keys) (parts_value texts ts)).labels ≡ rows_in ts
 rows_count texts true keys ts fit =
-    length-map (range_with_len 0 (length (flat_map (λ labels. labels) (labels_seen_of texts ts)))) (λ row. int (pos row) ∷ []) ∙ range_count 0 (length (flat_map (λ labels. labels) (labels_seen_of texts ts))) ∙ flat_count texts ts
+    length-map (range_with_len 0 (length (flat_map (λ labels. labels) (labels_seen_of texts ts)))) (λ row. int (pos row) ∷ []) ∙ length-range_with_len 0 _ ∙ flat_count texts ts
 rows_count texts false None ts fit = flat_count texts ts
 rows_count texts false (Some keys) ts fit =
     let same : length (map (label_datum texts) keys.items) ≡ length (labels_seen_of texts ts) =
     length-map keys.items (label_datum texts) ∙ sym fit ∙ sym (length-map (parts_value texts ts) (λ t. t.labels) ∙ length-map ts (table_value texts)) in
-    under_flat (map (label_datum texts) keys.items) (labels_seen_of texts ts) same ∙ flat_count texts ts
+    under_flat _ _ same ∙ flat_count texts ts
 
 -- and how many levels
 names_count : (t : Table) (ts : List Table) → length (level_names_of_all (t ∷ ts)) ≡ length t.level_names
-names_count t ts = ap (λ (l : List (Option LabelValue)). length l) (level_names_by t ts) ∙ length-map (range_with_len 0 (length t.level_names)) (λ level. name_of_all (map (name_at (Level level)) (t ∷ ts))) ∙ range_count 0 (length t.level_names)
+names_count t ts = ap length (level_names_by t ts) ∙ length-map (range_with_len 0 (length t.level_names)) (λ level. name_of_all (map (name_at (Level level)) (t ∷ ts))) ∙ length-range_with_len 0 _
 
 pub levels_count : (texts : List Text) (a : Asked) (t : NumberedTable) (ts : List NumberedTable) → length (rows_below a.renumbered (keys_value texts a.keys) (parts_value texts (t ∷ ts))).names ≡ levels_for (length t.level_names) a
 levels_count texts a t ts = go a.renumbered a.keys
@@ -104,30 +75,22 @@ pub numbered_axis : (texts : List Text) (b : Bool) (keys : Option (List LabelVal
 numbered_axis texts b keys ts rows (Err e) is count made = tt
 numbered_axis texts b keys ts rows (Ok axis) is count made =
     ap (axis_seen texts) made
-    ∙ (λ i. record { labels = range_seen texts rows i; names = None ∷ [] })
+    ∙ (λ i. record { labels = default_seen texts rows i; names = None ∷ [] })
     ∙ (λ i. record { labels = default_labels ((count ∙ sym (flat_count texts ts)) i); names = None ∷ [] })
     ∙ ap (λ b. rows_below b keys (parts_value texts ts)) (sym is)
 
 pub numbered_given : (texts : List Text) (rows : ℕ) (r : Result AxisValue NoMemory) → IfOk r (λ axis. axis ≡ range_axis rows) → IfOk r (λ axis. IsSettled axis_seen texts axis)
 numbered_given texts rows (Err e) made = tt
 numbered_given texts rows (Ok axis) made =
-    subst (λ (a : AxisValue). IsSettled axis_seen texts a) (sym made) (λ more i. record { labels = (range_seen (texts ++ more) rows ∙ sym (range_seen texts rows)) i; names = None ∷ [] })
+    rw made (λ more i. record { labels = (default_seen (texts ++ more) rows ∙ sym (default_seen texts rows)) i; names = None ∷ [] })
 
 pub numbered_rows : (rows : ℕ) (r : Result AxisValue NoMemory) → IfOk r (λ axis. axis ≡ range_axis rows) → IfOk r (λ axis. length axis.tuples ≡ rows)
 numbered_rows rows (Err e) made = tt
-numbered_rows rows (Ok axis) made = ap (λ (a : AxisValue). length a.tuples) made ∙ range_rows rows
+numbered_rows rows (Ok axis) made = ap (λ (a : AxisValue). length a.tuples) made ∙ range_rows _
 
 -- axes of as many levels as the first
 pub equal_counts : (n m : ℕ) → nat_eq n m ≡ true → m ≡ n
 equal_counts n m e = grind (arith, nat_tests, e)
-
-pub and_first : (a b : Bool) → (a && b) ≡ true → a ≡ true
-and_first true b e = refl
-and_first false b e = cc
-
-pub and_second : (a b : Bool) → (a && b) ≡ true → b ≡ true
-and_second true b e = e
-and_second false b e = cc
 
 abbrev pub first_axis_or : AxisValue → List AxisValue → AxisValue
 first_axis_or d [] = d
@@ -141,9 +104,9 @@ each_level : (n : ℕ) (axes : List (Bor AxisValue)) (ts : List NumberedTable) �
 each_level n [] ts is same = All-nil (λ axis. length axis.now.names ≡ n)
 each_level n (a ∷ as') [] is same = cc
 each_level n (a ∷ as') (t ∷ ts) is same =
-    All-cons (λ axis. length axis.now.names ≡ n) a as'
-    (ap (λ (l : List AxisValue). length (first_axis_or a.now l).names) is ∙ equal_counts n (length t.level_names) (and_first (nat_eq n (length t.level_names)) (list_all (λ t. nat_eq n (length t.level_names)) ts) same))
-    (each_level n as' ts (ap other_axes is) (and_second (nat_eq n (length t.level_names)) (list_all (λ t. nat_eq n (length t.level_names)) ts) same))
+    All-cons (λ axis. length axis.now.names ≡ n) a _
+    (ap (λ (l : List AxisValue). length (first_axis_or a.now l).names) is ∙ equal_counts n _ (and_parts _ _ same).0)
+    (each_level n as' ts (ap other_axes is) (and_parts _ _ same).1)
 
 pub count_itself : (n : ℕ) → nat_eq n n ≡ true
 count_itself n = grind (arith, nat_tests)
@@ -153,8 +116,8 @@ axes_alike [] ts is same = All-nil (λ axis. length axis.now.names ≡ 0)
 axes_alike (a ∷ as') [] is same = cc
 axes_alike (a ∷ as') (t ∷ ts) is same =
     let count : length a.now.names ≡ length t.level_names = ap (λ (l : List AxisValue). length (first_axis_or a.now l).names) is in
-    let all : list_all (λ o. nat_eq (length t.level_names) (length o.level_names)) (t ∷ ts) ≡ true = ap (λ b. b && list_all (λ o. nat_eq (length t.level_names) (length o.level_names)) ts) (count_itself (length t.level_names)) ∙ same in
-    subst (λ n. All (λ axis. length axis.now.names ≡ n) (a ∷ as')) (sym count) (each_level (length t.level_names) (a ∷ as') (t ∷ ts) is all)
+    let all : list_all (λ o. nat_eq (length t.level_names) (length o.level_names)) (t ∷ ts) ≡ true = ap (λ b. b && list_all (λ o. nat_eq (length t.level_names) (length o.level_names)) ts) (count_itself _) ∙ same in
+    rw count (each_level _ (a ∷ as') (t ∷ ts) is all)
 
 pub first_levels : (axes : List (Bor AxisValue)) (ts : List NumberedTable) → map (λ axis. axis.now) axes ≡ map axis_of ts → levels_of_first axes ≡ levels_of ts
 first_levels [] [] is = refl
@@ -193,18 +156,18 @@ lists_given texts more (t ∷ ts) known = λ i. labels_part texts t (All-head (I
 
 pub tuples_given : (texts : List Text) (keys : Option (List Label)) (ts : List NumberedTable) → AreKnownParts texts ts → ((more : List Text) → option_map (map (label_datum (texts ++ more))) keys ≡ option_map (map (label_datum texts)) keys)
     → IsSettled labels_value texts (tuples_for keys (numbered_labels ts))
-tuples_given texts None ts known given = λ more. flat_seen (texts ++ more) ts ∙ ap (flat_map (λ labels. labels)) (lists_given texts more ts known) ∙ sym (flat_seen texts ts)
+tuples_given texts None ts known given = λ more. flat_seen (texts ++ more) ts ∙ ap (flat_map (λ labels. labels)) (lists_given _ more _ known) ∙ sym (flat_seen texts ts)
 tuples_given texts (Some keys) ts known given = λ more.
-    under_seen (texts ++ more) keys ts ∙ (λ i. labels_under (some_keys (given more) i) (lists_given texts more ts known i)) ∙ sym (under_seen texts keys ts)
+    under_seen (texts ++ more) keys ts ∙ (λ i. labels_under (some_keys (given more) i) (lists_given _ more _ known i)) ∙ sym (under_seen texts keys ts)
   where
     some_keys : {a b : List LabelValue} → Some a ≡ Some b → a ≡ b
     some_keys e = cc
 
 pub tuples_count : (texts : List Text) (keys : Option (List Label)) (ts : List NumberedTable) → ((ks : List Label) → keys ≡ Some ks → length ks ≡ length ts) → length (tuples_for keys (numbered_labels ts)) ≡ rows_in ts
-tuples_count texts None ts fit = sym (length-map (flat_map (λ labels. labels) (numbered_labels ts)) (tuple_value texts)) ∙ ap (λ (l : List (List LabelValue)). length l) (flat_seen texts ts) ∙ flat_count texts ts
+tuples_count texts None ts fit = sym (length-map (flat_map (λ labels. labels) (numbered_labels ts)) (tuple_value texts)) ∙ ap length (flat_seen texts ts) ∙ flat_count texts ts
 tuples_count texts (Some keys) ts fit =
-    under_flat keys (numbered_labels ts) (fit keys refl ∙ sym (length-map ts (λ t. t.labels)))
-    ∙ sym (length-map (flat_map (λ labels. labels) (numbered_labels ts)) (tuple_value texts)) ∙ ap (λ (l : List (List LabelValue)). length l) (flat_seen texts ts) ∙ flat_count texts ts
+    under_flat _ _ (fit keys refl ∙ sym (length-map ts (λ t. t.labels)))
+    ∙ sym (length-map (flat_map (λ labels. labels) (numbered_labels ts)) (tuple_value texts)) ∙ ap length (flat_seen texts ts) ∙ flat_count texts ts
 
 -- the names behind a level without one
 nameless_seen : (texts : List Text) (n : ℕ) → headings_value texts (replicate n None) ≡ replicate n None
@@ -270,7 +233,7 @@ keys_by_items texts (Some keys) = refl
 
 fit_by_items : (n : ℕ) (keys : Option (Vec Label)) → KeysFit n keys → (ks : List Label) → items_in keys ≡ Some ks → length ks ≡ n
 fit_by_items n None fit ks is = cc
-fit_by_items n (Some keys) fit ks is = ap (λ (l : List Label). length l) (sym (some_items is)) ∙ sym fit
+fit_by_items n (Some keys) fit ks is = ap length (sym (some_items is)) ∙ sym fit
   where
     some_items : Some keys.items ≡ Some ks → keys.items ≡ ks
     some_items e = cc
@@ -280,7 +243,7 @@ module _ (texts : List Text) (asked : Option (Vec Label)) (keys : Option (Bor (L
       → axis ≡ nameless_axis (tuples_for (items_in asked) (numbered_labels parts)) (levels_after (items_in asked) (levels_of parts))
   axis_is parts lists is =
       is
-      ∙ (λ i. nameless_axis (same_tuples keys (each_tuples axes parts lists i) i) (same_levels keys (first_levels axes parts lists i) i))
+      ∙ (λ i. nameless_axis (same_tuples keys (each_tuples _ _ lists i) i) (same_levels keys (first_levels _ _ lists i) i))
       ∙ (λ i. nameless_axis (tuples_for (same i) (numbered_labels parts)) (levels_after (same i) (levels_of parts)))
 
   pub axis_of_parts : (b : Bool) (parts : List NumberedTable) (t : NumberedTable) (levels : ℕ) → 0 < length parts → t ≡ slice_index_or parts 0 t → levels ≡ length t.level_names → b ≡ false → map (λ axis. axis.now) axes ≡ map axis_of parts
@@ -301,4 +264,4 @@ module _ (texts : List Text) (asked : Option (Vec Label)) (keys : Option (Bor (L
   pub axis_rows : (parts : List NumberedTable) (rows : ℕ) → KeysFit (length parts) asked → rows ≡ rows_in parts → map (λ axis. axis.now) axes ≡ map axis_of parts
       → axis ≡ nameless_axis (tuples_below keys (map (λ axis. axis.now.tuples) axes)) (levels_below keys (levels_of_first axes)) → made.tuples ≡ axis.tuples → length made.tuples ≡ rows
   axis_rows parts rows fit count lists is tuples =
-      ap (λ (l : List (List Label)). length l) (tuples ∙ ap (λ (a : AxisValue). a.tuples) (axis_is parts lists is)) ∙ tuples_count texts (items_in asked) parts (fit_by_items (length parts) asked fit) ∙ sym count
+      ap length (tuples ∙ ap (λ (a : AxisValue). a.tuples) (axis_is parts lists is)) ∙ tuples_count texts (items_in asked) parts (fit_by_items (length parts) asked fit) ∙ sym count

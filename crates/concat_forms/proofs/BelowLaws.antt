@@ -1,31 +1,15 @@
 -- Parts one below the other are what is meant.
-use Rattle.std.proofs.Common.{◌≡◌, ◌∙◌, refl, ap, sym, arith, Bool, true, false, ◌&&◌, List, [], ◌∷◌, map, length, slice_index_or, unwrap_or, All, Option, None, Result, Ok, Err, if◌then◌else◌}
-use Rattle.std.specs.Prelude.{slice_get}
-use Rattle.std.proofs.lemmas.List.{length-map}
-use Rattle.std.proofs.lemmas.List.Elements.{All-head, All-tail}
-use Rattle.cell_core.specs.Texts.{AreDistinct}
-use Rattle.cell_core.specs.declared.cell.Cell.{Cell}
-use Rattle.cell_core.specs.declared.cell.Kind.{Kind}
-use Rattle.cell_core.specs.declared.cell.Label.{Label}
-use Rattle.cell_core.specs.declared.grid.Shape.{Shape}
-use Rattle.cell_core.specs.declared.grid.Shape.TheVariants.{Series, Frame}
-use Rattle.meaning.specs.Text.{Text}
-use Rattle.meaning.specs.Cell.{CellValue, LabelValue}
-use Rattle.meaning.specs.Fault.{FaultValue, wrong_kind, then_value}
-use Rattle.table_meaning.specs.Settled.{IsSettled}
-use Rattle.table_meaning.specs.Table.{ColumnOf, NumberedTable, Table, column_at, column_value, heading_value, tuple_value, table_value}
-use Rattle.table_meaning.specs.Valid.{IsWhole}
-use Rattle.form_meaning.specs.Finish.{missing_column, try_all}
-use Rattle.method_meaning.specs.Concat.{Concatenation, columns_below, column_or_missing, frame_column_below, series_below, table_below, finished_below, name_of_all}
-use Rattle.frame_store.specs.Shown.{headings_value, columns_value}
-use Rattle.frame_store.specs.World.{IsKnownTable}
-use Rattle.selections.proofs.HeadingLaws.{head_settled, rest_settled}
-use Rattle.concat_forms.specs.declared.parts.Sought.TheVariants.{Only, Under}
-use Rattle.concat_forms.specs.Parts.{parts_value, AreKnownParts, AreOf}
-use Rattle.concat_forms.specs.Columns.{kind_sought, kinds_meet, all_kinds_meet, stacked, columns_stacked}
-use Rattle.concat_forms.specs.Below.{columns_made, table_made}
-use Rattle.concat_forms.proofs.ColumnLaws.{seen_or, seen_in, columns_stacked_by}
-use Rattle.concat_forms.proofs.TextLaws.{column_under_seen, kind_under_seen}
+use Rattle.{
+  std.{proofs.{Common.{◌≡◌, ◌∙◌, refl, ap, sym, arith, Bool, true, false, ◌&&◌, List, [], ◌∷◌, map, length, slice_index_or, unwrap_or, Option, None, Result, Ok, Err, if◌then◌else◌}, lemmas.List.{length-map, Elements.{All-head, All-tail}}}, specs.Prelude.{slice_get}},
+  cell_core.specs.{Texts.{AreDistinct}, declared.{cell.{Cell.{Cell}, Kind.{Kind}, Label.{Label}}, grid.Shape.{Shape, TheVariants.{Series, Frame}}}},
+  meaning.specs.{Text.{Text}, Cell.{CellValue, LabelValue}, Fault.{FaultValue, wrong_kind, then_value}},
+  table_meaning.specs.{Settled.{IsSettled}, Table.{ColumnOf, NumberedTable, Table, column_at, column_value, heading_value, tuple_value, table_value}, Valid.{IsWhole}},
+  form_meaning.specs.Finish.{missing_column, try_all},
+  method_meaning.specs.Concat.{Concatenation, columns_below, column_or_missing, frame_column_below, series_below, table_below, finished_below, name_of_all},
+  frame_store.specs.{Shown.{headings_value, columns_value}, World.{IsKnownTable}},
+  selections.proofs.HeadingLaws.{head_settled, rest_settled},
+  concat_forms.{specs.{declared.parts.Sought.TheVariants.{Only, Under}, Parts.{parts_value, AreKnownParts, AreOf}, Columns.{kind_sought, kinds_meet, all_kinds_meet, stacked, columns_stacked}, Below.{columns_made, table_made}}, proofs.{ColumnLaws.{seen_or, seen_in, columns_stacked_by}, TextLaws.{column_under_seen, kind_under_seen}}},
+}
 
 -- a Series has one column
 only_column : (texts : List Text) (kind : Kind) (t : NumberedTable) → IsWhole t → t.shape ≡ Series → column_at (columns_value texts t.columns) 0 ≡ seen_or texts kind (slice_get t.columns 0) (length t.labels)
@@ -43,7 +27,7 @@ module _ (texts : List Text) where
   only_columns kind [] known series = refl
   only_columns kind (t ∷ ts) known series =
       λ i. only_column texts kind t (All-head (IsKnownTable texts) t ts known).whole (All-head (λ (t : NumberedTable). t.shape ≡ Series) t ts series) i
-      ∷ only_columns kind ts (All-tail (IsKnownTable texts) t ts known) (All-tail (λ (t : NumberedTable). t.shape ≡ Series) t ts series) i
+      ∷ only_columns kind ts (All-tail (IsKnownTable texts) t _ known) (All-tail (λ (t : NumberedTable). t.shape ≡ Series) t _ series) i
 
   -- the column of Series
   series_columns : (t : NumberedTable) (ts : List NumberedTable) → AreKnownParts texts (t ∷ ts) → AreOf Series (t ∷ ts)
@@ -54,31 +38,30 @@ module _ (texts : List Text) where
     part_of_frame : (h : Option Label) (kind : Kind) (t : NumberedTable) → IsSettled heading_value texts h → IsKnownTable texts t
         → column_or_missing (heading_value texts h) kind (table_value texts t) ≡ seen_in texts (Under h) kind t
     part_of_frame h kind t here known =
-        λ i. unwrap_or (column_under_seen texts h t distinct here known i) (missing_column kind (length-map t.labels (tuple_value texts) i))
+        λ i. unwrap_or (column_under_seen _ h t distinct here known i) (missing_column kind (length-map t.labels (tuple_value texts) i))
 
     parts_of_frames : (h : Option Label) (kind : Kind) (ts : List NumberedTable) → IsSettled heading_value texts h → AreKnownParts texts ts → map (column_or_missing (heading_value texts h) kind) (parts_value texts ts) ≡ map (seen_in texts (Under h) kind) ts
     parts_of_frames h kind [] here known = refl
-    parts_of_frames h kind (t ∷ ts) here known = λ i. part_of_frame h kind t here (All-head (IsKnownTable texts) t ts known) i ∷ parts_of_frames h kind ts here (All-tail (IsKnownTable texts) t ts known) i
+    parts_of_frames h kind (t ∷ ts) here known = λ i. part_of_frame h kind t here (All-head (IsKnownTable texts) t _ known) i ∷ parts_of_frames h kind ts here (All-tail (IsKnownTable texts) t _ known) i
 
     -- the column of a heading of frames
     frame_column : (t : NumberedTable) (ts : List NumberedTable) (h : Option Label) → IsSettled heading_value texts h → AreKnownParts texts (t ∷ ts)
         → frame_column_below (parts_value texts (t ∷ ts)) (heading_value texts h) ≡ if_meet (kinds_meet (t ∷ ts) (Under h)) (column_value texts (stacked (t ∷ ts) (Under h)))
     frame_column t ts h here known =
-        (λ i. columns_below (map (column_or_missing (heading_value texts h) (kind_under_seen texts h (t ∷ ts) distinct here known i)) (parts_value texts (t ∷ ts))))
+        (λ i. columns_below (map (column_or_missing (heading_value texts h) (kind_under_seen _ h (t ∷ ts) distinct here known i)) (parts_value texts (t ∷ ts))))
         ∙ ap columns_below (parts_of_frames h (kind_sought (Under h) (t ∷ ts)) (t ∷ ts) here known)
         ∙ columns_stacked_by texts (Under h) t ts
 
     both_meet : (a b : Bool) (c : ColumnOf CellValue) (cs : List (ColumnOf CellValue)) → then_value (if_meet a c) (λ y. then_value (if_meet b cs) (λ ys. Ok (y ∷ ys))) ≡ if_meet (a && b) (c ∷ cs)
     both_meet true true c cs = refl
-    both_meet true false c cs = refl
-    both_meet false b c cs = refl
+    both_meet a b c cs = refl
 
     frame_columns : (t : NumberedTable) (ts : List NumberedTable) (hs : List (Option Label)) → IsSettled headings_value texts hs → AreKnownParts texts (t ∷ ts)
         → try_all (frame_column_below (parts_value texts (t ∷ ts))) (headings_value texts hs) ≡ if_meet (all_kinds_meet (t ∷ ts) Frame hs) (columns_value texts (columns_stacked (t ∷ ts) Frame hs))
     frame_columns t ts [] settled known = refl
     frame_columns t ts (h ∷ hs) settled known =
-        (λ i. then_value (frame_column t ts h (head_settled heading_value texts h hs settled) known i) (λ y. then_value (frame_columns t ts hs (rest_settled heading_value texts h hs settled) known i) (λ ys. Ok (y ∷ ys))))
-        ∙ both_meet (kinds_meet (t ∷ ts) (Under h)) (all_kinds_meet (t ∷ ts) Frame hs) (column_value texts (stacked (t ∷ ts) (Under h))) (columns_value texts (columns_stacked (t ∷ ts) Frame hs))
+        (λ i. then_value (frame_column t _ h (head_settled heading_value texts h hs settled) known i) (λ y. then_value (frame_columns t ts hs (rest_settled heading_value texts h _ settled) known i) (λ ys. Ok (y ∷ ys))))
+        ∙ both_meet _ _ _ _
 
     one_meets : (b : Bool) (c : ColumnOf CellValue) → then_value (if_meet b c) (λ column. Ok (column ∷ [])) ≡ if_meet (b && true) (c ∷ [])
     one_meets true c = refl
@@ -87,11 +70,11 @@ module _ (texts : List Text) where
     -- the columns that are meant, or kinds that don't meet
     pub columns_meant : (shape : Shape) (t : NumberedTable) (ts : List NumberedTable) (hs : List (Option Label)) → AreOf shape (t ∷ ts) → (shape ≡ Series → length hs ≡ 1) → IsSettled headings_value texts hs → AreKnownParts texts (t ∷ ts)
         → columns_made shape (parts_value texts (t ∷ ts)) (headings_value texts hs) ≡ if_meet (all_kinds_meet (t ∷ ts) shape hs) (columns_value texts (columns_stacked (t ∷ ts) shape hs))
-    columns_meant Frame t ts hs of one settled known = frame_columns t ts hs settled known
+    columns_meant Frame t ts hs of one settled known = frame_columns t _ _ settled known
     columns_meant Series t ts [] of one settled known = let none : 0 ≡ 1 = one refl in absurd (omega (arith, none))
     columns_meant Series t ts (h ∷ g ∷ hs) of one settled known = let several : length (h ∷ g ∷ hs) ≡ 1 = one refl in absurd (omega (arith, several))
     columns_meant Series t ts (h ∷ []) of one settled known =
-        ap (λ r. then_value r (λ column. Ok (column ∷ []))) (series_columns t ts known of) ∙ one_meets (kinds_meet (t ∷ ts) Only) (column_value texts (stacked (t ∷ ts) Only))
+        ap (λ r. then_value r (λ column. Ok (column ∷ []))) (series_columns t _ known of) ∙ one_meets _ _
 
     -- tables of columns that meet, and of such that don't
     pub made_of_columns : (shape : Shape) (t : NumberedTable) (ts : List NumberedTable) (c : Concatenation) (hs : List (Option Label)) → AreOf shape (t ∷ ts) → (shape ≡ Series → length hs ≡ 1) → IsSettled headings_value texts hs → AreKnownParts texts (t ∷ ts)
@@ -100,14 +83,14 @@ module _ (texts : List Text) where
     made_of_columns shape t ts c hs of one settled known meet =
         let T = parts_value texts (t ∷ ts) in
         let H = headings_value texts hs in
-        ap (λ r. then_value r (λ columns. finished_below (table_below shape T c H columns))) (columns_meant shape t ts hs of one settled known ∙ ap (λ b. if_meet b (columns_value texts (columns_stacked (t ∷ ts) shape hs))) meet)
+        ap (λ r. then_value r (λ columns. finished_below (table_below shape T c H columns))) (columns_meant _ t _ _ of one settled known ∙ ap (λ b. if_meet b (columns_value texts (columns_stacked (t ∷ ts) shape hs))) meet)
 
     pub made_of_none : (shape : Shape) (t : NumberedTable) (ts : List NumberedTable) (c : Concatenation) (hs : List (Option Label)) → AreOf shape (t ∷ ts) → (shape ≡ Series → length hs ≡ 1) → IsSettled headings_value texts hs → AreKnownParts texts (t ∷ ts)
         → all_kinds_meet (t ∷ ts) shape hs ≡ false → table_made shape (parts_value texts (t ∷ ts)) c (headings_value texts hs) ≡ Err wrong_kind
     made_of_none shape t ts c hs of one settled known meet =
         let T = parts_value texts (t ∷ ts) in
         let H = headings_value texts hs in
-        ap (λ r. then_value r (λ columns. finished_below (table_below shape T c H columns))) (columns_meant shape t ts hs of one settled known ∙ ap (λ b. if_meet b (columns_value texts (columns_stacked (t ∷ ts) shape hs))) meet)
+        ap (λ r. then_value r (λ columns. finished_below (table_below shape T c H columns))) (columns_meant _ t _ _ of one settled known ∙ ap (λ b. if_meet b (columns_value texts (columns_stacked (t ∷ ts) shape hs))) meet)
 
 -- Series are made as frames are
 pub series_made : (ts : List Table) (c : Concatenation) → series_below ts c ≡ table_made Series ts c (name_of_all (map (λ t. slice_index_or t.headings 0 None) ts) ∷ [])

@@ -1,40 +1,22 @@
 -- Parts side by side are what is meant.
-use Rattle.std.proofs.Common.{◌≡◌, ◌∙◌, ◌<◌, ◌+◌, refl, ap, sym, subst, arith, ℕ, pos, nat_lt, Bool, true, false, List, [], ◌∷◌, ◌++◌, map, length, All, Option, Some, None, Result, Ok, Err, if◌then◌else◌}
-use Rattle.std.specs.Prelude.{IsSome}
-use Rattle.std.specs.Option.{option_map}
-use Rattle.std.specs.List.{flat_map, range_with_len}
-use Rattle.std.specs.Cmp.Lexicographic.{pointwise}
-use Rattle.std.proofs.lemmas.List.{length-map, map-append}
-use Rattle.std.proofs.lemmas.List.Elements.{All-nil, All-cons, All-head, All-tail}
-use Rattle.std.proofs.lemmas.Bool.Decides.{nat_tests}
-use Rattle.cell_core.specs.Texts.{AreDistinct}
-use Rattle.cell_core.specs.declared.cell.Label.{Label}
+use Rattle.{
+  std.{proofs.{Common.{◌≡◌, ◌∙◌, ◌<◌, ◌+◌, refl, ap, sym, subst, arith, ℕ, pos, nat_lt, Bool, true, false, List, [], ◌∷◌, ◌++◌, map, length, All, Option, Some, None, Result, Ok, Err, if◌then◌else◌}, lemmas.{List.{length-map, map-append, Elements.{All-nil, All-cons, All-head, All-tail}}, Bool.Decides.{nat_tests}}}, specs.{Prelude.{IsSome}, Option.{option_map}, List.{flat_map, range_with_len}, Cmp.Lexicographic.{pointwise}}},
+  cell_core.specs.{Texts.{AreDistinct}, declared.{cell.Label.{Label}, code.Code.TheVariants.{RepeatedLabel}}},
+  meaning.specs.{Text.{Text}, Cell.{LabelValue, int}, FaultOf.{fault_of}},
+  align_meaning.specs.{Faults.{met_rows}, Joins.{most_rows}, Targets.{first_repeated as first_twice, rows_of_targets, reindexed, unless_repeated as unless_twice}},
+  join_meaning.specs.{Pairs.{or_else}, Concat.{united, are_equal, repeated_on_any, labels_concatenated, labels_within_limit, unless_repeated as unless_label, ConcatRefusal}},
+  table_meaning.specs.{Settled.{IsSettled}, Table.{NumberedTable, Table, heading_value, tuple_value}},
+  form_meaning.specs.{Finish.{finished}, Infix.{same_tuple}},
+  method_meaning.specs.Concat.{Concatenation, rows_met, labels_of_tables, table_beside, unless_label_twice, headings_beside, numbered_from, first_numbers},
+  frame_store.{specs.{Shown.{labels_value, headings_value, Refuses}, World.{IsKnownTable}}, proofs.Settling.{settled_by, labels_part, headings_part}},
+  form_parts.proofs.RowLaws.{tuple_by_number, tuples_settled, settled_tuples},
+  selections.proofs.HeadingLaws.{repeated_seen},
+  concat_forms.specs.{Parts.{parts_value, AreKnownParts}, Headings.{gets_number, numbered}, Beside.{met_beside}},
+}
 use Rattle.cell_core.specs.declared.cell.Label.TheVariants as label
-use Rattle.cell_core.specs.declared.code.Code.TheVariants.{RepeatedLabel}
-use Rattle.meaning.specs.Text.{Text}
-use Rattle.meaning.specs.Cell.{LabelValue, int}
 use Rattle.meaning.specs.Fault as fault
-use Rattle.meaning.specs.FaultOf.{fault_of}
-use Rattle.align_meaning.specs.Faults.{met_rows}
-use Rattle.align_meaning.specs.Joins.{most_rows}
-use Rattle.align_meaning.specs.Targets.{first_repeated as first_twice, rows_of_targets, reindexed, unless_repeated as unless_twice}
-use Rattle.join_meaning.specs.Pairs.{or_else}
 use Rattle.join_meaning.specs.Concat as join
-use Rattle.join_meaning.specs.Concat.{united, are_equal, repeated_on_any, labels_concatenated, labels_within_limit, unless_repeated as unless_label, ConcatRefusal}
 use Rattle.row_keys.specs.Keys as numbers
-use Rattle.table_meaning.specs.Settled.{IsSettled}
-use Rattle.table_meaning.specs.Table.{NumberedTable, Table, heading_value, tuple_value}
-use Rattle.form_meaning.specs.Finish.{finished}
-use Rattle.form_meaning.specs.Infix.{same_tuple}
-use Rattle.method_meaning.specs.Concat.{Concatenation, rows_met, labels_of_tables, table_beside, unless_label_twice, headings_beside, numbered_from, first_numbers}
-use Rattle.frame_store.specs.Shown.{labels_value, headings_value, Refuses}
-use Rattle.frame_store.specs.World.{IsKnownTable}
-use Rattle.frame_store.proofs.Settling.{settled_by, labels_part, headings_part}
-use Rattle.form_parts.proofs.RowLaws.{tuple_by_number, tuples_settled, settled_tuples}
-use Rattle.selections.proofs.HeadingLaws.{repeated_seen}
-use Rattle.concat_forms.specs.Parts.{parts_value, AreKnownParts}
-use Rattle.concat_forms.specs.Headings.{gets_number, numbered}
-use Rattle.concat_forms.specs.Beside.{met_beside}
 use Rattle.concat_forms.proofs.SeenLaws as seen
 
 -- numbered headings, with their texts
@@ -54,8 +36,8 @@ every_numbered texts n (h ∷ hs) =
     ∙ ap (λ l. Some (int (pos n)) ∷ l) (every_numbered texts (n + 1) hs)
 
 pub numbered_seen : (texts : List Text) (all : Bool) (hs : List (Option Label)) → headings_value texts (numbered all 0 hs) ≡ headings_beside all (headings_value texts hs)
-numbered_seen texts false hs = some_numbered texts 0 hs
-numbered_seen texts true hs = every_numbered texts 0 hs ∙ ap (λ count. first_numbers count) (sym (length-map hs (heading_value texts)))
+numbered_seen texts false hs = some_numbered _ 0 _
+numbered_seen texts true hs = every_numbered _ 0 _ ∙ ap (λ count. first_numbers count) (sym (length-map hs (heading_value texts)))
 
 pub numbered_given : (texts : List Text) (all : Bool) (hs : List (Option Label)) → IsSettled headings_value texts hs → IsSettled headings_value texts (numbered all 0 hs)
 numbered_given texts all hs settled = settled_by headings_value headings_value (headings_beside all) texts hs (numbered all 0 hs) (λ ts. sym (numbered_seen ts all hs)) settled
@@ -72,7 +54,7 @@ all_headings_given texts (t ∷ ts) known = λ more.
     ∙ sym (map-append (heading_value texts) t.headings (flat_map (λ t. t.headings) ts))
 
 pub numbered_some : (hs : List (Option Label)) (n : ℕ) (all : Bool) → All IsSome (numbered all n hs)
-numbered_some [] n all = All-nil IsSome
+numbered_some [] n all = All-nil _
 numbered_some (None ∷ hs) n all = All-cons IsSome (Some (label.Int (pos n))) (numbered all (n + 1) hs) refl (numbered_some hs (n + 1) all)
 numbered_some (Some l ∷ hs) n true = All-cons IsSome (Some (label.Int (pos n))) (numbered true (n + 1) hs) refl (numbered_some hs (n + 1) true)
 numbered_some (Some l ∷ hs) n false = All-cons IsSome (Some l) (numbered false n hs) refl (numbered_some hs n false)
@@ -113,7 +95,7 @@ second_none (Some k) b e = cc
 pub none_twice : (lists : List (List (List LabelValue))) → repeated_on_any same_tuple lists ≡ None → All (λ own. first_twice same_tuple own ≡ None) lists
 none_twice [] none = All-nil (λ own. first_twice same_tuple own ≡ None)
 none_twice (own ∷ lists) none =
-    All-cons (λ own. first_twice same_tuple own ≡ None) own lists (first_none (first_twice same_tuple own) (repeated_on_any same_tuple lists) none) (none_twice lists (second_none (first_twice same_tuple own) (repeated_on_any same_tuple lists) none))
+    All-cons (λ own. first_twice same_tuple own ≡ None) _ _ (first_none _ _ none) (none_twice lists (second_none _ _ none))
 
 -- labels of several parts by their numbers are those by their texts
 abbrev pub numbered_labels : List NumberedTable → List (List (List Label))
@@ -124,7 +106,7 @@ labels_each texts [] = refl
 labels_each texts (t ∷ ts) = ap (λ l. labels_value texts t.labels ∷ l) (labels_each texts ts)
 
 labels_given : (texts : List Text) (parts : List NumberedTable) → AreKnownParts texts parts → All (All (IsSettled tuple_value texts)) (numbered_labels parts)
-labels_given texts [] known = All-nil (All (IsSettled tuple_value texts))
+labels_given texts [] known = All-nil _
 labels_given texts (t ∷ ts) known =
     All-cons (All (IsSettled tuple_value texts)) t.labels (numbered_labels ts) (tuples_settled texts t.labels (labels_part texts t (All-head (IsKnownTable texts) t ts known).given)) (labels_given texts ts (All-tail (IsKnownTable texts) t ts known))
 
@@ -206,25 +188,25 @@ module _ (texts : List Text) (distinct : AreDistinct texts) (parts : List Number
   T = parts_value texts parts
 
   abbrev by_number : (x y : List Label) → P x → P y → same_tuple (tuple_value texts x) (tuple_value texts y) ≡ numbers.same_tuple x y
-  by_number x y f g = tuple_by_number texts x y distinct f g
+  by_number x y f g = tuple_by_number _ x y distinct f g
 
   pub equal_labels : are_equal same_tuple (labels_of_tables T) ≡ are_equal numbers.same_tuple (numbered_labels parts)
   equal_labels =
-      ap (are_equal same_tuple) (labels_each texts parts) ∙ seen.equal_seen (tuple_value texts) P numbers.same_tuple same_tuple by_number (numbered_labels parts) (labels_given texts parts known)
+      ap (are_equal same_tuple) (labels_each texts parts) ∙ seen.equal_seen (tuple_value texts) P numbers.same_tuple same_tuple by_number (numbered_labels parts) (labels_given _ _ known)
 
   pub twice_labels : repeated_on_any same_tuple (labels_of_tables T) ≡ option_map (tuple_value texts) (repeated_on_any numbers.same_tuple (numbered_labels parts))
   twice_labels =
-      ap (repeated_on_any same_tuple) (labels_each texts parts) ∙ seen.repeated_seen (tuple_value texts) P numbers.same_tuple same_tuple by_number (numbered_labels parts) (labels_given texts parts known)
+      ap (repeated_on_any same_tuple) (labels_each texts parts) ∙ seen.repeated_seen (tuple_value texts) P numbers.same_tuple same_tuple by_number (numbered_labels parts) (labels_given _ _ known)
 
   pub united_labels : (inner : Bool) → united same_tuple inner (labels_of_tables T) ≡ labels_value texts (united numbers.same_tuple inner (numbered_labels parts))
   united_labels inner =
-      ap (united same_tuple inner) (labels_each texts parts) ∙ seen.united_seen (tuple_value texts) P numbers.same_tuple same_tuple by_number inner (numbered_labels parts) (labels_given texts parts known)
+      ap (united same_tuple inner) (labels_each _ _) ∙ seen.united_seen (tuple_value texts) P numbers.same_tuple same_tuple by_number inner (numbered_labels parts) (labels_given _ _ known)
 
   pub united_labels_given : (inner : Bool) → IsSettled labels_value texts (united numbers.same_tuple inner (numbered_labels parts))
-  united_labels_given inner = settled_tuples texts _ (seen.united_all P numbers.same_tuple inner (numbered_labels parts) (labels_given texts parts known))
+  united_labels_given inner = settled_tuples _ _ (seen.united_all P numbers.same_tuple inner (numbered_labels parts) (labels_given _ _ known))
 
   pub twice_given : (label : List Label) → repeated_on_any numbers.same_tuple (numbered_labels parts) ≡ Some label → IsSettled fault_of texts (RepeatedLabel label)
-  twice_given label is = λ more. ap fault.repeated_label (seen.repeated_all P numbers.same_tuple (numbered_labels parts) label (labels_given texts parts known) is more)
+  twice_given label is = λ more. ap fault.repeated_label (seen.repeated_all P numbers.same_tuple (numbered_labels parts) label (labels_given _ _ known) is more)
 
   -- what the kernel answers for axes that aren't equal
   module _ (c : Concatenation) (apart : are_equal numbers.same_tuple (numbered_labels parts) ≡ false) where
@@ -242,30 +224,30 @@ module _ (texts : List Text) (distinct : AreDistinct texts) (parts : List Number
 
     -- the labels
     pub met_labels : (labels : List (List Label)) → labels_concatenated numbers.same_tuple c.inner (numbered_labels parts) ≡ Ok labels → labels ≡ united numbers.same_tuple c.inner (numbered_labels parts)
-    met_labels labels is = (ok_opened twice all_labels labels (sym chosen ∙ is)).1
+    met_labels labels is = (ok_opened _ _ _ (sym chosen ∙ is)).1
 
     pub met_once : (labels : List (List Label)) → labels_concatenated numbers.same_tuple c.inner (numbered_labels parts) ≡ Ok labels → repeated_on_any same_tuple (labels_of_tables T) ≡ None
-    met_once labels is = twice_labels ∙ ap (option_map (tuple_value texts)) (ok_opened twice all_labels labels (sym chosen ∙ is)).0
+    met_once labels is = twice_labels ∙ ap (option_map (tuple_value texts)) (ok_opened _ _ _ (sym chosen ∙ is)).0
 
     pub met_found : (labels : List (List Label)) → labels_concatenated numbers.same_tuple c.inner (numbered_labels parts) ≡ Ok labels → met_beside T c ≡ finished (table_beside T c.renumbered (labels_value texts labels))
     met_found labels is =
-        let opened = ok_opened twice all_labels labels (sym chosen ∙ is) in
-        meant None opened.0 ∙ ap (λ l. finished (table_beside T c.renumbered (labels_value texts l))) (sym opened.1)
+        let opened = ok_opened _ _ _ (sym chosen ∙ is) in
+        meant _ opened.0 ∙ ap (λ l. finished (table_beside T c.renumbered (labels_value texts l))) (sym opened.1)
 
     pub met_given : (labels : List (List Label)) → labels_concatenated numbers.same_tuple c.inner (numbered_labels parts) ≡ Ok labels → IsSettled labels_value texts labels
-    met_given labels is = subst (IsSettled labels_value texts) (sym (ok_opened twice all_labels labels (sym chosen ∙ is)).1) (united_labels_given c.inner)
+    met_given labels is = subst (IsSettled labels_value texts) (sym (ok_opened _ _ _ (sym chosen ∙ is)).1) (united_labels_given _)
 
     -- a label that stands twice
     pub met_twice : (label : List Label) → labels_concatenated numbers.same_tuple c.inner (numbered_labels parts) ≡ Err (join.repeated_label label) → Refuses texts (RepeatedLabel label) (met_beside T c)
-    met_twice label is = let found = twice_opened twice all_labels label (sym chosen ∙ is) in (meant (Some label) found, twice_given label found)
+    met_twice label is = let found = twice_opened _ _ _ (sym chosen ∙ is) in (meant _ found, twice_given _ found)
 
     -- too many labels
     pub met_many : labels_concatenated numbers.same_tuple c.inner (numbered_labels parts) ≡ Err join.too_large
         → (met_beside T c ≡ finished (table_beside T c.renumbered (labels_value texts all_labels))) × (most_rows < length (labels_value texts all_labels))
     met_many is =
-        let opened = many_opened twice all_labels (sym chosen ∙ is) in
+        let opened = many_opened _ _ (sym chosen ∙ is) in
         let count : length (labels_value texts all_labels) ≡ length all_labels = length-map all_labels (tuple_value texts) in
-        (meant None opened.0, omega (arith, opened.1, count))
+        (meant _ opened.0, omega (arith, opened.1, count))
 
     pub never_mixed : labels_concatenated numbers.same_tuple c.inner (numbered_labels parts) ≡ Err join.mixed_kinds → ⊥
     never_mixed is = mixed_opened twice all_labels (sym chosen ∙ is)

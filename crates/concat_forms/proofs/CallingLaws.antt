@@ -1,38 +1,15 @@
 -- Calls of `pd.concat` and their arguments.
-use Rattle.std.proofs.Common.{◌≡◌, ◌∙◌, ◌++◌, ◌<◌, refl, ap, sym, subst, arith, ℕ, ℤ, pos, to_z, of_z, w64, nat_eq, Bool, true, false, List, [], ◌∷◌, length, unwrap_or, Option, Some, None, Result, Ok, Err, if◌then◌else◌}
-use Rattle.std.specs.Prelude.{codes}
-use Rattle.std.specs.Ordering.{int_eq}
-use Rattle.std.specs.Bool.{Decides}
-use Rattle.std.proofs.Math.Dec.{eqb}
-use Rattle.std.proofs.lemmas.Bool.{eq-eqb, eqb-true}
-use Rattle.std.proofs.lemmas.Bool.Decides.{Decides-int_eq}
-use Rattle.std.specs.Option.{option_map}
-use Rattle.std.specs.Borrow.{Bor}
-use Rattle.std.specs.Global.{Vec}
-use Rattle.cell_core.specs.declared.cell.Label.{Label}
-use Rattle.meaning.specs.Text.{Text, same_text}
-use Rattle.meaning.specs.Fault.{FaultValue, wrong_kind}
-use Rattle.table_meaning.specs.Settled.{IsSettled}
-use Rattle.table_meaning.specs.Table.{Table}
-use Rattle.table_meaning.specs.Value.{Entry, Given, GivenList, NamedGiven, list_in}
-use Rattle.form_meaning.specs.declared.Function.TheVariants.{Concat}
-use Rattle.form_meaning.specs.declared.Parameter.{Parameter}
-use Rattle.form_meaning.specs.Signature.{function_parameters, function_named}
-use Rattle.form_meaning.specs.Binding.{on_bound, arguments_from, argument_at, text_in, whole_in, truth_in}
-use Rattle.form_meaning.specs.Make.{on}
-use Rattle.form_meaning.specs.Select.{labels_of}
-use Rattle.method_meaning.specs.Concat.{Concatenation, tables_of, with_keys, along, concatenated, is_across, is_inner, concat_result, concat_call}
-use Rattle.method_meaning.specs.Functions.{is_concat, function_result}
-use Rattle.method_meaning.specs.Readers.{make_with}
-use Rattle.frame_store.specs.declared.arguments.Item.{Item}
-use Rattle.frame_store.specs.declared.arguments.Named.{Named}
-use Rattle.frame_store.specs.Arguments.{items_of, arguments_of}
-use Rattle.frame_store.specs.Objects.{Tables}
-use Rattle.frame_store.specs.World.{World, arguments_in, AreKnownArguments}
-use Rattle.signatures.specs.Bound.{stands_at, IsBound}
-use Rattle.signatures.specs.declared.bound.Bound.{Bound as BoundArguments}
-use Rattle.concat_forms.specs.declared.asked.Asked.{Asked}
-use Rattle.concat_forms.specs.Asked.{asked_value, keys_value}
+use Rattle.{
+  std.{proofs.{Common.{◌≡◌, ◌∙◌, ◌++◌, ◌<◌, refl, ap, sym, subst, arith, ℕ, ℤ, pos, to_z, of_z, w64, nat_eq, Bool, true, false, List, [], ◌∷◌, length, unwrap_or, Option, Some, None, Result, Ok, Err, if◌then◌else◌}, Math.Dec.{eqb}, lemmas.Bool.{eq-eqb, eqb-true, Decides.{Decides-int_eq}}}, specs.{Prelude.{codes}, Ordering.{int_eq}, Bool.{Decides}, Option.{option_map}, Borrow.{Bor}, Global.{Vec}}},
+  cell_core.specs.declared.cell.Label.{Label},
+  meaning.specs.{Text.{Text, same_text}, Fault.{FaultValue, wrong_kind}},
+  table_meaning.specs.{Settled.{IsSettled}, Table.{Table}, Value.{Entry, Given, GivenList, NamedGiven, list_in}},
+  form_meaning.specs.{declared.{Function.TheVariants.{Concat}, Parameter.{Parameter}}, Signature.{function_parameters, function_named}, Binding.{on_bound, arguments_from, argument_at, text_in, whole_in, truth_in}, Make.{on}, Select.{labels_of}},
+  method_meaning.specs.{Concat.{Concatenation, tables_of, with_keys, along, concatenated, is_across, is_inner, concat_result, concat_call}, Functions.{is_concat, function_result}, Readers.{make_with}},
+  frame_store.specs.{declared.arguments.{Item.{Item}, Named.{Named}}, Arguments.{items_of, arguments_of}, Objects.{Tables}, World.{World, arguments_in, AreKnownArguments}},
+  signatures.specs.{Bound.{stands_at, IsBound}, declared.bound.Bound.{Bound as BoundArguments}},
+  concat_forms.specs.{declared.asked.Asked.{Asked}, Asked.{asked_value, keys_value}},
+}
 
 -- parts that are there, along an axis
 pub goes_along : (across b : Bool) (ts : List Table) (c : Concatenation) → 0 < length ts → across ≡ b → with_keys (length ts) across c.renumbered c.keys (along across ts c) ≡ along across ts c → along b ts c ≡ concatenated across ts c
@@ -52,7 +29,7 @@ same_verdict false false left right = refl
 pub is_one : (z : ℤ) → to_z w64 (of_z w64 z) ≡ z → eqb (of_z w64 z) 1 ≡ int_eq z (pos 1)
 is_one z exact =
     let decides : Decides (eqb (of_z w64 z) 1) (z ≡ pos 1) = (λ e. sym exact ∙ ap (to_z w64) (eqb-true (of_z w64 z) 1 e), λ e. eq-eqb (of_z w64 z) 1 (ap (of_z w64) e)) in
-    same_verdict (eqb (of_z w64 z) 1) (int_eq z (pos 1)) decides (Decides-int_eq z (pos 1))
+    same_verdict _ _ decides (Decides-int_eq z (pos 1))
 
 -- the axis and the kind of join
 pub across_so : (g : Given) (z : ℤ) → Some z ≡ whole_in g → unwrap_or (option_map (λ z. int_eq z (pos 1)) (Some z)) false ≡ is_across g

@@ -1,44 +1,19 @@
 -- Columns of parts, one below the other.
-use Rattle.std.proofs.Common.{◌≡◌, ◌∙◌, ◌<◌, ◌≤◌, ◌+◌, ◌^◌, refl, ap, sym, subst, ℕ, zero, suc, Bool, true, false, ◌&&◌, List, [], ◌∷◌, ◌++◌, map, fold, take, length, replicate, unwrap_or, slice_index_or, All, Option, Some, None, Result, Ok, Err, nat_lt, if◌then◌else◌, arith}
-use Rattle.std.specs.Prelude.{slice_get, position}
-use Rattle.std.specs.Option.{option_map}
-use Rattle.std.specs.List.{list_all, flat_map}
-use Rattle.std.proofs.lemmas.List.{length-map, length-replicate, map-append, take_more}
-use Rattle.std.proofs.lemmas.List.Elements.{All-head, All-tail}
-use Rattle.std.proofs.lemmas.List.Quantifiers.{position-Some}
-use Rattle.std.proofs.lemmas.List.Concat.{length-flat_map}
-use Rattle.std.proofs.lemmas.Bool.Decides.{nat_tests}
-use Rattle.cell_core.specs.declared.cell.Cell.{Cell}
-use Rattle.cell_core.specs.declared.cell.Cell.TheVariants.{Na}
-use Rattle.cell_core.specs.declared.cell.Kind.{Kind}
-use Rattle.cell_core.specs.declared.cell.Label.{Label}
-use Rattle.meaning.specs.Text.{Text}
-use Rattle.meaning.specs.Cell.{CellValue, na_cell, datum}
-use Rattle.meaning.specs.Column.{ColumnValue}
-use Rattle.meaning.specs.Fault.{wrong_kind}
-use Rattle.column_core.specs.Columns.{CellColumn, column_value as seen_column}
-use Rattle.align_meaning.specs.Joins.{most_rows}
-use Rattle.join_meaning.specs.Concat.{same_kind, column_below, column_within_limit, rows_concatenated, ConcatRefusal, mixed_kinds, repeated_label, too_large}
-use Rattle.table_meaning.specs.Table.{ColumnOf, NumberedTable, column_at, no_column, column_value}
-use Rattle.table_meaning.specs.Valid.{IsWhole}
-use Rattle.table_meaning.proofs.KindLaws.{kind_itself}
-use Rattle.form_meaning.specs.Finish.{missing_column, value_of_column, column_of_value}
-use Rattle.form_meaning.specs.Make.{on}
-use Rattle.frame_store.specs.Parts.{table_column, block_column}
-use Rattle.frame_store.specs.Shown.{columns_value}
-use Rattle.form_parts.specs.Makes.{blocks_value}
-use Rattle.column_core.specs.Blocks.{CellBlock}
-use Rattle.cell_core.specs.declared.grid.Shape.{Shape}
-use Rattle.method_meaning.specs.Concat.{columns_below}
-use Rattle.merge_concat.specs.Concats.{ConcatsBy}
-use Rattle.merge_concat.specs.declared.fault.MergeFault.{MergeFault}
-use Rattle.merge_concat.specs.declared.fault.MergeFault.TheVariants.{NotOneToOne, DuplicateLabels, MixedKinds, TooLarge, NoMemory}
-use Rattle.merge_concat.specs.Parts.{part_column}
-use Rattle.merge_concat.specs.declared.parts.Part.{Part}
-use Rattle.concat_forms.specs.declared.parts.Sought.{Sought}
-use Rattle.concat_forms.specs.declared.parts.Sought.TheVariants.{Only, Under}
-use Rattle.concat_forms.specs.Parts.{column_sought, same_heading}
-use Rattle.concat_forms.specs.Columns.{kind_sought, fits_kind, kinds_meet, piece_from, piece_of, cells_or_missing, sought_by, stacked, columns_stacked, rows_in}
+use Rattle.{
+  std.{proofs.{lemmas.{Option.{same_Some}, List.{length-map, length-replicate, map-append, take_more, Elements.{All-head, All-tail}, Quantifiers.{position-Some}, Concat.{length-flat_map}}, Bool.Decides.{nat_tests}}, Common.{◌≡◌, ◌∙◌, ◌<◌, ◌≤◌, ◌+◌, ◌^◌, refl, ap, sym, subst, ℕ, zero, suc, Bool, true, false, ◌&&◌, List, [], ◌∷◌, ◌++◌, map, fold, take, length, replicate, unwrap_or, slice_index_or, All, Option, Some, None, Result, Ok, Err, nat_lt, if◌then◌else◌, arith}}, specs.{Prelude.{slice_get, position}, Option.{option_map}, List.{list_all, flat_map}}},
+  cell_core.specs.declared.{cell.{Cell.{Cell, TheVariants.{Na}}, Kind.{Kind}, Label.{Label}}, grid.Shape.{Shape}},
+  meaning.specs.{Text.{Text}, Cell.{CellValue, na_cell, datum}, Column.{ColumnValue}, Fault.{wrong_kind}},
+  column_core.specs.{Columns.{CellColumn, column_value as seen_column}, Blocks.{CellBlock}},
+  align_meaning.specs.Joins.{most_rows},
+  join_meaning.specs.Concat.{same_kind, column_below, column_within_limit, rows_concatenated, ConcatRefusal, too_large},
+  table_meaning.{specs.{Table.{ColumnOf, NumberedTable, column_at, no_column, column_value}, Valid.{IsWhole}}, proofs.KindLaws.{kind_itself}},
+  form_meaning.specs.{Finish.{missing_column, value_of_column, column_of_value}, Make.{on}},
+  frame_store.specs.{Parts.{table_column, block_column}, Shown.{columns_value}},
+  form_parts.specs.Makes.{blocks_value},
+  method_meaning.specs.Concat.{columns_below},
+  merge_concat.specs.{Concats.{ConcatsBy}, declared.{fault.MergeFault.{MergeFault, TheVariants.{NotOneToOne, DuplicateLabels, MixedKinds, TooLarge, NoMemory}}, parts.Part.{Part}}, Parts.{part_column}},
+  concat_forms.specs.{declared.parts.Sought.{Sought, TheVariants.{Only, Under}}, Parts.{column_sought, same_heading}, Columns.{kind_sought, fits_kind, kinds_meet, piece_from, piece_of, cells_or_missing, sought_by, stacked, columns_stacked, rows_in}},
+}
 
 missing_seen : (texts : List Text) (n : ℕ) → map (datum texts) (replicate n Na) ≡ replicate n na_cell
 missing_seen texts zero = refl
@@ -55,16 +30,16 @@ abbrev cells_or : Option (ColumnOf Cell) → ℕ → List Cell
 cells_or o n = unwrap_or (option_map (λ c. c.cells) o) (replicate n Na)
 
 cells_seen : (texts : List Text) (kind : Kind) (o : Option (ColumnOf Cell)) (n : ℕ) → (seen_or texts kind o n).cells ≡ map (datum texts) (cells_or o n)
-cells_seen texts kind None n = sym (missing_seen texts n)
+cells_seen texts kind None n = sym (missing_seen _ n)
 cells_seen texts kind (Some c) n = refl
 
 kind_fits : (texts : List Text) (kind : Kind) (o : Option (ColumnOf Cell)) (n : ℕ) → same_kind kind (seen_or texts kind o n).kind ≡ fits_kind kind o
-kind_fits texts kind None n = kind_itself kind
+kind_fits texts kind None n = kind_itself _
 kind_fits texts kind (Some c) n = refl
 
 -- what the kernel puts together is what is meant
 piece_seen : (texts : List Text) (kind : Kind) (o : Option (ColumnOf Cell)) (n : ℕ) → seen_column texts (part_column kind (piece_from o n)) ≡ value_of_column (seen_or texts kind o n)
-piece_seen texts kind None n = ap (λ cells. record { kind = kind; cells = cells }) (missing_seen texts n)
+piece_seen texts kind None n = ap (λ cells. record { kind = kind; cells = cells }) (missing_seen _ n)
 piece_seen texts kind (Some c) n = refl
 
 module _ (texts : List Text) (sought : Sought) where
@@ -88,7 +63,7 @@ module _ (texts : List Text) (sought : Sought) where
 
   first_fits : (o : Option (ColumnOf Cell)) (rest : Kind) → fits_kind (unwrap_or (option_map (λ c. c.kind) o) rest) o ≡ true
   first_fits None rest = refl
-  first_fits (Some c) rest = kind_itself c.kind
+  first_fits (Some c) rest = kind_itself _
 
   others_fit : (kind : Kind) (ts : List NumberedTable) → list_all (λ other. same_kind kind other.kind) (map value_of_column (map (seen_in kind) ts)) ≡ list_all (λ t. fits_kind kind (column_sought sought t)) ts
   others_fit kind [] = refl
@@ -105,9 +80,9 @@ module _ (texts : List Text) (sought : Sought) where
     put_together =
         let o = column_sought sought t in
         let n = length t.labels in
-        let first = first_kind o n (kind_sought sought ts) in
+        let first = first_kind o n _ in
         let meet : list_all (λ other. same_kind (seen_in K t).kind other.kind) (map value_of_column (map (seen_in K) ts)) ≡ kinds_meet (t ∷ ts) sought
-        = ap (λ (k : Kind). list_all (λ other. same_kind k other.kind) (map value_of_column (map (seen_in K) ts))) first ∙ others_fit K ts ∙ ap (λ b. b && list_all (λ s. fits_kind K (column_sought sought s)) ts) (sym (first_fits o (kind_sought sought ts))) in
+        = ap (λ (k : Kind). list_all (λ other. same_kind k other.kind) (map value_of_column (map (seen_in K) ts))) first ∙ others_fit K _ ∙ ap (λ b. b && list_all (λ s. fits_kind K (column_sought sought s)) ts) (sym (first_fits o _)) in
         λ i. if meet i then Some record { kind = first i; cells = all_cells K (t ∷ ts) i } else None
 
     -- the column that is meant, or columns of different kinds
@@ -118,9 +93,6 @@ module _ (texts : List Text) (sought : Sought) where
         go true = refl
         go false = refl
 
-some_same : {A : Type 0} (a b : A) → Some a ≡ Some b → a ≡ b
-some_same a b e = cc
-
 -- the columns that are sought are as long as their parts
 column_long : (sought : Sought) (t : NumberedTable) → IsWhole t → (o : Option (ColumnOf Cell)) → column_sought sought t ≡ o → length (cells_or o (length t.labels)) ≡ length t.labels
 column_long sought t fits None is = length-replicate (length t.labels) Na
@@ -128,21 +100,20 @@ column_long Only t fits (Some c) is = first t.columns fits.filled is
   where
     first : (cs : List (ColumnOf Cell)) → All (λ c. length c.cells ≡ length t.labels) cs → slice_get cs 0 ≡ Some c → length c.cells ≡ length t.labels
     first [] all e = cc
-    first (d ∷ ds) all e = subst (λ (x : ColumnOf Cell). length x.cells ≡ length t.labels) (some_same d c e) (All-head (λ (c : ColumnOf Cell). length c.cells ≡ length t.labels) d ds all)
+    first (d ∷ ds) all e = subst (λ (x : ColumnOf Cell). length x.cells ≡ length t.labels) (same_Some d c e) (All-head (λ (c : ColumnOf Cell). length c.cells ≡ length t.labels) d ds all)
 column_long (Under h) t fits (Some c) is = at (position (same_heading h) t.headings) refl is
   where
     at : (p : Option ℕ) → position (same_heading h) t.headings ≡ p → option_map (column_at t.columns) p ≡ Some c → length c.cells ≡ length t.labels
     at None found e = cc
     at (Some k) found e =
         let inside = (position-Some (same_heading h) t.headings k None found).0 in
-        let lt : k < length t.columns = omega (arith, inside, fits.headed) in
-        ap (λ (x : ColumnOf Cell). length x.cells) (sym (some_same (column_at t.columns k) c e)) ∙ fits.filled k no_column lt
+        ap (λ (x : ColumnOf Cell). length x.cells) (sym (same_Some (column_at t.columns k) c e)) ∙ fits.filled k no_column (omega (arith, inside, fits.headed))
 
 sum_alike : (sought : Sought) (a : ℕ) (ts : List NumberedTable) → All IsWhole ts → fold (λ a t. a + length (cells_or_missing sought t)) a ts ≡ fold (λ a t. a + length t.labels) a ts
 sum_alike sought a [] all = refl
 sum_alike sought a (t ∷ ts) all =
-    let here : length (cells_or_missing sought t) ≡ length t.labels = column_long sought t (All-head IsWhole t ts all) (column_sought sought t) refl in
-    ap (λ n. fold (λ a t. a + length (cells_or_missing sought t)) (a + n) ts) here ∙ sum_alike sought (a + length t.labels) ts (All-tail IsWhole t ts all)
+    let here : length (cells_or_missing sought t) ≡ length t.labels = column_long _ t (All-head IsWhole t _ all) _ refl in
+    ap (λ n. fold (λ a t. a + length (cells_or_missing sought t)) (a + n) ts) here ∙ sum_alike sought (a + length t.labels) ts (All-tail IsWhole t _ all)
 
 pub lengths : (sought : Sought) (ts : List NumberedTable) → All IsWhole ts → length (flat_map (cells_or_missing sought) ts) ≡ rows_in ts
 lengths sought ts all = length-flat_map (cells_or_missing sought) ts ∙ sum_alike sought 0 ts all
@@ -160,15 +131,15 @@ rows_stacked K texts sought (t ∷ ts) meet all few =
     let kind = kind_sought sought (t ∷ ts) in
     let made : ColumnValue = record { kind = kind; cells = cells } in
     ap (λ cs. column_within_limit (column_below cs)) (pieces_seen texts sought kind (t ∷ ts))
-    ∙ ap (λ o. column_within_limit o) (put_together texts sought t ts)
+    ∙ ap (λ o. column_within_limit o) (put_together _ _ t _)
     ∙ ap (λ (b : Bool). column_within_limit {K = K} (if b then Some made else None)) meet
-    ∙ ap (λ (b : Bool). if b then Err too_large else Ok made) (ap (λ n. nat_lt most_rows n) count ∙ few_enough (rows_in (t ∷ ts)) few)
+    ∙ ap (λ (b : Bool). if b then Err too_large else Ok made) (ap (λ n. nat_lt most_rows n) count ∙ few_enough _ few)
 
 -- what the kernel makes of the parts' columns
 stacked_told : (K : Type 0) (texts : List Text) (sought : Sought) (ts : List NumberedTable) (kind : Kind) (pieces : List Part) → kinds_meet ts sought ≡ true → All IsWhole ts → rows_in ts ≤ 2 ^ 26 → kind ≡ kind_sought sought ts → pieces ≡ map (piece_of sought) ts
     → rows_concatenated {K = K} (map (λ part. seen_column texts (part_column kind part)) pieces) ≡ Ok record { kind = kind_sought sought ts; cells = map (datum texts) (flat_map (cells_or_missing sought) ts) }
 stacked_told K texts sought ts kind pieces meet all few same listed =
-    (λ i. rows_concatenated {K = K} (map (λ part. seen_column texts (part_column (same i) part)) (listed i))) ∙ rows_stacked K texts sought ts meet all few
+    (λ i. rows_concatenated {K = K} (map (λ part. seen_column texts (part_column (same i) part)) (listed i))) ∙ rows_stacked K _ _ _ meet all few
 
 abbrev given : {A E : Type 0} → A → Result A E
 given a = Ok a
@@ -182,11 +153,11 @@ made_or_not a e is = cc
 pub stacked_is : (texts : List Text) (sought : Sought) (ts : List NumberedTable) (kind : Kind) (pieces : List Part) (column : CellColumn) → kinds_meet ts sought ≡ true → All IsWhole ts → rows_in ts ≤ 2 ^ 26 → kind ≡ kind_sought sought ts → pieces ≡ map (piece_of sought) ts
     → rows_concatenated {K = List Label} (map (λ part. seen_column texts (part_column kind part)) pieces) ≡ Ok (seen_column texts column) → column_value texts (table_column column) ≡ column_value texts (stacked ts sought)
 stacked_is texts sought ts kind pieces column meet all few same listed is =
-    ap column_of_value (ok_same (seen_column texts column) _ (sym is ∙ stacked_told (List Label) texts sought ts kind pieces meet all few same listed))
+    ap column_of_value (ok_same _ _ (sym is ∙ stacked_told _ _ _ _ _ _ meet all few same listed))
 
 pub never_refused : (sought : Sought) (ts : List NumberedTable) (kind : Kind) (pieces : List Part) (refusal : ConcatRefusal (List Label)) → kinds_meet ts sought ≡ true → All IsWhole ts → rows_in ts ≤ 2 ^ 26 → kind ≡ kind_sought sought ts → pieces ≡ map (piece_of sought) ts
     → rows_concatenated {K = List Label} (map (λ part. seen_column [] (part_column kind part)) pieces) ≡ Err refusal → ⊥
-never_refused sought ts kind pieces refusal meet all few same listed is = made_or_not _ refusal (sym (stacked_told (List Label) [] sought ts kind pieces meet all few same listed) ∙ is)
+never_refused sought ts kind pieces refusal meet all few same listed is = made_or_not _ _ (sym (stacked_told _ [] _ _ _ _ meet all few same listed) ∙ is)
 
 -- the column of one heading more
 pub one_more_stacked : (texts : List Text) (ts : List NumberedTable) (shape : Shape) (hs : List (Option Label)) (k : ℕ) (h : Option Label) (sought : Sought) (made made' : List CellBlock) (block : CellBlock) (column : CellColumn) → k < length hs → h ≡ slice_index_or hs k None
@@ -195,13 +166,7 @@ pub one_more_stacked : (texts : List Text) (ts : List NumberedTable) (shape : Sh
 one_more_stacked texts ts shape hs k h sought made made' block column lt at by here boxed pushed so_far =
     let this : column_value texts (block_column block) ≡ column_value texts (stacked ts (sought_by shape (slice_index_or hs k None))) =
     ap (λ b. column_value texts (block_column b)) boxed ∙ here ∙ ap (λ s. column_value texts (stacked ts s)) (by ∙ ap (sought_by shape) at) in
-    ap (blocks_value texts) pushed
-    ∙ ap (columns_value texts) (map-append block_column made (block ∷ []))
-    ∙ map-append (column_value texts) (map block_column made) (block_column block ∷ [])
-    ∙ (λ i. so_far i ++ this i ∷ [])
-    ∙ sym (map-append (column_value texts) (columns_stacked ts shape (take k hs)) (stacked ts (sought_by shape (slice_index_or hs k None)) ∷ []))
-    ∙ ap (columns_value texts) (sym (map-append (λ h. stacked ts (sought_by shape h)) (take k hs) (slice_index_or hs k None ∷ [])))
-    ∙ ap (λ l. columns_value texts (columns_stacked ts shape l)) (sym (take_more hs k None lt))
+    rw (pushed, map-append, map-append, so_far, this, take_more hs k None lt, map-append, map-append)
 
 -- no other refusal than want of memory
 abbrev failed : MergeFault → Result CellColumn MergeFault
@@ -214,7 +179,7 @@ never_fault sought ts kind pieces r fault meet all few same listed told is other
   where
     go : (fault : MergeFault) → (fault ≡ NoMemory → ⊥) → ConcatsBy (seen_column []) (failed fault) (rows_concatenated (map (λ part. seen_column [] (part_column kind part)) pieces)) → ⊥
     go (NotOneToOne side key) other told = told
-    go (DuplicateLabels label) other told = never_refused sought ts kind pieces (repeated_label label) meet all few same listed told
-    go MixedKinds other told = never_refused sought ts kind pieces mixed_kinds meet all few same listed told
-    go TooLarge other told = never_refused sought ts kind pieces too_large meet all few same listed told
+    go (DuplicateLabels label) other told = never_refused _ _ _ _ _ meet all few same listed told
+    go MixedKinds other told = never_refused _ _ _ _ _ meet all few same listed told
+    go TooLarge other told = never_refused _ _ _ _ _ meet all few same listed told
     go NoMemory other told = other refl

@@ -1,55 +1,25 @@
 -- The frame of parts side by side.
-use Rattle.std.proofs.Common.{◌≡◌, ◌∙◌, ◌<◌, ◌+◌, ◌*◌, ◌^◌, ◌-◌, refl, ap, sym, subst, arith, ℕ, suc, Bool, true, false, ◌&&◌, List, [], ◌∷◌, ◌++◌, map, take, length, slice_index_or, pos, All, Option, Some, None, Result, Ok, Err, if◌then◌else◌}
-use Rattle.std.specs.Prelude.{nat_le}
-use Rattle.std.specs.List.{flat_map}
-use Rattle.std.proofs.lemmas.List.{length-map, length-append, map-append, append_assoc, append-nil, take_more}
-use Rattle.std.proofs.lemmas.List.Elements.{All-nil, All-cons, All-head, All-tail}
-use Rattle.std.proofs.lemmas.Bool.Decides.{nat_tests}
-use Rattle.cell_core.specs.Texts.{AreDistinct, AreGiven}
-use Rattle.cell_core.specs.declared.cell.Cell.{Cell}
-use Rattle.cell_core.specs.declared.cell.Cell.TheVariants.{Na}
-use Rattle.cell_core.specs.declared.cell.Label.{Label}
+use Rattle.{
+  concat_forms.{proofs.{TableLaws.{many_rows}, NameLaws.{level_names_by}, BesideLaws.{numbered_seen, numbered_given, all_headings_seen, all_headings_given, numbered_some}}, specs.{declared.parts.Naming.TheVariants.{Columns}, Parts.{parts_value, name_at, AreKnownParts}, Headings.{gets_number, numbered}, Axes.{levels_of, names_of_levels, named_after}, Beside.{AreBlocks}}},
+  std.{proofs.{Common.{◌≡◌, ◌∙◌, ◌<◌, ◌+◌, ◌^◌, ◌-◌, refl, ap, sym, arith, ℕ, suc, Bool, true, false, List, [], ◌∷◌, ◌++◌, map, take, length, slice_index_or, pos, All, Option, Some, None, Result, Ok, Err, if◌then◌else◌}, lemmas.List.{length-map, length-append, map-append, append_assoc, append-nil, take_more, Elements.{All-nil, All-cons, All-head, All-tail}}}, specs.List.{flat_map}},
+  cell_core.specs.{Texts.{AreDistinct, AreGiven}, declared.{cell.{Cell.{Cell, TheVariants.{Na}}, Label.{Label}}, grid.Shape.TheVariants.{Frame}}},
+  column_core.specs.{Blocks.{CellBlock}, Moves.{IsPlaceOf}},
+  align_meaning.proofs.OrderLaws.{all_append},
+  meaning.specs.{Text.{Text}, Cell.{LabelValue, na_cell}, Fault.{FaultValue, limit, then_value}, FaultOf.{fault_of}},
+  multi_index.specs.Axes.{AxisValue},
+  table_meaning.specs.{Settled.{IsSettled}, Table.{ColumnOf, NumberedTable, Table, column_value, heading_value, table_value}, Valid.{IsWhole}, Value.{Entry, table}},
+  form_meaning.specs.{Finish.{finished, limited, first_repeated, unless_repeated, within_limits}, Infix.{on_rows}},
+  form_parts.{proofs.GapLaws.{on_rows_seen, on_rows_given}, specs.Makes.{blocks_value}},
+  method_meaning.specs.Concat.{rows_met, columns_beside, table_beside, headings_beside, level_names_of_all, name_of_all},
+  frame_store.{specs.{Parts.{HeadingList, IsSingle, HaveRows, columns_of, table_with}, Shown.{labels_value, headings_value, columns_value, Makes}, World.{IsKnownTable}, declared.fault.OpFault.{OpFault, TheVariants.{Refused, NoMemory}}}, proofs.Settling.{columns_part, columns_given, columns_settled, table_settled}},
+  selections.{specs.Headings.{NamesRepeated, repeated_heading}, proofs.{HeadingLaws.{repeated_seen, different}, RefusalLaws.{repeated_settled}}},
+}
 use Rattle.cell_core.specs.declared.cell.Label.TheVariants as label
-use Rattle.cell_core.specs.declared.grid.Shape.TheVariants.{Frame}
-use Rattle.column_core.specs.Blocks.{CellBlock}
-use Rattle.column_core.specs.Moves.{IsPlaceOf}
-use Rattle.align_meaning.proofs.OrderLaws.{all_append}
-use Rattle.meaning.specs.Text.{Text}
-use Rattle.meaning.specs.Cell.{CellValue, LabelValue, na_cell}
-use Rattle.meaning.specs.Column.{taken}
-use Rattle.meaning.specs.Fault.{FaultValue, limit, then_value}
-use Rattle.meaning.specs.FaultOf.{fault_of}
-use Rattle.multi_index.specs.Axes.{AxisValue}
-use Rattle.table_meaning.specs.Settled.{IsSettled}
-use Rattle.table_meaning.specs.Table.{ColumnOf, NumberedTable, Table, column_value, heading_value, table_value}
-use Rattle.table_meaning.specs.Valid.{IsWhole}
-use Rattle.table_meaning.specs.Value.{Entry, table}
-use Rattle.form_meaning.specs.Finish.{finished, limited, first_repeated, unless_repeated, within_limits}
-use Rattle.form_meaning.specs.Infix.{on_rows}
-use Rattle.form_parts.proofs.GapLaws.{on_rows_seen, on_rows_given}
-use Rattle.form_parts.specs.Makes.{blocks_value}
-use Rattle.method_meaning.specs.Concat.{rows_met, columns_beside, table_beside, headings_beside, level_names_of_all, name_of_all}
-use Rattle.frame_store.specs.Parts.{HeadingList, IsSingle, HaveRows, columns_of, table_with}
-use Rattle.frame_store.specs.Shown.{labels_value, headings_value, columns_value, Makes}
-use Rattle.frame_store.specs.World.{IsKnownTable}
-use Rattle.frame_store.specs.declared.fault.OpFault.{OpFault}
-use Rattle.frame_store.specs.declared.fault.OpFault.TheVariants.{Refused, NoMemory}
-use Rattle.frame_store.proofs.Settling.{columns_part, columns_given, columns_settled, table_settled}
-use Rattle.selections.specs.Headings.{NamesRepeated, repeated_heading}
-use Rattle.selections.proofs.HeadingLaws.{repeated_seen, different}
-use Rattle.selections.proofs.RefusalLaws.{repeated_settled}
-use Rattle.concat_forms.specs.declared.parts.Naming.TheVariants.{Columns}
-use Rattle.concat_forms.specs.Parts.{parts_value, name_at, AreKnownParts}
-use Rattle.concat_forms.specs.Headings.{gets_number, numbered}
-use Rattle.concat_forms.specs.Axes.{levels_of, names_of_levels, named_after}
-use Rattle.concat_forms.specs.Beside.{AreBlocks}
-use Rattle.concat_forms.proofs.NameLaws.{level_names_by}
-use Rattle.concat_forms.proofs.BesideLaws.{numbered_seen, numbered_given, all_headings_seen, all_headings_given, numbered_some}
 
 -- the columns of one part more
 rows_long : (rows : List (Option ℕ)) (cs : List (ColumnOf Cell)) → HaveRows (length rows) (on_rows Na rows cs)
 rows_long rows [] = All-nil (λ (c : ColumnOf Cell). length c.cells ≡ length rows)
-rows_long rows (c ∷ cs) = All-cons (λ (c : ColumnOf Cell). length c.cells ≡ length rows) (record { kind = c.kind; cells = taken Na c.cells rows }) (on_rows Na rows cs) (length-map rows _) (rows_long rows cs)
+rows_long rows (c ∷ cs) = All-cons (λ (c : ColumnOf Cell). length c.cells ≡ length rows) _ _ (length-map rows _) (rows_long rows cs)
 
 one_more : {A B : Type 0} (f : A → List B) (xs : List A) (x : A) → flat_map f xs ++ f x ≡ flat_map f (xs ++ x ∷ [])
 one_more f [] x = sym (append-nil (f x))
@@ -59,10 +29,10 @@ pub part_added : (texts : List Text) (t : NumberedTable) (rows : List (Option �
     → All IsSingle made → columns_of made ≡ columns_of before ++ on_rows Na rows t.columns → AreBlocks texts (length rows) made
 part_added texts t rows before made known inside so_far single is = record {
   single = single;
-  filled = subst (HaveRows (length rows)) (sym is) (all_append (λ (c : ColumnOf Cell). length c.cells ≡ length rows) (columns_of before) (on_rows Na rows t.columns) so_far.filled (rows_long rows t.columns));
-  given = subst (All (λ (c : ColumnOf Cell). AreGiven texts c.cells)) (sym is)
-      (all_append (λ (c : ColumnOf Cell). AreGiven texts c.cells) (columns_of before) (on_rows Na rows t.columns) so_far.given
-      (on_rows_given texts (length t.labels) rows t.columns known.whole.filled inside (columns_given texts t.columns (columns_part texts t known.given))));
+  filled = rw is (all_append (λ (c : ColumnOf Cell). length c.cells ≡ length rows) _ _ so_far.filled (rows_long _ _));
+  given = rw is
+      (all_append (λ (c : ColumnOf Cell). AreGiven texts c.cells) _ _ so_far.given
+      (on_rows_given _ _ _ _ known.whole.filled inside (columns_given _ _ (columns_part _ t known.given))));
 }
 
 pub columns_added : (texts : List Text) (labels : List (List LabelValue)) (ts : List NumberedTable) (k : ℕ) (t : NumberedTable) (rows : List (Option ℕ)) (before made : List CellBlock) → k < length ts → t ≡ slice_index_or ts k t → rows ≡ rows_met (labels_value texts t.labels) labels
@@ -70,10 +40,10 @@ pub columns_added : (texts : List Text) (labels : List (List LabelValue)) (ts : 
 columns_added texts labels ts k t rows before made lt at met is so_far =
     ap (columns_value texts) is
     ∙ map-append (column_value texts) (columns_of before) (on_rows Na rows t.columns)
-    ∙ (λ i. so_far i ++ (on_rows_seen texts rows t.columns ∙ ap (λ r. on_rows na_cell r (columns_value texts t.columns)) met) i)
+    ∙ (λ i. so_far i ++ (on_rows_seen _ _ _ ∙ ap (λ r. on_rows na_cell r (columns_value texts t.columns)) met) i)
     ∙ one_more (columns_beside labels) (parts_value texts (take k ts)) (table_value texts t)
     ∙ ap (flat_map (columns_beside labels)) (sym (map-append (table_value texts) (take k ts) (t ∷ [])))
-    ∙ ap (λ l. flat_map (columns_beside labels) (parts_value texts l)) ((λ i. take k ts ++ at i ∷ []) ∙ sym (take_more ts k t lt))
+    ∙ ap (λ l. flat_map (columns_beside labels) (parts_value texts l)) ((λ i. take k ts ++ at i ∷ []) ∙ sym (take_more _ k t lt))
 
 -- how many columns there are
 numbered_count : (all : Bool) (n : ℕ) (hs : List (Option Label)) → length (numbered all n hs) ≡ length hs
@@ -95,17 +65,11 @@ columns_count texts labels (t ∷ ts) known =
     ∙ (λ i. (on_rows_count na_cell (rows_met (labels_value texts t.labels) labels) (columns_value texts t.columns) ∙ length-map t.columns (column_value texts) ∙ sym (All-head (IsKnownTable texts) t ts known).whole.headed) i + columns_count texts labels ts (All-tail (IsKnownTable texts) t ts known) i)
     ∙ sym (length-append t.headings (flat_map (λ t. t.headings) ts))
 
-over_limit : (n : ℕ) → 2 ^ 26 < n → nat_le n (2 ^ 26) ≡ false
-over_limit n lt = grind (arith, nat_tests, lt)
-
-many_rows : (n m : ℕ) → 2 ^ 26 < n → within_limits n m ≡ false
-many_rows n m lt = ap (λ (b : Bool). b && nat_le m (2 ^ 16) && nat_le (n * m) (2 ^ 26)) (over_limit n lt)
-
 abbrev pub all_numbered : Bool → List NumberedTable → List (Option Label)
 all_numbered all parts = numbered all 0 (flat_map (λ t. t.headings) parts)
 
 pub headings_known : (texts : List Text) (all : Bool) (parts : List NumberedTable) → AreKnownParts texts parts → IsSettled headings_value texts (all_numbered all parts)
-headings_known texts all parts known = numbered_given texts all (flat_map (λ t. t.headings) parts) (all_headings_given texts parts known)
+headings_known texts all parts known = numbered_given _ _ _ (all_headings_given _ _ known)
 
 module _ (texts : List Text) (distinct : AreDistinct texts) (parts : List NumberedTable) (known : AreKnownParts texts parts) (all : Bool) (labels : List (List LabelValue)) where
   abbrev T : List Table
@@ -118,33 +82,33 @@ module _ (texts : List Text) (distinct : AreDistinct texts) (parts : List Number
   made = table_beside T all labels
 
   headings_so : headings_value texts H ≡ made.headings
-  headings_so = numbered_seen texts all (flat_map (λ t. t.headings) parts) ∙ ap (headings_beside all) (all_headings_seen texts parts)
+  headings_so = numbered_seen _ _ _ ∙ ap (headings_beside all) (all_headings_seen texts parts)
 
   meant : (repeated : Option Label) → repeated_heading H ≡ repeated → finished made ≡ unless_repeated (heading_value texts repeated) (limited made)
   meant repeated is =
-      ap (λ (o : Option LabelValue). unless_repeated o (limited made)) (ap first_repeated (sym headings_so) ∙ sym (repeated_seen texts H distinct (headings_known texts all parts known)) ∙ ap (heading_value texts) is)
+      ap (λ (o : Option LabelValue). unless_repeated o (limited made)) (ap first_repeated (sym headings_so) ∙ sym (repeated_seen _ H distinct (headings_known _ _ _ known)) ∙ ap (heading_value texts) is)
 
   pub headings_refused : (why : OpFault) → NamesRepeated why (repeated_heading H) → Makes texts (Err why) (finished made)
   headings_refused (Refused code) named = (
-    meant (Some named.0) named.1 ∙ ap (λ c. Err (fault_of texts c)) (sym named.2),
-    repeated_settled texts code H named.0 named.1 named.2 (headings_known texts all parts known),
+    meant _ named.1 ∙ ap (λ c. Err (fault_of texts c)) (sym named.2),
+    repeated_settled _ _ H _ named.1 named.2 (headings_known _ _ _ known),
   )
   headings_refused NoMemory named = tt
 
   columns_so : length made.columns ≡ length H
-  columns_so = columns_count texts labels parts known ∙ sym (numbered_count all 0 (flat_map (λ t. t.headings) parts))
+  columns_so = columns_count _ _ _ known ∙ sym (numbered_count _ 0 _)
 
   abbrev if_within : Table → Bool → Result Entry FaultValue
   if_within T b = then_value (if b then Ok T else Err limit) (λ T. Ok (table T))
 
   pub beyond_limits : repeated_heading H ≡ None → within_limits (length labels) (length H) ≡ false → finished made ≡ Err limit
-  beyond_limits none beyond = meant None none ∙ ap (if_within made) (ap (within_limits (length labels)) columns_so ∙ beyond)
+  beyond_limits none beyond = meant _ none ∙ ap (if_within made) (ap (within_limits (length labels)) columns_so ∙ beyond)
 
   pub too_many_rows : repeated_heading H ≡ None → 2 ^ 26 < length labels → finished made ≡ Err limit
-  too_many_rows none many = beyond_limits none (many_rows (length labels) (length H) many)
+  too_many_rows none many = beyond_limits none (many_rows _ _ many)
 
   pub finished_so : (new : NumberedTable) → repeated_heading H ≡ None → within_limits (length labels) (length H) ≡ true → made ≡ table_value texts new → finished made ≡ Ok (table (table_value texts new))
-  finished_so new none within same = meant None none ∙ ap (if_within made) (ap (within_limits (length labels)) columns_so ∙ within) ∙ ap (λ v. Ok (table v)) same
+  finished_so new none within same = meant _ none ∙ ap (if_within made) (ap (within_limits (length labels)) columns_so ∙ within) ∙ ap (λ v. Ok (table v)) same
 
 -- the names of the levels
 pub level_names_so : (texts : List Text) (names : List (Option Label)) (parts : List NumberedTable) → 0 < length parts → length names ≡ levels_of parts → named_after (headings_value texts names) (length names) (parts_value texts parts) ≡ level_names_of_all (parts_value texts parts)
@@ -160,7 +124,7 @@ pub frame_so : (texts : List Text) (parts : List NumberedTable) (all : Bool) (ax
     → heading_value texts name ≡ name_of_all (map (name_at Columns) (parts_value texts parts)) → headings ≡ record { columns_name = name; labels = all_numbered all parts } → blocks_value texts blocks ≡ flat_map (columns_beside (labels_value texts axis.tuples)) (parts_value texts parts)
     → table_beside (parts_value texts parts) all (labels_value texts axis.tuples) ≡ table_value texts (table_with Frame new headings (columns_of blocks))
 frame_so texts parts all axis new name headings blocks tuples names named headed columns =
-    let headings_so = numbered_seen texts all (flat_map (λ t. t.headings) parts) ∙ ap (headings_beside all) (all_headings_seen texts parts) in
+    let headings_so = numbered_seen _ _ _ ∙ ap (headings_beside all) (all_headings_seen texts parts) in
     (λ i. record {
       shape = Frame;
       columns_name = sym named i;
@@ -174,15 +138,15 @@ frame_so texts parts all axis new name headings blocks tuples names named headed
 pub frame_given : (texts : List Text) (parts : List NumberedTable) (all : Bool) (new : AxisValue) (name : Option Label) (headings : HeadingList) (blocks : List CellBlock) (rows : ℕ) → AreKnownParts texts parts → IsSettled labels_value texts new.tuples → IsSettled headings_value texts new.names
     → IsSettled heading_value texts name → headings ≡ record { columns_name = name; labels = all_numbered all parts } → AreBlocks texts rows blocks → IsSettled table_value texts (table_with Frame new headings (columns_of blocks))
 frame_given texts parts all new name headings blocks rows known tuples names named headed made =
-    subst (λ (h : HeadingList). IsSettled table_value texts (table_with Frame new h (columns_of blocks))) (sym headed)
-    (table_settled texts (table_with Frame new (record { columns_name = name; labels = all_numbered all parts }) (columns_of blocks)) named names tuples (headings_known texts all parts known) (columns_settled texts (columns_of blocks) made.given))
+    rw headed
+    (table_settled _ _ named names tuples (headings_known _ _ _ known) (columns_settled _ _ made.given))
 
 pub frame_whole : (texts : List Text) (parts : List NumberedTable) (all : Bool) (labels : List (List LabelValue)) (new : AxisValue) (name : Option Label) (headings : HeadingList) (blocks : List CellBlock) (rows : ℕ) → AreKnownParts texts parts → length new.tuples ≡ rows
     → headings ≡ record { columns_name = name; labels = all_numbered all parts } → repeated_heading (all_numbered all parts) ≡ None → blocks_value texts blocks ≡ flat_map (columns_beside labels) (parts_value texts parts) → AreBlocks texts rows blocks
     → IsWhole (table_with Frame new headings (columns_of blocks))
 frame_whole texts parts all labels new name headings blocks rows known count headed none columns made =
-    subst (λ (h : HeadingList). IsWhole (table_with Frame new h (columns_of blocks))) (sym headed) (record {
-      headed = numbered_count all 0 (flat_map (λ t. t.headings) parts) ∙ sym (columns_count texts labels parts known) ∙ ap (λ (l : List (ColumnOf CellValue)). length l) (sym columns) ∙ length-map (columns_of blocks) (column_value texts);
-      filled = subst (λ n. HaveRows n (columns_of blocks)) (sym count) made.filled;
-      headings = record { single = λ e. cc; nameless = λ e. cc; labelled = λ e. numbered_some (flat_map (λ t. t.headings) parts) 0 all; different = λ e. different (all_numbered all parts) (numbered_some (flat_map (λ t. t.headings) parts) 0 all) none };
+    rw headed (record {
+      headed = numbered_count _ 0 _ ∙ sym (columns_count _ _ _ known) ∙ ap length (sym columns) ∙ length-map (columns_of blocks) (column_value texts);
+      filled = rw count made.filled;
+      headings = record { single = λ e. cc; nameless = λ e. cc; labelled = λ e. numbered_some _ 0 _; different = λ e. different _ (numbered_some _ 0 _) none };
     })

@@ -1,15 +1,13 @@
 -- The headings of what is put together.
-use Rattle.std.proofs.Common.{◌≡◌, ◌∙◌, ◌<◌, ◌≤◌, ◌+◌, refl, ap, sym, ℕ, suc, ℤ, pos, Bool, true, false, ◌&&◌, cond, List, [], ◌∷◌, ◌++◌, filter, length, drop, slice_index_or, Option, Some, None, if◌then◌else◌, arith}
-use Rattle.std.specs.List.{list_all, list_any, flat_map}
-use Rattle.std.proofs.Math.Seq.{drop-cons}
-use Rattle.std.proofs.lemmas.List.{append_assoc}
-use Rattle.cell_core.specs.declared.cell.Label.{Label}
+use Rattle.{
+  std.{proofs.{Common.{◌≡◌, ◌∙◌, ◌<◌, ◌≤◌, ◌+◌, refl, ap, sym, ℕ, suc, ℤ, pos, Bool, true, false, ◌&&◌, cond, List, [], ◌∷◌, ◌++◌, filter, length, drop, slice_index_or, Option, Some, None, if◌then◌else◌, arith}, Math.Seq.{drop-cons}, lemmas.List.{append_assoc}}, specs.List.{list_all, list_any, flat_map}},
+  cell_core.specs.declared.cell.Label.{Label},
+  meaning.specs.Reduce.{distinct},
+  join_meaning.specs.Concat.{united},
+  table_meaning.specs.Table.{NumberedTable},
+  concat_forms.specs.{Parts.{same_heading, headings_of_each}, Headings.{held_by_all, common_headings, gets_number, numbered}},
+}
 use Rattle.cell_core.specs.declared.cell.Label.TheVariants as label
-use Rattle.meaning.specs.Reduce.{distinct}
-use Rattle.join_meaning.specs.Concat.{united}
-use Rattle.table_meaning.specs.Table.{NumberedTable}
-use Rattle.concat_forms.specs.Parts.{same_heading, headings_of_each}
-use Rattle.concat_forms.specs.Headings.{held_by_all, common_headings, gets_number, numbered}
 
 flat_headings : (parts : List NumberedTable) → flat_map (λ t. t.headings) parts ≡ flat_map (λ list. list) (headings_of_each parts)
 flat_headings [] = refl
@@ -30,7 +28,7 @@ filter_alike p q same [] = refl
 filter_alike p q same (x ∷ xs) = λ i. cond (same x i) (x ∷ filter_alike p q same xs i) (filter_alike p q same xs i)
 
 pub common_united : (t : NumberedTable) (ts : List NumberedTable) → common_headings t.headings ts ≡ united same_heading true (headings_of_each (t ∷ ts))
-common_united t ts = filter_alike (held_by_all ts) (λ h. list_all (list_any (same_heading h)) (headings_of_each ts)) (held_in_each ts) t.headings
+common_united t ts = filter_alike _ (λ h. list_all (list_any (same_heading h)) (headings_of_each ts)) (held_in_each _) _
 
 -- one heading more, with the number that is next or as it is
 drop_at : (hs : List (Option Label)) (k : ℕ) → k < length hs → drop k hs ≡ slice_index_or hs k None ∷ drop (k + 1) hs
@@ -38,7 +36,7 @@ drop_at hs k lt = let next : suc k ≡ k + 1 = omega arith in drop-cons hs k Non
 
 module _ (all : Bool) (n k : ℕ) (h : Option Label) (hs made made' whole : List (Option Label)) (lt : k < length hs) (is : h ≡ slice_index_or hs k None) (so_far : made ++ numbered all n (drop k hs) ≡ whole) where
   split : made ++ numbered all n (h ∷ drop (k + 1) hs) ≡ whole
-  split = ap (λ l. made ++ numbered all n l) ((λ i. is i ∷ drop (k + 1) hs) ∙ sym (drop_at hs k lt)) ∙ so_far
+  split = ap (λ l. made ++ numbered all n l) ((λ i. is i ∷ drop (k + 1) hs) ∙ sym (drop_at _ k lt)) ∙ so_far
 
   pub number_more : (z : ℤ) → z ≡ pos n → gets_number all h ≡ true → made' ≡ made ++ Some (label.Int z) ∷ [] → made' ++ numbered all (n + 1) (drop (k + 1) hs) ≡ whole
   number_more z told here grown =
@@ -56,4 +54,4 @@ module _ (all : Bool) (n k : ℕ) (h : Option Label) (hs made made' whole : List
 
 pub first_united : (parts : List NumberedTable) (t : NumberedTable) → 1 ≤ length parts → t ≡ slice_index_or parts 0 t → common_headings t.headings (drop 1 parts) ≡ united same_heading true (headings_of_each parts)
 first_united [] t some is = absurd (omega (arith, some))
-first_united (s ∷ ss) t some is = ap (λ (x : NumberedTable). common_headings x.headings ss) is ∙ common_united s ss
+first_united (s ∷ ss) t some is = ap (λ (x : NumberedTable). common_headings x.headings ss) is ∙ common_united s _

@@ -1,24 +1,16 @@
 -- What parts are, by numbers as with their texts.
-use Rattle.std.proofs.Common.{◌≡◌, ◌∙◌, refl, ap, nat_eq, Bool, true, false, not, ◌&&◌, List, [], ◌∷◌, map, length, All, None, Result, Err, if◌then◌else◌}
-use Rattle.std.specs.Prelude.{IsSome, AllPairs, ◌≢◌}
-use Rattle.std.specs.List.{list_all}
-use Rattle.std.proofs.lemmas.List.{length-map}
-use Rattle.std.proofs.lemmas.List.Elements.{All-nil, All-cons, All-head, All-tail}
-use Rattle.cell_core.specs.declared.grid.Shape.{Shape}
-use Rattle.cell_core.specs.declared.grid.Shape.TheVariants.{Series, Frame}
-use Rattle.meaning.specs.Text.{Text}
-use Rattle.meaning.specs.Fault.{FaultValue, wrong_kind, bad_value, levels}
-use Rattle.join_meaning.specs.Concat.{united}
-use Rattle.table_meaning.specs.Table.{NumberedTable, Table, heading_value, table_value}
-use Rattle.table_meaning.specs.Valid.{AreHeadings}
-use Rattle.table_meaning.specs.Value.{Entry}
+use Rattle.{
+  std.{proofs.{Common.{slice_index_or, ◌≡◌, ◌∙◌, refl, ap, nat_eq, Bool, true, false, not, ◌&&◌, List, [], ◌∷◌, map, length, All, None, Result, Err, if◌then◌else◌}, lemmas.List.{length-map, Sums.{AllPass-from_list_all}, Elements.{All-nil, All-cons, All-head, All-tail}}}, specs.{Prelude.{IsSome, AllPairs, ◌≢◌}, List.{list_all}}},
+  cell_core.specs.declared.grid.Shape.{Shape, TheVariants.{Series, Frame}},
+  meaning.specs.{Text.{Text}, Fault.{FaultValue, wrong_kind, bad_value, levels}},
+  join_meaning.specs.Concat.{united},
+  table_meaning.specs.{Table.{NumberedTable, Table, heading_value, table_value}, Valid.{AreHeadings}, Value.{Entry}},
+  method_meaning.specs.Concat.{Concatenation, is_series, series_below, frames_below, below},
+  frame_store.specs.World.{IsKnownTable},
+  concat_forms.{specs.Parts.{same_heading, headings_of_each, parts_value, have_same_levels, AreOf, AreKnownParts}, proofs.{SeenLaws.{united_all}, TextLaws.{united_apart}}},
+}
 use Rattle.form_meaning.specs.Finish as finish
 use Rattle.method_meaning.specs.Concat as meant
-use Rattle.method_meaning.specs.Concat.{Concatenation, is_series, series_below, frames_below, below}
-use Rattle.frame_store.specs.World.{IsKnownTable}
-use Rattle.concat_forms.specs.Parts.{same_heading, headings_of_each, parts_value, have_same_levels, AreOf, AreKnownParts}
-use Rattle.concat_forms.proofs.SeenLaws.{united_all}
-use Rattle.concat_forms.proofs.TextLaws.{united_apart}
 
 pub series_seen : (texts : List Text) (ts : List NumberedTable) → meant.are_series (parts_value texts ts) ≡ list_all (λ t. is_series t.shape) ts
 series_seen texts [] = refl
@@ -34,15 +26,7 @@ levels_as texts t (s ∷ ss) = λ i. nat_eq (length-map t.level_names (heading_v
 
 pub levels_seen : (texts : List Text) (ts : List NumberedTable) → meant.have_same_levels (parts_value texts ts) ≡ have_same_levels ts
 levels_seen texts [] = refl
-levels_seen texts (t ∷ ts) = levels_as texts t ts
-
-and_first : (a b : Bool) → (a && b) ≡ true → a ≡ true
-and_first true b e = refl
-and_first false b e = cc
-
-and_second : (a b : Bool) → (a && b) ≡ true → b ≡ true
-and_second true b e = e
-and_second false b e = cc
+levels_seen texts (t ∷ ts) = levels_as _ t _
 
 series_shape : (s : Shape) → is_series s ≡ true → s ≡ Series
 series_shape Series e = refl
@@ -53,14 +37,10 @@ frame_shape Series e = cc
 frame_shape Frame e = refl
 
 pub all_series : (ts : List NumberedTable) → list_all (λ t. is_series t.shape) ts ≡ true → AreOf Series ts
-all_series [] e = All-nil (λ (t : NumberedTable). t.shape ≡ Series)
-all_series (t ∷ ts) e =
-    All-cons (λ (t : NumberedTable). t.shape ≡ Series) t ts (series_shape t.shape (and_first (is_series t.shape) (list_all (λ t. is_series t.shape) ts) e)) (all_series ts (and_second (is_series t.shape) (list_all (λ t. is_series t.shape) ts) e))
+all_series ts e = λ k d lt. series_shape (slice_index_or ts k d).shape (AllPass-from_list_all (λ t. is_series t.shape) _ e k d lt)
 
 pub all_frames : (ts : List NumberedTable) → list_all (λ t. not (is_series t.shape)) ts ≡ true → AreOf Frame ts
-all_frames [] e = All-nil (λ (t : NumberedTable). t.shape ≡ Frame)
-all_frames (t ∷ ts) e =
-    All-cons (λ (t : NumberedTable). t.shape ≡ Frame) t ts (frame_shape t.shape (and_first (not (is_series t.shape)) (list_all (λ t. not (is_series t.shape)) ts) e)) (all_frames ts (and_second (not (is_series t.shape)) (list_all (λ t. not (is_series t.shape)) ts) e))
+all_frames ts e = λ k d lt. frame_shape (slice_index_or ts k d).shape (AllPass-from_list_all (λ t. not (is_series t.shape)) _ e k d lt)
 
 -- which of them are put together
 pub below_series : (ts : List Table) (c : Concatenation) → meant.are_series ts ≡ true → below ts c ≡ meant.same_levels ts (series_below ts c)
@@ -84,21 +64,21 @@ levels_same texts parts rest same = ap (λ (b : Bool). if b then rest else Err (
 
 -- the headings of frames
 labelled_each : (texts : List Text) (ts : List NumberedTable) → AreOf Frame ts → AreKnownParts texts ts → All (All IsSome) (headings_of_each ts)
-labelled_each texts [] of known = All-nil (All IsSome)
+labelled_each texts [] of known = All-nil _
 labelled_each texts (t ∷ ts) of known =
     All-cons (All IsSome) t.headings (headings_of_each ts) ((All-head (IsKnownTable texts) t ts known).whole.headings.labelled (All-head (λ (t : NumberedTable). t.shape ≡ Frame) t ts of))
-    (labelled_each texts ts (All-tail (λ (t : NumberedTable). t.shape ≡ Frame) t ts of) (All-tail (IsKnownTable texts) t ts known))
+    (labelled_each texts ts (All-tail (λ (t : NumberedTable). t.shape ≡ Frame) t _ of) (All-tail (IsKnownTable texts) t _ known))
 
 different_each : (texts : List Text) (ts : List NumberedTable) → AreOf Frame ts → AreKnownParts texts ts → All (λ (t : NumberedTable). AllPairs (λ a b. a ≢ b) t.headings) ts
 different_each texts [] of known = All-nil (λ (t : NumberedTable). AllPairs (λ a b. a ≢ b) t.headings)
 different_each texts (t ∷ ts) of known =
     All-cons (λ (t : NumberedTable). AllPairs (λ a b. a ≢ b) t.headings) t ts ((All-head (IsKnownTable texts) t ts known).whole.headings.different (All-head (λ (t : NumberedTable). t.shape ≡ Frame) t ts of))
-    (different_each texts ts (All-tail (λ (t : NumberedTable). t.shape ≡ Frame) t ts of) (All-tail (IsKnownTable texts) t ts known))
+    (different_each texts ts (All-tail (λ (t : NumberedTable). t.shape ≡ Frame) t _ of) (All-tail (IsKnownTable texts) t _ known))
 
 pub frame_headings : (texts : List Text) (inner : Bool) (ts : List NumberedTable) → AreOf Frame ts → AreKnownParts texts ts → AreHeadings Frame None (united same_heading inner (headings_of_each ts))
 frame_headings texts inner ts of known = record {
   single = λ e. cc;
   nameless = λ e. refl;
-  labelled = λ e. united_all IsSome same_heading inner (headings_of_each ts) (labelled_each texts ts of known);
-  different = λ e. united_apart inner ts (different_each texts ts of known);
+  labelled = λ e. united_all IsSome _ _ _ (labelled_each _ _ of known);
+  different = λ e. united_apart _ _ (different_each _ _ of known);
 }

@@ -1,25 +1,15 @@
 -- The names that all parts have.
-use Rattle.std.proofs.Common.{◌≡◌, ◌∙◌, ◌<◌, ◌≤◌, ◌+◌, ◌-◌, refl, ap, sym, subst, arith, ℕ, zero, suc, List, [], ◌∷◌, ◌++◌, map, length, fold, take, drop, slice_index_or, slice_set, All, Option, Some, None}
-use Rattle.std.specs.List.{range_with_len}
-use Rattle.std.proofs.lemmas.List.{map-append, append_assoc, take_more_set}
-use Rattle.std.proofs.Math.Seq.{drop-cons}
-use Rattle.std.proofs.lemmas.List.Elements.{All-tail}
-use Rattle.cell_core.specs.declared.cell.Label.{Label}
-use Rattle.meaning.specs.Text.{Text}
-use Rattle.meaning.specs.Cell.{LabelValue}
-use Rattle.table_meaning.specs.Settled.{IsSettled}
-use Rattle.table_meaning.specs.Table.{NumberedTable, Table, heading_value, table_value}
-use Rattle.form_meaning.specs.Infix.{common_name}
-use Rattle.method_meaning.specs.Concat.{kept_names, level_names_of_all, name_of_all}
-use Rattle.frame_store.specs.Shown.{headings_value}
-use Rattle.frame_store.specs.World.{IsKnownTable}
-use Rattle.frame_store.proofs.Settling.{columns_name_part, level_names_part, headings_part}
-use Rattle.selections.proofs.HeadingLaws.{head_settled, rest_settled}
-use Rattle.concat_forms.specs.declared.parts.Naming.{Naming}
-use Rattle.concat_forms.specs.declared.parts.Naming.TheVariants.{Columns, Level, Series}
-use Rattle.concat_forms.specs.Parts.{name_at, parts_value, AreKnownParts}
-use Rattle.concat_forms.proofs.PlaceLaws.{rest_of}
-use Rattle.concat_forms.specs.Axes.{names_of_levels}
+use Rattle.{
+  std.{proofs.{lemmas.List.{map-append, append_assoc, take_more_set, FromFn.{map-range_with_len_more}, Elements.{All-tail}}, Common.{◌≡◌, ◌∙◌, ◌<◌, ◌≤◌, ◌+◌, ◌-◌, refl, ap, sym, subst, arith, ℕ, zero, suc, List, [], ◌∷◌, ◌++◌, map, length, fold, take, drop, slice_index_or, slice_set, All, Option, Some, None}, Math.Seq.{drop-cons}}, specs.List.{range_with_len}},
+  cell_core.specs.declared.cell.Label.{Label},
+  meaning.specs.{Text.{Text}, Cell.{LabelValue}},
+  table_meaning.specs.{Settled.{IsSettled}, Table.{NumberedTable, Table, heading_value, table_value}},
+  form_meaning.specs.Infix.{common_name},
+  method_meaning.specs.Concat.{kept_names, level_names_of_all, name_of_all},
+  frame_store.{specs.{Shown.{headings_value}, World.{IsKnownTable}}, proofs.Settling.{columns_name_part, level_names_part, headings_part}},
+  selections.proofs.HeadingLaws.{head_settled, rest_settled},
+  concat_forms.{specs.{declared.parts.Naming.{Naming, TheVariants.{Columns, Level, Series}}, Parts.{name_at, parts_value, AreKnownParts}, Axes.{names_of_levels}}, proofs.PlaceLaws.{rest_of}},
+}
 
 index_given : (texts : List Text) (hs : List (Option Label)) (k : ℕ) → IsSettled headings_value texts hs → IsSettled heading_value texts (slice_index_or hs k None)
 index_given texts [] k settled = λ more. refl
@@ -92,38 +82,15 @@ level_names_by t ts =
     ∙ map_alike _ (λ k. name_of_all (map (name_at (Level k)) (t ∷ ts))) (λ k. ap (fold common_name (slice_index_or t.level_names k None)) (indexes k ts)) (range_with_len 0 (length t.level_names))
 
 -- the name of one level more
-one_level_more : {X : Type 0} (f : ℕ → X) (a n : ℕ) → map f (range_with_len a (n + 1)) ≡ map f (range_with_len a n) ++ f (a + n) ∷ []
-one_level_more f a zero = let same : a ≡ a + 0 = omega arith in ap (λ k. f k ∷ []) same
-one_level_more f a (suc n) =
-    let next : a + 1 + n ≡ a + suc n = omega arith in
-    let count : suc n + 1 ≡ suc (n + 1) = omega arith in
-    ap (λ m. map f (range_with_len a m)) count
-    ∙ ap (λ l. f a ∷ l) (one_level_more f (a + 1) n)
-    ∙ ap (λ k. f a ∷ (map f (range_with_len (a + 1) n) ++ f k ∷ [])) next
-
 pub level_more : (texts : List Text) (parts : List Table) (names names' : List (Option Label)) (before : List (Option LabelValue)) (k level : ℕ) (name : Option Label) → k < length names → names' ≡ slice_set names k name
     → heading_value texts name ≡ name_of_all (map (name_at (Level level)) parts) → headings_value texts (take k names) ≡ before ++ names_of_levels level parts
     → headings_value texts (take (k + 1) names') ≡ before ++ names_of_levels (level + 1) parts
-level_more texts parts names names' before k level name lt set told so_far =
-    let level_at : 0 + level ≡ level = omega arith in
-    (λ i. headings_value texts (take (k + 1) (set i)))
-    ∙ ap (headings_value texts) (take_more_set names k name lt)
-    ∙ map-append (heading_value texts) (take k names) (name ∷ [])
-    ∙ (λ i. so_far i ++ told i ∷ [])
-    ∙ append_assoc before (names_of_levels level parts) (name_of_all (map (name_at (Level level)) parts) ∷ [])
-    ∙ ap (λ l. before ++ l) (ap (λ n. names_of_levels level parts ++ name_of_all (map (name_at (Level n)) parts) ∷ []) (sym level_at) ∙ sym (one_level_more (λ level. name_of_all (map (name_at (Level level)) parts)) 0 level))
+level_more texts parts names names' before k level name lt set told so_far = rw (set, take_more_set names k name lt, map-append, so_far, told, append_assoc, map-range_with_len_more (λ level. name_of_all (map (name_at (Level level)) parts)) 0 level level (omega arith))
 
 -- names that were given, with one more
 pub given_more : (texts : List Text) (names names' : List (Option Label)) (k : ℕ) (name : Option Label) → k < length names → names' ≡ slice_set names k name → IsSettled heading_value texts name → IsSettled headings_value texts (take k names)
     → IsSettled headings_value texts (take (k + 1) names')
-given_more texts names names' k name lt set here before =
-    let is : take (k + 1) names' ≡ take k names ++ name ∷ [] = (λ i. take (k + 1) (set i)) ∙ take_more_set names k name lt in
-    λ more.
-    ap (headings_value (texts ++ more)) is
-    ∙ map-append (heading_value (texts ++ more)) (take k names) (name ∷ [])
-    ∙ (λ i. before more i ++ here more i ∷ [])
-    ∙ sym (map-append (heading_value texts) (take k names) (name ∷ []))
-    ∙ ap (headings_value texts) (sym is)
+given_more texts names names' k name lt set here before = λ more. rw (set, take_more_set names k name lt, map-append, map-append, before more, here more)
 
 -- the name of all parts, one part after the other
 pub first_name : (texts : List Text) (which : Naming) (parts : List NumberedTable) (t : NumberedTable) (name : Option Label) → 1 ≤ length parts → t ≡ slice_index_or parts 0 t → name ≡ name_at which t

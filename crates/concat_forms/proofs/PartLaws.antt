@@ -1,34 +1,17 @@
 -- Parts and their headings.
-use Rattle.std.proofs.Common.{◌≡◌, ◌∙◌, ◌<◌, ◌≤◌, ◌+◌, refl, ap, sym, ℕ, zero, suc, Bool, true, false, ◌||◌, cond, List, [], ◌∷◌, ◌++◌, length, take, slice_index_or, Option, Some, None, arith, rules}
-use Rattle.std.specs.Prelude.{◌≢◌, AllPairs}
-use Rattle.std.specs.List.{list_any}
-use Rattle.std.proofs.lemmas.List.{take_more}
-use Rattle.indexmap.specs.IndexSet.{insert_key}
-use Rattle.cell_core.specs.declared.cell.Label.{Label}
-use Rattle.std.specs.Bool.{Decides}
-use Rattle.concat_forms.specs.Parts.{same_number, same_heading}
-
-pub label_decides : (a b : Label) → Decides (same_number a b) (a ≡ b)
-label_decides a b = search rules
-
-some_same : {A : Type 0} (a b : A) → Some a ≡ Some b → a ≡ b
-some_same a b e = cc
-
-pub heading_decides : (a b : Option Label) → Decides (same_heading a b) (a ≡ b)
-heading_decides None None = (λ e. refl, λ e. refl)
-heading_decides None (Some b) = (λ e. cc, λ e. cc)
-heading_decides (Some a) None = (λ e. cc, λ e. cc)
-heading_decides (Some a) (Some b) = (λ e. ap (λ l. Some l) ((label_decides a b).0 e), λ e. (label_decides a b).1 (some_same a b e))
+use Rattle.{
+  std.{proofs.{Common.{◌≡◌, ◌∙◌, ◌<◌, ◌≤◌, ◌+◌, refl, ap, sym, ℕ, zero, suc, Bool, true, false, cond, List, [], ◌∷◌, ◌++◌, length, take, slice_index_or, Option, None, arith, rules}, lemmas.{Bool.{or_from}, List.{take_more}}}, specs.{Prelude.{◌≢◌, AllPairs}, List.{list_any}}},
+  indexmap.specs.IndexSet.{insert_key},
+  cell_core.specs.declared.cell.Label.{Label},
+  selections.proofs.HeadingLaws.{heading_decides},
+  concat_forms.specs.Parts.{same_heading},
+}
 
 -- a heading that isn't among those before it
-or_no : (a b : Bool) → a ≡ false → b ≡ false → (a || b) ≡ false
-or_no true b e f = e
-or_no false b e f = f
-
 pub not_before : (h : Option Label) (hs : List (Option Label)) → ((k : ℕ) → k < length hs → slice_index_or hs k None ≢ h) → list_any (same_heading h) hs ≡ false
 not_before h [] apart = refl
 not_before h (g ∷ gs) apart =
-    or_no (same_heading h g) (list_any (same_heading h) gs) (go (same_heading h g) refl) (not_before h gs (λ k lt. apart (suc k) (omega (arith, lt))))
+    or_from _ _ (go (same_heading h g) refl) (not_before h gs (λ k lt. apart (suc k) (omega (arith, lt))))
   where
     go : (b : Bool) → same_heading h g ≡ b → b ≡ false
     go true e = absurd (apart 0 (omega arith) (sym ((heading_decides h g).0 e)))
@@ -51,11 +34,11 @@ pub one_more_heading : (hs keys keys' : List (Option Label)) (place : ℕ) (h : 
 one_more_heading hs keys keys' place h apart lt is so_far more =
     let before : (k : ℕ) → k < length (take place hs) → slice_index_or (take place hs) k None ≢ h =
     λ k below e.
-    let n : length (take place hs) ≡ place = length_taken hs place (omega (arith, lt)) in
+    let n : length (take place hs) ≡ place = length_taken _ _ (omega (arith, lt)) in
     let under : k < place = omega (arith, below, n) in
-    apart k place None under lt (sym (taken_index hs place k under (omega (arith, lt))) ∙ e ∙ is) in
+    apart k place None under lt (sym (taken_index _ _ k under (omega (arith, lt))) ∙ e ∙ is) in
     more
     ∙ (λ i. insert_key same_heading (so_far i) h)
-    ∙ new_key (take place hs) h (not_before h (take place hs) before)
+    ∙ new_key _ h (not_before h _ before)
     ∙ (λ i. take place hs ++ is i ∷ [])
-    ∙ sym (take_more hs place None lt)
+    ∙ sym (take_more _ _ _ lt)

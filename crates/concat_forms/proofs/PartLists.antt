@@ -1,21 +1,12 @@
 -- Objects of a list as parts.
-use Rattle.std.proofs.Common.{◌≡◌, ◌∙◌, ◌<◌, ◌+◌, ap, sym, subst, arith, ℕ, zero, suc, List, [], ◌∷◌, ◌++◌, map, length, drop, slice_index_or, All, Option, Some, None}
-use Rattle.std.specs.Prelude.{IsSome, IfSome}
-use Rattle.std.proofs.Math.Seq.{drop-cons}
-use Rattle.std.proofs.lemmas.List.{map-append, append_assoc}
-use Rattle.std.proofs.lemmas.List.Elements.{All-push}
-use Rattle.meaning.specs.Text.{Text}
-use Rattle.table_meaning.specs.Table.{NumberedTable, table_value}
-use Rattle.table_meaning.specs.Valid.{IsWhole}
-use Rattle.table_meaning.specs.Value.{object_in}
-use Rattle.method_meaning.specs.Concat.{tables_from, tables_of}
-use Rattle.frame_store.specs.Arguments.{item_of, items_of, object_value, AreLiveItems, IsLiveItem, IsLiveObject}
-use Rattle.frame_store.specs.Objects.{Tables, table_or}
-use Rattle.frame_store.specs.World.{IsKnownTable}
-use Rattle.frame_store.specs.declared.arguments.Item.{Item}
-use Rattle.frame_store.specs.declared.object.ObjId.{ObjId}
-use Rattle.frame_store.proofs.Settling.{object_settled}
-use Rattle.concat_forms.specs.Parts.{parts_value, AreSettledParts}
+use Rattle.{
+  std.{proofs.{Common.{◌≡◌, ◌∙◌, ◌<◌, ◌+◌, ap, sym, subst, arith, ℕ, zero, suc, List, [], ◌∷◌, ◌++◌, length, drop, slice_index_or, All, Option, Some, None}, Math.Seq.{drop-cons}, lemmas.List.{map-append, append_assoc, Elements.{All-push}}}, specs.Prelude.{IsSome, IfSome}},
+  meaning.specs.Text.{Text},
+  table_meaning.specs.{Table.{NumberedTable, table_value}, Valid.{IsWhole}, Value.{object_in}},
+  method_meaning.specs.Concat.{tables_from, tables_of},
+  frame_store.{specs.{Arguments.{item_of, items_of, object_value, AreLiveItems, IsLiveItem, IsLiveObject}, Objects.{Tables, table_or}, World.{IsKnownTable}, declared.{arguments.Item.{Item}, object.ObjId.{ObjId}}}, proofs.Settling.{object_settled}},
+  concat_forms.specs.Parts.{parts_value, AreSettledParts},
+}
 
 -- each item of a list is live
 pub item_live : (live : Tables) (items : List Item) (k : ℕ) (d : Item) → AreLiveItems live items → k < length items → IsLiveItem live (slice_index_or items k d)

@@ -1,17 +1,11 @@
 -- Labels of several lists are put together alike where they are seen otherwise, as with their texts.
-use Rattle.std.proofs.Common.{◌≡◌, ◌∙◌, ap, refl, sym, subst, Bool, true, false, not, ◌&&◌, ◌||◌, cond, List, [], ◌∷◌, ◌++◌, map, filter, length, All, Option, Some, None, nat_lt}
-use Rattle.std.specs.List.{list_all, list_any, flat_map}
-use Rattle.std.specs.Option.{option_map}
-use Rattle.std.specs.Cmp.Lexicographic.{pointwise}
-use Rattle.std.proofs.lemmas.List.{map-append}
-use Rattle.std.proofs.lemmas.List.Elements.{All-head, All-tail, All-nil, All-cons}
-use Rattle.meaning.specs.Reduce.{distinct}
-use Rattle.pick_meaning.specs.Rows.{rows_where}
-use Rattle.pick_meaning.proofs.RowLaws.{rows_where-map}
-use Rattle.align_meaning.proofs.OrderLaws.{all_append, all_distinct}
-use Rattle.align_meaning.specs.Targets.{first_where, first_repeated}
-use Rattle.join_meaning.specs.Pairs.{or_else}
-use Rattle.join_meaning.specs.Concat.{united, are_equal, repeated_on_any}
+use Rattle.{
+  std.{proofs.{lemmas.{Option.{same_Some}, List.{map-append, Elements.{All-head, All-tail, All-nil, All-filter}}}, Common.{◌≡◌, ◌∙◌, ap, refl, sym, subst, Bool, true, false, not, ◌&&◌, ◌||◌, cond, List, [], ◌∷◌, ◌++◌, map, filter, length, All, Option, Some, None, nat_lt}}, specs.{List.{list_all, list_any, flat_map}, Option.{option_map}, Cmp.Lexicographic.{pointwise}}},
+  meaning.specs.Reduce.{distinct},
+  pick_meaning.{specs.Rows.{rows_where}, proofs.{RowLaws.{rows_where-map}, SeenLaws.{pointwise-map}}},
+  align_meaning.{proofs.OrderLaws.{all_append, all_distinct}, specs.Targets.{first_where, first_repeated}},
+  join_meaning.specs.{Pairs.{or_else}, Concat.{united, are_equal, repeated_on_any}},
+}
 
 module _ {X Y : Type 0} (f : X → Y) where
   abbrev pub each_seen : List (List X) → List (List Y)
@@ -28,101 +22,84 @@ module _ {X Y : Type 0} (f : X → Y) where
   first_seen : (p : X → Bool) (p' : Y → Bool) (P : X → Type 0) → ((x : X) → P x → p' (f x) ≡ p x) → (xs : List X) → All P xs → first_where p' (map f xs) ≡ option_map f (first_where p xs)
   first_seen p p' P agree [] all = refl
   first_seen p p' P agree (x ∷ xs) all =
-      (λ i. cond (agree x (All-head P x xs all) i) (Some (f x)) (first_seen p p' P agree xs (All-tail P x xs all) i))
+      (λ i. cond (agree x (All-head P x _ all) i) (Some (f x)) (first_seen p p' P agree xs (All-tail P x _ all) i))
       ∙ (elim (p x) as (λ b. cond b (Some (f x)) (option_map f (first_where p xs)) ≡ option_map f (cond b (Some x) (first_where p xs))) [ true ↦ refl | false ↦ refl ])
 
   module _ (P : X → Type 0) (same : X → X → Bool) (same' : Y → Y → Bool) (equal : (x y : X) → P x → P y → same' (f x) (f y) ≡ same x y) where
     filter_seen : (p : X → Bool) (p' : Y → Bool) → ((x : X) → P x → p' (f x) ≡ p x) → (xs : List X) → All P xs → filter p' (map f xs) ≡ map f (filter p xs)
     filter_seen p p' agree [] all = refl
     filter_seen p p' agree (x ∷ xs) all =
-        (λ i. cond (agree x (All-head P x xs all) i) (f x ∷ filter_seen p p' agree xs (All-tail P x xs all) i) (filter_seen p p' agree xs (All-tail P x xs all) i))
+        (λ i. cond (agree x (All-head P x _ all) i) (f x ∷ filter_seen p p' agree xs (All-tail P x _ all) i) (filter_seen p p' agree xs (All-tail P x _ all) i))
         ∙ (elim (p x) as (λ b. cond b (f x ∷ map f (filter p xs)) (map f (filter p xs)) ≡ map f (cond b (x ∷ filter p xs) (filter p xs))) [ true ↦ refl | false ↦ refl ])
 
     distinct_seen : (xs : List X) → All P xs → distinct same' (map f xs) ≡ map f (distinct same xs)
     distinct_seen [] all = refl
     distinct_seen (x ∷ xs) all =
-        ap (λ l. f x ∷ filter (λ q. not (same' q (f x))) l) (distinct_seen xs (All-tail P x xs all))
-        ∙ ap (λ l. f x ∷ l) (filter_seen (λ q. not (same q x)) (λ q. not (same' q (f x))) (λ q h. ap not (equal q x h (All-head P x xs all))) (distinct same xs) (all_distinct P same xs (All-tail P x xs all)))
+        ap (λ l. f x ∷ filter (λ q. not (same' q (f x))) l) (distinct_seen xs (All-tail P x _ all))
+        ∙ ap (λ l. f x ∷ l) (filter_seen (λ q. not (same q x)) (λ q. not (same' q (f x))) (λ q h. ap not (equal q x h (All-head P x _ all))) _ (all_distinct P _ _ (All-tail P x _ all)))
 
     any_seen : (k : X) → P k → (xs : List X) → All P xs → list_any (same' (f k)) (map f xs) ≡ list_any (same k) xs
     any_seen k here [] all = refl
-    any_seen k here (x ∷ xs) all = λ i. equal k x here (All-head P x xs all) i || any_seen k here xs (All-tail P x xs all) i
+    any_seen k here (x ∷ xs) all = λ i. equal k x here (All-head P x _ all) i || any_seen k here xs (All-tail P x _ all) i
 
     all_seen : (k : X) → P k → (lists : List (List X)) → All (All P) lists → list_all (list_any (same' (f k))) (each_seen lists) ≡ list_all (list_any (same k)) lists
     all_seen k here [] all = refl
-    all_seen k here (list ∷ lists) all = λ i. any_seen k here list (All-head (All P) list lists all) i && all_seen k here lists (All-tail (All P) list lists all) i
+    all_seen k here (list ∷ lists) all = λ i. any_seen k here list (All-head (All P) list _ all) i && all_seen k here lists (All-tail (All P) list _ all) i
 
     pub flat_all : (lists : List (List X)) → All (All P) lists → All P (flat_map (λ list. list) lists)
     flat_all [] all = All-nil P
-    flat_all (list ∷ lists) all = all_append P list (flat_map (λ list. list) lists) (All-head (All P) list lists all) (flat_all lists (All-tail (All P) list lists all))
+    flat_all (list ∷ lists) all = all_append P _ _ (All-head (All P) list _ all) (flat_all lists (All-tail (All P) list _ all))
 
     -- what stands in any of the lists, or in all
     pub united_seen : (inner : Bool) (lists : List (List X)) → All (All P) lists → united same' inner (each_seen lists) ≡ map f (united same inner lists)
     united_seen true [] all = refl
     united_seen false [] all = refl
     united_seen true (first ∷ others) all =
-        filter_seen (λ k. list_all (list_any (same k)) others) (λ k. list_all (list_any (same' k)) (each_seen others)) (λ k here. all_seen k here others (All-tail (All P) first others all)) first (All-head (All P) first others all)
+        filter_seen (λ k. list_all (list_any (same k)) others) (λ k. list_all (list_any (same' k)) (each_seen others)) (λ k here. all_seen k here _ (All-tail (All P) first _ all)) _ (All-head (All P) first _ all)
     united_seen false (first ∷ others) all =
-        ap (distinct same') (flat_seen (first ∷ others)) ∙ distinct_seen (flat_map (λ list. list) (first ∷ others)) (flat_all (first ∷ others) all)
-
-    pointwise_seen : (xs ys : List X) → All P xs → All P ys → pointwise same' (map f xs) (map f ys) ≡ pointwise same xs ys
-    pointwise_seen [] [] px py = refl
-    pointwise_seen [] (y ∷ ys) px py = refl
-    pointwise_seen (x ∷ xs) [] px py = refl
-    pointwise_seen (x ∷ xs) (y ∷ ys) px py = λ i. equal x y (All-head P x xs px) (All-head P y ys py) i && pointwise_seen xs ys (All-tail P x xs px) (All-tail P y ys py) i
+        ap (distinct same') (flat_seen (first ∷ others)) ∙ distinct_seen _ (flat_all (first ∷ others) all)
 
     others_seen : (first : List X) → All P first → (others : List (List X)) → All (All P) others → list_all (pointwise same' (map f first)) (each_seen others) ≡ list_all (pointwise same first) others
     others_seen first here [] all = refl
     others_seen first here (other ∷ others) all =
-        λ i. pointwise_seen first other here (All-head (All P) other others all) i && others_seen first here others (All-tail (All P) other others all) i
+        λ i. pointwise-map P same' _ f equal _ other here (All-head (All P) other _ all) i && others_seen first here others (All-tail (All P) other _ all) i
 
     -- all lists are that of the first
     pub equal_seen : (lists : List (List X)) → All (All P) lists → are_equal same' (each_seen lists) ≡ are_equal same lists
     equal_seen [] all = refl
-    equal_seen (first ∷ others) all = others_seen first (All-head (All P) first others all) others (All-tail (All P) first others all)
+    equal_seen (first ∷ others) all = others_seen _ (All-head (All P) first _ all) _ (All-tail (All P) first _ all)
 
     once_seen : (keys : List X) → All P keys → first_repeated same' (map f keys) ≡ option_map f (first_repeated same keys)
     once_seen keys given =
         first_seen (λ key. nat_lt 1 (length (rows_where (same key) 0 keys))) (λ key. nat_lt 1 (length (rows_where (same' key) 0 (map f keys)))) P
-        (λ key here. ap (λ rows. nat_lt 1 (length rows)) (rows_where-map P (same' (f key)) (same key) f (λ x h. equal key x here h) 0 keys given)) keys given
+        (λ key here. ap (λ rows. nat_lt 1 (length rows)) (rows_where-map P _ _ f (λ x h. equal key x here h) 0 _ given)) _ given
 
     -- the first label that stands twice in one of the lists
     pub repeated_seen : (lists : List (List X)) → All (All P) lists → repeated_on_any same' (each_seen lists) ≡ option_map f (repeated_on_any same lists)
     repeated_seen [] all = refl
     repeated_seen (list ∷ lists) all =
-        (λ i. or_else (once_seen list (All-head (All P) list lists all) i) (repeated_seen lists (All-tail (All P) list lists all) i))
+        (λ i. or_else (once_seen list (All-head (All P) list _ all) i) (repeated_seen lists (All-tail (All P) list _ all) i))
         ∙ or_seen (first_repeated same list) (repeated_on_any same lists)
 
 -- each of what is put together stands in a list
-filter_all : {X : Type 0} (P : X → Type 0) (p : X → Bool) (xs : List X) → All P xs → All P (filter p xs)
-filter_all P p [] all = All-nil P
-filter_all P p (x ∷ xs) all = go (filter_all P p xs (All-tail P x xs all)) (p x)
-  where
-    go : All P (filter p xs) → (b : Bool) → All P (cond b (x ∷ filter p xs) (filter p xs))
-    go rest true = All-cons P x (filter p xs) (All-head P x xs all) rest
-    go rest false = rest
-
 pub united_all : {X : Type 0} (P : X → Type 0) (same : X → X → Bool) (inner : Bool) (lists : List (List X)) → All (All P) lists → All P (united same inner lists)
 united_all P same true [] all = All-nil P
 united_all P same false [] all = All-nil P
-united_all P same true (first ∷ others) all = filter_all P (λ k. list_all (list_any (same k)) others) first (All-head (All P) first others all)
-united_all P same false (first ∷ others) all = all_distinct P same (flat_map (λ list. list) (first ∷ others)) (flat_all (λ x. x) P same same (λ x y f g. refl) (first ∷ others) all)
-
-some_only : {X : Type 0} (x y : X) → Some y ≡ Some x → y ≡ x
-some_only x y e = cc
+united_all P same true (first ∷ others) all = All-filter (λ k. list_all (list_any (same k)) others) P _ (All-head (All P) first _ all)
+united_all P same false (first ∷ others) all = all_distinct P _ _ (flat_all (λ x. x) P same _ (λ x y f g. refl) (first ∷ others) all)
 
 first_all : {X : Type 0} (P : X → Type 0) (p : X → Bool) (xs : List X) (x : X) → All P xs → first_where p xs ≡ Some x → P x
 first_all P p [] x all is = cc
-first_all P p (y ∷ ys) x all is = go (first_all P p ys x (All-tail P y ys all)) (p y) is
+first_all P p (y ∷ ys) x all is = go (first_all P p ys x (All-tail P y _ all)) (p y) is
   where
     go : (first_where p ys ≡ Some x → P x) → (b : Bool) → cond b (Some y) (first_where p ys) ≡ Some x → P x
-    go later true e = subst P (some_only x y e) (All-head P y ys all)
+    go later true e = subst P (same_Some y x e) (All-head P y _ all)
     go later false e = later e
 
 pub repeated_all : {X : Type 0} (P : X → Type 0) (same : X → X → Bool) (lists : List (List X)) (x : X) → All (All P) lists → repeated_on_any same lists ≡ Some x → P x
 repeated_all P same [] x all is = cc
-repeated_all {X = X} P same (list ∷ lists) x all is = go (repeated_all P same lists x (All-tail (All P) list lists all)) (first_repeated same list) refl is
+repeated_all {X = X} P same (list ∷ lists) x all is = go (repeated_all P same lists x (All-tail (All P) list _ all)) (first_repeated same list) refl is
   where
     go : (repeated_on_any same lists ≡ Some x → P x) → (o : Option X) → first_repeated same list ≡ o → or_else o (repeated_on_any same lists) ≡ Some x → P x
     go later None here e = later e
-    go later (Some y) here e = first_all P (λ key. nat_lt 1 (length (rows_where (same key) 0 list))) list x (All-head (All P) list lists all) (here ∙ e)
+    go later (Some y) here e = first_all P (λ key. nat_lt 1 (length (rows_where (same key) 0 list))) _ x (All-head (All P) _ _ all) (here ∙ e)

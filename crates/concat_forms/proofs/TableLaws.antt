@@ -1,112 +1,79 @@
 -- The table of parts one below the other.
-use Rattle.std.proofs.Common.{◌≡◌, ◌∙◌, ◌<◌, ◌≤◌, ◌+◌, ◌*◌, ◌^◌, refl, ap, sym, subst, arith, ℕ, zero, suc, Bool, true, false, ◌&&◌, List, [], ◌∷◌, ◌++◌, map, fold, length, replicate, slice_index_or, unwrap_or, All, Option, Some, None, Result, Ok, Err, if◌then◌else◌}
-use Rattle.std.specs.Prelude.{slice_get, nat_le, position}
-use Rattle.std.specs.Option.{option_map}
-use Rattle.std.specs.List.{flat_map}
-use Rattle.std.proofs.lemmas.List.{length-map}
-use Rattle.std.proofs.lemmas.List.Elements.{All-nil, All-cons, All-head, All-tail, All-replicate}
-use Rattle.std.proofs.lemmas.Bool.Decides.{nat_tests}
-use Rattle.cell_core.specs.Texts.{AreDistinct, AreGiven, IsGiven}
-use Rattle.cell_core.specs.declared.cell.Cell.{Cell}
-use Rattle.cell_core.specs.declared.cell.Cell.TheVariants.{Na}
-use Rattle.cell_core.specs.declared.cell.Label.{Label}
-use Rattle.cell_core.specs.declared.grid.Shape.{Shape}
-use Rattle.cell_core.specs.declared.grid.Shape.TheVariants.{Series}
-use Rattle.column_core.specs.Blocks.{CellBlock}
-use Rattle.meaning.specs.Text.{Text}
-use Rattle.meaning.specs.Cell.{CellValue, LabelValue}
-use Rattle.meaning.specs.Fault.{FaultValue, wrong_kind, limit, then_value}
-use Rattle.multi_index.specs.Axes.{AxisValue}
-use Rattle.align_meaning.proofs.OrderLaws.{all_append}
-use Rattle.table_meaning.specs.Settled.{IsSettled}
-use Rattle.table_meaning.specs.Table.{ColumnOf, NumberedTable, Table, column_at, column_value, heading_value, table_value}
-use Rattle.table_meaning.specs.Valid.{IsWhole, AreHeadings}
-use Rattle.table_meaning.specs.Value.{Entry, table}
-use Rattle.form_meaning.specs.Finish.{limited, within_limits}
-use Rattle.form_meaning.specs.Infix.{common_name}
-use Rattle.method_meaning.specs.Levels.{on_levels}
-use Rattle.method_meaning.specs.Concat.{Concatenation, RowAxis, rows_below, table_below, finished_below, name_of_all}
-use Rattle.frame_store.specs.Parts.{HeadingList, columns_of, table_with, HaveRows}
-use Rattle.frame_store.specs.Shown.{headings_value, columns_value}
-use Rattle.frame_store.specs.World.{IsKnownTable}
-use Rattle.frame_store.proofs.Settling.{columns_part, columns_given, columns_settled, table_settled}
-use Rattle.form_parts.specs.Makes.{blocks_value}
-use Rattle.concat_forms.specs.declared.asked.Asked.{Asked}
-use Rattle.concat_forms.specs.declared.parts.Sought.{Sought}
-use Rattle.concat_forms.specs.declared.parts.Sought.TheVariants.{Only, Under}
-use Rattle.concat_forms.specs.declared.parts.Naming.TheVariants.{Columns}
-use Rattle.concat_forms.specs.Parts.{same_heading, name_at, parts_value, AreKnownParts, AreOf}
-use Rattle.concat_forms.specs.Columns.{sought_by, cells_or_missing, all_kinds_meet, stacked, columns_stacked, rows_in}
-use Rattle.concat_forms.specs.Asked.{asked_value, keys_value, AreKeysFor}
-use Rattle.concat_forms.specs.Axes.{axis_seen, levels_for}
-use Rattle.concat_forms.specs.Below.{table_made}
-use Rattle.concat_forms.proofs.ColumnLaws.{lengths}
-use Rattle.concat_forms.proofs.AxisLaws.{rows_count, levels_count}
-use Rattle.concat_forms.proofs.BelowLaws.{made_of_columns, made_of_none}
+use Rattle.{
+  std.{proofs.{lemmas.{Bool.{and_right, Decides.{nat_tests}}, List.{length-map, Elements.{All-nil, All-cons, All-head, All-tail, All-replicate}}}, Common.{◌≡◌, ◌∙◌, ◌<◌, ◌≤◌, ◌*◌, ◌^◌, refl, ap, sym, subst, arith, ℕ, zero, suc, Bool, true, false, ◌&&◌, List, [], ◌∷◌, map, fold, length, replicate, slice_index_or, unwrap_or, All, Option, Some, None, Result, Ok, Err, if◌then◌else◌}}, specs.{Prelude.{slice_get, nat_le, position}, Option.{option_map}, List.{flat_map}}},
+  cell_core.specs.{Texts.{AreDistinct, AreGiven, IsGiven}, declared.{cell.{Cell.{Cell, TheVariants.{Na}}, Label.{Label}}, grid.Shape.{Shape, TheVariants.{Series}}}},
+  column_core.specs.Blocks.{CellBlock},
+  meaning.specs.{Text.{Text}, Cell.{CellValue, LabelValue}, Fault.{FaultValue, wrong_kind, limit, then_value}},
+  multi_index.specs.Axes.{AxisValue},
+  align_meaning.proofs.OrderLaws.{all_append},
+  table_meaning.specs.{Settled.{IsSettled}, Table.{ColumnOf, NumberedTable, Table, column_at, column_value, heading_value, table_value}, Valid.{IsWhole, AreHeadings}, Value.{Entry, table}},
+  form_meaning.specs.{Finish.{limited, within_limits}, Infix.{common_name}},
+  method_meaning.specs.{Levels.{on_levels}, Concat.{Concatenation, RowAxis, rows_below, table_below, finished_below, name_of_all}},
+  frame_store.{specs.{Parts.{HeadingList, columns_of, table_with, HaveRows}, Shown.{headings_value, columns_value}, World.{IsKnownTable}}, proofs.Settling.{columns_part, columns_given, columns_settled, table_settled}},
+  form_parts.specs.Makes.{blocks_value},
+  concat_forms.{specs.{declared.{asked.Asked.{Asked}, parts.{Sought.{Sought, TheVariants.{Only, Under}}, Naming.TheVariants.{Columns}}}, Parts.{same_heading, name_at, parts_value, AreKnownParts, AreOf}, Columns.{sought_by, cells_or_missing, all_kinds_meet, stacked, columns_stacked, rows_in}, Asked.{asked_value, keys_value, AreKeysFor}, Axes.{axis_seen, levels_for}, Below.{table_made}}, proofs.{ColumnLaws.{lengths}, AxisLaws.{rows_count, levels_count}, BelowLaws.{made_of_columns, made_of_none}}},
+}
 
 -- the cells that are put together were given
-some_same : {A : Type 0} (a b : A) → Some a ≡ Some b → a ≡ b
-some_same a b e = cc
-
 abbrev cells_given_or : List Text → Option (ColumnOf Cell) → ℕ → Type 0
 cells_given_or texts o n = AreGiven texts (unwrap_or (option_map (λ c. c.cells) o) (replicate n Na))
 
 first_given : (texts : List Text) (cs : List (ColumnOf Cell)) (n : ℕ) → All (λ c. AreGiven texts c.cells) cs → cells_given_or texts (slice_get cs 0) n
 first_given texts [] n all = All-replicate (IsGiven texts) n Na tt
-first_given texts (c ∷ cs) n all = All-head (λ (c : ColumnOf Cell). AreGiven texts c.cells) c cs all
+first_given texts (c ∷ cs) n all = All-head (λ (c : ColumnOf Cell). AreGiven texts c.cells) c _ all
 
 index_given : (texts : List Text) (cs : List (ColumnOf Cell)) (k : ℕ) → All (λ c. AreGiven texts c.cells) cs → AreGiven texts (column_at cs k).cells
-index_given texts [] k all = All-nil (IsGiven texts)
-index_given texts (c ∷ cs) zero all = All-head (λ (c : ColumnOf Cell). AreGiven texts c.cells) c cs all
-index_given texts (c ∷ cs) (suc k) all = index_given texts cs k (All-tail (λ (c : ColumnOf Cell). AreGiven texts c.cells) c cs all)
+index_given texts [] k all = All-nil _
+index_given texts (c ∷ cs) zero all = All-head (λ (c : ColumnOf Cell). AreGiven texts c.cells) c _ all
+index_given texts (c ∷ cs) (suc k) all = index_given texts cs k (All-tail (λ (c : ColumnOf Cell). AreGiven texts c.cells) c _ all)
 
 part_given : (texts : List Text) (sought : Sought) (t : NumberedTable) → IsKnownTable texts t → AreGiven texts (cells_or_missing sought t)
-part_given texts Only t known = first_given texts t.columns (length t.labels) (columns_given texts t.columns (columns_part texts t known.given))
+part_given texts Only t known = first_given _ _ _ (columns_given _ _ (columns_part _ t known.given))
 part_given texts (Under h) t known = go (position (same_heading h) t.headings)
   where
     go : (p : Option ℕ) → cells_given_or texts (option_map (column_at t.columns) p) (length t.labels)
-    go None = All-replicate (IsGiven texts) (length t.labels) Na tt
-    go (Some k) = index_given texts t.columns k (columns_given texts t.columns (columns_part texts t known.given))
+    go None = All-replicate (IsGiven texts) _ _ tt
+    go (Some k) = index_given _ _ k (columns_given _ _ (columns_part _ t known.given))
 
 all_given : (texts : List Text) (sought : Sought) (ts : List NumberedTable) → AreKnownParts texts ts → AreGiven texts (flat_map (cells_or_missing sought) ts)
-all_given texts sought [] known = All-nil (IsGiven texts)
+all_given texts sought [] known = All-nil _
 all_given texts sought (t ∷ ts) known =
-    all_append (IsGiven texts) (cells_or_missing sought t) (flat_map (cells_or_missing sought) ts) (part_given texts sought t (All-head (IsKnownTable texts) t ts known)) (all_given texts sought ts (All-tail (IsKnownTable texts) t ts known))
+    all_append (IsGiven texts) _ _ (part_given texts _ t (All-head (IsKnownTable texts) t _ known)) (all_given texts sought ts (All-tail (IsKnownTable texts) t _ known))
 
 stacked_given : (texts : List Text) (ts : List NumberedTable) (shape : Shape) (hs : List (Option Label)) → AreKnownParts texts ts → All (λ c. AreGiven texts c.cells) (columns_stacked ts shape hs)
 stacked_given texts ts shape [] known = All-nil (λ (c : ColumnOf Cell). AreGiven texts c.cells)
-stacked_given texts ts shape (h ∷ hs) known = All-cons (λ (c : ColumnOf Cell). AreGiven texts c.cells) (stacked ts (sought_by shape h)) (columns_stacked ts shape hs) (all_given texts (sought_by shape h) ts known) (stacked_given texts ts shape hs known)
+stacked_given texts ts shape (h ∷ hs) known = All-cons (λ (c : ColumnOf Cell). AreGiven texts c.cells) _ _ (all_given _ _ _ known) (stacked_given texts ts shape hs known)
 
 pub blocks_given : (texts : List Text) (ts : List NumberedTable) (shape : Shape) (hs : List (Option Label)) (blocks : List CellBlock) → AreKnownParts texts ts → ((texts : List Text) → blocks_value texts blocks ≡ columns_value texts (columns_stacked ts shape hs))
     → IsSettled columns_value texts (columns_of blocks)
-blocks_given texts ts shape hs blocks known made = λ more. made (texts ++ more) ∙ columns_settled texts (columns_stacked ts shape hs) (stacked_given texts ts shape hs known) more ∙ sym (made texts)
+blocks_given texts ts shape hs blocks known made = λ more. made _ ∙ columns_settled _ _ (stacked_given _ _ _ _ known) more ∙ sym (made _)
 
 -- and as many as there are rows
 whole_parts : (texts : List Text) (ts : List NumberedTable) → AreKnownParts texts ts → All IsWhole ts
-whole_parts texts [] known = All-nil IsWhole
+whole_parts texts [] known = All-nil _
 whole_parts texts (t ∷ ts) known = All-cons IsWhole t ts (All-head (IsKnownTable texts) t ts known).whole (whole_parts texts ts (All-tail (IsKnownTable texts) t ts known))
 
 stacked_rows : (ts : List NumberedTable) (shape : Shape) (hs : List (Option Label)) → All IsWhole ts → All (λ (c : ColumnOf CellValue). length c.cells ≡ rows_in ts) (columns_value [] (columns_stacked ts shape hs))
 stacked_rows ts shape [] whole = All-nil (λ (c : ColumnOf CellValue). length c.cells ≡ rows_in ts)
 stacked_rows ts shape (h ∷ hs) whole =
-    All-cons (λ (c : ColumnOf CellValue). length c.cells ≡ rows_in ts) (column_value [] (stacked ts (sought_by shape h))) (columns_value [] (columns_stacked ts shape hs))
-    (length-map (stacked ts (sought_by shape h)).cells _ ∙ lengths (sought_by shape h) ts whole) (stacked_rows ts shape hs whole)
+    All-cons (λ (c : ColumnOf CellValue). length c.cells ≡ rows_in ts) _ _
+    (length-map (stacked ts (sought_by shape h)).cells _ ∙ lengths _ _ whole) (stacked_rows ts shape hs whole)
 
 unseen_rows : (n : ℕ) (cs : List (ColumnOf Cell)) → All (λ (c : ColumnOf CellValue). length c.cells ≡ n) (columns_value [] cs) → HaveRows n cs
 unseen_rows n [] all = All-nil (λ (c : ColumnOf Cell). length c.cells ≡ n)
 unseen_rows n (c ∷ cs) all =
-    All-cons (λ (c : ColumnOf Cell). length c.cells ≡ n) c cs
-    (sym (length-map c.cells _) ∙ All-head (λ (c : ColumnOf CellValue). length c.cells ≡ n) (column_value [] c) (columns_value [] cs) all)
-    (unseen_rows n cs (All-tail (λ (c : ColumnOf CellValue). length c.cells ≡ n) (column_value [] c) (columns_value [] cs) all))
+    All-cons (λ (c : ColumnOf Cell). length c.cells ≡ n) c _
+    (sym (length-map c.cells _) ∙ All-head (λ (c : ColumnOf CellValue). length c.cells ≡ n) _ _ all)
+    (unseen_rows n cs (All-tail (λ (c : ColumnOf CellValue). length c.cells ≡ n) _ _ all))
 
 pub blocks_filled : (ts : List NumberedTable) (shape : Shape) (hs : List (Option Label)) (blocks : List CellBlock) → All IsWhole ts → ((texts : List Text) → blocks_value texts blocks ≡ columns_value texts (columns_stacked ts shape hs)) → HaveRows (rows_in ts) (columns_of blocks)
-blocks_filled ts shape hs blocks whole made = unseen_rows (rows_in ts) (columns_of blocks) (subst (All (λ (c : ColumnOf CellValue). length c.cells ≡ rows_in ts)) (sym (made [])) (stacked_rows ts shape hs whole))
+blocks_filled ts shape hs blocks whole made = unseen_rows _ _ (subst (All (λ (c : ColumnOf CellValue). length c.cells ≡ rows_in ts)) (sym (made [])) (stacked_rows _ _ _ whole))
 
 pub blocks_count : (ts : List NumberedTable) (shape : Shape) (hs : List (Option Label)) (blocks : List CellBlock) → ((texts : List Text) → blocks_value texts blocks ≡ columns_value texts (columns_stacked ts shape hs)) → length hs ≡ length (columns_of blocks)
 blocks_count ts shape hs blocks made =
     sym (length-map hs (λ h. stacked ts (sought_by shape h)))
     ∙ sym (length-map (columns_stacked ts shape hs) (column_value []))
-    ∙ ap (λ (l : List (ColumnOf CellValue)). length l) (sym (made []))
+    ∙ ap length (sym (made []))
     ∙ length-map (columns_of blocks) (column_value [])
 
 -- the columns of Series have no name
@@ -115,29 +82,25 @@ none_of_none texts [] series known = refl
 none_of_none texts (t ∷ ts) series known =
     let name : t.columns_name ≡ None = (All-head (IsKnownTable texts) t ts known).whole.headings.nameless (All-head (λ (t : NumberedTable). t.shape ≡ Series) t ts series) in
     ap (λ n. fold common_name (common_name None (heading_value texts n)) (map (name_at Columns) (parts_value texts ts))) name
-    ∙ none_of_none texts ts (All-tail (λ (t : NumberedTable). t.shape ≡ Series) t ts series) (All-tail (IsKnownTable texts) t ts known)
+    ∙ none_of_none texts ts (All-tail (λ (t : NumberedTable). t.shape ≡ Series) t _ series) (All-tail (IsKnownTable texts) t _ known)
 
 unnamed : (texts : List Text) (name : Option Label) → heading_value texts name ≡ None → name ≡ None
 unnamed texts None e = refl
 unnamed texts (Some l) e = cc
 
 pub series_nameless : (texts : List Text) (ts : List NumberedTable) (name : Option Label) → AreOf Series ts → AreKnownParts texts ts → heading_value texts name ≡ name_of_all (map (name_at Columns) (parts_value texts ts)) → name ≡ None
-series_nameless texts [] name series known is = unnamed texts name is
+series_nameless texts [] name series known is = unnamed _ _ is
 series_nameless texts (t ∷ ts) name series known is =
     let first : t.columns_name ≡ None = (All-head (IsKnownTable texts) t ts known).whole.headings.nameless (All-head (λ (t : NumberedTable). t.shape ≡ Series) t ts series) in
-    unnamed texts name (is ∙ ap (λ n. fold common_name (heading_value texts n) (map (name_at Columns) (parts_value texts ts))) first ∙ none_of_none texts ts (All-tail (λ (t : NumberedTable). t.shape ≡ Series) t ts series) (All-tail (IsKnownTable texts) t ts known))
+    unnamed _ _ (is ∙ ap (λ n. fold common_name (heading_value texts n) (map (name_at Columns) (parts_value texts ts))) first ∙ none_of_none _ _ (All-tail (λ (t : NumberedTable). t.shape ≡ Series) t _ series) (All-tail (IsKnownTable texts) t _ known))
 
 pub headings_fit : (texts : List Text) (shape : Shape) (ts : List NumberedTable) (hs : List (Option Label)) (name : Option Label) → AreOf shape ts → AreKnownParts texts ts → heading_value texts name ≡ name_of_all (map (name_at Columns) (parts_value texts ts)) → AreHeadings shape None hs → AreHeadings shape name hs
 headings_fit texts shape ts hs name of known is fits = record {
   single = fits.single;
-  nameless = λ series. series_nameless texts ts name (subst (λ (s : Shape). AreOf s ts) series of) known is;
+  nameless = λ series. series_nameless _ _ _ (subst (λ (s : Shape). AreOf s ts) series of) known is;
   labelled = fits.labelled;
   different = fits.different;
 }
-
-and_false : (a b : Bool) → b ≡ false → (a && b) ≡ false
-and_false true b e = e
-and_false false b e = refl
 
 above : (n : ℕ) → 4 < n → nat_le n 4 ≡ false
 above n lt = grind (arith, nat_tests, lt)
@@ -152,17 +115,17 @@ between n some few = λ i. (below_it 1 n some) i && (below_it n 4 few) i
 pub table_given : (texts : List Text) (shape : Shape) (ts : List NumberedTable) (hs : List (Option Label)) (name : Option Label) (axis : AxisValue) (headings : HeadingList) (blocks : List CellBlock) → AreKnownParts texts ts → IsSettled heading_value texts name → IsSettled axis_seen texts axis
     → IsSettled headings_value texts hs → headings ≡ record { columns_name = name; labels = hs } → ((texts : List Text) → blocks_value texts blocks ≡ columns_value texts (columns_stacked ts shape hs)) → IsSettled table_value texts (table_with shape axis headings (columns_of blocks))
 table_given texts shape ts hs name axis headings blocks known named rowed settled headed filled =
-    subst (λ (h : HeadingList). IsSettled table_value texts (table_with shape axis h (columns_of blocks))) (sym headed)
-    (table_settled texts (table_with shape axis (record { columns_name = name; labels = hs }) (columns_of blocks)) named (λ more. ap (λ (a : RowAxis). a.names) (rowed more)) (λ more. ap (λ (a : RowAxis). a.labels) (rowed more)) settled (blocks_given texts ts shape hs blocks known filled))
+    rw headed
+    (table_settled _ _ named (λ more. ap (λ (a : RowAxis). a.names) (rowed more)) (λ more. ap (λ (a : RowAxis). a.labels) (rowed more)) settled (blocks_given _ _ _ _ _ known filled))
 
 pub table_whole : (texts : List Text) (shape : Shape) (ts : List NumberedTable) (hs : List (Option Label)) (name : Option Label) (axis : AxisValue) (headings : HeadingList) (blocks : List CellBlock) → AreKnownParts texts ts → AreOf shape ts → AreHeadings shape None hs
     → heading_value texts name ≡ name_of_all (map (name_at Columns) (parts_value texts ts)) → length axis.tuples ≡ rows_in ts → headings ≡ record { columns_name = name; labels = hs } → ((texts : List Text) → blocks_value texts blocks ≡ columns_value texts (columns_stacked ts shape hs))
     → IsWhole (table_with shape axis headings (columns_of blocks))
 table_whole texts shape ts hs name axis headings blocks known of fits named count headed filled =
-    subst (λ (h : HeadingList). IsWhole (table_with shape axis h (columns_of blocks))) (sym headed) (record {
-      headed = blocks_count ts shape hs blocks filled;
-      filled = subst (λ n. HaveRows n (columns_of blocks)) (sym count) (blocks_filled ts shape hs blocks (whole_parts texts ts known) filled);
-      headings = headings_fit texts shape ts hs name of known named fits;
+    rw headed (record {
+      headed = blocks_count ts shape _ _ filled;
+      filled = rw count (blocks_filled _ _ _ _ (whole_parts _ _ known) filled);
+      headings = headings_fit _ _ _ _ _ of known named fits;
     })
 
 -- the parts of the new table
@@ -181,19 +144,19 @@ module _ (texts : List Text) (distinct : AreDistinct texts) (shape : Shape) (t :
   made = table_below shape T C H (columns_value texts (columns_stacked (t ∷ ts) shape hs))
 
   pub none_meets : all_kinds_meet (t ∷ ts) shape hs ≡ false → table_made shape T C H ≡ Err wrong_kind
-  none_meets meet = made_of_none texts distinct shape t ts C hs of one settled known meet
+  none_meets meet = made_of_none _ distinct _ t _ C _ of one settled known meet
 
   meant : all_kinds_meet (t ∷ ts) shape hs ≡ true → table_made shape T C H ≡ finished_below made
-  meant meet = made_of_columns texts distinct shape t ts C hs of one settled known meet
+  meant meet = made_of_columns _ distinct _ t _ C _ of one settled known meet
 
   rows : length made.labels ≡ rows_in (t ∷ ts)
-  rows = rows_count texts asked.renumbered asked.keys (t ∷ ts) fit
+  rows = rows_count texts asked.renumbered _ (t ∷ ts) fit
 
   columns : length made.columns ≡ length hs
   columns = length-map (columns_stacked (t ∷ ts) shape hs) (column_value texts) ∙ length-map hs (λ h. stacked (t ∷ ts) (sought_by shape h))
 
   levels : length made.level_names ≡ levels_for (length t.level_names) asked
-  levels = levels_count texts asked t ts
+  levels = levels_count _ asked t _
 
   abbrev if_within : Table → Bool → Result Entry FaultValue
   if_within T b = then_value (if b then Ok T else Err limit) (λ T. Ok (table T))
@@ -209,17 +172,17 @@ module _ (texts : List Text) (distinct : AreDistinct texts) (shape : Shape) (t :
   beyond_limits meet beyond =
       meant meet
       ∙ ap (λ (r : Result Entry FaultValue). on_levels (length made.level_names) r) (ap (if_within made) ((λ i. within_limits (rows i) (columns i)) ∙ beyond))
-      ∙ either_limit (nat_le 1 (length made.level_names) && nat_le (length made.level_names) 4)
+      ∙ either_limit _
 
   pub too_many_levels : all_kinds_meet (t ∷ ts) shape hs ≡ true → 4 < levels_for (length t.level_names) asked → table_made shape T C H ≡ Err limit
   too_many_levels meet many =
-      let over : (nat_le 1 (length made.level_names) && nat_le (length made.level_names) 4) ≡ false = and_false (nat_le 1 (length made.level_names)) (nat_le (length made.level_names) 4) (above (length made.level_names) (subst (λ n. 4 < n) (sym levels) many)) in
+      let over : (nat_le 1 (length made.level_names) && nat_le (length made.level_names) 4) ≡ false = and_right _ _ (above _ (subst (λ n. 4 < n) (sym levels) many)) in
       meant meet ∙ ap (λ (b : Bool). if b then limited made else Err limit) over
 
   pub finished_so : (new : NumberedTable) → all_kinds_meet (t ∷ ts) shape hs ≡ true → within_limits (rows_in (t ∷ ts)) (length hs) ≡ true → 1 ≤ levels_for (length t.level_names) asked → levels_for (length t.level_names) asked ≤ 4 → made ≡ table_value texts new
       → table_made shape T C H ≡ Ok (table (table_value texts new))
   finished_so new meet within some few same =
-      let held : (nat_le 1 (length made.level_names) && nat_le (length made.level_names) 4) ≡ true = between (length made.level_names) (subst (λ n. 1 ≤ n) (sym levels) some) (subst (λ n. n ≤ 4) (sym levels) few) in
+      let held : (nat_le 1 (length made.level_names) && nat_le (length made.level_names) 4) ≡ true = between _ (subst (λ n. 1 ≤ n) (sym levels) some) (subst (λ n. n ≤ 4) (sym levels) few) in
       meant meet
       ∙ ap (λ (b : Bool). if b then limited made else Err limit) held
       ∙ ap (if_within made) ((λ i. within_limits (rows i) (columns i)) ∙ within)
@@ -245,16 +208,16 @@ module _ (texts : List Text) (distinct : AreDistinct texts) (shape : Shape) (ask
 
   pub none_of_parts : (parts : List NumberedTable) → 0 < length parts → AreOf shape parts → AreKnownParts texts parts → AreKeysFor (length parts) asked → all_kinds_meet parts shape hs ≡ false → told parts ≡ Err wrong_kind
   none_of_parts [] some of known fit meet = absurd (omega (arith, some))
-  none_of_parts (t ∷ ts) some of known fit meet = none_meets texts distinct shape t ts asked hs of one settled known fit meet
+  none_of_parts (t ∷ ts) some of known fit meet = none_meets _ distinct _ t _ asked _ of one settled known fit meet
 
   pub beyond_of_parts : (parts : List NumberedTable) → 0 < length parts → AreOf shape parts → AreKnownParts texts parts → AreKeysFor (length parts) asked → all_kinds_meet parts shape hs ≡ true → within_limits (rows_in parts) (length hs) ≡ false → told parts ≡ Err limit
   beyond_of_parts [] some of known fit meet beyond = absurd (omega (arith, some))
-  beyond_of_parts (t ∷ ts) some of known fit meet beyond = beyond_limits texts distinct shape t ts asked hs of one settled known fit meet beyond
+  beyond_of_parts (t ∷ ts) some of known fit meet beyond = beyond_limits _ distinct _ t _ asked _ of one settled known fit meet beyond
 
   pub levels_of_parts : (parts : List NumberedTable) (t : NumberedTable) → 0 < length parts → t ≡ slice_index_or parts 0 t → AreOf shape parts → AreKnownParts texts parts → AreKeysFor (length parts) asked → all_kinds_meet parts shape hs ≡ true → 4 < levels_for (length t.level_names) asked → told parts ≡ Err limit
   levels_of_parts [] t some at of known fit meet many = absurd (omega (arith, some))
   levels_of_parts (s ∷ ss) t some at of known fit meet many =
-      too_many_levels texts distinct shape s ss asked hs of one settled known fit meet (subst (λ n. 4 < n) (ap (λ (x : NumberedTable). levels_for (length x.level_names) asked) at) many)
+      too_many_levels _ distinct _ s _ asked _ of one settled known fit meet (subst (λ n. 4 < n) (ap (λ (x : NumberedTable). levels_for (length x.level_names) asked) at) many)
 
   pub finished_of_parts : (parts : List NumberedTable) (t new : NumberedTable) (name : Option Label) (axis : AxisValue) (headings : HeadingList) (blocks : List CellBlock) → 0 < length parts → t ≡ slice_index_or parts 0 t → AreOf shape parts → AreKnownParts texts parts → AreKeysFor (length parts) asked
       → all_kinds_meet parts shape hs ≡ true → within_limits (rows_in parts) (length hs) ≡ true → 1 ≤ levels_for (length t.level_names) asked → levels_for (length t.level_names) asked ≤ 4
@@ -264,8 +227,8 @@ module _ (texts : List Text) (distinct : AreDistinct texts) (shape : Shape) (ask
   finished_of_parts [] t new name axis headings blocks some at of known fit meet within one_level few named rowed headed filled is = absurd (omega (arith, some))
   finished_of_parts (s ∷ ss) t new name axis headings blocks some at of known fit meet within one_level few named rowed headed filled is =
       let first = ap (λ (x : NumberedTable). levels_for (length x.level_names) asked) at in
-      finished_so texts distinct shape s ss asked hs of one settled known fit new meet within (subst (λ n. 1 ≤ n) first one_level) (subst (λ n. n ≤ 4) first few)
-      (same_table texts distinct shape s ss asked hs of one settled known fit name axis headings blocks named rowed headed filled ∙ ap (table_value texts) (sym is))
+      finished_so _ distinct _ s _ asked _ of one settled known fit _ meet within (subst (λ n. 1 ≤ n) first one_level) (subst (λ n. n ≤ 4) first few)
+      (same_table _ distinct _ s _ asked _ of one settled known fit _ _ _ _ named rowed headed filled ∙ ap (table_value texts) (sym is))
 
 -- too many rows
 over_limit : (n : ℕ) → 2 ^ 26 < n → nat_le n (2 ^ 26) ≡ false

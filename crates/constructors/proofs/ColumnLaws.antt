@@ -1,22 +1,15 @@
 -- Columns that are made one after the other.
-use Rattle.std.proofs.Common.{◌≡◌, ◌∙◌, ◌<◌, refl, ap, sym, subst, ℕ, suc, arith, All, List, [], ◌∷◌, ◌++◌, map, slice_get, append_assoc, Some, Result, Ok, Err}
-use Rattle.std.proofs.lemmas.List.{map-append}
-use Rattle.std.proofs.lemmas.List.Elements.{All-push}
-use Rattle.cell_core.specs.declared.cell.Label.{Label}
-use Rattle.meaning.specs.Text.{Text}
-use Rattle.meaning.specs.Cell.{CellValue}
-use Rattle.meaning.specs.Fault.{FaultValue, then_value}
-use Rattle.column_core.specs.Blocks.{CellBlock}
-use Rattle.column_core.specs.Columns.{CellColumn}
-use Rattle.table_meaning.specs.Table.{ColumnOf, column_value}
-use Rattle.form_meaning.specs.Finish.{try_all}
-use Rattle.form_parts.specs.Makes.{MakesBy, blocks_value}
-use Rattle.frame_store.specs.Parts.{IsSingle, block_column, single_block, table_column}
-use Rattle.frame_store.specs.declared.arguments.Argument.{Argument}
-use Rattle.frame_store.specs.declared.fault.OpFault.{OpFault}
-use Rattle.frame_store.specs.declared.fault.OpFault.TheVariants.{Refused, NoMemory}
-use Rattle.constructors.specs.Scalars.{column_seen}
-use Rattle.constructors.specs.Pairs.{list_seen, list_at, lists_seen, listed_column}
+use Rattle.{
+  std.proofs.{Common.{◌≡◌, ◌∙◌, ◌<◌, refl, ap, sym, subst, ℕ, suc, arith, All, List, [], ◌∷◌, ◌++◌, map, slice_get, append_assoc, Some, Result, Ok, Err}, lemmas.List.{map-append, Elements.{All-push}}},
+  cell_core.specs.declared.cell.Label.{Label},
+  meaning.specs.{Text.{Text}, Cell.{CellValue}, Fault.{FaultValue, then_value}},
+  column_core.specs.{Blocks.{CellBlock}, Columns.{CellColumn}},
+  table_meaning.specs.Table.{ColumnOf, column_value},
+  form_meaning.specs.Finish.{try_all},
+  form_parts.specs.Makes.{MakesBy, blocks_value},
+  frame_store.specs.{Parts.{IsSingle, block_column, single_block, table_column}, declared.{arguments.Argument.{Argument}, fault.OpFault.{OpFault, TheVariants.{Refused, NoMemory}}}},
+  constructors.specs.{Scalars.{column_seen}, Pairs.{list_seen, list_at, lists_seen, listed_column}},
+}
 
 module _ {A B : Type 0} (f : A → Result B FaultValue) where
   pub nothing_made : (all : List A) → then_value (try_all f all) (λ rest. Ok ([] ++ rest)) ≡ try_all f all
@@ -74,13 +67,13 @@ column_refused texts pairs place rest p made fault whole here refused before = g
   where
     go : (f : OpFault) → MakesBy column_seen texts (Err f) (listed_column (list_seen texts p.1)) → MakesBy blocks_value texts (Err f) whole
     go (Refused code) m = (
-      one_refused listed_column (list_at texts (slice_get pairs place)) (lists_seen texts pairs rest) (blocks_value texts made) _ whole (ap (λ o. listed_column (list_at texts o)) here ∙ m.0) before,
+      one_refused listed_column (list_at texts (slice_get pairs place)) (lists_seen texts pairs rest) _ _ _ (ap (λ o. listed_column (list_at texts o)) here ∙ m.0) before,
       m.1,
     )
     go NoMemory m = tt
 
 pub columns_single : (made made' : List CellBlock) (column : CellColumn) → All IsSingle made → made' ≡ made ++ single_block (table_column column) ∷ [] → All IsSingle made'
-columns_single made made' column all pushed = subst (All IsSingle) (sym pushed) (All-push IsSingle made (single_block (table_column column)) all refl)
+columns_single made made' column all pushed = rw pushed (All-push IsSingle made (single_block (table_column column)) all refl)
 
 -- the first of the places, and the others
 abbrev Below : ℕ → ℕ → Type 0

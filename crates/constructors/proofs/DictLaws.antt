@@ -1,30 +1,15 @@
 -- The pairs of a dict that was given.
-use Rattle.std.proofs.Common.{◌≡◌, ◌∙◌, ap, sym, ℕ, List, [], ◌∷◌, ◌++◌, Option, Some, All}
-use Rattle.std.specs.Option.{option_map}
-use Rattle.std.proofs.lemmas.List.Elements.{All-cons, All-nil}
-use Rattle.cell_core.specs.declared.cell.Label.{Label}
-use Rattle.meaning.specs.Text.{Text}
-use Rattle.meaning.specs.Cell.{LabelValue, na, label_datum}
-use Rattle.table_meaning.specs.Settled.{IsSettled}
-use Rattle.table_meaning.specs.Value.{Given, GivenPairs, NamedGiven, nothing, no_entries, more_entries, list_in, dict_in}
+use Rattle.{
+  std.{proofs.{Common.{◌≡◌, ◌∙◌, ap, sym, ℕ, List, [], ◌∷◌, ◌++◌, Option, Some, All}, lemmas.List.Elements.{All-cons, All-nil}}, specs.Option.{option_map}},
+  cell_core.specs.declared.cell.Label.{Label},
+  meaning.specs.{Text.{Text}, Cell.{LabelValue, na, label_datum}},
+  table_meaning.specs.{Settled.{IsSettled}, Value.{Given, GivenPairs, NamedGiven, nothing, no_entries, more_entries, list_in, dict_in}},
+  form_meaning.specs.{Signature.{function_parameters}, Binding.{bound, bound_of}, Make.{index_labels, on, frame_of, pairs_in}, Functions.{made_by}},
+  frame_store.specs.{declared.arguments.{Argument.{Argument}, Item.{Item}}, Objects.{Tables}, Arguments.{items_of, entries_of, arguments_of}, World.{World}},
+  signatures.{specs.{Bound.{given_in, stands_at, Tells}, declared.bound.Bound.{Bound}}, proofs.ToldLaws.{told_settled, some_same}},
+  constructors.{specs.{Index.{rows_labels}, Pairs.{scalars_in, list_seen}, Made.{frame_from}}, proofs.{GivenLaws.{indexes_are, frame_bound}, FrameLaws.{list_same, frame_same}}},
+}
 use Rattle.form_meaning.specs.declared.Function.TheVariants as function
-use Rattle.form_meaning.specs.Signature.{function_parameters}
-use Rattle.form_meaning.specs.Binding.{bound, bound_of}
-use Rattle.form_meaning.specs.Make.{index_labels, on, frame_of, pairs_in}
-use Rattle.form_meaning.specs.Functions.{made_by}
-use Rattle.frame_store.specs.declared.arguments.Argument.{Argument}
-use Rattle.frame_store.specs.declared.arguments.Item.{Item}
-use Rattle.frame_store.specs.Objects.{Tables}
-use Rattle.frame_store.specs.Arguments.{items_of, entries_of, arguments_of}
-use Rattle.frame_store.specs.World.{World}
-use Rattle.signatures.specs.Bound.{given_in, stands_at, Tells}
-use Rattle.signatures.specs.declared.bound.Bound.{Bound}
-use Rattle.signatures.proofs.ToldLaws.{told_settled, some_same}
-use Rattle.constructors.specs.Index.{rows_labels}
-use Rattle.constructors.specs.Pairs.{scalars_in, list_seen}
-use Rattle.constructors.specs.Made.{frame_from}
-use Rattle.constructors.proofs.GivenLaws.{indexes_are, frame_bound}
-use Rattle.constructors.proofs.FrameLaws.{list_same, frame_same}
 
 abbrev first_key : GivenPairs → LabelValue
 first_key no_entries = na
@@ -45,7 +30,7 @@ abbrev HasList : List Text → Label × Argument → Type 0
 HasList texts p = IsSettled list_seen texts p.1
 
 keys_of_pairs : (live : Tables) (texts : List Text) (pairs : List (Label × Argument)) → IsSettled (entries_of live) texts pairs → All (HasKey texts) pairs
-keys_of_pairs live texts [] settled = All-nil (HasKey texts)
+keys_of_pairs live texts [] settled = All-nil _
 keys_of_pairs live texts (p ∷ ps) settled =
     All-cons (HasKey texts) p ps (λ more. ap first_key (settled more)) (keys_of_pairs live texts ps (λ more. ap later_pairs (settled more)))
 
@@ -59,16 +44,16 @@ lists_of_pairs live texts (p ∷ ps) settled =
 pairs_settled : (b : Bound) (place : ℕ) (pairs : List (Label × Argument)) (live : Tables) (dict : List Text) → Tells b place dict_in (λ live texts. Some (entries_of live texts pairs))
     → IsSettled (arguments_of live) dict b.args.now → IsSettled (entries_of live) dict pairs
 pairs_settled b place pairs live dict tells settled = λ more.
-    some_same (entries_of live (dict ++ more) pairs) (entries_of live dict pairs)
-    (told_settled b place dict_in (λ live texts. Some (entries_of live texts pairs)) live dict tells settled more)
+    some_same _ _
+    (told_settled b place dict_in (λ live texts. Some (entries_of live texts pairs)) _ _ tells settled _)
 
 pub keys_given : (b : Bound) (place : ℕ) (pairs : List (Label × Argument)) (live : Tables) (dict : List Text) → Tells b place dict_in (λ live texts. Some (entries_of live texts pairs))
     → IsSettled (arguments_of live) dict b.args.now → All (λ (p : Label × Argument). IsSettled label_datum dict p.0) pairs
-keys_given b place pairs live dict tells settled = keys_of_pairs live dict pairs (pairs_settled b place pairs live dict tells settled)
+keys_given b place pairs live dict tells settled = keys_of_pairs _ _ pairs (pairs_settled b _ pairs _ _ tells settled)
 
 pub lists_given : (b : Bound) (place : ℕ) (pairs : List (Label × Argument)) (live : Tables) (dict : List Text) → Tells b place dict_in (λ live texts. Some (entries_of live texts pairs))
     → IsSettled (arguments_of live) dict b.args.now → All (λ (p : Label × Argument). IsSettled list_seen dict p.1) pairs
-lists_given b place pairs live dict tells settled = lists_of_pairs live dict pairs (pairs_settled b place pairs live dict tells settled)
+lists_given b place pairs live dict tells settled = lists_of_pairs _ _ pairs (pairs_settled b _ pairs _ _ tells settled)
 
 pub frame_given : {T : Type 0} (f : T → List Item) (gs : List NamedGiven) (w : World) (b : Bound) (pairs : List (Label × Argument)) (index : Option T)
     → bound_of (function_parameters function.DataFrame) gs ≡ bound (given_in w b) → b.parameters.now ≡ function_parameters function.DataFrame
@@ -79,6 +64,6 @@ frame_given f gs w b pairs index same is listed indexed =
     sym (
     frame_bound gs w b same is
     ∙ ap (λ o. on o (λ pairs. frame_of (pairs_in pairs) (list_in (stands_at w.tables w.texts b 1)))) (sym listed)
-    ∙ frame_same (pairs_in (entries_of w.tables w.texts pairs)) (list_in (stands_at w.tables w.texts b 1))
-    ∙ ap (frame_from (pairs_in (entries_of w.tables w.texts pairs))) (ap (option_map index_labels) (sym indexed) ∙ indexes_are f w.tables w.texts index)
+    ∙ frame_same (pairs_in (entries_of w.tables w.texts pairs)) _
+    ∙ ap (frame_from (pairs_in (entries_of w.tables w.texts pairs))) (ap (option_map index_labels) (sym indexed) ∙ indexes_are f _ _ _)
     )

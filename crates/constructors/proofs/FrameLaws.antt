@@ -1,46 +1,19 @@
 -- Frames of a dict's pairs.
-use Rattle.std.proofs.Common.{◌≡◌, ◌≢◌, ◌∙◌, refl, ap, sym, subst, ℕ, zero, suc, nat_eq, nat_le, ◌&&◌, Bool, true, false, List, [], ◌∷◌, ◌++◌, map, length, slice_get, Option, Some, None, Result, Ok, Err, All, if◌then◌else◌, arith}
-use Rattle.std.specs.Prelude.{IsSome}
-use Rattle.std.specs.List.{list_all, AllPairs, IsDistinct}
-use Rattle.std.specs.Option.{option_map}
-use Rattle.std.specs.Map.{keys_of, values_of}
-use Rattle.std.proofs.lemmas.List.{length-map, get_or-map}
-use Rattle.std.proofs.lemmas.List.Elements.{All-cons, All-nil}
-use Rattle.std.proofs.lemmas.Map.Made.{AllPairs-from_IsDistinct}
-use Rattle.cell_core.specs.declared.cell.Label.{Label}
-use Rattle.cell_core.specs.declared.grid.Shape.TheVariants.{Series, Frame}
-use Rattle.meaning.specs.Text.{Text}
-use Rattle.meaning.specs.Cell.{CellValue, LabelValue, label_datum, datum}
-use Rattle.meaning.specs.Fault.{FaultValue, wrong_kind, bad_value, length_of, then_value}
-use Rattle.multi_index.specs.Axes.{AxisValue}
-use Rattle.column_core.specs.Blocks.{CellBlock}
-use Rattle.table_meaning.specs.Settled.{IsSettled}
-use Rattle.table_meaning.specs.Table.{ColumnOf, NumberedTable, Table, table_value, column_value}
-use Rattle.table_meaning.specs.Valid.{AreHeadings, IsWhole}
-use Rattle.table_meaning.specs.Value.{Entry, table, Given, GivenList, nothing, one, row, many, entries}
-use Rattle.form_meaning.specs.Binding.{each, is_scalar}
-use Rattle.form_meaning.specs.Select.{cells_of}
-use Rattle.form_meaning.specs.Set.{list_column, first_kind}
-use Rattle.form_meaning.specs.Finish.{limited, try_all}
-use Rattle.form_meaning.specs.Make.{on, index_labels, level_count, nameless, few_levels, with_index, frame_table, is_scalar_list, cells_given, all_of_length, labels_given, frame_of, pairs_in}
+use Rattle.{
+  std.{proofs.{Common.{◌≡◌, ◌≢◌, ◌∙◌, refl, ap, sym, subst, ℕ, zero, suc, nat_eq, nat_le, ◌&&◌, Bool, true, false, List, [], ◌∷◌, ◌++◌, map, length, slice_get, Option, Some, None, Result, Ok, Err, All, if◌then◌else◌, arith}, lemmas.{List.{length-map, get_or-map, Elements.{All-cons, All-nil}}, Map.Made.{AllPairs-from_IsDistinct}}}, specs.{Prelude.{IsSome}, List.{list_all, AllPairs, IsDistinct}, Option.{option_map}, Map.{keys_of, values_of}}},
+  cell_core.specs.declared.{cell.Label.{Label}, grid.Shape.TheVariants.{Series, Frame}},
+  meaning.specs.{Text.{Text}, Cell.{CellValue, LabelValue, label_datum}, Fault.{FaultValue, wrong_kind, bad_value, length_of, then_value}},
+  multi_index.specs.Axes.{AxisValue},
+  column_core.specs.Blocks.{CellBlock},
+  table_meaning.specs.{Settled.{IsSettled}, Table.{ColumnOf, NumberedTable, Table, table_value, column_value}, Valid.{AreHeadings, IsWhole}, Value.{Entry, table, Given, GivenList, many}},
+  form_meaning.specs.{Binding.{each, is_scalar}, Select.{cells_of}, Set.{list_column}, Finish.{limited, try_all}, Make.{index_labels, level_count, nameless, few_levels, with_index, frame_table, is_scalar_list, cells_given, all_of_length, labels_given, frame_of, pairs_in}},
+  form_parts.{specs.Makes.{MakesBy, blocks_value}, proofs.TableMade.{refused_on}},
+  frame_store.{specs.{declared.{arguments.{Argument.{Argument, Nothing, One, Row, Many, Table'}, Item.{Item, One as OneItem}, Value.TheVariants.{Object}}, fault.OpFault.{OpFault}}, Arguments.{argument_of, item_of, items_of, entries_of}, Objects.{Tables}, Parts.{HeadingList, block_column, table_with, HaveRows}, Shown.{headings_value, labels_value, columns_value, Makes}}, proofs.Settling.{table_settled}},
+  constructors.{specs.{Pairs.{value_in, entries_seen, alone, scalars_in, list_seen, list_at, lists_seen, listed_column}, Made.{axis_labels, labels_within, index_alone, indexed, same_rows, labels_for, frame_labels, frame_with, frame_from}}, proofs.{MadeLaws.{limited_labels, indexed_within, labels_then, either_few, names_seen, names_settled, ok_same}, PairLaws.{same_number, number_decides}}},
+  signatures.proofs.ScalarLaws.{scalars_are},
+}
 use Rattle.form_meaning.specs.Make as make
-use Rattle.form_parts.specs.Makes.{MakesBy, blocks_value}
-use Rattle.form_parts.proofs.TableMade.{refused_on}
-use Rattle.frame_store.specs.declared.arguments.Argument.{Argument, Nothing, One, Row, Many, Table'}
-use Rattle.frame_store.specs.declared.arguments.Item.{Item, One as OneItem, Row' as RowItem'}
-use Rattle.frame_store.specs.declared.arguments.Value.TheVariants.{Object, Scalar}
-use Rattle.frame_store.specs.declared.fault.OpFault.{OpFault}
-use Rattle.frame_store.specs.Arguments.{argument_of, item_of, items_of, entries_of}
-use Rattle.frame_store.specs.Objects.{Tables}
-use Rattle.frame_store.specs.Parts.{HeadingList, block_column, table_with, HaveRows}
-use Rattle.frame_store.specs.Shown.{headings_value, labels_value, columns_value, Makes}
-use Rattle.frame_store.proofs.Settling.{table_settled}
-use Rattle.constructors.specs.Pairs.{value_in, entries_seen, alone, scalars_in, list_seen, list_at, lists_seen, listed_column}
 use Rattle.constructors.specs.Made as meant
-use Rattle.constructors.specs.Made.{axis_labels, labels_within, index_alone, indexed, same_rows, labels_for, frame_labels, frame_with, frame_from}
-use Rattle.constructors.proofs.MadeLaws.{limited_labels, indexed_within, labels_then, either_few, names_seen, names_settled, ok_same}
-use Rattle.signatures.proofs.ScalarLaws.{scalars_are}
-use Rattle.constructors.proofs.PairLaws.{same_number, number_decides}
 
 abbrev Columns : Type 0
 Columns = List (ColumnOf CellValue)
@@ -56,7 +29,7 @@ never_made false c = refl
 value_by_value : (b rest : Bool) (cells : List CellValue) (later : Result Columns FaultValue)
     → (if b && rest then columns_then (list_column cells) later else Err wrong_kind) ≡ columns_then (listed_column (if b then Some cells else None)) (if rest then later else Err wrong_kind)
 value_by_value true true cells later = refl
-value_by_value true false cells later = never_made (list_all (Rattle.meaning.specs.Cell.holds (first_kind cells)) cells) record { kind = first_kind cells; cells = cells }
+value_by_value true false cells later = never_made _ _
 value_by_value false rest cells later = refl
 
 abbrev column_of : LabelValue × Given → Result (ColumnOf CellValue) FaultValue
@@ -70,10 +43,7 @@ lists_made [] = refl
 lists_made ((l, many parts) ∷ rest) =
     value_by_value (each is_scalar parts) (list_all is_scalar_list rest) (cells_of parts) (try_all column_of rest)
     ∙ ap (columns_then (listed_column (alone (Some parts)))) (lists_made rest)
-lists_made ((l, one v) ∷ rest) = refl
-lists_made ((l, nothing) ∷ rest) = refl
-lists_made ((l, row parts) ∷ rest) = refl
-lists_made ((l, entries pairs) ∷ rest) = refl
+lists_made pairs = refl
 
 -- the number of rows, and then the labels
 rows_labels : (rows count : ℕ) (cs : Columns) (index : Option (List (List LabelValue))) (go : List (List LabelValue) → Table) (last : Result Entry FaultValue) → last ≡ labels_then go (meant.index_labels rows count index)
@@ -101,11 +71,11 @@ frame_columns headings [] index =
     let labels = index_alone (option_map index_labels index) in
     let go : List (List LabelValue) → Table = λ labels. frame_table labels headings [] in
     ap (λ labels. few_levels labels (limited (go labels))) (alone_same index)
-    ∙ either_few (nat_le (level_count labels) 4) go (limited (go labels)) (labels_within (length labels) 0 labels) (limited_labels (length labels) 0 go labels refl refl)
+    ∙ either_few (nat_le (level_count labels) 4) go _ (labels_within (length labels) 0 labels) (limited_labels _ 0 go labels refl refl)
 frame_columns headings (c ∷ cs) index =
-    rows_labels (length c.cells) (length (c ∷ cs)) cs (option_map index_labels index) (λ labels. frame_table labels headings (c ∷ cs)) (with_index (length c.cells) index (λ labels. limited (frame_table labels headings (c ∷ cs))))
+    rows_labels (length c.cells) (length (c ∷ cs)) cs (option_map index_labels index) (λ labels. frame_table labels headings (c ∷ cs)) _
     (index_same (length c.cells) index (λ labels. limited (frame_table labels headings (c ∷ cs)))
-    ∙ indexed_within (length c.cells) (length (c ∷ cs)) (option_map index_labels index) (λ labels. frame_table labels headings (c ∷ cs)) (λ labels. refl) (λ labels. refl))
+    ∙ indexed_within (length c.cells) _ (option_map index_labels index) (λ labels. frame_table labels headings (c ∷ cs)) (λ labels. refl) (λ labels. refl))
 
 -- what is meant, value by value
 abbrev with_columns : List LabelValue → Option (List (List LabelValue)) → Columns → Result Entry FaultValue
@@ -124,13 +94,12 @@ frame_same pairs index =
     let headings : List LabelValue = map (λ p. p.0) pairs in
     later_test (list_all is_scalar_list pairs) (try_all column_of pairs) (λ columns. make.frame_with headings columns index)
     ∙ ap (λ made. then_value made (λ columns. make.frame_with headings columns index)) (lists_made pairs)
-    ∙ then_same (try_all listed_column (lists_of pairs)) (λ columns. make.frame_with headings columns index) (with_columns headings (option_map index_labels index)) (λ columns. frame_columns headings columns index)
+    ∙ then_same (try_all listed_column (lists_of pairs)) (λ columns. make.frame_with headings columns index) _ (λ columns. frame_columns headings columns index)
 
 -- a value is the same list of scalars among any objects
 scalar_same : (live other : Tables) (texts : List Text) (item : Item) → is_scalar (item_of live texts item) ≡ is_scalar (item_of other texts item)
 scalar_same live other texts (OneItem (Object id)) = refl
-scalar_same live other texts (OneItem (Scalar c)) = refl
-scalar_same live other texts (RowItem' shape parts) = refl
+scalar_same live other texts item = refl
 
 each_same : (live other : Tables) (texts : List Text) (items : List Item) → each is_scalar (items_of live texts items) ≡ each is_scalar (items_of other texts items)
 each_same live other texts [] = refl
@@ -176,19 +145,19 @@ pairs_frame live texts pairs es index is =
 pub columns_refused : (live : Tables) (texts : List Text) (pairs : List (Label × Argument)) (es : List (Label × ℕ)) (index : Option (List (List LabelValue))) (fault : OpFault) → entries_seen live texts pairs es ≡ pairs_in (entries_of live texts pairs)
     → MakesBy blocks_value texts (Err fault) (try_all listed_column (lists_seen texts pairs (values_of es))) → Makes texts (Err fault) (frame_from (pairs_in (entries_of live texts pairs)) index)
 columns_refused live texts pairs es index fault is refused =
-    subst (λ (m : Result Entry FaultValue). Makes texts (Err fault) m) (sym (pairs_frame live texts pairs es index is))
+    rw (pairs_frame _ _ pairs es _ is)
     (refused_on blocks_value texts (try_all listed_column (lists_seen texts pairs (values_of es))) (with_columns (labels_seen texts (keys_of es)) index) (Err fault) fault refl refused)
 
 columns_are : (live : Tables) (texts : List Text) (pairs : List (Label × Argument)) (es : List (Label × ℕ)) (index : Option (List (List LabelValue))) (blocks : List CellBlock) → entries_seen live texts pairs es ≡ pairs_in (entries_of live texts pairs)
     → try_all listed_column (lists_seen texts pairs (values_of es)) ≡ Ok (blocks_value texts blocks)
     → frame_from (pairs_in (entries_of live texts pairs)) index ≡ with_columns (labels_seen texts (keys_of es)) index (blocks_value texts blocks)
-columns_are live texts pairs es index blocks is made = pairs_frame live texts pairs es index is ∙ ap (λ r. then_value r (with_columns (labels_seen texts (keys_of es)) index)) made
+columns_are live texts pairs es index blocks is made = pairs_frame _ _ pairs es _ is ∙ ap (λ r. then_value r (with_columns (labels_seen texts (keys_of es)) index)) made
 
 pub rows_refused : (live : Tables) (texts : List Text) (pairs : List (Label × Argument)) (es : List (Label × ℕ)) (index : Option (List (List LabelValue))) (blocks : List CellBlock) (fault : OpFault) → entries_seen live texts pairs es ≡ pairs_in (entries_of live texts pairs)
     → try_all listed_column (lists_seen texts pairs (values_of es)) ≡ Ok (blocks_value texts blocks)
     → MakesBy axis_labels texts (Err fault) (frame_labels (blocks_value texts blocks) index) → Makes texts (Err fault) (frame_from (pairs_in (entries_of live texts pairs)) index)
 rows_refused live texts pairs es index blocks fault is made refused =
-    subst (λ (m : Result Entry FaultValue). Makes texts (Err fault) m) (sym (columns_are live texts pairs es index blocks is made))
+    rw (columns_are _ _ pairs es _ _ is made)
     (refused_on axis_labels texts (frame_labels (blocks_value texts blocks) index) (λ labels. Ok (table (frame_table labels (labels_seen texts (keys_of es)) (blocks_value texts blocks)))) (Err fault) fault refl refused)
 
 abbrev some_label : Label → Option Label
@@ -207,7 +176,7 @@ pub frame_answer : (live : Tables) (texts : List Text) (pairs : List (Label × A
     → made ≡ table_with Frame axis headings (map block_column blocks)
     → frame_from (pairs_in (entries_of live texts pairs)) index ≡ Ok (table (table_value texts made))
 frame_answer live texts pairs es index blocks axis headings made is columns labels names headed made_is =
-    columns_are live texts pairs es index blocks is columns
+    columns_are _ _ pairs es _ _ is columns
     ∙ ap (labels_then (λ ls. frame_table ls (labels_seen texts (keys_of es)) (blocks_value texts blocks))) labels
     ∙ ap (λ (t : Table). Ok (table t)) (seen ∙ ap (table_value texts) (sym (made_is ∙ ap (λ h. table_with Frame axis h (map block_column blocks)) headed)))
   where
@@ -216,7 +185,7 @@ frame_answer live texts pairs es index blocks axis headings made is columns labe
         record {
           shape = Frame;
           columns_name = None;
-          level_names = sym (names_seen texts axis names) j;
+          level_names = sym (names_seen texts _ names) j;
           labels = axis_labels texts axis;
           headings = headings_seen texts (keys_of es) j;
           columns = blocks_value texts blocks;
@@ -232,29 +201,29 @@ first_in P x xs all = all 0 x (omega arith)
 labels_settled : (texts : List Text) (ks : List Label) → All (λ (k : Label). IsSettled label_datum texts k) ks → IsSettled headings_value texts (map some_label ks)
 labels_settled texts [] all = λ more. refl
 labels_settled texts (k ∷ ks) all = λ more j.
-    Some (first_in (λ (k : Label). IsSettled label_datum texts k) k ks all more j) ∷ labels_settled texts ks (rest_of (λ (k : Label). IsSettled label_datum texts k) k ks all) more j
+    Some (first_in (λ (k : Label). IsSettled label_datum texts k) k _ all more j) ∷ labels_settled texts ks (rest_of (λ (k : Label). IsSettled label_datum texts k) k _ all) more j
 
 abbrev IsGivenList : List Text → Label × Argument → Type 0
 IsGivenList texts p = IsSettled list_seen texts p.1
 
 list_settled : (texts : List Text) (pairs : List (Label × Argument)) (place : ℕ) → All (IsGivenList texts) pairs → IsSettled list_at texts (slice_get pairs place)
 list_settled texts [] place all = λ more. refl
-list_settled texts (p ∷ ps) zero all = first_in (IsGivenList texts) p ps all
-list_settled texts (p ∷ ps) (suc place) all = list_settled texts ps place (rest_of (IsGivenList texts) p ps all)
+list_settled texts (p ∷ ps) zero all = first_in (IsGivenList texts) p _ all
+list_settled texts (p ∷ ps) (suc place) all = list_settled texts ps place (rest_of (IsGivenList texts) p _ all)
 
 lists_settled : (texts more : List Text) (pairs : List (Label × Argument)) (places : List ℕ) → All (IsGivenList texts) pairs → lists_seen (texts ++ more) pairs places ≡ lists_seen texts pairs places
 lists_settled texts more pairs [] all = refl
-lists_settled texts more pairs (place ∷ places) all = λ j. list_settled texts pairs place all more j ∷ lists_settled texts more pairs places all j
+lists_settled texts more pairs (place ∷ places) all = λ j. list_settled _ pairs place all more j ∷ lists_settled texts more pairs places all j
 
 blocks_settled : (texts : List Text) (pairs : List (Label × Argument)) (places : List ℕ) (blocks : List CellBlock) → All (IsGivenList texts) pairs
     → ((texts : List Text) → try_all listed_column (lists_seen texts pairs places) ≡ Ok (blocks_value texts blocks)) → IsSettled blocks_value texts blocks
 blocks_settled texts pairs places blocks all made = λ more.
-    ok_same (blocks_value (texts ++ more) blocks) (blocks_value texts blocks) (sym (made (texts ++ more)) ∙ ap (try_all listed_column) (lists_settled texts more pairs places all) ∙ made texts)
+    ok_same _ _ (sym (made (texts ++ more)) ∙ ap (try_all listed_column) (lists_settled _ _ pairs _ all) ∙ made texts)
 
 rows_settled : (texts : List Text) (blocks : List CellBlock) (index : List Text → Option (List (List LabelValue))) (axis : AxisValue) → IsSettled blocks_value texts blocks → ((more : List Text) → index (texts ++ more) ≡ index texts)
     → ((texts : List Text) → frame_labels (blocks_value texts blocks) (index texts) ≡ Ok (axis_labels texts axis)) → IsSettled labels_value texts axis.tuples
 rows_settled texts blocks index axis columns given labels = λ more.
-    ok_same (axis_labels (texts ++ more) axis) (axis_labels texts axis) (sym (labels (texts ++ more)) ∙ (λ j. frame_labels (columns more j) (given more j)) ∙ labels texts)
+    ok_same _ _ (sym (labels (texts ++ more)) ∙ (λ j. frame_labels (columns more j) (given more j)) ∙ labels texts)
 
 pub frame_settled : (texts : List Text) (pairs : List (Label × Argument)) (es : List (Label × ℕ)) (index : List Text → Option (List (List LabelValue))) (blocks : List CellBlock) (axis : AxisValue) (headings : HeadingList) (made : NumberedTable)
     → All (λ (p : Label × Argument). IsSettled list_seen texts p.1) pairs → All (λ (k : Label). IsSettled label_datum texts k) (keys_of es) → ((more : List Text) → index (texts ++ more) ≡ index texts)
@@ -263,18 +232,18 @@ pub frame_settled : (texts : List Text) (pairs : List (Label × Argument)) (es :
     → made ≡ table_with Frame axis headings (map block_column blocks)
     → IsSettled table_value texts made
 frame_settled texts pairs es index blocks axis headings made values ks given columns labels names headed made_is =
-    let cells : IsSettled columns_value texts (map block_column blocks) = blocks_settled texts pairs (values_of es) blocks values columns in
+    let cells : IsSettled columns_value texts (map block_column blocks) = blocks_settled _ pairs _ _ values columns in
     subst (IsSettled table_value texts) (sym (made_is ∙ ap (λ h. table_with Frame axis h (map block_column blocks)) headed))
-    (table_settled texts (made_frame axis (keys_of es) blocks)
+    (table_settled _ (made_frame axis (keys_of es) blocks)
     (λ more. refl)
-    (names_settled texts axis names)
-    (rows_settled texts blocks index axis cells given labels)
-    (labels_settled texts (keys_of es) ks)
+    (names_settled _ _ names)
+    (rows_settled _ _ _ axis cells given labels)
+    (labels_settled _ _ ks)
     cells)
 
 -- labels of columns, which differ
 all_some : (ks : List Label) → All IsSome (map some_label ks)
-all_some [] = All-nil IsSome
+all_some [] = All-nil _
 all_some (k ∷ ks) = All-cons IsSome (Some k) (map some_label ks) refl (all_some ks)
 
 abbrev label_in : Label → Option Label → Label
@@ -293,12 +262,12 @@ no_series e = cc
 
 pub keys_fit : (ks : List Label) (headings : HeadingList) → IsDistinct same_number ks → headings ≡ record { columns_name = None; labels = map (λ key. Some key) ks } → AreHeadings Frame headings.columns_name headings.labels
 keys_fit ks headings distinct is =
-    subst (λ (h : HeadingList). AreHeadings Frame h.columns_name h.labels) (sym is)
+    rw is
     (record {
       single = λ e. absurd (no_series e);
       nameless = λ e. absurd (no_series e);
-      labelled = λ e. all_some ks;
-      different = λ e. some_apart ks (AllPairs-from_IsDistinct number_decides ks distinct);
+      labelled = λ e. all_some _;
+      different = λ e. some_apart _ (AllPairs-from_IsDistinct number_decides _ distinct);
     })
 
 -- the columns are those of the keys
@@ -306,13 +275,12 @@ abbrev more_made : {B : Type 0} → Result B FaultValue → Result (List B) Faul
 more_made first rest = then_value first (λ y. then_value rest (λ ys. Ok (y ∷ ys)))
 
 one_more : {B : Type 0} (n : ℕ) (first : Result B FaultValue) (rest : Result (List B) FaultValue) (ys : List B) → ((more : List B) → rest ≡ Ok more → n ≡ length more) → more_made first rest ≡ Ok ys → suc n ≡ length ys
-one_more n (Ok y) (Ok more) ys later is = ap suc (later more refl) ∙ ap length (ok_same (y ∷ more) ys is)
-one_more n (Ok y) (Err fault) ys later is = cc
-one_more n (Err fault) rest ys later is = cc
+one_more n (Ok y) (Ok more) ys later is = ap suc (later more refl) ∙ ap length (ok_same _ _ is)
+one_more n first rest ys later is = cc
 
 made_count : {A B : Type 0} (f : A → Result B FaultValue) (xs : List A) (ys : List B) → try_all f xs ≡ Ok ys → length xs ≡ length ys
-made_count f [] ys is = ap length (ok_same [] ys is)
-made_count f (x ∷ xs) ys is = one_more (length xs) (f x) (try_all f xs) ys (made_count f xs) is
+made_count f [] ys is = ap length (ok_same _ _ is)
+made_count f (x ∷ xs) ys is = one_more _ _ _ _ (made_count f xs) is
 
 pub frame_whole : (pairs : List (Label × Argument)) (es : List (Label × ℕ)) (blocks : List CellBlock) (axis : AxisValue) (headings : HeadingList)
     → try_all listed_column (lists_seen [] pairs (values_of es)) ≡ Ok (blocks_value [] blocks) → HaveRows (length axis.tuples) (map block_column blocks)
@@ -321,7 +289,7 @@ pub frame_whole : (pairs : List (Label × Argument)) (es : List (Label × ℕ)) 
 frame_whole pairs es blocks axis headings columns filled headed fits =
     record {
       headed = ap (λ (h : HeadingList). length h.labels) headed ∙ length-map (keys_of es) some_label ∙ length-map es (λ e. e.0) ∙ sym (length-map es (λ e. e.1))
-          ∙ sym (length-map (values_of es) (λ place. list_at [] (slice_get pairs place))) ∙ made_count listed_column (lists_seen [] pairs (values_of es)) (blocks_value [] blocks) columns
+          ∙ sym (length-map (values_of es) (λ place. list_at [] (slice_get pairs place))) ∙ made_count _ _ _ columns
           ∙ length-map (map block_column blocks) (column_value []);
       filled = filled;
       headings = fits;

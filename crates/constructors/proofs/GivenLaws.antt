@@ -1,50 +1,28 @@
 -- Constructors on bound arguments.
-use Rattle.std.proofs.Common.{◌≡◌, ◌∙◌, refl, ap, sym, subst, ℕ, List, [], ◌∷◌, ◌++◌, slice_get, Bor, Option, Some, None, Result}
-use Rattle.std.specs.Option.{option_map}
-use Rattle.cell_core.specs.declared.cell.Cell.{Cell}
-use Rattle.cell_core.specs.declared.cell.Kind.{Kind}
-use Rattle.cell_core.specs.declared.cell.Label.{Label}
-use Rattle.meaning.specs.Text.{Text}
-use Rattle.meaning.specs.Cell.{LabelValue, datum}
-use Rattle.meaning.specs.Operator.{cell_label}
-use Rattle.meaning.specs.Fault.{FaultValue}
-use Rattle.table_meaning.specs.Settled.{IsSettled}
-use Rattle.table_meaning.specs.Table.{heading_value}
-use Rattle.table_meaning.specs.Value.{Entry, Given, GivenList, NamedGiven, scalar_in, list_in}
-use Rattle.form_meaning.specs.declared.Function.{Function}
+use Rattle.{
+  std.{proofs.Common.{◌≡◌, ◌∙◌, refl, ap, sym, subst, ℕ, List, [], ◌∷◌, ◌++◌, slice_get, Bor, Option, Some, None, Result}, specs.Option.{option_map}},
+  cell_core.specs.declared.cell.{Cell.{Cell}, Kind.{Kind}, Label.{Label}},
+  meaning.specs.{Text.{Text}, Cell.{LabelValue, datum}, Operator.{cell_label}, Fault.{FaultValue}},
+  table_meaning.specs.{Settled.{IsSettled}, Table.{heading_value}, Value.{Entry, Given, GivenList, NamedGiven, scalar_in, list_in}},
+  form_meaning.{specs.{declared.{Function.{Function}, Parameter.{Parameter}}, Signature.{function_parameters}, Binding.{Bound as Outcome, bound, bound_of, argument_at, arguments_from, on_bound}, Select.{cells_of}, Make.{index_labels, kind_given, on, series_of, series_result, frame_result}, Functions.{constructed, made_by}}, proofs.IndexLaws.{GivesAlike, index_taken}},
+  frame_store.specs.{declared.arguments.Item.{Item}, Objects.{Tables}, Arguments.{items_of, arguments_of}, World.{World, arguments_in}},
+  signatures.{specs.{Bound.{given_in, stands_at, Tells}, declared.bound.Bound.{Bound}, Scalars.{scalars}}, proofs.{ToldLaws.{told_settled}, ScalarLaws.{scalars_are}}},
+  constructors.{specs.{Index.{rows_labels, GivesLevels}, Made.{series_with}}, proofs.IndexLaws.{rows_are, alike_seen}},
+}
 use Rattle.form_meaning.specs.declared.Function.TheVariants as function
-use Rattle.form_meaning.specs.declared.Parameter.{Parameter}
-use Rattle.form_meaning.specs.Signature.{function_parameters}
 use Rattle.form_meaning.specs.declared.Form.TheVariants as form
-use Rattle.form_meaning.specs.Binding.{Bound as Outcome, bound, bound_of, argument_at, arguments_from, on_bound}
-use Rattle.form_meaning.specs.Select.{cells_of}
-use Rattle.form_meaning.specs.Make.{index_labels, kind_given, on, series_of, series_result, frame_result}
-use Rattle.form_meaning.specs.Functions.{constructed, made_by}
-use Rattle.form_meaning.proofs.IndexLaws.{GivesAlike, index_taken}
-use Rattle.frame_store.specs.declared.arguments.Item.{Item}
-use Rattle.frame_store.specs.Objects.{Tables}
-use Rattle.frame_store.specs.Arguments.{items_of, arguments_of}
-use Rattle.frame_store.specs.World.{World, arguments_in}
-use Rattle.signatures.specs.Bound.{given_in, stands_at, Tells}
-use Rattle.signatures.specs.declared.bound.Bound.{Bound}
-use Rattle.signatures.proofs.ToldLaws.{told_settled}
-use Rattle.signatures.proofs.ScalarLaws.{scalars_are}
-use Rattle.signatures.specs.Scalars.{scalars}
-use Rattle.constructors.specs.Index.{rows_labels, GivesLevels}
-use Rattle.constructors.specs.Made.{series_with}
-use Rattle.constructors.proofs.IndexLaws.{rows_are, alike_seen}
 
 pub indexes_are : {T : Type 0} (f : T → List Item) (live : Tables) (texts : List Text) (o : Option T) → option_map index_labels (option_map (λ t. items_of live texts (f t)) o) ≡ option_map (λ t. rows_labels texts (f t)) o
 indexes_are f live texts None = refl
-indexes_are f live texts (Some t) = ap (λ labels. Some labels) (rows_are live texts (f t))
+indexes_are f live texts (Some t) = ap (λ labels. Some labels) (rows_are _ _ _)
 
 -- what stands at a place was given
 pub index_settled : {T : Type 0} (f : T → List Item) (b : Bound) (place : ℕ) (o : Option T) (live : Tables) (dict : List Text) → Tells b place list_in (λ live texts. option_map (λ t. items_of live texts (f t)) o)
     → IsSettled (arguments_of live) dict b.args.now → (more : List Text) → option_map (λ t. rows_labels (dict ++ more) (f t)) o ≡ option_map (λ t. rows_labels dict (f t)) o
 index_settled f b place o live dict tells settled more =
-    sym (indexes_are f live (dict ++ more) o)
-    ∙ ap (option_map index_labels) (told_settled b place list_in (λ live texts. option_map (λ t. items_of live texts (f t)) o) live dict tells settled more)
-    ∙ indexes_are f live dict o
+    sym (indexes_are f _ _ o)
+    ∙ ap (option_map index_labels) (told_settled b place list_in (λ live texts. option_map (λ t. items_of live texts (f t)) o) _ _ tells settled _)
+    ∙ indexes_are f _ _ o
 
 -- and its labels are alike, where its parameter takes labels of rows
 pub index_levels : (ps : List Parameter) (p : Parameter) (gs : List Given) (w : World) (b : Bound) (o : Option (Bor (List Item))) → bound_of ps (arguments_in w b.args.now) ≡ bound gs → b.parameters.now ≡ ps → slice_get ps 1 ≡ Some p
@@ -52,7 +30,7 @@ pub index_levels : (ps : List Parameter) (p : Parameter) (gs : List Given) (w : 
 index_levels ps p gs w b None same is there form told = tt
 index_levels ps p gs w b (Some l) same is there form told =
     let found : Some (items_of w.tables w.texts l.now) ≡ list_in (argument_at ps (arguments_in w b.args.now) 1) = told ∙ ap (λ q. list_in (argument_at q (arguments_in w b.args.now) 1)) is in
-    alike_seen w.tables w.texts l.now (subst GivesAlike (sym found) (index_taken ps (arguments_in w b.args.now) 1 p gs same there form))
+    alike_seen _ _ _ (subst GivesAlike (sym found) (index_taken _ _ 1 p _ same there form))
 
 -- a Series of lists is that of their scalars
 series_same : (values : GivenList) (index : Option GivenList) (name : Option LabelValue) (kind : Option Kind) → series_of values index name kind ≡ series_with (cells_of values) (option_map index_labels index) name kind
@@ -92,7 +70,7 @@ series_given f gs w b values index o name kind same is listed indexed scalar nam
     series_bound gs w b same is
     ∙ ap (λ l. on l (λ parts. series_of parts (list_in (stands_at w.tables w.texts b 1)) (option_map cell_label (scalar_in (stands_at w.tables w.texts b 2))) (kind_given (scalar_in (stands_at w.tables w.texts b 3))))) (sym listed)
     ∙ series_same (items_of w.tables w.texts values) (list_in (stands_at w.tables w.texts b 1)) (option_map cell_label (scalar_in (stands_at w.tables w.texts b 2))) (kind_given (scalar_in (stands_at w.tables w.texts b 3)))
-    ∙ (λ j. series_with (scalars_are w.tables w.texts values j) ((ap (option_map index_labels) (sym indexed) ∙ indexes_are f w.tables w.texts index) j) ((ap (option_map cell_label) (sym scalar) ∙ sym named) j) (sym kinded j))
+    ∙ (λ j. series_with (scalars_are w.tables w.texts values j) ((ap (option_map index_labels) (sym indexed) ∙ indexes_are f _ _ _) j) ((ap (option_map cell_label) (sym scalar) ∙ sym named) j) (sym kinded j))
     )
 
 abbrev pub frame_at : List Parameter → List NamedGiven → Result Entry FaultValue

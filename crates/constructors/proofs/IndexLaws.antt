@@ -1,32 +1,18 @@
 -- The labels of an index, row by row.
-use Rattle.std.proofs.Common.{◌≡◌, ◌∙◌, ◌<◌, ◌≤◌, ◌+◌, append_assoc, append-nil, refl, ap, sym, subst, ℕ, zero, suc, List, [], ◌∷◌, ◌++◌, map, length, drop, get_or, Option, Some, None, Result, Ok, Err, All, arith}
-use Rattle.std.specs.Prelude.{OnOk}
-use Rattle.std.specs.Option.{option_map}
-use Rattle.std.proofs.lemmas.List.{length-map, map-append, at_drop_all}
-use Rattle.std.proofs.lemmas.List.Elements.{All-cons, All-nil, All-head, All-tail}
-use Rattle.std.proofs.Math.Seq.{drop-cons}
 use mathlib.Core.Former.{Count}
-use Rattle.cell_core.specs.declared.cell.Cell.{Cell}
+use Rattle.{
+  signatures.{proofs.{ToldLaws.{some_same}, ScalarLaws.{scalars_are}}, specs.Scalars.{scalars, with_cell}},
+  std.{proofs.{Common.{◌≡◌, ◌∙◌, ◌<◌, ◌≤◌, ◌+◌, append_assoc, append-nil, refl, ap, sym, subst, ℕ, zero, suc, List, [], ◌∷◌, ◌++◌, map, length, drop, get_or, Option, Some, None, Result, Ok, Err, All, arith}, lemmas.List.{length-map, map-append, at_drop_all, Elements.{All-cons, All-nil, All-head, All-tail}}, Math.Seq.{drop-cons}}, specs.{Prelude.{OnOk}, Option.{option_map}}},
+  cell_core.specs.declared.cell.{Cell.{Cell}, Label.{Label}},
+  meaning.specs.{Text.{Text}, Cell.{CellValue, LabelValue, datum, label_datum}, Operator.{cell_label}},
+  table_meaning.specs.{Table.{tuple_value}, Value.{Given, GivenList, table, nothing, one, row, scalar_in, tuple_in}},
+  form_meaning.specs.{Select.{cells_of, labels_of}, Make.{row_labels, index_labels, level_count, AreAlike}},
+  form_parts.specs.Labels.{label_of},
+  frame_store.specs.{Objects.{Tables}, Arguments.{item_of, items_row, items_of}, Shown.{labels_value}, declared.arguments.{Value.TheVariants.{Object, Scalar}, Item.{Item, One as OneItem, Row' as RowItem', Row_of-Item, end_of-Item, more_of-Item}}},
+  constructors.{specs.Index.{label_in, rows_labels}, proofs.ScalarLaws.{after, scalars_from}},
+}
 use Rattle.cell_core.specs.declared.cell.Cell.TheVariants as cell
-use Rattle.cell_core.specs.declared.cell.Label.{Label}
-use Rattle.meaning.specs.Text.{Text}
-use Rattle.meaning.specs.Cell.{CellValue, LabelValue, datum, label_datum}
-use Rattle.meaning.specs.Operator.{cell_label}
-use Rattle.table_meaning.specs.Table.{tuple_value}
 use Rattle.table_meaning.specs.Value as value
-use Rattle.table_meaning.specs.Value.{Given, GivenList, table, nothing, one, row, many, entries, scalar_in, tuple_in, more_given}
-use Rattle.form_meaning.specs.Select.{cells_of, labels_of}
-use Rattle.form_meaning.specs.Make.{row_labels, index_labels, level_count, AreAlike}
-use Rattle.form_parts.specs.Labels.{label_of}
-use Rattle.frame_store.specs.Objects.{Tables}
-use Rattle.frame_store.specs.Arguments.{item_of, items_row, items_of}
-use Rattle.frame_store.specs.Shown.{labels_value}
-use Rattle.frame_store.specs.declared.arguments.Value.TheVariants.{Object, Scalar}
-use Rattle.frame_store.specs.declared.arguments.Item.{Item, One as OneItem, Row' as RowItem', Row_of-Item, end_of-Item, more_of-Item}
-use Rattle.signatures.specs.Scalars.{scalars, with_cell}
-use Rattle.signatures.proofs.ScalarLaws.{scalars_are}
-use Rattle.constructors.specs.Index.{label_in, rows_labels}
-use Rattle.constructors.proofs.ScalarLaws.{after, scalars_from}
 
 -- the label of a scalar, as it is seen
 abbrev label_from : Option CellValue → List LabelValue
@@ -35,13 +21,11 @@ label_from (Some c) = cell_label c ∷ []
 
 label_is : (texts : List Text) (c : Cell) → label_datum texts (label_of c) ≡ cell_label (datum texts c)
 label_is texts cell.Na = refl
-label_is texts (cell.Int z) = refl
-label_is texts (cell.Bool b) = refl
-label_is texts (cell.Text id) = refl
+label_is texts c = refl
 
 pub label_seen : (texts : List Text) (o : Option Cell) → tuple_value texts (label_in o) ≡ label_from (option_map (datum texts) o)
 label_seen texts None = refl
-label_seen texts (Some c) = ap (λ l. l ∷ []) (label_is texts c)
+label_seen texts (Some c) = ap (λ l. l ∷ []) (label_is _ c)
 
 -- a part that is no tuple, and one that is
 pub no_tuple : (g : Given) → None ≡ tuple_in g → row_labels g ≡ label_from (scalar_in g)
@@ -49,23 +33,16 @@ no_tuple (one (value.cell c)) is = refl
 no_tuple (one (table t)) is = refl
 no_tuple nothing is = refl
 no_tuple (row parts) is = cc
-no_tuple (many parts) is = refl
-no_tuple (entries pairs) is = refl
-
-some_same : {X : Type 0} (x y : X) → Some x ≡ Some y → x ≡ y
-some_same x y is = cc
+no_tuple g is = refl
 
 pub tuple_labels : (g : Given) (parts : GivenList) → Some parts ≡ tuple_in g → row_labels g ≡ labels_of parts
-tuple_labels (row parts') parts is = ap labels_of (sym (some_same parts parts' is))
-tuple_labels (one v) parts is = cc
-tuple_labels nothing parts is = cc
-tuple_labels (many parts') parts is = cc
-tuple_labels (entries pairs) parts is = cc
+tuple_labels (row parts') parts is = ap labels_of (sym (some_same _ _ is))
+tuple_labels g parts is = cc
 
 -- one scalar more among the labels
 with_label : (texts : List Text) (o : Option Cell) (cells : List CellValue) → tuple_value texts (label_in o) ++ map cell_label cells ≡ map cell_label (with_cell (option_map (datum texts) o) cells)
 with_label texts None cells = refl
-with_label texts (Some c) cells = ap (λ l. l ∷ map cell_label cells) (label_is texts c)
+with_label texts (Some c) cells = ap (λ l. l ∷ map cell_label cells) (label_is _ c)
 
 pub labels_step : (texts : List Text) (items : List Item) (item : Item) (o : Option Cell) (labels labels' : List Label) (whole : List LabelValue) → item ≡ get_or items 0 item → 1 ≤ length items
     → ((live : Tables) (texts : List Text) → option_map (datum texts) o ≡ scalar_in (item_of live texts item)) → labels' ≡ labels ++ label_in o
@@ -75,19 +52,19 @@ labels_step texts items item o labels labels' whole is some scalar pushed before
     ap (λ l. tuple_value texts l ++ rest) pushed
     ∙ ap (λ l. l ++ rest) (map-append (label_datum texts) labels (label_in o))
     ∙ append_assoc (tuple_value texts labels) (tuple_value texts (label_in o)) rest
-    ∙ ap (λ l. tuple_value texts labels ++ l) (with_label texts o (scalars texts (after items)))
-    ∙ ap (λ cells. tuple_value texts labels ++ map cell_label cells) (sym (scalars_from texts items item o is some scalar))
+    ∙ ap (λ l. tuple_value texts labels ++ l) (with_label _ o _)
+    ∙ ap (λ cells. tuple_value texts labels ++ map cell_label cells) (sym (scalars_from _ _ _ o is some scalar))
     ∙ before
 
 -- the labels of a part
 pub tuple_seen : (live : Tables) (texts : List Text) (part : Item) (parts : List Item) (labels : List Label) → Some (items_of live texts parts) ≡ tuple_in (item_of live texts part)
     → tuple_value texts labels ≡ map cell_label (scalars texts parts) → tuple_value texts labels ≡ row_labels (item_of live texts part)
-tuple_seen live texts part parts labels is made = made ∙ ap (map cell_label) (sym (scalars_are live texts parts)) ∙ sym (tuple_labels (item_of live texts part) (items_of live texts parts) is)
+tuple_seen live texts part parts labels is made = made ∙ ap (map cell_label) (sym (scalars_are live texts parts)) ∙ sym (tuple_labels _ _ is)
 
 pub scalar_seen : (live : Tables) (texts : List Text) (part : Item) (o : Option Cell) (labels : List Label) → None ≡ tuple_in (item_of live texts part) → option_map (datum texts) o ≡ scalar_in (item_of live texts part)
     → labels ≡ label_in o → tuple_value texts labels ≡ row_labels (item_of live texts part)
 scalar_seen live texts part o labels none scalar is =
-    ap (tuple_value texts) is ∙ label_seen texts o ∙ ap label_from scalar ∙ sym (no_tuple (item_of live texts part) none)
+    ap (tuple_value texts) is ∙ label_seen _ o ∙ ap label_from scalar ∙ sym (no_tuple _ none)
 
 -- where a call is done, what follows from what it says
 pub on_ok : {T E : Type 0} (P Q : Type 0) (r : Result T E) → (P → Q) → OnOk r P → OnOk r Q
@@ -130,24 +107,24 @@ module _ (live other : Tables) where
   levels_same texts texts' (item ∷ rest) = row_count texts texts' item
 
 pub rows_are : (live : Tables) (texts : List Text) (items : List Item) → index_labels (items_of live texts items) ≡ rows_labels texts items
-rows_are live texts items = rows_same live (λ id. None) texts items
+rows_are live texts items = rows_same _ (λ id. None) _ _
 
 abbrev Has : ℕ → List LabelValue → Type 0
 Has n labels = length labels ≡ n
 
 all_have : (live other : Tables) (texts texts' : List Text) (n : ℕ) (items : List Item) → All (Has n) (index_labels (items_of live texts items)) → All (Has n) (index_labels (items_of other texts' items))
-all_have live other texts texts' n [] h = All-nil (Has n)
+all_have live other texts texts' n [] h = All-nil _
 all_have live other texts texts' n (item ∷ rest) h =
-    All-cons (Has n) (row_labels (item_of other texts' item)) (index_labels (items_of other texts' rest))
+    All-cons (Has n) (row_labels (item_of other texts' item)) _
     (sym (row_count live other texts texts' item) ∙ All-head (Has n) (row_labels (item_of live texts item)) (index_labels (items_of live texts rest)) h)
-    (all_have live other texts texts' n rest (All-tail (Has n) (row_labels (item_of live texts item)) (index_labels (items_of live texts rest)) h))
+    (all_have live other texts texts' n rest (All-tail (Has n) (row_labels (item_of live texts item)) _ h))
 
 -- labels are alike whatever the objects and the texts are
 pub alike_seen : (live : Tables) (texts : List Text) (items : List Item) → AreAlike (index_labels (items_of live texts items)) → AreAlike (rows_labels [] items)
 alike_seen live texts items h =
     let same = levels_same live (λ id. None) texts [] items in
     record {
-      some = subst (λ n. 1 ≤ n) same h.some;
+      some = rw same at h.some;
       each = subst (λ n. All (Has n) (rows_labels [] items)) same (all_have live (λ id. None) texts [] (level_count (index_labels (items_of live texts items))) items h.each);
     }
 
@@ -163,12 +140,12 @@ row_at : (n : ℕ) (items : List Item) (k : ℕ) (item d : Item) → All (Has n)
 row_at n [] k item d h lt is = absurd (omega (arith, lt))
 row_at n (x ∷ xs) zero item d h lt is =
     ap (λ (i : Item). length (row_labels (item_of (λ id. None) [] i))) is
-    ∙ All-head (Has n) (row_labels (item_of (λ id. None) [] x)) (rows_labels [] xs) h
-row_at n (x ∷ xs) (suc k) item d h lt is = row_at n xs k item d (All-tail (Has n) (row_labels (item_of (λ id. None) [] x)) (rows_labels [] xs) h) (omega (arith, lt)) is
+    ∙ All-head (Has n) (row_labels (item_of (λ id. None) [] x)) _ h
+row_at n (x ∷ xs) (suc k) item d h lt is = row_at n xs k item d (All-tail (Has n) (row_labels (item_of (λ id. None) [] x)) _ h) (omega (arith, lt)) is
 
 pub row_fits : (n : ℕ) (items : List Item) (k : ℕ) (item d : Item) (labels : List Label) → All (Has n) (rows_labels [] items) → k < length items → item ≡ get_or items k d
     → tuple_value [] labels ≡ row_labels (item_of (λ id. None) [] item) → length labels ≡ n
-row_fits n items k item d labels h lt is seen = sym (length-map labels (label_datum [])) ∙ ap length seen ∙ row_at n items k item d h lt is
+row_fits n items k item d labels h lt is seen = sym (length-map labels (label_datum [])) ∙ ap length seen ∙ row_at n _ k _ d h lt is
 
 pub rows_step : (texts : List Text) (items : List Item) (k : ℕ) (item d : Item) (labels : List Label) (tuples tuples' : List (List Label)) (whole : List (List LabelValue)) → k < length items → item ≡ get_or items k d
     → tuple_value texts labels ≡ row_labels (item_of (λ id. None) texts item) → tuples' ≡ tuples ++ labels ∷ []
@@ -186,4 +163,4 @@ rows_step texts items k item d labels tuples tuples' whole lt is seen pushed bef
 
 pub rows_all : (texts : List Text) (items : List Item) (k : ℕ) (tuples : List (List Label)) (whole : List (List LabelValue)) → length items ≤ k → labels_value texts tuples ++ rows_labels texts (drop k items) ≡ whole → labels_value texts tuples ≡ whole
 rows_all texts items k tuples whole end before =
-    sym (append-nil (labels_value texts tuples)) ∙ sym (at_drop_all (λ l. labels_value texts tuples ++ rows_labels texts l) items k end) ∙ before
+    sym (append-nil (labels_value texts tuples)) ∙ sym (at_drop_all (λ l. labels_value texts tuples ++ rows_labels texts l) _ k end) ∙ before

@@ -1,46 +1,27 @@
 -- Series of scalars.
-use Rattle.std.proofs.Common.{◌≡◌, ◌∙◌, refl, ap, sym, subst, ℕ, zero, suc, pos, nat_eq, nat_le, Bool, true, false, List, [], ◌∷◌, ◌++◌, map, length, replicate, Option, Some, None, Result, Ok, Err, if◌then◌else◌, arith}
-use Rattle.std.specs.List.{list_all, range_with_len}
-use Rattle.std.proofs.lemmas.List.{length-map}
-use Rattle.std.proofs.lemmas.List.FromFn.{length-map-range_with_len}
-use Rattle.std.proofs.lemmas.List.Elements.{All-cons, All-nil}
-use Rattle.std.proofs.lemmas.Bool.Decides.{nat_tests}
-use Rattle.cell_core.specs.declared.cell.Cell.{Cell}
-use Rattle.cell_core.specs.declared.cell.Kind.{Kind}
-use Rattle.cell_core.specs.declared.cell.Label.{Label}
-use Rattle.cell_core.specs.declared.grid.Shape.TheVariants.{Series}
-use Rattle.meaning.specs.Text.{Text}
-use Rattle.meaning.specs.Cell.{CellValue, LabelValue, int, datum, label_datum, holds, AreGiven, IsLonger}
-use Rattle.meaning.specs.Fault.{FaultValue, wrong_kind, limit, bad_value, length_of, then_value}
-use Rattle.multi_index.specs.Axes.{AxisValue, range_axis}
-use Rattle.column_core.specs.Columns.{CellColumn}
-use Rattle.table_meaning.specs.Settled.{IsSettled}
-use Rattle.table_meaning.specs.Table.{ColumnOf, NumberedTable, Table, table_value, heading_value, tuple_value}
-use Rattle.table_meaning.specs.Value.{Entry, table}
-use Rattle.form_meaning.specs.Finish.{within_limits, limited, default_labels}
-use Rattle.form_meaning.specs.Set.{list_column, first_kind}
-use Rattle.form_meaning.specs.Make.{cast_to, level_count, nameless, few_levels, series_table}
-use Rattle.form_parts.specs.Makes.{MakesBy}
-use Rattle.form_parts.proofs.LabelLaws.{default_seen}
-use Rattle.form_parts.proofs.TableMade.{refused_on}
-use Rattle.frame_store.specs.declared.arguments.Item.{Item}
-use Rattle.frame_store.specs.declared.fault.OpFault.{OpFault}
-use Rattle.frame_store.specs.Parts.{table_column}
-use Rattle.frame_store.specs.Shown.{labels_value, headings_value, cells_value, Makes}
-use Rattle.frame_store.proofs.Settling.{settled_later, seen_later, settled_by, cells_given, columns_settled, table_settled}
-use Rattle.signatures.specs.Scalars.{scalars}
-use Rattle.constructors.specs.Scalars.{column_seen, made_series}
-use Rattle.constructors.specs.Made.{axis_labels, labels_within, index_labels, indexed, series_with}
+use Rattle.{
+  std.proofs.{Common.{◌≡◌, ◌∙◌, refl, ap, sym, subst, ℕ, zero, suc, pos, nat_eq, nat_le, Bool, true, false, List, [], ◌∷◌, ◌++◌, length, replicate, Option, Some, None, Result, Ok, Err, if◌then◌else◌, arith}, lemmas.{List.{length-map, FromFn.{length-map-range_with_len}, Elements.{All-cons, All-nil}}, Bool.Decides.{nat_tests}}},
+  cell_core.specs.declared.{cell.{Cell.{Cell}, Kind.{Kind}, Label.{Label}}, grid.Shape.TheVariants.{Series}},
+  meaning.specs.{Text.{Text}, Cell.{CellValue, LabelValue, int, datum, label_datum, AreGiven, IsLonger}, Fault.{FaultValue, wrong_kind, limit, bad_value, length_of, then_value}},
+  multi_index.specs.Axes.{AxisValue, range_axis},
+  column_core.specs.Columns.{CellColumn},
+  table_meaning.specs.{Settled.{IsSettled}, Table.{ColumnOf, NumberedTable, Table, table_value, heading_value, tuple_value}, Value.{Entry, table}},
+  form_meaning.specs.{Finish.{within_limits, limited, default_labels}, Set.{list_column}, Make.{cast_to, level_count, nameless, few_levels, series_table}},
+  form_parts.{specs.Makes.{MakesBy}, proofs.{LabelLaws.{default_seen}, TableMade.{refused_on}}},
+  frame_store.{specs.{declared.{arguments.Item.{Item}, fault.OpFault.{OpFault}}, Parts.{table_column}, Shown.{labels_value, headings_value, cells_value, Makes}}, proofs.Settling.{settled_later, seen_later, settled_by, cells_given, columns_settled, table_settled}},
+  signatures.specs.Scalars.{scalars},
+  constructors.specs.{Scalars.{column_seen, made_series}, Made.{axis_labels, labels_within, index_labels, indexed, series_with}},
+}
 
 abbrev if_within : List (List LabelValue) → Bool → Result (List (List LabelValue)) FaultValue
 if_within labels b = if b then Ok labels else Err limit
 
 pub counted : (texts : List Text) (rows columns : ℕ) (axis : AxisValue) → within_limits rows columns ≡ true → axis ≡ range_axis rows → labels_within rows columns (default_labels rows) ≡ Ok (axis_labels texts axis)
 counted texts rows columns axis within is =
-    ap (if_within (default_labels rows)) within ∙ ap Ok (sym (default_seen texts rows) ∙ ap (axis_labels texts) (sym is))
+    ap (if_within (default_labels rows)) within ∙ ap Ok (sym (default_seen _ _) ∙ ap (axis_labels texts) (sym is))
 
 default_count : (rows : ℕ) → length (default_labels rows) ≡ rows
-default_count rows = length-map-range_with_len (λ row. int (pos row) ∷ []) 0 rows
+default_count rows = length-map-range_with_len (λ row. int (pos row) ∷ []) 0 _
 
 pub nat_same : (a b : ℕ) → nat_eq a b ≡ true → a ≡ b
 nat_same a b e = grind (arith, nat_tests)
@@ -59,16 +40,16 @@ few_made false made rest is = cc
 
 listed_count : (b : Bool) (rows columns : ℕ) (labels made : List (List LabelValue)) → nat_eq rows (length labels) ≡ b → if_length rows (length labels) (few_levels labels (labels_within rows columns labels)) b ≡ Ok made → length made ≡ rows
 listed_count true rows columns labels made same is =
-    ap length (sym (within_count (within_limits rows columns) labels made (few_made (nat_le (level_count labels) 4) made (labels_within rows columns labels) is))) ∙ sym (nat_same rows (length labels) same)
+    ap length (sym (within_count _ _ _ (few_made _ _ _ is))) ∙ sym (nat_same _ _ same)
 listed_count false rows columns labels made same is = cc
 
 pub labels_count : (rows columns : ℕ) (index : Option (List (List LabelValue))) (made : List (List LabelValue)) → index_labels rows columns index ≡ Ok made → length made ≡ rows
-labels_count rows columns None made is = ap length (sym (within_count (within_limits rows columns) (default_labels rows) made is)) ∙ default_count rows
-labels_count rows columns (Some labels) made is = listed_count (nat_eq rows (length labels)) rows columns labels made refl is
+labels_count rows columns None made is = ap length (sym (within_count _ _ _ is)) ∙ default_count _
+labels_count rows columns (Some labels) made is = listed_count _ _ _ _ _ refl is
 
 pub axis_count : (texts : List Text) (rows columns : ℕ) (index : Option (List (List LabelValue))) (axis : AxisValue) → index_labels rows columns index ≡ Ok (axis_labels texts axis) → rows ≡ length axis.tuples
 axis_count texts rows columns index axis is =
-    sym (labels_count rows columns index (axis_labels texts axis) is) ∙ length-map axis.tuples (tuple_value texts)
+    sym (labels_count _ _ _ _ is) ∙ length-map axis.tuples (tuple_value texts)
 
 -- a table that goes on with the labels of its rows, unless it is beyond the limits
 abbrev limit_then : Table → Bool → Result Entry FaultValue
@@ -84,7 +65,7 @@ either_limit go labels false = refl
 pub limited_labels : (rows columns : ℕ) (go : List (List LabelValue) → Table) (labels : List (List LabelValue)) → length (go labels).labels ≡ rows → length (go labels).columns ≡ columns
     → limited (go labels) ≡ labels_then go (labels_within rows columns labels)
 limited_labels rows columns go labels r c =
-    ap (limit_then (go labels)) (λ j. within_limits (r j) (c j)) ∙ either_limit go labels (within_limits rows columns)
+    ap (limit_then (go labels)) (λ j. within_limits (r j) (c j)) ∙ either_limit _ _ _
 
 either_length : (b : Bool) (rows got : ℕ) (go : List (List LabelValue) → Table) (first : Result Entry FaultValue) (made : Result (List (List LabelValue)) FaultValue) → (b ≡ true → first ≡ labels_then go made)
     → (if b then first else Err (bad_value (length_of rows got))) ≡ labels_then go (if_length rows got made b)
@@ -98,11 +79,11 @@ either_few false go first made same = refl
 
 pub indexed_within : (rows columns : ℕ) (index : Option (List (List LabelValue))) (go : List (List LabelValue) → Table) → ((labels : List (List LabelValue)) → (go labels).labels ≡ labels) → ((labels : List (List LabelValue)) → length (go labels).columns ≡ columns)
     → indexed rows index (λ labels. limited (go labels)) ≡ labels_then go (index_labels rows columns index)
-indexed_within rows columns None go ls cs = limited_labels rows columns go (default_labels rows) (ap length (ls (default_labels rows)) ∙ default_count rows) (cs (default_labels rows))
+indexed_within rows columns None go ls cs = limited_labels _ _ _ _ (ap length (ls (default_labels rows)) ∙ default_count _) (cs (default_labels rows))
 indexed_within rows columns (Some labels) go ls cs =
     either_length (nat_eq rows (length labels)) rows (length labels) go (few_levels labels (limited (go labels))) (few_levels labels (labels_within rows columns labels))
-    (λ e. either_few (nat_le (level_count labels) 4) go (limited (go labels)) (labels_within rows columns labels)
-    (limited_labels rows columns go labels (ap length (ls labels) ∙ sym (nat_same rows (length labels) e)) (cs labels)))
+    (λ e. either_few (nat_le (level_count labels) 4) go _ (labels_within rows columns labels)
+    (limited_labels rows _ go labels (ap length (ls labels) ∙ sym (nat_same _ _ e)) (cs labels)))
 
 -- a column of scalars that were given
 held_cells : (b : Bool) (kind : Kind) (cells : List CellValue) (col : ColumnOf CellValue) → (if b then Ok record { kind = kind; cells = cells } else Err wrong_kind) ≡ Ok col → cells ≡ col.cells
@@ -112,7 +93,7 @@ held_cells false kind cells col is = cc
 pub column_given : (dict : List Text) (items : List Item) (c : CellColumn) → ((texts : List Text) → list_column (scalars texts items) ≡ Ok (column_seen texts c)) → IsSettled scalars dict items → AreGiven dict c.cells
 column_given dict items c is settled =
     cells_given dict c.cells (settled_by scalars cells_value (λ vs. vs) dict items c.cells
-    (λ texts. held_cells (list_all (holds (first_kind (scalars texts items))) (scalars texts items)) (first_kind (scalars texts items)) (scalars texts items) (column_seen texts c) (is texts)) settled)
+    (λ texts. held_cells _ _ _ _ (is texts)) settled)
 
 -- the labels of an axis were given
 abbrev pub is_ok_of : {A : Type 0} → A → Result A FaultValue
@@ -124,7 +105,7 @@ ok_same a b e = cc
 pub labels_settled : (dict : List Text) (axis : AxisValue) (rows columns : ℕ) (index : List Text → Option (List (List LabelValue))) → ((texts : List Text) → index_labels rows columns (index texts) ≡ Ok (axis_labels texts axis))
     → ((more : List Text) → index (dict ++ more) ≡ index dict) → IsSettled labels_value dict axis.tuples
 labels_settled dict axis rows columns index is settled = λ more.
-    ok_same (axis_labels (dict ++ more) axis) (axis_labels dict axis) (sym (is (dict ++ more)) ∙ ap (index_labels rows columns) (settled more) ∙ is dict)
+    ok_same _ _ (sym (is (dict ++ more)) ∙ ap (index_labels rows columns) (settled more) ∙ is dict)
 
 pub index_later : (old new : List Text) (index : List Text → Option (List (List LabelValue))) → IsLonger old new → ((more : List Text) → index (old ++ more) ≡ index old) → index new ≡ index old
 index_later old new index longer settled = ap index longer.1 ∙ settled longer.0
@@ -141,12 +122,12 @@ level_seen texts (tuple ∷ rest) = sym (length-map tuple (label_datum texts))
 pub names_seen : (texts : List Text) (axis : AxisValue) → axis.names ≡ nameless axis.tuples → headings_value texts axis.names ≡ nameless (axis_labels texts axis)
 names_seen texts axis names =
     ap (headings_value texts) names
-    ∙ missing_names texts (level_count axis.tuples)
-    ∙ ap (λ n. replicate n None) (level_seen texts axis.tuples)
+    ∙ missing_names _ _
+    ∙ ap (λ n. replicate n None) (level_seen _ _)
 
 pub names_settled : (texts : List Text) (axis : AxisValue) → axis.names ≡ nameless axis.tuples → IsSettled headings_value texts axis.names
 names_settled texts axis names =
-    subst (IsSettled headings_value texts) (sym names) (λ more. missing_names (texts ++ more) (level_count axis.tuples) ∙ sym (missing_names texts (level_count axis.tuples)))
+    rw names (λ more. missing_names _ _ ∙ sym (missing_names _ _))
 
 abbrev series_rows : Option (List (List LabelValue)) → Option LabelValue → ColumnOf CellValue → Result Entry FaultValue
 series_rows index name c = indexed (length c.cells) index (λ labels. limited (series_table name labels c))
@@ -169,24 +150,24 @@ series_is new cells index name kind listed column first second =
 pub cast_refused : (old new : List Text) (cells : List CellValue) (index : Option (List (List LabelValue))) (name : Option LabelValue) (kind : Option Kind) (listed : CellColumn) (fault : OpFault)
     → list_column cells ≡ Ok (column_seen old listed) → MakesBy column_seen new (Err fault) (cast_to kind (column_seen old listed)) → Makes new (Err fault) (series_with cells index name kind)
 cast_refused old new cells index name kind listed fault first refused =
-    subst (λ (m : Result Entry FaultValue). Makes new (Err fault) m) (sym (ap (λ r. then_value r (series_cast index name kind)) first))
+    rw (ap (λ r. then_value r (series_cast index name kind)) first)
     (refused_on column_seen new (cast_to kind (column_seen old listed)) (series_rows index name) (Err fault) fault refl refused)
 
 pub axis_refused : (old new : List Text) (cells : List CellValue) (index : List Text → Option (List (List LabelValue))) (name : Option LabelValue) (kind : Option Kind) (listed column : CellColumn) (fault : OpFault)
     → IsLonger old new → list_column cells ≡ Ok (column_seen old listed) → cast_to kind (column_seen old listed) ≡ Ok (column_seen new column) → ((more : List Text) → index (old ++ more) ≡ index old)
     → MakesBy axis_labels new (Err fault) (index_labels (length column.cells) 1 (index new)) → Makes new (Err fault) (series_with cells (index old) name kind)
 axis_refused old new cells index name kind listed column fault longer first second settled refused =
-    subst (λ (m : Result Entry FaultValue). Makes new (Err fault) m) (sym (series_is new cells (index old) name kind (column_seen old listed) column first second))
+    rw (series_is _ _ _ _ _ _ _ first second)
     (refused_on axis_labels new (index_labels (length column.cells) 1 (index old)) (λ labels. Ok (table (series_named name (column_seen new column) labels))) (Err fault) fault refl
-    (subst (λ (i : Option (List (List LabelValue))). MakesBy axis_labels new (Err fault) (index_labels (length column.cells) 1 i)) (index_later old new index longer settled) refused))
+    (subst (λ (i : Option (List (List LabelValue))). MakesBy axis_labels new (Err fault) (index_labels (length column.cells) 1 i)) (index_later _ _ index longer settled) refused))
 
 pub series_answer : (old new : List Text) (cells : List CellValue) (index : List Text → Option (List (List LabelValue))) (name : Option Label) (kind : Option Kind) (listed column : CellColumn) (axis : AxisValue) (made : NumberedTable)
     → IsLonger old new → list_column cells ≡ Ok (column_seen old listed) → cast_to kind (column_seen old listed) ≡ Ok (column_seen new column) → ((more : List Text) → index (old ++ more) ≡ index old)
     → ((texts : List Text) → index_labels (length column.cells) 1 (index texts) ≡ Ok (axis_labels texts axis)) → axis.names ≡ nameless axis.tuples → IsSettled heading_value old name → made ≡ made_series axis name column
     → series_with cells (index old) (heading_value old name) kind ≡ Ok (table (table_value new made))
 series_answer old new cells index name kind listed column axis made longer first second settled labels names named is =
-    series_is new cells (index old) (heading_value old name) kind (column_seen old listed) column first second
-    ∙ ap (labels_then (series_named (heading_value old name) (column_seen new column))) (ap (index_labels (length column.cells) 1) (sym (index_later old new index longer settled)) ∙ labels new)
+    series_is _ cells (index old) (heading_value old name) _ _ _ first second
+    ∙ ap (labels_then (series_named (heading_value old name) (column_seen new column))) (ap (index_labels (length column.cells) 1) (sym (index_later _ _ index longer settled)) ∙ labels new)
     ∙ ap (λ (v : Table). Ok (table v)) (seen ∙ ap (table_value new) (sym is))
   where
     seen : series_named (heading_value old name) (column_seen new column) (axis_labels new axis) ≡ table_value new (made_series axis name column)
@@ -194,9 +175,9 @@ series_answer old new cells index name kind listed column axis made longer first
         record {
           shape = Series;
           columns_name = None;
-          level_names = sym (names_seen new axis names) j;
+          level_names = sym (names_seen new _ names) j;
           labels = axis_labels new axis;
-          headings = sym (seen_later heading_value old new name longer named) j ∷ [];
+          headings = sym (seen_later heading_value _ _ _ longer named) j ∷ [];
           columns = column_seen new column ∷ [];
         }
 
@@ -205,10 +186,10 @@ pub series_settled : (old new : List Text) (index : List Text → Option (List (
     → ((texts : List Text) → index_labels (length column.cells) 1 (index texts) ≡ Ok (axis_labels texts axis)) → axis.names ≡ nameless axis.tuples → IsSettled heading_value old name → made ≡ made_series axis name column
     → IsSettled table_value new made
 series_settled old new index name column axis made longer given settled labels names named is =
-    subst (IsSettled table_value new) (sym is)
-    (table_settled new (made_series axis name column)
+    rw is
+    (table_settled _ (made_series axis name column)
     (λ more. refl)
-    (names_settled new axis names)
+    (names_settled _ _ names)
     (settled_later labels_value old new axis.tuples longer (labels_settled old axis (length column.cells) 1 index labels settled))
     (λ more. ap (λ n. n ∷ []) (settled_later heading_value old new name longer named more))
     (columns_settled new (table_column column ∷ []) (All-cons (λ (c : ColumnOf Cell). AreGiven new c.cells) (table_column column) [] given (All-nil (λ (c : ColumnOf Cell). AreGiven new c.cells)))))

@@ -1,24 +1,15 @@
 -- Keys that are given once more.
-use Rattle.std.proofs.Common.{◌≡◌, ◌∙◌, ◌<◌, ◌+◌, ap, sym, subst, ℕ, suc, Bool, true, false, List, [], ◌∷◌, length, drop, get_or, slice_get, All, if◌then◌else◌, rules, arith}
-use Rattle.std.specs.Bool.{Decides}
-use Rattle.std.proofs.Math.Seq.{drop-cons}
-use Rattle.std.proofs.lemmas.Option.{slice_get-get_or}
-use Rattle.std.proofs.lemmas.List.Elements.{All-cons, All-nil, All-map, All-weaker}
-use Rattle.std.specs.Map.{keys_of, values_of}
-use Rattle.indexmap.specs.IndexMap.{insert_entry}
-use Rattle.cell_core.specs.declared.cell.Label.{Label}
-use Rattle.cell_core.specs.contracts.cell.LabelPartialEq.TheImpl.{eq-value}
-use Rattle.cell_core.specs.Texts.{AreDistinct}
-use Rattle.meaning.specs.Text.{Text}
-use Rattle.meaning.specs.Cell.{LabelValue, label_datum}
-use Rattle.table_meaning.specs.Settled.{IsSettled}
-use Rattle.table_meaning.specs.Value.{Given}
-use Rattle.form_meaning.specs.Make.{with_pair, pairs_onto}
-use Rattle.form_parts.proofs.LabelLaws.{same_by_number}
-use Rattle.frame_store.specs.Objects.{Tables}
-use Rattle.frame_store.specs.Arguments.{argument_of, entries_of}
-use Rattle.frame_store.specs.declared.arguments.Argument.{Argument}
-use Rattle.constructors.specs.Pairs.{value_in, entry_seen, entries_seen}
+use Rattle.{
+  std.{proofs.{Common.{◌≡◌, ◌∙◌, ◌<◌, ◌+◌, ap, sym, ℕ, suc, Bool, true, false, List, [], ◌∷◌, length, drop, get_or, slice_get, All, if◌then◌else◌, rules, arith}, Math.Seq.{drop-cons}, lemmas.{Option.{slice_get-get_or}, List.Elements.{All-cons, All-nil, All-map, All-weaker}}}, specs.{Bool.{Decides}, Map.{keys_of, values_of}}},
+  indexmap.specs.IndexMap.{insert_entry},
+  cell_core.specs.{declared.cell.Label.{Label}, contracts.cell.LabelPartialEq.TheImpl.{eq-value}, Texts.{AreDistinct}},
+  meaning.specs.{Text.{Text}, Cell.{LabelValue, label_datum}},
+  table_meaning.specs.{Settled.{IsSettled}, Value.{Given}},
+  form_meaning.specs.Make.{with_pair, pairs_onto},
+  form_parts.proofs.LabelLaws.{same_by_number},
+  frame_store.specs.{Objects.{Tables}, Arguments.{entries_of}, declared.arguments.Argument.{Argument}},
+  constructors.specs.Pairs.{value_in, entry_seen, entries_seen},
+}
 
 abbrev pub same_number : Label → Label → Bool
 same_number a b = eq-value.it a b
@@ -42,7 +33,7 @@ keys_inserted texts count (e ∷ es) k i all lt given = go (keys_inserted texts 
 
     go : All (IsKey texts count) (insert_entry same_number es k i) → (b : Bool) → All (IsKey texts count) (if b then (e.0, i) ∷ es else e ∷ insert_entry same_number es k i)
     go later true = All-cons (IsKey texts count) (e.0, i) es (lt, first.1) rest
-    go later false = All-cons (IsKey texts count) e (insert_entry same_number es k i) first later
+    go later false = All-cons (IsKey texts count) e _ first later
 
 inserted_seen : (live : Tables) (texts : List Text) (pairs : List (Label × Argument)) (count : ℕ) (es : List (Label × ℕ)) (k : Label) (i : ℕ) (v : Given) → AreDistinct texts → All (IsKey texts count) es → IsSettled label_datum texts k
     → value_in live texts (slice_get pairs i) ≡ v → entries_seen live texts pairs (insert_entry same_number es k i) ≡ with_pair (entries_seen live texts pairs es) (label_datum texts k) v
@@ -50,7 +41,7 @@ inserted_seen live texts pairs count [] k i v distinct all given is = ap (λ g. 
 inserted_seen live texts pairs count (e ∷ es) k i v distinct all given is =
     go (inserted_seen live texts pairs count es k i v distinct (λ j d below. all (suc j) d (omega arith)) given is) (same_number k e.0)
     ∙ ap (λ b. if b then (label_datum texts e.0, v) ∷ entries_seen live texts pairs es else entry_seen live texts pairs e ∷ with_pair (entries_seen live texts pairs es) (label_datum texts k) v)
-    (same_by_number texts k e.0 (same_number k e.0) distinct given (all 0 e (omega arith)).1 (number_decides k e.0))
+    (same_by_number _ k _ _ distinct given (all 0 e (omega arith)).1 (number_decides k _))
   where
     go : entries_seen live texts pairs (insert_entry same_number es k i) ≡ with_pair (entries_seen live texts pairs es) (label_datum texts k) v → (b : Bool) → entries_seen live texts pairs (if b then (e.0, i) ∷ es else e ∷ insert_entry same_number es k i)
         ≡ (if b then (label_datum texts e.0, v) ∷ entries_seen live texts pairs es else entry_seen live texts pairs e ∷ with_pair (entries_seen live texts pairs es) (label_datum texts k) v)
@@ -66,22 +57,22 @@ pair_step live texts pairs es es' i d whole distinct all lt given is before =
     let next : i + 1 ≡ suc i = omega arith in
     ap (λ n. pairs_onto (entries_seen live texts pairs es') (entries_of live texts (drop n pairs))) next
     ∙ ap (λ l. pairs_onto l (entries_of live texts (drop (suc i) pairs)))
-    (ap (entries_seen live texts pairs) is ∙ inserted_seen live texts pairs (length pairs) es p.0 i (argument_of live texts p.1) distinct all (given i d lt) (ap (value_in live texts) (slice_get-get_or pairs i d lt)))
+    (ap (entries_seen live texts pairs) is ∙ inserted_seen _ _ pairs _ es _ i _ distinct all (given i d lt) (ap (value_in live texts) (slice_get-get_or _ i d lt)))
     ∙ ap (λ l. pairs_onto (entries_seen live texts pairs es) (entries_of live texts l)) (sym (drop-cons pairs i d lt))
     ∙ before
 
 pub keys_step : (texts : List Text) (pairs : List (Label × Argument)) (es es' : List (Label × ℕ)) (i : ℕ) (d : Label × Argument) → All (IsKey texts (length pairs)) es → i < length pairs
     → All (λ (p : Label × Argument). IsSettled label_datum texts p.0) pairs → es' ≡ insert_entry same_number es (get_or pairs i d).0 i → All (IsKey texts (length pairs)) es'
-keys_step texts pairs es es' i d all lt given is = subst (All (IsKey texts (length pairs))) (sym is) (keys_inserted texts (length pairs) es (get_or pairs i d).0 i all lt (given i d lt))
+keys_step texts pairs es es' i d all lt given is = rw is (keys_inserted texts (length pairs) es (get_or pairs i d).0 i all lt (given i d lt))
 
 places_below : (texts : List Text) (count : ℕ) (es : List (Label × ℕ)) → All (IsKey texts count) es → All (λ (e : Label × ℕ). e.1 < count) es
 places_below texts count es all = All-weaker (IsKey texts count) (λ (e : Label × ℕ). e.1 < count) (λ e h. h.0) es all
 
 pub places_inside : (texts : List Text) (count : ℕ) (es : List (Label × ℕ)) → All (IsKey texts count) es → All (λ (place : ℕ). place < count) (values_of es)
-places_inside texts count es all = All-map (λ (place : ℕ). place < count) (λ (e : Label × ℕ). e.1) es (places_below texts count es all)
+places_inside texts count es all = All-map (λ (place : ℕ). place < count) (λ (e : Label × ℕ). e.1) _ (places_below _ _ es all)
 
 keys_given : (texts : List Text) (count : ℕ) (es : List (Label × ℕ)) → All (IsKey texts count) es → All (λ (e : Label × ℕ). IsSettled label_datum texts e.0) es
 keys_given texts count es all = All-weaker (IsKey texts count) (λ (e : Label × ℕ). IsSettled label_datum texts e.0) (λ e h. h.1) es all
 
 pub keys_settled : (texts : List Text) (count : ℕ) (es : List (Label × ℕ)) → All (IsKey texts count) es → All (λ (key : Label). IsSettled label_datum texts key) (keys_of es)
-keys_settled texts count es all = All-map (λ (key : Label). IsSettled label_datum texts key) (λ (e : Label × ℕ). e.0) es (keys_given texts count es all)
+keys_settled texts count es all = All-map (λ (key : Label). IsSettled label_datum texts key) (λ (e : Label × ℕ). e.0) _ (keys_given _ _ es all)

@@ -1,21 +1,15 @@
 -- The rows of columns.
-use Rattle.std.proofs.Common.{◌≡◌, ◌∙◌, ◌+◌, refl, ap, sym, subst, ℕ, zero, suc, nat_eq, Bool, true, false, List, [], ◌∷◌, map, length, drop, slice_get, get_or, add-one, Option, Some, None, Result, Ok, Err, All, if◌then◌else◌, arith}
-use Rattle.std.specs.Prelude.{IfOk}
-use Rattle.std.proofs.lemmas.List.{length-map, get_or-map}
-use Rattle.std.proofs.lemmas.List.Elements.{All-cons, All-nil}
-use Rattle.std.proofs.lemmas.Bool.Decides.{nat_tests}
-use Rattle.meaning.specs.Text.{Text}
-use Rattle.meaning.specs.Cell.{CellValue, LabelValue, datum}
-use Rattle.meaning.specs.Fault.{FaultValue, bad_value, length_of, then_value}
-use Rattle.column_core.specs.Blocks.{CellBlock}
-use Rattle.multi_index.specs.Axes.{AxisValue}
-use Rattle.table_meaning.specs.Table.{ColumnOf, column_value, tuple_value, no_column}
-use Rattle.form_parts.specs.Makes.{MakesBy, block_value, blocks_value}
-use Rattle.frame_store.specs.declared.fault.OpFault.{OpFault}
-use Rattle.frame_store.specs.Parts.{block_column, IsSingle, HaveRows}
-use Rattle.constructors.specs.Made.{axis_labels, same_rows, common_rows, labels_for, frame_labels}
-use Rattle.constructors.proofs.MadeLaws.{labels_count, nat_same, ok_same}
-use Rattle.signatures.proofs.ToldLaws.{some_same}
+use Rattle.{
+  std.{proofs.{Common.{◌≡◌, ◌∙◌, ◌+◌, refl, ap, sym, subst, ℕ, zero, suc, nat_eq, Bool, true, false, List, [], ◌∷◌, map, length, drop, slice_get, get_or, add-one, Option, Some, None, Result, Ok, Err, All, if◌then◌else◌, arith}, lemmas.{List.{length-map, get_or-map, Elements.{All-cons, All-nil}}, Bool.Decides.{nat_tests}}}, specs.Prelude.{IfOk}},
+  meaning.specs.{Text.{Text}, Cell.{CellValue, LabelValue, datum}, Fault.{FaultValue, bad_value, length_of, then_value}},
+  column_core.specs.Blocks.{CellBlock},
+  multi_index.specs.Axes.{AxisValue},
+  table_meaning.specs.Table.{ColumnOf, column_value, tuple_value, no_column},
+  form_parts.specs.Makes.{MakesBy, block_value, blocks_value},
+  frame_store.specs.{declared.fault.OpFault.{OpFault}, Parts.{block_column, IsSingle, HaveRows}},
+  constructors.{specs.Made.{axis_labels, same_rows, common_rows, labels_for, frame_labels}, proofs.MadeLaws.{labels_count, nat_same, ok_same}},
+  signatures.proofs.ToldLaws.{some_same},
+}
 
 -- the columns from a place on
 columns_from : (texts : List Text) (blocks : List CellBlock) (place : ℕ) (b : CellBlock) → slice_get blocks place ≡ Some b → drop place (blocks_value texts blocks) ≡ block_value texts b ∷ drop (suc place) (blocks_value texts blocks)
@@ -29,7 +23,7 @@ single_at (x ∷ xs) zero b all is = subst IsSingle (some_same x b is) (all 0 x 
 single_at (x ∷ xs) (suc place) b all is = single_at xs place b (λ k d lt. all (suc k) d (omega (arith, lt))) is
 
 rows_at : (texts : List Text) (blocks : List CellBlock) (place : ℕ) (b : CellBlock) → All IsSingle blocks → slice_get blocks place ≡ Some b → b.rows ≡ length (block_value texts b).cells
-rows_at texts blocks place b all is = ap (λ (b : CellBlock). b.rows) (single_at blocks place b all is) ∙ sym (length-map (block_column b).cells (datum texts))
+rows_at texts blocks place b all is = ap (λ (b : CellBlock). b.rows) (single_at _ _ b all is) ∙ sym (length-map (block_column b).cells (datum texts))
 
 pub no_blocks : (texts : List Text) (blocks : List CellBlock) → length blocks ≡ 0 → common_rows (blocks_value texts blocks) ≡ Ok None
 no_blocks texts [] is = refl
@@ -40,7 +34,7 @@ pub rows_first : (texts : List Text) (blocks : List CellBlock) (b : CellBlock) (
     → same_rows rows (drop 1 (blocks_value texts blocks)) ≡ common_rows (blocks_value texts blocks)
 rows_first texts [] b rows all is count = cc
 rows_first texts (x ∷ xs) b rows all is count =
-    ap (λ n. same_rows n (blocks_value texts xs)) (count ∙ rows_at texts (x ∷ xs) 0 b all is ∙ ap (λ (b : CellBlock). length (block_value texts b).cells) (sym (some_same x b is)))
+    ap (λ n. same_rows n (blocks_value texts xs)) (count ∙ rows_at _ (x ∷ xs) 0 b all is ∙ ap (λ (b : CellBlock). length (block_value texts b).cells) (sym (some_same x b is)))
 
 abbrev if_same : ℕ → ℕ → List (ColumnOf CellValue) → Bool → Result (Option ℕ) FaultValue
 if_same rows got cs b = if b then same_rows rows cs else Err (bad_value (length_of rows got))
@@ -50,7 +44,7 @@ here : (texts : List Text) (blocks : List CellBlock) (place : ℕ) (b : CellBloc
 here texts blocks place b rows whole all is before =
     let next : place + 1 ≡ suc place = add-one place in
     ap (λ n. if_same rows b.rows (drop n (blocks_value texts blocks)) (nat_eq rows b.rows)) next
-    ∙ ap (λ n. if_same rows n (drop (suc place) (blocks_value texts blocks)) (nat_eq rows n)) (rows_at texts blocks place b all is)
+    ∙ ap (λ n. if_same rows n (drop (suc place) (blocks_value texts blocks)) (nat_eq rows n)) (rows_at texts _ _ b all is)
     ∙ sym (ap (same_rows rows) (columns_from texts blocks place b is)) ∙ before
 
 -- the next one has as many
@@ -59,7 +53,7 @@ pub rows_next : (texts : List Text) (blocks : List CellBlock) (place : ℕ) (b :
 rows_next texts blocks place b rows got whole all is count same before =
     let one : rows ≡ b.rows = sym same ∙ count in
     let equal : nat_eq rows b.rows ≡ true = grind (arith, nat_tests) in
-    sym (ap (if_same rows b.rows (drop (place + 1) (blocks_value texts blocks))) equal) ∙ here texts blocks place b rows whole all is before
+    sym (ap (if_same rows b.rows (drop (place + 1) (blocks_value texts blocks))) equal) ∙ here _ _ _ b _ _ all is before
 
 -- or not
 pub rows_differ : (texts : List Text) (blocks : List CellBlock) (place : ℕ) (b : CellBlock) (rows got : ℕ) (whole : Result (Option ℕ) FaultValue) → All IsSingle blocks → slice_get blocks place ≡ Some b → got ≡ b.rows → (got ≡ rows → ⊥)
@@ -67,7 +61,7 @@ pub rows_differ : (texts : List Text) (blocks : List CellBlock) (place : ℕ) (b
 rows_differ texts blocks place b rows got whole all is count other before =
     let two : rows ≡ b.rows → ⊥ = λ e. other (count ∙ sym e) in
     let unequal : nat_eq rows b.rows ≡ false = grind (arith, nat_tests) in
-    sym (here texts blocks place b rows whole all is before) ∙ ap (if_same rows b.rows (drop (place + 1) (blocks_value texts blocks))) unequal ∙ ap (λ n. Err (bad_value (length_of rows n))) (sym count)
+    sym (here _ _ _ b _ _ all is before) ∙ ap (if_same rows b.rows (drop (place + 1) (blocks_value texts blocks))) unequal ∙ ap (λ n. Err (bad_value (length_of rows n))) (sym count)
 
 all_dropped : {X : Type 0} (xs : List X) → drop (length xs) xs ≡ []
 all_dropped [] = refl
@@ -83,15 +77,15 @@ abbrev Has : ℕ → ColumnOf CellValue → Type 0
 Has rows c = length c.cells ≡ rows
 
 first_same : (b : Bool) (rows got : ℕ) (cs : List (ColumnOf CellValue)) (o : Option ℕ) → nat_eq rows got ≡ b → if_same rows got cs b ≡ Ok o → (got ≡ rows) × (same_rows rows cs ≡ Ok o)
-first_same true rows got cs o same is = (sym (nat_same rows got same), is)
+first_same true rows got cs o same is = (sym (nat_same _ _ same), is)
 first_same false rows got cs o same is = cc
 
 rows_kept : (rows : ℕ) (cs : List (ColumnOf CellValue)) (o : Option ℕ) → same_rows rows cs ≡ Ok o → (o ≡ Some rows) × All (Has rows) cs
-rows_kept rows [] o is = (sym (ok_same (Some rows) o is), All-nil (Has rows))
+rows_kept rows [] o is = (sym (ok_same _ o is), All-nil _)
 rows_kept rows (c ∷ cs) o is =
-    let f = first_same (nat_eq rows (length c.cells)) rows (length c.cells) cs o refl is in
+    let f = first_same _ rows (length c.cells) cs o refl is in
     let later = rows_kept rows cs o f.1 in
-    (later.0, All-cons (Has rows) c cs f.0 later.1)
+    (later.0, All-cons (Has rows) c _ f.0 later.1)
 
 abbrev labels_then : ℕ → Option (List (List LabelValue)) → Result (Option ℕ) FaultValue → Result (List (List LabelValue)) FaultValue
 labels_then count index r = then_value r (λ rows. labels_for rows count index)
@@ -99,23 +93,23 @@ labels_then count index r = then_value r (λ rows. labels_for rows count index)
 column_filled : (n count : ℕ) (cs : List (ColumnOf CellValue)) (index : Option (List (List LabelValue))) (labels : List (List LabelValue)) (r : Result (Option ℕ) FaultValue) → same_rows n cs ≡ r → labels_then count index r ≡ Ok labels
     → (length labels ≡ n) × All (Has n) cs
 column_filled n count cs index labels (Ok o) is made =
-    let kept = rows_kept n cs o is in
-    (labels_count n count index labels (sym (ap (λ o. labels_for o count index) kept.0) ∙ made), kept.1)
+    let kept = rows_kept n _ o is in
+    (labels_count n _ _ _ (sym (ap (λ o. labels_for o count index) kept.0) ∙ made), kept.1)
 column_filled n count cs index labels (Err fault) is made = cc
 
 columns_filled : (cs : List (ColumnOf CellValue)) (index : Option (List (List LabelValue))) (labels : List (List LabelValue)) → frame_labels cs index ≡ Ok labels → All (Has (length labels)) cs
-columns_filled [] index labels made = All-nil (Has (length labels))
+columns_filled [] index labels made = All-nil _
 columns_filled (c ∷ cs) index labels made =
-    let f = column_filled (length c.cells) (length (c ∷ cs)) cs index labels (same_rows (length c.cells) cs) refl made in
-    All-cons (Has (length labels)) c cs (sym f.0) (subst (λ n. All (Has n) cs) (sym f.0) f.1)
+    let f = column_filled _ _ _ _ _ _ refl made in
+    All-cons (Has (length labels)) c _ (sym f.0) (subst (λ n. All (Has n) cs) (sym f.0) f.1)
 
 -- the rows of the columns are those of the labels
 pub rows_filled : (texts : List Text) (blocks : List CellBlock) (index : Option (List (List LabelValue))) (labels : List (List LabelValue)) (rows : ℕ) → frame_labels (blocks_value texts blocks) index ≡ Ok labels → length labels ≡ rows
     → HaveRows rows (map block_column blocks)
 rows_filled texts blocks index labels rows made count k d lt =
     sym (length-map (get_or (map block_column blocks) k d).cells (datum texts))
-    ∙ ap (λ (c : ColumnOf CellValue). length c.cells) (sym (get_or-map (column_value texts) (map block_column blocks) k d no_column lt))
-    ∙ columns_filled (blocks_value texts blocks) index labels made k no_column (omega (arith, lt, length-map (map block_column blocks) (column_value texts)))
+    ∙ ap (λ (c : ColumnOf CellValue). length c.cells) (sym (get_or-map _ _ k d _ lt))
+    ∙ columns_filled _ _ _ made k no_column (omega (arith, lt, length-map (map block_column blocks) (column_value texts)))
     ∙ count
 
 pub axis_rows : (texts : List Text) (blocks : List CellBlock) (index : Option (List (List LabelValue))) (rows : Option ℕ) (columns : ℕ) (r : Result AxisValue OpFault) → common_rows (blocks_value texts blocks) ≡ Ok rows
@@ -124,5 +118,5 @@ axis_rows texts blocks index rows columns (Ok axis) is several made =
     let count : length (blocks_value texts blocks) ≡ columns = length-map (map block_column blocks) (column_value texts) ∙ length-map blocks block_column ∙ sym several in
     let labels : frame_labels (blocks_value texts blocks) index ≡ Ok (axis_labels texts axis) =
     ap (λ r. then_value r (λ rows. labels_for rows (length (blocks_value texts blocks)) index)) is ∙ ap (λ n. labels_for rows n index) count ∙ made in
-    rows_filled texts blocks index (axis_labels texts axis) (length axis.tuples) labels (length-map axis.tuples (tuple_value texts))
+    rows_filled _ _ _ _ _ labels (length-map axis.tuples (tuple_value texts))
 axis_rows texts blocks index rows columns (Err fault) is several made = tt

@@ -1,25 +1,16 @@
 -- The scalars of a list, part by part.
-use Rattle.std.proofs.Common.{◌≡◌, ◌∙◌, ◌≤◌, ◌-◌, ap, sym, subst, List, [], ◌∷◌, length, take, drop, get_or, map, Option, None, arith}
-use Rattle.std.specs.Prelude.{Result, Err, unwrap_or}
-use Rattle.std.specs.Option.{option_map}
-use Rattle.std.proofs.lemmas.List.{take_rest}
-use Rattle.cell_core.specs.declared.cell.Cell.{Cell}
-use Rattle.cell_core.specs.declared.cell.Kind.{Kind}
-use Rattle.meaning.specs.Text.{Text}
-use Rattle.meaning.specs.Cell.{CellValue, datum}
-use Rattle.meaning.specs.Fault.{FaultValue}
-use Rattle.column_core.specs.Columns.{CellColumn}
-use Rattle.table_meaning.specs.Table.{ColumnOf}
-use Rattle.table_meaning.specs.Value.{scalar_in}
-use Rattle.form_meaning.specs.Set.{first_kind}
-use Rattle.form_parts.specs.Makes.{MakesBy}
-use Rattle.frame_store.specs.Objects.{Tables}
-use Rattle.frame_store.specs.Arguments.{item_of, items_of}
-use Rattle.frame_store.specs.declared.arguments.Item.{Item}
-use Rattle.frame_store.specs.declared.fault.OpFault.{OpFault}
-use Rattle.signatures.proofs.ScalarLaws.{cells_of_more}
-use Rattle.signatures.specs.Scalars.{scalars, with_cell}
-use Rattle.constructors.specs.Scalars.{column_seen, held_after}
+use Rattle.{
+  std.{proofs.{Common.{◌≡◌, ◌∙◌, ◌≤◌, ◌-◌, ap, sym, subst, List, [], ◌∷◌, length, take, drop, get_or, map, Option, None, arith}, lemmas.List.{take_rest}}, specs.{Prelude.{Result, Err, unwrap_or}, Option.{option_map}}},
+  cell_core.specs.declared.cell.{Cell.{Cell}, Kind.{Kind}},
+  meaning.specs.{Text.{Text}, Cell.{CellValue, datum}, Fault.{FaultValue}},
+  column_core.specs.Columns.{CellColumn},
+  table_meaning.specs.{Table.{ColumnOf}, Value.{scalar_in}},
+  form_meaning.specs.Set.{first_kind},
+  form_parts.specs.Makes.{MakesBy},
+  frame_store.specs.{Objects.{Tables}, Arguments.{item_of, items_of}, declared.{arguments.Item.{Item}, fault.OpFault.{OpFault}}},
+  signatures.{proofs.ScalarLaws.{cells_of_more}, specs.Scalars.{scalars, with_cell}},
+  constructors.specs.Scalars.{column_seen, held_after},
+}
 
 -- what stands after the first part
 abbrev pub after : {X : Type 0} → List X → List X
@@ -33,7 +24,7 @@ first_of (y ∷ ys) x is some = λ i. sym is i ∷ sym (take_rest (y ∷ ys) 1) 
 pub scalars_from : (texts : List Text) (items : List Item) (item : Item) (o : Option Cell) → item ≡ get_or items 0 item → 1 ≤ length items
     → ((live : Tables) (texts : List Text) → option_map (datum texts) o ≡ scalar_in (item_of live texts item)) → scalars texts items ≡ with_cell (option_map (datum texts) o) (scalars texts (after items))
 scalars_from texts items item o is some scalar =
-    ap (scalars texts) (first_of items item is some)
+    ap (scalars texts) (first_of _ _ is some)
     ∙ cells_of_more (item_of (λ id. None) texts item) (items_of (λ id. None) texts (after items))
     ∙ ap (λ c. with_cell c (scalars texts (after items))) (sym (scalar (λ id. None) texts))
 
@@ -43,7 +34,7 @@ pub kind_step : (texts : List Text) (items : List Item) (item : Item) (o : Optio
     → ((texts : List Text) (rest : List CellValue) → first_kind (with_cell (option_map (datum texts) o) rest) ≡ unwrap_or r (first_kind rest))
     → first_kind (scalars texts items) ≡ all → unwrap_or r (first_kind (scalars texts (after items))) ≡ all
 kind_step texts items item o r all is some scalar present before =
-    sym (ap first_kind (scalars_from texts items item o is some scalar) ∙ present texts (scalars texts (after items))) ∙ before
+    sym (ap first_kind (scalars_from _ _ _ o is some scalar) ∙ present texts (scalars texts (after items))) ∙ before
 
 -- one scalar more in a column
 pub held_step : (texts : List Text) (kind : Kind) (items : List Item) (item : Item) (o : Option Cell) (made made' : CellColumn) (whole : Result (ColumnOf CellValue) FaultValue)
@@ -54,7 +45,7 @@ held_step texts kind items item o made made' whole is some scalar same more befo
     ap (λ k. held_after k (map (datum texts) made'.cells) (scalars texts (after items))) (sym same)
     ∙ more texts (scalars texts (after items))
     ∙ ap (λ k. held_after k (map (datum texts) made.cells) (with_cell (option_map (datum texts) o) (scalars texts (after items)))) same
-    ∙ ap (held_after kind (map (datum texts) made.cells)) (sym (scalars_from texts items item o is some scalar))
+    ∙ ap (held_after kind (map (datum texts) made.cells)) (sym (scalars_from _ _ _ o is some scalar))
     ∙ before
 
 -- or one that the kind doesn't hold
@@ -65,6 +56,6 @@ pub held_refused : (texts : List Text) (kind : Kind) (items : List Item) (item :
 held_refused texts kind items item o made fault whole is some scalar same refused before =
     subst (λ (m : Result (ColumnOf CellValue) FaultValue). MakesBy column_seen texts (Err fault) m)
     (ap (λ k. held_after k (map (datum texts) made.cells) (with_cell (option_map (datum texts) o) (scalars texts (after items)))) same
-    ∙ ap (held_after kind (map (datum texts) made.cells)) (sym (scalars_from texts items item o is some scalar))
+    ∙ ap (held_after kind (map (datum texts) made.cells)) (sym (scalars_from _ _ _ o is some scalar))
     ∙ before)
     (refused texts (scalars texts (after items)))

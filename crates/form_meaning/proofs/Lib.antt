@@ -1,2 +1,3 @@
 pub mod BoundLaws
 pub mod IndexLaws
+pub mod ShapeLaws

@@ -1,8 +1,12 @@
 -- The signatures of the methods of a Series and of a frame, and of the functions of `pd`.
-use Rattle.std.specs.Prelude.{pos, negsuc, true, false, List, [], ◌∷◌, codes, Option, Some, None, if◌then◌else◌}
+use Rattle.std.specs.Prelude.{pos, negsuc, Bool, true, false, List, [], ◌∷◌, codes, find, Option, Some, None, if◌then◌else◌, option_and_then}
+use Rattle.std.specs.List.{list_any}
+use Rattle.std.specs.Option.{option_map_or}
+use denote.Enum.Bare.{sameb}
 use Rattle.cell_core.specs.declared.grid.Shape.{Shape}
 use Rattle.cell_core.specs.declared.grid.Shape.TheVariants.{Series, Frame}
 use Rattle.meaning.specs.Text.{Text, same_text}
+use Rattle.form_meaning.specs.contracts.Method.{the_type}
 use Rattle.form_meaning.specs.declared.Method.{Method}
 use Rattle.form_meaning.specs.declared.Method.TheVariants as method
 use Rattle.form_meaning.specs.declared.Function.{Function}
@@ -142,66 +146,86 @@ default_text default.Inner = codes "inner"
 default_text default.Outer = codes "outer"
 default_text default.NumpyNullable = codes "numpy_nullable"
 
--- the method of a Series and that of a frame
-abbrev pub either : Shape → Method → Method → Option Method
-either Series s f = Some s
-either Frame s f = Some f
+-- a name, with the method that it means on a Series and the one that it means on a frame
+pub record MethodName : Type 0 where
+  pub name : Text
+  pub series : Option Method
+  pub frame : Option Method
 
-abbrev pub series_alone : Shape → Method → Option Method
-series_alone Series m = Some m
-series_alone Frame m = None
+abbrev pub either : Text → Method → Method → MethodName
+either t s f = record { name = t; series = Some s; frame = Some f }
 
-abbrev pub frame_alone : Shape → Method → Option Method
-frame_alone Series m = None
-frame_alone Frame m = Some m
+abbrev pub both : Text → Method → MethodName
+both t m = either t m m
 
--- the method that a name means on a Series or a frame; the forms of groups and windows among them
+abbrev pub series_alone : Text → Method → MethodName
+series_alone t m = record { name = t; series = Some m; frame = None }
+
+abbrev pub frame_alone : Text → Method → MethodName
+frame_alone t m = record { name = t; series = None; frame = Some m }
+
+-- all names of methods; the forms of groups and windows among them
+unfoldable pub method_names : List MethodName
+method_names =
+    both (codes "copy") method.Copy
+    ∷ both (codes "head") method.Head
+    ∷ both (codes "tail") method.Tail
+    ∷ both (codes "isna") method.Isna
+    ∷ both (codes "notna") method.Notna
+    ∷ both (codes "fillna") method.Fillna
+    ∷ both (codes "dropna") method.Dropna
+    ∷ both (codes "isin") method.Isin
+    ∷ both (codes "astype") method.Astype
+    ∷ either (codes "duplicated") method.DuplicatedSeries method.DuplicatedFrame
+    ∷ both (codes "shift") method.Shift
+    ∷ both (codes "cumsum") method.Cumsum
+    ∷ both (codes "cummin") method.Cummin
+    ∷ both (codes "cummax") method.Cummax
+    ∷ both (codes "sum") method.Sum
+    ∷ both (codes "min") method.Min
+    ∷ both (codes "max") method.Max
+    ∷ both (codes "any") method.Any
+    ∷ both (codes "all") method.All
+    ∷ both (codes "count") method.Count
+    ∷ both (codes "nunique") method.Nunique
+    ∷ either (codes "sort_values") method.SortValuesSeries method.SortValuesFrame
+    ∷ both (codes "sort_index") method.SortIndex
+    ∷ either (codes "reindex") method.ReindexSeries method.ReindexFrame
+    ∷ either (codes "rename") method.RenameSeries method.RenameFrame
+    ∷ both (codes "rename_axis") method.RenameAxis
+    ∷ frame_alone (codes "set_index") method.SetIndex
+    ∷ both (codes "reset_index") method.ResetIndex
+    ∷ frame_alone (codes "drop") method.DropColumns
+    ∷ both (codes "droplevel") method.Droplevel
+    ∷ both (codes "swaplevel") method.Swaplevel
+    ∷ both (codes "xs") method.Xs
+    ∷ series_alone (codes "to_frame") method.ToFrame
+    ∷ both (codes "to_csv") method.ToCsv
+    ∷ frame_alone (codes "groupby") method.Groupby
+    ∷ both (codes "rolling") method.Rolling
+    ∷ both (codes "expanding") method.Expanding
+    ∷ frame_alone (codes "merge") method.Merge
+    ∷ frame_alone (codes "stack") method.Stack
+    ∷ series_alone (codes "unstack") method.Unstack
+    ∷ frame_alone (codes "pivot") method.Pivot
+    ∷ frame_alone (codes "pivot_table") method.PivotTable
+    ∷ frame_alone (codes "melt") method.Melt
+    ∷ []
+
+abbrev pub method_at : Shape → MethodName → Option Method
+method_at Series n = n.series
+method_at Frame n = n.frame
+
+-- the method that a name means on a Series or a frame
 abbrev pub method_named : Shape → Text → Option Method
-method_named s t =
-    if same_text t (codes "copy") then Some method.Copy
-    else if same_text t (codes "head") then Some method.Head
-    else if same_text t (codes "tail") then Some method.Tail
-    else if same_text t (codes "isna") then Some method.Isna
-    else if same_text t (codes "notna") then Some method.Notna
-    else if same_text t (codes "fillna") then Some method.Fillna
-    else if same_text t (codes "dropna") then Some method.Dropna
-    else if same_text t (codes "isin") then Some method.Isin
-    else if same_text t (codes "astype") then Some method.Astype
-    else if same_text t (codes "duplicated") then either s method.DuplicatedSeries method.DuplicatedFrame
-    else if same_text t (codes "shift") then Some method.Shift
-    else if same_text t (codes "cumsum") then Some method.Cumsum
-    else if same_text t (codes "cummin") then Some method.Cummin
-    else if same_text t (codes "cummax") then Some method.Cummax
-    else if same_text t (codes "sum") then Some method.Sum
-    else if same_text t (codes "min") then Some method.Min
-    else if same_text t (codes "max") then Some method.Max
-    else if same_text t (codes "any") then Some method.Any
-    else if same_text t (codes "all") then Some method.All
-    else if same_text t (codes "count") then Some method.Count
-    else if same_text t (codes "nunique") then Some method.Nunique
-    else if same_text t (codes "sort_values") then either s method.SortValuesSeries method.SortValuesFrame
-    else if same_text t (codes "sort_index") then Some method.SortIndex
-    else if same_text t (codes "reindex") then either s method.ReindexSeries method.ReindexFrame
-    else if same_text t (codes "rename") then either s method.RenameSeries method.RenameFrame
-    else if same_text t (codes "rename_axis") then Some method.RenameAxis
-    else if same_text t (codes "set_index") then frame_alone s method.SetIndex
-    else if same_text t (codes "reset_index") then Some method.ResetIndex
-    else if same_text t (codes "drop") then frame_alone s method.DropColumns
-    else if same_text t (codes "droplevel") then Some method.Droplevel
-    else if same_text t (codes "swaplevel") then Some method.Swaplevel
-    else if same_text t (codes "xs") then Some method.Xs
-    else if same_text t (codes "to_frame") then series_alone s method.ToFrame
-    else if same_text t (codes "to_csv") then Some method.ToCsv
-    else if same_text t (codes "groupby") then frame_alone s method.Groupby
-    else if same_text t (codes "rolling") then Some method.Rolling
-    else if same_text t (codes "expanding") then Some method.Expanding
-    else if same_text t (codes "merge") then frame_alone s method.Merge
-    else if same_text t (codes "stack") then frame_alone s method.Stack
-    else if same_text t (codes "unstack") then series_alone s method.Unstack
-    else if same_text t (codes "pivot") then frame_alone s method.Pivot
-    else if same_text t (codes "pivot_table") then frame_alone s method.PivotTable
-    else if same_text t (codes "melt") then frame_alone s method.Melt
-    else None
+method_named s t = option_and_then (method_at s) (find (λ n. same_text n.name t) method_names)
+
+abbrev pub same_method : Method → Method → Bool
+same_method = sameb the_type
+
+-- whether a method is one of the shape: some name means it there
+abbrev pub fits_shape : Method → Shape → Bool
+fits_shape m s = list_any (λ n. option_map_or (same_method m) (method_at s n) false) method_names
 
 -- the function that a name means
 abbrev pub function_named : Text → Option Function

@@ -1,6 +1,9 @@
 -- The answer of a call, by its method.
 use Rattle.std.proofs.Common.{◌≡◌, ◌∙◌, ℕ, ap, sym, subst, refl, Bool, true, false, List, Some, None, Result, Err, if◌then◌else◌}
+use Rattle.nullable_array.specs.declared.ops.Cumulation.{Cumulation}
+use Rattle.nullable_array.specs.declared.ops.Cumulation.TheVariants as cumulation
 use Rattle.nullable_array.specs.declared.ops.Reduction.TheVariants as reduction
+use Rattle.nullable_array.specs.Folds.{cumulation_of}
 use Rattle.meaning.specs.Text.{Text}
 use Rattle.meaning.specs.Fault.{FaultValue, not_built, then_value}
 use Rattle.table_meaning.specs.Table.{NumberedTable, Table, table_value}
@@ -9,7 +12,7 @@ use Rattle.form_meaning.specs.declared.Method.{Method}
 use Rattle.form_meaning.specs.declared.Parameter.{Parameter}
 use Rattle.form_meaning.specs.Signature.{parameters_of}
 use Rattle.form_meaning.specs.Binding.{bound, bound_of, on_bound, argument_at, arguments_from}
-use Rattle.method_meaning.specs.Methods.{summary, answer_for, is_built}
+use Rattle.method_meaning.specs.Methods.{each_column, cumulated, summary, answer_for, is_built}
 use Rattle.method_meaning.specs.Calls.{called}
 use Rattle.frame_store.specs.Shown.{Refuses, Makes}
 use Rattle.frame_store.specs.declared.arguments.Named.{Named}
@@ -22,7 +25,8 @@ use Rattle.signatures.specs.declared.binding.Unbound.{Unbound}
 use Rattle.signatures.specs.declared.binding.Unbound.TheVariants.{NotTaken, NotListed}
 use Rattle.signatures.specs.declared.bound.Bound.{Bound}
 use Rattle.signatures.proofs.ToldLaws.{some_same}
-use Rattle.frame_methods.specs.Built.{method_of}
+use Rattle.frame_methods.specs.Built.{column_method, method_of}
+use Rattle.frame_methods.specs.declared.built.ColumnMethod.TheVariants as columns
 use Rattle.frame_methods.specs.Calls.{answer_in}
 use Rattle.label_methods.specs.Named.{FindsPlaces}
 use Rattle.frame_methods.specs.Summaries.{summary_value}
@@ -99,3 +103,9 @@ summary_meant (Reduced reduction.Any) gs t = refl
 summary_meant (Reduced reduction.All) gs t = refl
 summary_meant (Reduced reduction.Count) gs t = refl
 summary_meant Distinct gs t = refl
+
+-- the running sums, least and greatest cells
+pub cumulated_meant : (op : Cumulation) (gs : List Given) (t : Table) → each_column (cumulated (cumulation_of op)) t ≡ answer_for (column_method (columns.Cumulated op)) gs t
+cumulated_meant cumulation.Sum gs t = refl
+cumulated_meant cumulation.Min gs t = refl
+cumulated_meant cumulation.Max gs t = refl

@@ -98,11 +98,10 @@ pub place_given : (dict : List Text) (t : NumberedTable) (place : ℕ) (a : Cell
 place_given dict t place a settled lt is = subst (λ (c : ColumnOf Cell). AreGiven dict c.cells) is (columns_given dict t.columns (columns_part dict t settled) place no_column lt)
 
 -- what is made of it at the later dictionary is what is made of it at the first one
-pub same_answer : {A : Type 0} (answer : List Text → ColumnOf CellValue → A) (first dict : List Text) (a : CellColumn) → IsLonger first dict → AreGiven first a.cells → answer dict ≡ answer first
-    → answer first (column_value first (table_column a)) ≡ answer dict (column_value dict (table_column a))
-same_answer answer first dict a longer given stays =
-    ap (answer first) (sym (seen_later column_value first dict (table_column a) longer (column_settled first (table_column a) given)))
-    ∙ ap (λ g. g (column_value dict (table_column a))) (sym stays)
+pub same_answer : {A : Type 0} (answer : List CellValue → ColumnOf CellValue → A) (held : List Cell) (first dict : List Text) (a : CellColumn) → IsLonger first dict → AreGiven first held → AreGiven first a.cells
+    → answer (cells_value first held) (column_value first (table_column a)) ≡ answer (cells_value dict held) (column_value dict (table_column a))
+same_answer answer held first dict a longer own given = λ j.
+    answer (sym (seen_later cells_value first dict held longer (cells_settled first held own)) j) (sym (seen_later column_value first dict (table_column a) longer (column_settled first (table_column a) given)) j)
 
 -- a refused column is a refused list of columns
 pub refused_columns : (dict : List Text) (fault : OpFault) (one : Result (ColumnOf CellValue) FaultValue) (all : Result (List (ColumnOf CellValue)) FaultValue)

@@ -1,11 +1,11 @@
 pub mod ColumnLaws
+pub mod HeldLaws
 pub mod OpLaws
 pub mod TableLaws
 pub mod SummaryLaws
 pub mod SeriesLaws
 pub mod CallLaws
 pub mod AnswerLaws
-pub mod ShapeLaws
 pub mod NameLaws
 pub mod ListedLaws
 pub mod RenameLaws
@@ -13,3 +13,4 @@ pub mod CsvLaws
 pub mod RowLaws
 pub mod DuplicateLaws
 pub mod SortLaws
+pub mod ShapeLaws

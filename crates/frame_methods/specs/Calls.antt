@@ -1,14 +1,12 @@
 -- Calls of methods.
-use Rattle.std.specs.Prelude.{◌≡◌, Bool, true, false, Result, Ok, Err}
+use Rattle.std.specs.Prelude.{◌≡◌, true, Result, Ok, Err}
 use Rattle.cell_core.specs.declared.grid.Shape.{Shape}
-use Rattle.cell_core.specs.declared.grid.Shape.TheVariants.{Series, Frame}
 use Rattle.meaning.specs.Fault.{FaultValue}
 use Rattle.table_meaning.specs.Settled.{IsSettled}
 use Rattle.table_meaning.specs.Table.{Table}
 use Rattle.table_meaning.specs.Value.{Entry}
 use Rattle.form_meaning.specs.declared.Method.{Method}
-use Rattle.form_meaning.specs.declared.Method.TheVariants as method
-use Rattle.form_meaning.specs.Signature.{parameters_of}
+use Rattle.form_meaning.specs.Signature.{parameters_of, fits_shape}
 use Rattle.method_meaning.specs.Methods.{answer_for}
 use Rattle.frame_store.specs.declared.fault.OpFault.{OpFault}
 use Rattle.frame_store.specs.declared.fault.OpFault.TheVariants.{Refused, NoMemory}
@@ -19,22 +17,6 @@ use Rattle.signatures.specs.Bound.{given_in}
 use Rattle.signatures.specs.declared.bound.Bound.{Bound}
 use Rattle.frame_methods.specs.Built.{method_of}
 use Rattle.frame_methods.specs.declared.binding.BoundCall.{BoundCall}
-
--- a method of Series alone isn't one of a frame, nor the other way round
-abbrev pub fits_shape : Method → Shape → Bool
-fits_shape method.DuplicatedSeries Frame = false
-fits_shape method.DuplicatedFrame Series = false
-fits_shape method.SortValuesSeries Frame = false
-fits_shape method.SortValuesFrame Series = false
-fits_shape method.RenameSeries Frame = false
-fits_shape method.RenameFrame Series = false
-fits_shape method.SetIndex Series = false
-fits_shape method.ReindexSeries Frame = false
-fits_shape method.ReindexFrame Series = false
-fits_shape method.DropColumns Series = false
-fits_shape method.Merge Series = false
-fits_shape method.ToFrame Frame = false
-fits_shape m shape = true
 
 -- the arguments are those of the method, which the shape has, and their texts were given
 pub record IsCall (w : World) (m : Method) (b : Bound) (shape : Shape) : Type 0 where

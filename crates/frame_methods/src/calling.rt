@@ -4,34 +4,29 @@ ghost use Rattle.meaning.specs.Text.{Text as OneText};
 ghost use Rattle.meaning.specs.Cell.{IsLonger};
 ghost use Rattle.meaning.specs.Fault.{FaultValue};
 ghost use Rattle.table_meaning.specs.Settled.{IsSettled};
-ghost use Rattle.table_meaning.specs.Table.{table_value};
 ghost use Rattle.table_meaning.specs.Value.{Entry};
-ghost use Rattle.method_meaning.specs.Methods.{each_column};
 ghost use Rattle.method_meaning.specs.Calls.{chain_result, method_result};
 ghost use Rattle.form_parts.specs.Makes.{MakesBy};
 ghost use Rattle.frame_store.specs.Arguments.{entry_of, object_value, shape_at, IsLive};
-ghost use Rattle.frame_store.specs.Objects.{tables, table_at};
+ghost use Rattle.frame_store.specs.Objects.{tables};
 ghost use Rattle.frame_store.specs.Shown.{Makes};
 ghost use Rattle.frame_store.specs.World.{world, entry_in, arguments_in, IsSettledWorld, AreKnownArguments, Forms};
-ghost use Rattle.frame_methods.specs.Built.{method_of, column_method, row_method, level_method, label_method, table_method};
+ghost use Rattle.frame_methods.specs.Built.{method_of, row_method, level_method, label_method, table_method};
 ghost use Rattle.label_methods.specs.Chains.{chain_in, is_grouped};
 ghost use Rattle.frame_methods.specs.Calls.{answer_in, IsCall};
 ghost use Rattle.frame_methods.specs.Made.{made_value};
 ghost use Rattle.frame_methods.specs.Faults.{IsChained};
 
 use crate::binding::{BoundCall, bound_call, exists};
-use crate::built::{Built, ColumnMethod, LabelMethod, LevelMethod, RowMethod, TableMethod};
-use crate::column_ops::{Cast, Cumulated, Filled, Marked, Shifted};
-use crate::columns::ColumnOp;
+use crate::built::{Built, LabelMethod, LevelMethod, RowMethod, TableMethod};
+use crate::column_ops::columns_answer;
 use crate::csv::to_csv;
 use crate::duplicates::duplicated;
-use crate::listed::{Listed, listed_cells};
 use crate::made::Made;
 use crate::renaming::{rename_frame, rename_series, to_frame};
 use crate::rows::{dropna, head, tail};
 use crate::sorts::{sort_index, sort_values};
 use crate::summaries::summarize;
-use crate::tables::columns_table;
 use cell_core::{Code, Grid, TextDict};
 use form_parts::{name_of, placed};
 use frame_store::{Chain, Named, NamedList, ObjId, OpFault, Store, Table, Value};
@@ -70,65 +65,6 @@ fn chained(alloc: Global, store: &Store, on: Value, name: &str) -> OpFault
         return OpFault::Refused(Code::NotBuilt);
     }
     no_attribute(alloc, name)
-}
-
-// An object of what is made of each column.
-fn columns_placed<O: ColumnOp>(
-    alloc: Global,
-    store: &mut Store,
-    dict: &mut TextDict,
-    op: &O,
-    on: ObjId,
-) -> Result<Value, OpFault>
-    requires live { IsSome (tables store.old on.0) }
-    requires own { O.given op.now dict.old }
-    requires settled { IsSettledWorld (world store.old dict.old) }
-    ensures { Forms result (each_column (O.answer op.now dict.old)
-        (table_value dict.old (table_at (tables store.old) on.0)))
-        (world store.old dict.old) (world store.new dict.new) }
-{
-    let table = columns_table(alloc, dict, op, &store.read(on));
-    placed(store, dict, table)
-}
-
-// The answer of a method that makes new columns.
-fn columns_answer(
-    alloc: Global,
-    store: &mut Store,
-    dict: &mut TextDict,
-    method: ColumnMethod,
-    bound: &Bound<'_>,
-    on: ObjId,
-) -> Result<Value, OpFault>
-    requires live { IsSome (tables store.old on.0) }
-    requires settled { IsSettledWorld (world store.old dict.old) }
-    requires call { IsCall (world store.old dict.old) (column_method method) bound.now
-        (shape_at (tables store.old) on) }
-    ensures { Forms result (answer_in (world store.old dict.old) (column_method method) bound.now
-        (object_value (tables store.old) dict.old on))
-        (world store.old dict.old) (world store.new dict.new) }
-{
-    match method {
-        ColumnMethod::Isna => columns_placed(alloc, store, dict, &Marked { missing: true }, on),
-        ColumnMethod::Notna => columns_placed(alloc, store, dict, &Marked { missing: false }, on),
-        ColumnMethod::Fillna => {
-            let value = bound.scalar(0);
-            columns_placed(alloc, store, dict, &Filled { value }, on)
-        }
-        ColumnMethod::Isin => {
-            let values = listed_cells(alloc, dict, bound.list(0))?;
-            columns_placed(alloc, store, dict, &Listed { values }, on)
-        }
-        ColumnMethod::Astype => {
-            let kind = bound.kind(dict, 0);
-            columns_placed(alloc, store, dict, &Cast { kind }, on)
-        }
-        ColumnMethod::Shift => {
-            let periods = bound.whole(0);
-            columns_placed(alloc, store, dict, &Shifted { periods }, on)
-        }
-        ColumnMethod::Cumulated(op) => columns_placed(alloc, store, dict, &Cumulated { op }, on),
-    }
 }
 
 // The table that a method makes of rows.

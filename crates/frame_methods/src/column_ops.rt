@@ -1,51 +1,42 @@
 // What is made of a column.
-ghost use Rattle.std.specs.Prelude.{◌≡◌, length, map, IfOk};
-ghost use Rattle.meaning.specs.Cell.{AreGiven, IsGiven, IsLonger, holds, datum};
-ghost use Rattle.method_meaning.specs.Methods.{filled_column, shifted_column, cast_as, cumulated};
+ghost use Rattle.std.specs.Prelude.{◌≡◌, [], ◌∷◌, map, slice_index_or, IfOk, IsSome};
 ghost use Rattle.cell_core.specs.declared.cell.Kind.TheVariants.{Boolean};
+ghost use Rattle.meaning.specs.Cell.{na_cell};
+ghost use Rattle.method_meaning.specs.Methods.{filled_column, shifted_column, cast_as, cumulated};
 ghost use Rattle.nullable_array.specs.Folds.{cumulation_of};
 ghost use Rattle.nullable_array.specs.Marks.{missing_mark};
-ghost use Rattle.label_methods.specs.Columns.{seen_column};
-ghost use Rattle.frame_methods.specs.Columns.{MakesColumn};
+ghost use Rattle.frame_store.specs.Arguments.{object_value, shape_at};
+ghost use Rattle.frame_store.specs.Objects.{tables};
+ghost use Rattle.frame_store.specs.World.{world, IsSettledWorld, Forms};
+ghost use Rattle.frame_methods.specs.Built.{column_method};
+ghost use Rattle.frame_methods.specs.Calls.{answer_in, IsCall};
 ghost use Rattle.frame_methods.specs.Marks.{marked_column};
 ghost use Rattle.frame_methods.specs.Listed.{listed_column};
-ghost use Rattle.frame_store.specs.Shown.{cells_value};
 
+use crate::built::ColumnMethod;
 use crate::columns::ColumnOp;
-use crate::listed::Listed;
+use crate::listed::{Listed, listed_cells};
+use crate::tables::columns_placed;
 use cell_core::{Cell, Code, Kind, NoMemory, TextDict};
 use column_core::{ColRef, Column, shift};
 use form_parts::refusal_of;
-use frame_store::OpFault;
+use frame_store::{ObjId, OpFault, Store, Value};
 use nullable_array::{Cumulation, cast, cumulate, fillna, isin, isna, notna};
+use signatures::Bound;
 use std::alloc::Global;
 
 // Whether each cell is missing, or whether it is there.
 #[derive(Drop)]
-pub(crate) struct Marked {
-    pub(crate) missing: bool,
+struct Marked {
+    missing: bool,
 }
 
 impl ColumnOp for Marked {
     ghost answer = { λ s _. marked_column s.missing };
 
-    ghost given = { λ _ _. Unit {0} };
-
-    fn column(&self, alloc: Global, dict: &mut TextDict, a: ColRef<'_>) -> Result<Column, OpFault>
-        requires own { Unit {0} }
-        requires cells { AreGiven dict.old a.cells }
-        ensures longer { IsLonger dict.old dict.new }
-        ensures given { IfOk result (λ c. AreGiven dict.new c.cells) }
-        ensures rows { IfOk result (λ c. length c.cells ≡ length a.entry.cells) }
-        ensures answer { MakesColumn dict.new result
-            (marked_column self.now.missing (seen_column dict.old a.entry)) }
-    {
+    fn column(&self, alloc: Global, dict: &mut TextDict, a: ColRef<'_>) -> Result<Column, OpFault> {
         Ok(marks(alloc, a, self.missing)?)
     }
-
-    ghost lasts = { λ _ _ _ _ _. tt };
-
-    ghost stays = { λ s _ _ _ _ i. marked_column s.missing };
 }
 
 fn marks(alloc: Global, a: ColRef<'_>, missing: bool) -> Result<Column, NoMemory>
@@ -61,152 +52,121 @@ fn marks(alloc: Global, a: ColRef<'_>, missing: bool) -> Result<Column, NoMemory
 
 // A cell in place of each missing one.
 #[derive(Drop)]
-pub(crate) struct Filled {
-    pub(crate) value: Cell,
+struct Filled {
+    value: Cell,
 }
 
 impl ColumnOp for Filled {
-    ghost use Rattle.frame_methods.specs.Marks.{filled_stays, filled_lasts};
+    ghost held = { λ s. s.value ∷ [] };
 
-    ghost answer = { λ s texts. filled_column (datum texts s.value) };
+    ghost answer = { λ _ cells. filled_column (slice_index_or cells 0 na_cell) };
 
-    ghost given = { λ s texts. IsGiven texts s.value };
-
-    fn column(&self, alloc: Global, dict: &mut TextDict, a: ColRef<'_>) -> Result<Column, OpFault>
-        requires own { IsGiven dict.old self.now.value }
-        requires cells { AreGiven dict.old a.cells }
-        ensures longer { IsLonger dict.old dict.new }
-        ensures given { IfOk result (λ c. AreGiven dict.new c.cells) }
-        ensures rows { IfOk result (λ c. length c.cells ≡ length a.entry.cells) }
-        ensures answer { MakesColumn dict.new result
-            (filled_column (datum dict.old self.now.value) (seen_column dict.old a.entry)) }
-    {
+    fn column(&self, alloc: Global, dict: &mut TextDict, a: ColRef<'_>) -> Result<Column, OpFault> {
         let kind = a.kind();
         if !kind.holds(self.value) {
             return Err(OpFault::Refused(Code::WrongKind));
         }
         Ok(fillna(alloc, a, self.value)?)
     }
-
-    ghost lasts = { λ s earlier later. filled_lasts s.value earlier later };
-
-    ghost stays = { λ s earlier later. filled_stays s.value earlier later };
 }
 
 // Whether each cell is in a list.
 impl ColumnOp for Listed {
-    ghost use Rattle.frame_methods.specs.Listed.{listed_stays, listed_lasts};
+    ghost held = { λ s. s.values.keys };
 
-    ghost answer = { λ s texts. listed_column (cells_value texts s.values.keys) };
+    ghost answer = { λ _ cells. listed_column cells };
 
-    ghost given = { λ s texts. AreGiven texts s.values.keys };
-
-    fn column(&self, alloc: Global, dict: &mut TextDict, a: ColRef<'_>) -> Result<Column, OpFault>
-        requires own { AreGiven dict.old self.now.values.keys }
-        requires cells { AreGiven dict.old a.cells }
-        ensures longer { IsLonger dict.old dict.new }
-        ensures given { IfOk result (λ c. AreGiven dict.new c.cells) }
-        ensures rows { IfOk result (λ c. length c.cells ≡ length a.entry.cells) }
-        ensures answer { MakesColumn dict.new result
-            (listed_column (cells_value dict.old self.now.values.keys)
-            (seen_column dict.old a.entry)) }
-    {
+    fn column(&self, alloc: Global, dict: &mut TextDict, a: ColRef<'_>) -> Result<Column, OpFault> {
         // Equal texts have equal numbers: `TextDict::len` says so.
         let _ = dict.len();
         Ok(isin(alloc, a, &self.values)?)
     }
-
-    ghost lasts = { λ s earlier later. listed_lasts s.values.keys earlier later };
-
-    ghost stays = { λ s earlier later. listed_stays s.values.keys earlier later };
 }
 
 // The cells some rows further down, or up where the number is below 0.
 #[derive(Drop)]
-pub(crate) struct Shifted {
-    pub(crate) periods: i64,
+struct Shifted {
+    periods: i64,
 }
 
 impl ColumnOp for Shifted {
     ghost answer = { λ s _. shifted_column s.periods };
 
-    ghost given = { λ _ _. Unit {0} };
-
-    fn column(&self, alloc: Global, dict: &mut TextDict, a: ColRef<'_>) -> Result<Column, OpFault>
-        requires own { Unit {0} }
-        requires cells { AreGiven dict.old a.cells }
-        ensures longer { IsLonger dict.old dict.new }
-        ensures given { IfOk result (λ c. AreGiven dict.new c.cells) }
-        ensures rows { IfOk result (λ c. length c.cells ≡ length a.entry.cells) }
-        ensures answer { MakesColumn dict.new result
-            (shifted_column self.now.periods (seen_column dict.old a.entry)) }
-    {
+    fn column(&self, alloc: Global, dict: &mut TextDict, a: ColRef<'_>) -> Result<Column, OpFault> {
         Ok(shift(alloc, a, self.periods)?)
     }
-
-    ghost lasts = { λ _ _ _ _ _. tt };
-
-    ghost stays = { λ s _ _ _ _ i. shifted_column s.periods };
 }
 
 // The cells as cells of a kind.
 #[derive(Drop)]
-pub(crate) struct Cast {
-    pub(crate) kind: Kind,
+struct Cast {
+    kind: Kind,
 }
 
 impl ColumnOp for Cast {
     ghost answer = { λ s _. cast_as s.kind };
 
-    ghost given = { λ _ _. Unit {0} };
-
-    fn column(&self, alloc: Global, dict: &mut TextDict, a: ColRef<'_>) -> Result<Column, OpFault>
-        requires own { Unit {0} }
-        requires cells { AreGiven dict.old a.cells }
-        ensures longer { IsLonger dict.old dict.new }
-        ensures given { IfOk result (λ c. AreGiven dict.new c.cells) }
-        ensures rows { IfOk result (λ c. length c.cells ≡ length a.entry.cells) }
-        ensures answer { MakesColumn dict.new result
-            (cast_as self.now.kind (seen_column dict.old a.entry)) }
-    {
+    fn column(&self, alloc: Global, dict: &mut TextDict, a: ColRef<'_>) -> Result<Column, OpFault> {
         match cast(alloc, dict, a, self.kind) {
             Ok(column) => Ok(column),
             Err(fault) => Err(refusal_of(fault)),
         }
     }
-
-    ghost lasts = { λ _ _ _ _ _. tt };
-
-    ghost stays = { λ s _ _ _ _ i. cast_as s.kind };
 }
 
 // The sums, least or greatest cells up to each row.
 #[derive(Drop)]
-pub(crate) struct Cumulated {
-    pub(crate) op: Cumulation,
+struct Cumulated {
+    op: Cumulation,
 }
 
 impl ColumnOp for Cumulated {
     ghost answer = { λ s _. cumulated (cumulation_of s.op) };
 
-    ghost given = { λ _ _. Unit {0} };
-
-    fn column(&self, alloc: Global, dict: &mut TextDict, a: ColRef<'_>) -> Result<Column, OpFault>
-        requires own { Unit {0} }
-        requires cells { AreGiven dict.old a.cells }
-        ensures longer { IsLonger dict.old dict.new }
-        ensures given { IfOk result (λ c. AreGiven dict.new c.cells) }
-        ensures rows { IfOk result (λ c. length c.cells ≡ length a.entry.cells) }
-        ensures answer { MakesColumn dict.new result
-            (cumulated (cumulation_of self.now.op) (seen_column dict.old a.entry)) }
-    {
+    fn column(&self, alloc: Global, dict: &mut TextDict, a: ColRef<'_>) -> Result<Column, OpFault> {
         match cumulate(alloc, self.op, a) {
             Ok(column) => Ok(column),
             Err(fault) => Err(refusal_of(fault)),
         }
     }
+}
 
-    ghost lasts = { λ _ _ _ _ _. tt };
-
-    ghost stays = { λ s _ _ _ _ i. cumulated (cumulation_of s.op) };
+// The answer of a method that makes new columns.
+pub(crate) fn columns_answer(
+    alloc: Global,
+    store: &mut Store,
+    dict: &mut TextDict,
+    method: ColumnMethod,
+    bound: &Bound<'_>,
+    on: ObjId,
+) -> Result<Value, OpFault>
+    requires live { IsSome (tables store.old on.0) }
+    requires settled { IsSettledWorld (world store.old dict.old) }
+    requires call { IsCall (world store.old dict.old) (column_method method) bound.now
+        (shape_at (tables store.old) on) }
+    ensures { Forms result (answer_in (world store.old dict.old) (column_method method) bound.now
+        (object_value (tables store.old) dict.old on))
+        (world store.old dict.old) (world store.new dict.new) }
+{
+    match method {
+        ColumnMethod::Isna => columns_placed(alloc, store, dict, &Marked { missing: true }, on),
+        ColumnMethod::Notna => columns_placed(alloc, store, dict, &Marked { missing: false }, on),
+        ColumnMethod::Fillna => {
+            let value = bound.scalar(0);
+            columns_placed(alloc, store, dict, &Filled { value }, on)
+        }
+        ColumnMethod::Isin => {
+            let values = listed_cells(alloc, dict, bound.list(0))?;
+            columns_placed(alloc, store, dict, &Listed { values }, on)
+        }
+        ColumnMethod::Astype => {
+            let kind = bound.kind(dict, 0);
+            columns_placed(alloc, store, dict, &Cast { kind }, on)
+        }
+        ColumnMethod::Shift => {
+            let periods = bound.whole(0);
+            columns_placed(alloc, store, dict, &Shifted { periods }, on)
+        }
+        ColumnMethod::Cumulated(op) => columns_placed(alloc, store, dict, &Cumulated { op }, on),
+    }
 }

@@ -1,6 +1,6 @@
 // Columns that are made one by one.
-ghost use Rattle.std.specs.Prelude.{◌≡◌, ◌<◌, List, map, length, All, Result, IfOk};
-ghost use Rattle.meaning.specs.Text.{Text as OneText};
+ghost use Rattle.std.specs.Prelude.{◌≡◌, ◌<◌, List, [], map, length, All, Result, IfOk};
+ghost use Rattle.cell_core.specs.declared.cell.Cell.{Cell};
 ghost use Rattle.meaning.specs.Cell.{CellValue, AreGiven, IsLonger};
 ghost use Rattle.meaning.specs.Fault.{FaultValue};
 ghost use Rattle.table_meaning.specs.Table.{ColumnOf, table_value};
@@ -8,7 +8,7 @@ ghost use Rattle.table_meaning.specs.Valid.{IsWhole};
 ghost use Rattle.table_meaning.specs.Settled.{IsSettled};
 ghost use Rattle.form_meaning.specs.Finish.{try_all};
 ghost use Rattle.frame_store.specs.Parts.{block_column, IsSingle, HaveRows};
-ghost use Rattle.frame_store.specs.Shown.{columns_value};
+ghost use Rattle.frame_store.specs.Shown.{cells_value, columns_value};
 ghost use Rattle.label_methods.specs.Columns.{seen_column};
 ghost use Rattle.frame_methods.specs.Columns.{MakesColumn, MakesColumns};
 
@@ -19,26 +19,21 @@ use std::alloc::Global;
 
 // A column that is made of a column with as many cells.
 pub(crate) trait ColumnOp {
-    ghost answer: { Self → List OneText
+    // The cells that it holds.
+    ghost held: { Self → List Cell } = { λ _. [] };
+
+    // What it makes of a column, by these cells with their texts.
+    ghost answer: { Self → List CellValue
         → ColumnOf CellValue → Result (ColumnOf CellValue) FaultValue };
 
-    // The texts that it was given.
-    ghost given: { Self → List OneText → Type 0 };
-
     fn column(&self, alloc: Global, dict: &mut TextDict, a: ColRef<'_>) -> Result<Column, OpFault>
-        requires own { given self.now dict.old }
+        requires own { AreGiven dict.old (held self.now) }
         requires cells { AreGiven dict.old a.cells }
         ensures longer { IsLonger dict.old dict.new }
         ensures given { IfOk result (λ c. AreGiven dict.new c.cells) }
         ensures rows { IfOk result (λ c. length c.cells ≡ length a.entry.cells) }
         ensures answer { MakesColumn dict.new result
-            (answer self.now dict.old (seen_column dict.old a.entry)) };
-
-    ghost lasts: { (s : Self) (earlier later : List OneText)
-        → IsLonger earlier later → given s earlier → given s later };
-
-    ghost stays: { (s : Self) (earlier later : List OneText)
-        → IsLonger earlier later → given s earlier → answer s later ≡ answer s earlier };
+            (answer self.now (cells_value dict.old (held self.now)) (seen_column dict.old a.entry)) };
 }
 
 // What is made of each column of a table, each in a block of its own, or the first fault.
@@ -48,7 +43,7 @@ pub(crate) fn each_column<O: ColumnOp>(
     op: &O,
     on: &ObjRef<'_>,
 ) -> Result<Blocks, OpFault>
-    requires own { O.given op.now dict.old }
+    requires own { AreGiven dict.old (O.held op.now) }
     requires whole { IsWhole on.now }
     requires settled { IsSettled table_value dict.old on.now }
     ensures longer { IsLonger dict.old dict.new }
@@ -58,7 +53,8 @@ pub(crate) fn each_column<O: ColumnOp>(
     ensures rows { IfOk result (λ made. HaveRows (length on.now.labels) (map block_column made)) }
     ensures count { IfOk result (λ made. length made ≡ length on.now.columns) }
     ensures answer { MakesColumns dict.new result
-        (try_all (O.answer op.now dict.old) (columns_value dict.old on.now.columns)) }
+        (try_all (O.answer op.now (cells_value dict.old (O.held op.now)))
+        (columns_value dict.old on.now.columns)) }
 {
     let mut made = Blocks::new(alloc);
     for place in 0..on.columns() {

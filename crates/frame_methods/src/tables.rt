@@ -1,14 +1,16 @@
 // Tables whose columns are made one by one.
-ghost use Rattle.meaning.specs.Cell.{IsLonger};
+ghost use Rattle.std.specs.Prelude.{IsSome};
+ghost use Rattle.meaning.specs.Cell.{AreGiven, IsLonger};
 ghost use Rattle.table_meaning.specs.Table.{table_value};
 ghost use Rattle.method_meaning.specs.Methods as meant;
-ghost use Rattle.frame_store.specs.Shown.{Makes};
-ghost use Rattle.frame_store.specs.World.{IsKnownTable};
+ghost use Rattle.frame_store.specs.Shown.{cells_value, Makes};
+ghost use Rattle.frame_store.specs.Objects.{tables, table_at};
+ghost use Rattle.frame_store.specs.World.{world, IsKnownTable, IsSettledWorld, Forms};
 
 use crate::columns::{ColumnOp, each_column};
 use cell_core::{Code, Grid, TextDict};
-use form_parts::{headings_of, table_under, within_limits};
-use frame_store::{ObjRef, OpFault, Table};
+use form_parts::{headings_of, placed, table_under, within_limits};
+use frame_store::{ObjId, ObjRef, OpFault, Store, Table, Value};
 use std::alloc::Global;
 
 // The table with what is made of each column in its place, or the first fault.
@@ -18,11 +20,12 @@ pub(crate) fn columns_table<O: ColumnOp>(
     op: &O,
     on: &ObjRef<'_>,
 ) -> Result<Table, OpFault>
-    requires own { O.given op.now dict.old }
+    requires own { AreGiven dict.old (O.held op.now) }
     requires known { IsKnownTable dict.old on.now }
     ensures longer { IsLonger dict.old dict.new }
     ensures answer { Makes dict.new result
-        (meant.each_column (O.answer op.now dict.old) (table_value dict.old on.now)) }
+        (meant.each_column (O.answer op.now (cells_value dict.old (O.held op.now)))
+        (table_value dict.old on.now)) }
 {
     let columns = each_column(alloc, dict, op, on)?;
     if !within_limits(on.rows(), columns.len()) {
@@ -30,4 +33,23 @@ pub(crate) fn columns_table<O: ColumnOp>(
     }
     let headings = headings_of(alloc, on)?;
     Ok(table_under(alloc, on, headings, columns)?)
+}
+
+// An object of what is made of each column.
+pub(crate) fn columns_placed<O: ColumnOp>(
+    alloc: Global,
+    store: &mut Store,
+    dict: &mut TextDict,
+    op: &O,
+    on: ObjId,
+) -> Result<Value, OpFault>
+    requires live { IsSome (tables store.old on.0) }
+    requires own { AreGiven dict.old (O.held op.now) }
+    requires settled { IsSettledWorld (world store.old dict.old) }
+    ensures { Forms result (meant.each_column (O.answer op.now (cells_value dict.old (O.held op.now)))
+        (table_value dict.old (table_at (tables store.old) on.0)))
+        (world store.old dict.old) (world store.new dict.new) }
+{
+    let table = columns_table(alloc, dict, op, &store.read(on));
+    placed(store, dict, table)
 }

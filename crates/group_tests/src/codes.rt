@@ -2,131 +2,118 @@
 use cell_core::{Label, TextId};
 use row_keys::{Column, Level, Numbers, label_codes, pair_codes};
 use std::alloc::Global;
-use std::process::Abort;
-use std::test::Fail;
 
-fn assert_numbers(rt: &impl Abort, numbers: &Numbers, codes: &[usize], firsts: &[usize]) {
-    assert_eq!(rt; numbers.codes.as_slice(), codes);
-    assert_eq!(rt; numbers.firsts.as_slice(), firsts);
+const TWO: Label = Label::Int(2);
+
+const FIVE: Label = Label::Int(5);
+
+const LOW: Label = Label::Int(i64::MIN);
+
+const HIGH: Label = Label::Int(i64::MAX);
+
+const TEXT: Label = Label::Text(TextId(3));
+
+const LAST: Label = Label::Text(TextId(u64::MAX));
+
+const TRUE: Label = Label::Bool(true);
+
+const FALSE: Label = Label::Bool(false);
+
+const NA: Label = Label::Na;
+
+// Labels, the code of each, and the first row of each code.
+const LABELS: [(&[Label], &[usize], &[usize]); 10] = [
+    (
+        &[FIVE, NA, Label::Int(4), FIVE, Label::Int(6), NA],
+        &[0, 1, 2, 0, 3, 1],
+        &[0, 1, 2, 4],
+    ),
+    (
+        &[
+            FIVE,
+            Label::Int(-2),
+            NA,
+            Label::Int(90),
+            Label::Int(-2),
+            FIVE,
+            NA,
+        ],
+        &[0, 1, 2, 3, 1, 0, 2],
+        &[0, 1, 2, 3],
+    ),
+    (&[HIGH, LOW, HIGH], &[0, 1, 0], &[0, 1]),
+    (&[HIGH, FIVE, FIVE, HIGH], &[0, 1, 1, 0], &[0, 1]),
+    (&[TRUE, FALSE, TRUE], &[0, 1, 0], &[0, 1]),
+    (&[TEXT, NA, TEXT], &[0, 1, 0], &[0, 1]),
+    (&[LAST, TEXT, LAST], &[0, 1, 0], &[0, 1]),
+    (&[FIVE, TEXT, TRUE, TEXT], &[0, 1, 2, 1], &[0, 1, 2]),
+    (&[NA, NA], &[0, 0], &[0]),
+    (&[], &[], &[]),
+];
+
+// Labels, the codes of what stands below them, the code of each pair, and the first row of each code.
+const PAIRS: [(&[Label], &[usize], &[usize], &[usize]); 5] = [
+    (
+        &[TWO, TWO, NA, TWO, NA],
+        &[1, 0, 1, 1, 1],
+        &[0, 1, 2, 0, 2],
+        &[0, 1, 2],
+    ),
+    (
+        &[TWO, Label::Int(700), FIVE, TWO, FIVE],
+        &[9, 0, 1, 9, 0],
+        &[0, 1, 2, 0, 3],
+        &[0, 1, 2, 4],
+    ),
+    (&[LOW, HIGH, LOW], &[1, 1, 1], &[0, 1, 0], &[0, 1]),
+    (&[HIGH, FIVE, HIGH], &[1, 1, 0], &[0, 1, 2], &[0, 1, 2]),
+    (&[TEXT, FIVE, TEXT], &[0, 0, 0], &[0, 1, 0], &[0, 1]),
+];
+
+fn are(numbers: &Numbers, codes: &[usize], firsts: &[usize]) -> bool {
+    numbers.codes.as_slice() == codes && numbers.firsts.as_slice() == firsts
 }
 
-fn assert_labels(
-    rt: &impl Abort,
-    alloc: Global,
-    labels: &[Label],
-    codes: &[usize],
-    firsts: &[usize],
-) -> Result<(), Fail> {
-    let numbers = label_codes(alloc, &Column { labels })?;
-    assert_numbers(rt, &numbers, codes, firsts);
-    Ok(())
+fn have_codes(alloc: Global, labels: &[Label], codes: &[usize], firsts: &[usize]) -> bool {
+    match label_codes(alloc, &Column { labels }) {
+        Ok(numbers) => are(&numbers, codes, firsts),
+        Err(_) => false,
+    }
 }
 
-fn assert_pairs(
-    rt: &impl Abort,
+fn pairs_have_these(
     alloc: Global,
     labels: &[Label],
     below: &[usize],
     codes: &[usize],
     firsts: &[usize],
-) -> Result<(), Fail> {
+) -> bool {
     let pairs = Level {
         labels,
         codes: below,
     };
-    let numbers = pair_codes(alloc, &pairs)?;
-    assert_numbers(rt, &numbers, codes, firsts);
-    Ok(())
+    match pair_codes(alloc, &pairs) {
+        Ok(numbers) => are(&numbers, codes, firsts),
+        Err(_) => false,
+    }
 }
 
 #[test]
-fn labels_have_codes(rt: HostRuntime) -> Result<(), Fail> {
-    let alloc = rt.alloc();
-    let (two, five) = (Label::Int(-2), Label::Int(5));
-    let (low, high) = (Label::Int(i64::MIN), Label::Int(i64::MAX));
-    let (text, last) = (Label::Text(TextId(3)), Label::Text(TextId(u64::MAX)));
-    let truths = [Label::Bool(true), Label::Bool(false), Label::Bool(true)];
-    let table = [
-        five,
-        Label::Na,
-        Label::Int(4),
-        five,
-        Label::Int(6),
-        Label::Na,
-    ];
-    assert_labels(&rt, alloc, &table, &[0, 1, 2, 0, 3, 1], &[0, 1, 2, 4])?;
-    let sort = [five, two, Label::Na, Label::Int(90), two, five, Label::Na];
-    assert_labels(&rt, alloc, &sort, &[0, 1, 2, 3, 1, 0, 2], &[0, 1, 2, 3])?;
-    assert_labels(&rt, alloc, &[high, low, high], &[0, 1, 0], &[0, 1])?;
-    assert_labels(
-        &rt,
-        alloc,
-        &[high, five, five, high],
-        &[0, 1, 1, 0],
-        &[0, 1],
-    )?;
-    assert_labels(&rt, alloc, &truths, &[0, 1, 0], &[0, 1])?;
-    assert_labels(&rt, alloc, &[text, Label::Na, text], &[0, 1, 0], &[0, 1])?;
-    assert_labels(&rt, alloc, &[last, text, last], &[0, 1, 0], &[0, 1])?;
-    assert_labels(
-        &rt,
-        alloc,
-        &[five, text, truths[0], text],
-        &[0, 1, 2, 1],
-        &[0, 1, 2],
-    )?;
-    assert_labels(&rt, alloc, &[Label::Na, Label::Na], &[0, 0], &[0])?;
-    assert_labels(&rt, alloc, &[], &[], &[])?;
-    Ok(())
+fn labels_have_codes(rt: HostRuntime) {
+    for (labels, codes, firsts) in LABELS {
+        assert!(rt;
+            have_codes(rt.alloc(), labels, codes, firsts),
+            "of {labels:?}"
+        );
+    }
 }
 
 #[test]
-fn pairs_have_codes(rt: HostRuntime) -> Result<(), Fail> {
-    let alloc = rt.alloc();
-    let (two, five) = (Label::Int(2), Label::Int(5));
-    let (low, high) = (Label::Int(i64::MIN), Label::Int(i64::MAX));
-    let text = Label::Text(TextId(3));
-    let near = [two, two, Label::Na, two, Label::Na];
-    assert_pairs(
-        &rt,
-        alloc,
-        &near,
-        &[1, 0, 1, 1, 1],
-        &[0, 1, 2, 0, 2],
-        &[0, 1, 2],
-    )?;
-    let far = [two, Label::Int(700), five, two, five];
-    assert_pairs(
-        &rt,
-        alloc,
-        &far,
-        &[9, 0, 1, 9, 0],
-        &[0, 1, 2, 0, 3],
-        &[0, 1, 2, 4],
-    )?;
-    assert_pairs(
-        &rt,
-        alloc,
-        &[low, high, low],
-        &[1, 1, 1],
-        &[0, 1, 0],
-        &[0, 1],
-    )?;
-    assert_pairs(
-        &rt,
-        alloc,
-        &[high, five, high],
-        &[1, 1, 0],
-        &[0, 1, 2],
-        &[0, 1, 2],
-    )?;
-    assert_pairs(
-        &rt,
-        alloc,
-        &[text, five, text],
-        &[0, 0, 0],
-        &[0, 1, 0],
-        &[0, 1],
-    )?;
-    Ok(())
+fn pairs_have_codes(rt: HostRuntime) {
+    for (labels, below, codes, firsts) in PAIRS {
+        assert!(rt;
+            pairs_have_these(rt.alloc(), labels, below, codes, firsts),
+            "of {labels:?}"
+        );
+    }
 }

@@ -5,11 +5,10 @@ ghost use Rattle.cell_core.specs.declared.cell.Kind.TheVariants.{Int64};
 
 use cell_core::{Kind, Label, NoMemory, TextDict, Tuple, Tuples};
 use column_core::{ColRef, Column, cell_of_number};
-use factorize::{KeyColumns, KeyGroups, factorize, group_by_keys};
+use factorize::{Codes, KeyColumns, KeyGroups, factorize, group_by_keys};
 use group_by::{GroupOp, group_reduce};
 use std::alloc::Global;
 use std::process::Abort;
-use std::test::Fail;
 
 fn numbers(alloc: Global, values: &[Option<i64>]) -> Result<Column, NoMemory>
     ensures kind { IfOk result (λ c. c.kind ≡ Int64) }
@@ -22,11 +21,16 @@ fn numbers(alloc: Global, values: &[Option<i64>]) -> Result<Column, NoMemory>
     Ok(column)
 }
 
-pub(crate) fn assert_cells(rt: &impl Abort, found: ColRef<'_>, wanted: &[Option<i64>]) {
-    assert_eq!(rt; found.len(), wanted.len());
-    for (row, value) in wanted.iter().enumerate() {
-        assert_eq!(rt; found.cell(row), cell_of_number(*value), "at row {row}");
+pub(crate) fn has_cells(found: ColRef<'_>, wanted: &[Option<i64>]) -> bool {
+    if found.len() != wanted.len() {
+        return false;
     }
+    for row in 0..wanted.len() {
+        if found.cell(row) != cell_of_number(wanted[row]) {
+            return false;
+        }
+    }
+    true
 }
 
 fn have_rows(columns: &[ColRef<'_>], rows: usize) -> bool
@@ -79,67 +83,67 @@ fn assert_reduced(
     values: &[Option<i64>],
     op: GroupOp,
     wanted: &[Option<i64>],
-) -> Result<(), Fail> {
+) -> Result<(), NoMemory> {
     let dict = TextDict::new(alloc);
     let columns = columns_of(alloc, keys)?;
     let grouped = keyed(rt, alloc, &dict, &columns, false)?;
     let column = numbers(alloc, values)?;
     let cells = column.as_ref();
-    assert_eq!(rt; grouped.groups.rows(), cells.len());
-    let made = group_reduce(alloc, &dict, &grouped.groups, cells, op)?;
-    assert_cells(rt, made.as_ref(), wanted);
+    assert!(rt; grouped.groups.rows() == cells.len());
+    match group_reduce(alloc, &dict, &grouped.groups, cells, op) {
+        Ok(made) => assert!(rt; has_cells(made.as_ref(), wanted)),
+        Err(_) => panic!(rt; "refused"),
+    }
     Ok(())
 }
 
 // As `df.groupby(["g", "h"], sort=False)["v"].sum()`.
 #[test]
-fn keys_stand_by_sight(rt: HostRuntime) -> Result<(), Fail> {
+fn keys_stand_by_sight(rt: HostRuntime) -> Result<(), NoMemory> {
     let alloc = rt.alloc();
     let g = [Some(8), Some(3), None, Some(8)];
     let h = [Some(1), Some(1), Some(2), Some(1)];
     let v = [None, Some(5), Some(7), None];
+    let five: [&[Option<i64>]; 5] = [&g, &g, &g, &g, &h];
     assert_reduced(&rt, alloc, &[&g, &h], &v, GroupOp::Sum, &[Some(0), Some(5)])?;
     assert_reduced(&rt, alloc, &[&g], &v, GroupOp::Max, &[None, Some(5)])?;
-    assert_reduced(
-        &rt,
-        alloc,
-        &[&g, &g, &g, &g, &h],
-        &v,
-        GroupOp::Count,
-        &[Some(0), Some(1)],
-    )?;
+    assert_reduced(&rt, alloc, &five, &v, GroupOp::Count, &[Some(0), Some(1)])?;
     Ok(())
 }
 
-// The codes of 7, NA and 5.
-fn assert_codes(
-    rt: &impl Abort,
+fn has_codes(codes: &Codes, wanted: &[Option<usize>; 3]) -> bool {
+    codes.len() == 3
+        && codes.code(0) == wanted[0]
+        && codes.code(1) == wanted[1]
+        && codes.code(2) == wanted[2]
+}
+
+// Whether 7, NA and 5 have these codes.
+fn are_codes(
     alloc: Global,
     sorted: bool,
     dropna: bool,
     wanted: &[Option<usize>; 3],
-) -> Result<(), Fail> {
+) -> Result<bool, NoMemory> {
     let dict = TextDict::new(alloc);
     let mut keys = Tuples::new(alloc);
     keys.push(Tuple::of(alloc, &[Label::Int(7)]))?;
     keys.push(Tuple::of(alloc, &[Label::Na]))?;
     keys.push(Tuple::of(alloc, &[Label::Int(5)]))?;
     let codes = factorize(alloc, &dict, &keys, sorted, dropna)?;
-    assert_eq!(rt; codes.keys().len(), if dropna { 2 } else { 3 });
-    assert_eq!(rt; codes.len(), 3);
-    for row in 0..3 {
-        assert_eq!(rt; codes.code(row), wanted[row], "row {row}");
-    }
-    Ok(())
+    let count = if dropna { 2 } else { 3 };
+    Ok(codes.keys().len() == count && has_codes(&codes, wanted))
 }
 
 // As `pd.factorize(keys, sort=.., use_na_sentinel=..)`.
 #[test]
-fn tuples_have_codes(rt: HostRuntime) -> Result<(), Fail> {
-    let alloc = rt.alloc();
-    assert_codes(&rt, alloc, true, true, &[Some(1), None, Some(0)])?;
-    assert_codes(&rt, alloc, true, false, &[Some(1), Some(2), Some(0)])?;
-    assert_codes(&rt, alloc, false, true, &[Some(0), None, Some(1)])?;
-    assert_codes(&rt, alloc, false, false, &[Some(0), Some(1), Some(2)])?;
-    Ok(())
+fn tuples_have_codes(rt: HostRuntime) {
+    for (sorted, dropna, wanted) in [
+        (true, true, [Some(1), None, Some(0)]),
+        (true, false, [Some(1), Some(2), Some(0)]),
+        (false, true, [Some(0), None, Some(1)]),
+        (false, false, [Some(0), Some(1), Some(2)]),
+    ] {
+        assert!(rt; are_codes(rt.alloc(), sorted, dropna, &wanted) == Ok(true));
+    }
 }

@@ -9,9 +9,10 @@ use Rattle.std.proofs.lemmas.List.Elements.{All-nil, All-cons, All-head, All-tai
 use Rattle.meaning.specs.Reduce.{distinct}
 use Rattle.sorting.specs.Sorting.{put_in, in_order}
 use Rattle.sorting.proofs.SortLaws.{irreflexive}
-use Rattle.align_meaning.proofs.OrderLaws.{all_append, all_flat, all_put_in}
+use Rattle.align_meaning.proofs.OrderLaws.{all_append, all_flat, all_put_in, all_in_order, all_distinct}
 use Rattle.align_meaning.specs.Joins.{Entry, or_gap, entry, entries_with, entries_of, outer_entries, lists_of}
 use Rattle.align_meaning.specs.OuterJoin.{IsOuterJoin, rows_of_key}
+use Rattle.row_keys.proofs.KeyLaws.{any_at}
 use Rattle.label_align.proofs.EntryLaws.{length-entries_of}
 
 filter_all : {X : Type 0} (p : X → Bool) (xs : List X) → All (λ x. p x ≡ true) xs → filter p xs ≡ xs
@@ -157,6 +158,15 @@ module _ {K : Type 0} (same less : K → K → Bool) (decides : (a b : K) → De
           | false ↦ λ e t. others_stay x (distinct same xs) e ∙ gone xs t
         ] refl h
 
+  -- a key stands among keys, as each of these in order does
+  abbrev pub Stands : List K → K → Type 0
+  Stands keys key = list_any (same key) keys ≡ true
+
+  pub keys_stand : (keys : List K) → All (Stands keys) (in_order less (distinct same keys))
+  keys_stand keys =
+      all_in_order (Stands keys) less (distinct same keys)
+      (all_distinct (Stands keys) same keys (λ i d lt. any_at (same (slice_index_or keys i d)) keys i d lt ((decides _ _).1 refl)))
+
   -- the entries of both sides' keys
   module _ (left right : List K) where
     abbrev of_key : K → List (Entry K)
@@ -178,5 +188,9 @@ module _ {K : Type 0} (same less : K → K → Bool) (decides : (a b : K) → De
       in_order = rises_at (λ e f. less e.key f.key) (outer_entries same less left right)
           (parts_rise (λ e. e.key) of_key entry_keys (in_order less (distinct same (left ++ right))) (in_order_rises less weak (distinct same (left ++ right))));
       as_often = λ key stands. ap length (entries_of_key key stands) ∙ length-entries_of key (rows_of_key same left key) (rows_of_key same right key);
+      no_others =
+          all_flat (λ e. Stands (left ++ right) e.key) (Stands (left ++ right)) of_key
+          (λ key stands. λ i d lt. ap (λ k. list_any (same k) (left ++ right)) (entry_keys key i d lt) ∙ stands)
+          (in_order less (distinct same (left ++ right))) (keys_stand (left ++ right));
       rows_in_order = entries_of_key;
     }

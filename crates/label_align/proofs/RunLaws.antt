@@ -12,11 +12,10 @@ use Rattle.pick_meaning.specs.Rows.{rows_where}
 use Rattle.sorting.specs.Sorting.{put_in, in_order}
 use Rattle.sorting.proofs.SortLaws.{Ascends, in_order_ascends, in_order_ties, one_order}
 use Rattle.align_meaning.specs.Joins.{keys_in_order}
-use Rattle.align_meaning.proofs.OrderLaws.{all_in_order, all_distinct, all_put_in}
-use Rattle.row_keys.proofs.KeyLaws.{any_at}
+use Rattle.align_meaning.proofs.OrderLaws.{all_in_order, all_put_in}
 use Rattle.label_align.specs.declared.runs.Run.{Run}
 use Rattle.label_align.specs.Runs.{no_run, with_row, gathered, ends, runs_from}
-use Rattle.label_align.proofs.OuterJoinLaws.{Rises, in_order_rises, parts_rise, parts_apart, in_order_keeps, once, gone}
+use Rattle.label_align.proofs.OuterJoinLaws.{Rises, in_order_rises, parts_rise, parts_apart, in_order_keeps, once, gone, keys_stand}
 
 -- the rows that pass a test
 module _ {K : Type 0} (p : K → Bool) where
@@ -200,13 +199,8 @@ module _ {K : Type 0} (same less : K → K → Bool) (decides : (a b : K) → De
         one_part count k (part k) (flat_map part ks) (All-head (λ k. 0 < length (part k)) k ks some) (keyed k) (not_next k ks apart.0 later)
         ∙ ap (λ l. gathered count no_run (part k) ∷ l) (runs_apart count ks apart.1 later)
 
-    stands : All (λ k. list_any (same k) all ≡ true) keys
-    stands =
-        all_in_order (λ k. list_any (same k) all ≡ true) less (distinct same all)
-        (all_distinct (λ k. list_any (same k) all ≡ true) same all (λ i e lt. any_at (same (slice_index_or all i e)) all i e lt (itself (slice_index_or all i e))))
-
     pub have_rows : HaveRows keys
-    have_rows i e lt = rows_some (same (slice_index_or keys i e)) 0 all (stands i e lt)
+    have_rows i e lt = rows_some (same (slice_index_or keys i e)) 0 all (keys_stand same less decides weak all i e lt)
 
     pub runs_are : (count : ℕ) → runs_from alike count no_run (flat_map part keys) ≡ map (λ k. gathered count no_run (part k)) keys
     runs_are count = runs_apart count keys (order_apart (distinct same all) (distinct_apart all)) have_rows

@@ -1,5 +1,5 @@
 // The rows of two sides, those of the left first, and the rows of one by the numbers of their keys.
-ghost use Rattle.std.specs.Prelude.{◌≡◌, ◌<◌, ◌≤◌, ◌++◌, [], length, slice_index_or, All, IfOk, IfSome};
+ghost use Rattle.std.specs.Prelude.{◌≡◌, ◌<◌, ◌≤◌, ◌^◌, ◌++◌, [], length, slice_index_or, All, IfOk, IfSome, IfNone};
 ghost use Rattle.multi_index.specs.Axes.{HaveLevels};
 ghost use Rattle.row_keys.specs.Keys.{label_in};
 ghost use Rattle.row_keys.specs.Buckets.{buckets_of, rows_of_code};
@@ -27,6 +27,7 @@ impl<'a, L: KeyLevels, R: KeyLevels> BothRows<'a, L, R> {
             HaveLevels (levels_of keys) keys }
         ensures left { IfSome result (λ both. both.left.now ≡ left.now) }
         ensures right { IfSome result (λ both. both.right.now ≡ right.now) }
+        ensures none { IfNone result (2 ^ 64 ≤ length (L.keys left.now ++ R.keys right.now)) }
     {
         let count = left.count().checked_add(right.count())?;
         Some(BothRows { left, right, count })

@@ -1,54 +1,21 @@
 -- Calls of `merge` and their arguments.
-use Rattle.std.proofs.Common.{◌≡◌, ◌∙◌, ◌≤◌, ap, refl, sym, subst, arith, ℕ, suc, Bool, true, false, ◌&&◌, ⊎_elim, List, [], ◌∷◌, ◌++◌, map, length, slice_get, Option, Some, None, Result, Ok, Err, option_map, nat_lt, if◌then◌else◌}
-use Rattle.std.specs.Prelude.{IfSome}
-use Rattle.std.proofs.lemmas.Bool.Decides.{nat_tests}
-use Rattle.std.proofs.lemmas.List.{length-map}
-use Rattle.cell_core.specs.declared.cell.Cell.{Cell}
-use Rattle.cell_core.specs.declared.grid.Shape.{Shape}
-use Rattle.cell_core.specs.declared.grid.Shape.TheVariants.{Series, Frame}
-use Rattle.meaning.specs.Text.{Text}
-use Rattle.meaning.specs.Cell.{CellValue, LabelValue, na_cell, int_cell, truth_cell, text_cell, datum}
-use Rattle.meaning.specs.Operator.{cell_label}
-use Rattle.meaning.specs.Fault.{FaultValue, then_value}
-use Rattle.join_meaning.specs.declared.How.{How}
-use Rattle.join_meaning.specs.declared.Validate.{Validate}
-use Rattle.table_meaning.specs.Settled.{IsSettled}
-use Rattle.table_meaning.specs.Table.{NumberedTable, Table, table_value}
-use Rattle.table_meaning.specs.Value.{Entry, cell, table, Given, GivenList, NamedGiven, nothing, one, row, many, entries, no_given, more_given, object_in}
-use Rattle.form_meaning.specs.declared.Method.TheVariants.{Merge}
-use Rattle.form_meaning.specs.declared.Parameter.{Parameter}
+use Rattle.{
+  std.{proofs.{lemmas.{Option.{same_Some}, Bool.{and_parts, Decides.{nat_tests}}, List.{length-map}}, Common.{◌≡◌, ◌∙◌, ◌≤◌, ap, refl, sym, subst, arith, ℕ, suc, Bool, true, false, ⊎_elim, List, [], ◌∷◌, ◌++◌, map, length, slice_get, Option, Some, None, Result, Ok, Err, option_map, nat_lt, if◌then◌else◌}}, specs.Prelude.{IfSome}},
+  cell_core.specs.declared.{cell.Cell.{Cell}, grid.Shape.{Shape, TheVariants.{Series, Frame}}},
+  meaning.specs.{Text.{Text}, Cell.{CellValue, LabelValue, na_cell, datum}, Operator.{cell_label}, Fault.{FaultValue, then_value}},
+  join_meaning.specs.declared.{How.{How}, Validate.{Validate}},
+  table_meaning.specs.{Settled.{IsSettled}, Table.{NumberedTable, Table, table_value}, Value.{Entry, cell, table, Given, GivenList, NamedGiven, nothing, one, row, many, entries, no_given, more_given, object_in}},
+  form_meaning.specs.{declared.{Method.TheVariants.{Merge}, Parameter.{Parameter}}, Signature.{parameters_of, needed, optional}, Binding.{not_taken, not_listed, bound, bound_of, on_bound, are_listed, arguments_from, argument_at, each, is_scalar, count_of, is_frame, takes, text_in}, Make.{on}, Select.{cells_of}},
+  method_meaning.specs.{Levels.{label_cell}, Calls.{merge_call, method_result, chain_result, call_result}, Merge.{keys_of_merge, checked_keys, merged_rows, how_named, validate_in, merge_result}},
+  form_parts.specs.Makes.{MakesBy},
+  frame_store.specs.{declared.{arguments.{Chain.{Chain, TheVariants.{Plain}}, Named.{Named}, Value.{Value, TheVariants.{Object, Scalar}}}, fault.OpFault.{OpFault, TheVariants.{Refused, NoMemory}}, object.ObjId.{ObjId}}, Arguments.{object_value, shape_at}, Objects.{Tables, table_or}, Shown.{cells_value, Makes}, World.{World, entry_in, arguments_in, AreKnownArguments}},
+  label_methods.specs.Chains.{chain_in},
+  signatures.{specs.{Bound.{given_in, stands_at, IsBound}, Filled.{Fills}, declared.bound.Bound.{Bound as BoundArguments}}, proofs.RuleLaws.{filled}},
+  merge_forms.{specs.{Calls.{is_plain, merge_of, IsMergeCall}, Keys.{cell_labels, labels_on, keys_checked}}, proofs.{KeyLaws.{told_as_meant}, ShapeLaws.{merge_is_of_frame}}},
+}
 use Rattle.form_meaning.specs.declared.ParameterName.TheVariants as name
 use Rattle.form_meaning.specs.declared.Form.TheVariants as form
 use Rattle.form_meaning.specs.declared.Omitted.TheVariants as omitted
-use Rattle.form_meaning.specs.Signature.{parameters_of, method_named, needed, optional}
-use Rattle.form_meaning.specs.Binding.{not_taken, not_listed, bound, bound_of, on_bound, fit, none_missing, are_listed, arguments_from, argument_at, each, is_scalar, count_of, is_frame, takes, text_in}
-use Rattle.form_meaning.specs.Make.{on}
-use Rattle.form_meaning.specs.Select.{cells_of}
-use Rattle.method_meaning.specs.Levels.{label_cell}
-use Rattle.method_meaning.specs.Calls.{is_merge, merge_call, method_result, chain_result, call_result}
-use Rattle.method_meaning.specs.Merge.{keys_of_merge, checked_keys, merged_rows, how_named, validate_in, merge_result}
-use Rattle.form_parts.specs.Makes.{MakesBy}
-use Rattle.frame_store.specs.declared.arguments.Chain.{Chain}
-use Rattle.frame_store.specs.declared.arguments.Chain.TheVariants.{Plain, Group, Rolling, Expanding}
-use Rattle.frame_store.specs.declared.arguments.Named.{Named}
-use Rattle.frame_store.specs.declared.arguments.Value.{Value}
-use Rattle.frame_store.specs.declared.arguments.Value.TheVariants.{Object, Scalar}
-use Rattle.frame_store.specs.declared.fault.OpFault.{OpFault}
-use Rattle.frame_store.specs.declared.fault.OpFault.TheVariants.{Refused, NoMemory}
-use Rattle.frame_store.specs.declared.object.ObjId.{ObjId}
-use Rattle.frame_store.specs.Arguments.{object_value, shape_at, arguments_of, AreLive}
-use Rattle.frame_store.specs.Objects.{Tables, table_or}
-use Rattle.frame_store.specs.Shown.{cells_value, Makes}
-use Rattle.frame_store.specs.World.{World, entry_in, arguments_in, AreKnownArguments, Forms}
-use Rattle.label_methods.specs.Chains.{chain_in}
-use Rattle.signatures.specs.Bound.{given_in, stands_at, IsBound}
-use Rattle.signatures.specs.Filled.{Fills}
-use Rattle.signatures.specs.declared.bound.Bound.{Bound as BoundArguments}
-use Rattle.signatures.proofs.RuleLaws.{filled}
-use Rattle.merge_forms.specs.Calls.{is_plain, merge_of, IsMergeCall}
-use Rattle.merge_forms.specs.Keys.{cell_labels, labels_on, keys_checked}
-use Rattle.merge_forms.proofs.KeyLaws.{told_as_meant}
-use Rattle.merge_forms.proofs.ShapeLaws.{merge_is_of_frame}
 
 -- arguments that are bound
 pub bound_reads : (w : World) (ps : List Parameter) (args : List Named) (read : List Given → Result Entry FaultValue) (b : BoundArguments) → IsBound w ps args (Ok b) → on_bound (bound_of ps (arguments_in w args)) read ≡ read (given_in w b)
@@ -57,21 +24,20 @@ bound_reads w ps args read b is = ap (λ b. on_bound b read) is.0
 -- each parameter has what fits it
 fitted : (a b c : Bool) (gs xs : List Given) → (if a then (if b then (if c then bound gs else not_listed) else not_taken) else not_taken) ≡ bound xs → (a ≡ true) × (b ≡ true)
 fitted true true c gs xs is = (refl, refl)
-fitted true false c gs xs is = cc
-fitted false b c gs xs is = cc
+fitted a b c gs xs is = cc
 
 pub call_filled : (w : World) (ps : List Parameter) (args : List Named) (b : BoundArguments) → IsBound w ps args (Ok b) → (place : ℕ) (p : Parameter) → slice_get ps place ≡ Some p → Fills p (stands_at w.tables w.texts b place)
 call_filled w ps args b is place p at =
     let gs = arguments_in w args in
-    let h = fitted (fit ps 0 gs) (none_missing ps gs 0 ps) (are_listed ps 0 gs) (arguments_from ps gs 0 ps) (given_in w b) is.0 in
+    let h = fitted _ _ (are_listed ps 0 gs) (arguments_from ps gs 0 ps) _ is.0 in
     subst (Fills p) (λ i. argument_at (sym is.1 i) (arguments_in w (sym is.2 i)) place) (filled ps gs h.0 h.1 place p at)
 
 pub is_call : (w : World) (ps : List Parameter) (args : List Named) (b : BoundArguments) → ps ≡ parameters_of Merge → AreKnownArguments w args → IsBound w ps args (Ok b) → IsMergeCall w b
 is_call w ps args b merge known is = record {
   parameters = is.1 ∙ merge;
-  given = subst (IsSettled (arguments_of w.tables) w.texts) (sym is.2) known.given;
-  live = subst (AreLive w.tables) (sym is.2) known.live;
-  filled = λ place p at. call_filled w ps args b is place p (ap (λ (l : List Parameter). slice_get l place) merge ∙ at);
+  given = rw is.2 known.given;
+  live = rw is.2 known.live;
+  filled = λ place p at. call_filled w _ _ b is _ p (ap (λ (l : List Parameter). slice_get l place) merge ∙ at);
 }
 
 -- a frame stands first
@@ -82,32 +48,18 @@ is_frame_shape Frame is = refl
 frame_taken : (g : Given) (t : Table) → takes (needed name.Right form.Frame) g ≡ true → Some t ≡ object_in g → t.shape ≡ Frame
 frame_taken nothing t taken is = cc
 frame_taken (one (cell c)) t taken is = cc
-frame_taken (one (table u)) t taken is = let same : t ≡ u = cc in ap (λ (x : Table). x.shape) same ∙ is_frame_shape u.shape taken
-frame_taken (row parts) t taken is = cc
-frame_taken (many parts) t taken is = cc
-frame_taken (entries pairs) t taken is = cc
+frame_taken (one (table u)) t taken is = let same : t ≡ u = cc in ap (λ (x : Table). x.shape) same ∙ is_frame_shape _ taken
+frame_taken g t taken is = cc
 
 right_is_frame : (w : World) (b : BoundArguments) → IsMergeCall w b → (t : Table) → Some t ≡ object_in (stands_at w.tables w.texts b 0) → t.shape ≡ Frame
 right_is_frame w b h t is =
-    ⊎_elim (λ taken. frame_taken (stands_at w.tables w.texts b 0) t taken is) (λ (may, stands). let wrong : false ≡ true = may in cc) (h.filled 0 (needed name.Right form.Frame) refl)
+    ⊎_elim (λ taken. frame_taken _ t taken is) (λ (may, stands). let wrong : false ≡ true = may in cc) (h.filled 0 (needed name.Right form.Frame) refl)
 
 -- a label at least is named, if any
 scalars_count : (parts : GivenList) → each is_scalar parts ≡ true → length (cells_of parts) ≡ count_of parts
 scalars_count no_given all = refl
 scalars_count (more_given (one (cell c)) rest) all = ap suc (scalars_count rest all) ∙ omega arith
-scalars_count (more_given (one (table t)) rest) all = cc
-scalars_count (more_given nothing rest) all = cc
-scalars_count (more_given (row parts) rest) all = cc
-scalars_count (more_given (many parts) rest) all = cc
-scalars_count (more_given (entries pairs) rest) all = cc
-
-both_first : (a b : Bool) → a && b ≡ true → a ≡ true
-both_first true b e = refl
-both_first false b e = cc
-
-both_second : (a b : Bool) → a && b ≡ true → b ≡ true
-both_second true b e = e
-both_second false b e = cc
+scalars_count parts all = cc
 
 above : (n : ℕ) → nat_lt 0 n ≡ true → 1 ≤ n
 above n e = grind (arith, nat_tests)
@@ -118,40 +70,35 @@ labels_taken (one (cell c)) taken = omega arith
 labels_taken (one (table t)) taken = cc
 labels_taken (row parts) taken = cc
 labels_taken (many parts) taken =
-    let some = above (count_of parts) (both_first (nat_lt 0 (count_of parts)) (each is_scalar parts) taken) in
-    let counted = scalars_count parts (both_second (nat_lt 0 (count_of parts)) (each is_scalar parts) taken) in
+    let some = above (count_of parts) (and_parts (nat_lt 0 (count_of parts)) (each is_scalar parts) taken).0 in
+    let counted = scalars_count parts (and_parts (nat_lt 0 (count_of parts)) (each is_scalar parts) taken).1 in
     omega (arith, some, counted, length-map (cells_of parts) cell_label)
 labels_taken (entries pairs) taken = cc
 
 pub labels_some : (w : World) (b : BoundArguments) → IsMergeCall w b → IfSome (labels_on (stands_at w.tables w.texts b 2)) (λ labels. 1 ≤ length labels)
 labels_some w b h =
-    ⊎_elim (λ taken. labels_taken (stands_at w.tables w.texts b 2) taken) (λ (may, stands). subst (λ g. IfSome (labels_on g) (λ labels. 1 ≤ length labels)) (sym stands) tt) (h.filled 2 (optional name.On form.SomeLabels omitted.None) refl)
+    ⊎_elim (λ taken. labels_taken _ taken) (λ (may, stands). subst (λ g. IfSome (labels_on g) (λ labels. 1 ≤ length labels)) (sym stands) tt) (h.filled 2 (optional name.On form.SomeLabels omitted.None) refl)
 
 -- cells whose labels are told
 cell_back : (c : CellValue) → label_cell (cell_label c) ≡ c
 cell_back na_cell = refl
-cell_back (int_cell z) = refl
-cell_back (truth_cell b) = refl
-cell_back (text_cell t) = refl
+cell_back c = refl
 
 cells_back : (cs : List CellValue) → map label_cell (map cell_label cs) ≡ cs
 cells_back [] = refl
 cells_back (c ∷ cs) = λ i. cell_back c i ∷ cells_back cs i
 
-some_same : {A : Type 0} (a b : A) → Some a ≡ Some b → a ≡ b
-some_same a b e = cc
-
 pub told_given : (w : World) (b : BoundArguments) (told : Option (List Cell)) → IsMergeCall w b → ((live : Tables) (texts : List Text) → option_map (cell_labels texts) told ≡ labels_on (stands_at live texts b 2)) → IfSome told (IsSettled cells_value w.texts)
 told_given w b None h tells = tt
 told_given w b (Some cells) h tells = λ more.
     let same : cell_labels (w.texts ++ more) cells ≡ cell_labels w.texts cells =
-    some_same _ _ (tells w.tables (w.texts ++ more) ∙ ap (λ gs. labels_on (argument_at b.parameters.now gs 2)) (h.given more) ∙ sym (tells w.tables w.texts)) in
-    sym (cells_back (cells_value (w.texts ++ more) cells)) ∙ ap (map label_cell) same ∙ cells_back (cells_value w.texts cells)
+    same_Some _ _ (tells w.tables (w.texts ++ more) ∙ ap (λ gs. labels_on (argument_at b.parameters.now gs 2)) (h.given more) ∙ sym (tells w.tables w.texts)) in
+    sym (cells_back _) ∙ ap (map label_cell) same ∙ cells_back _
 
 pub told_some : (w : World) (b : BoundArguments) (told : Option (List Cell)) → IsMergeCall w b → ((live : Tables) (texts : List Text) → option_map (cell_labels texts) told ≡ labels_on (stands_at live texts b 2)) → IfSome told (λ cells. 1 ≤ length cells)
 told_some w b None h tells = tt
 told_some w b (Some cells) h tells =
-    let some = subst (λ (o : Option (List LabelValue)). IfSome o (λ labels. 1 ≤ length labels)) (sym (tells w.tables w.texts)) (labels_some w b h) in
+    let some = rw (← tells w.tables w.texts) at (labels_some w b h) in
     omega (arith, some, length-map (cells_value w.texts cells) cell_label, length-map cells (datum w.texts))
 
 -- what is meant, by what is read
@@ -186,17 +133,13 @@ pub read_is : (w : World) (b : BoundArguments) → IsMergeCall w b → (on other
     → Some (object_value w.tables w.texts other) ≡ object_in (stands_at w.tables w.texts b 0) → Some t ≡ text_in (stands_at w.tables w.texts b 1) → how ≡ how_named t → told ≡ labels_on (stands_at w.tables w.texts b 2) → once ≡ validate_in (text_in (stands_at w.tables w.texts b 3))
     → merge_result (object_value w.tables w.texts on) (given_in w b) ≡ then_value (keys_checked (table_value w.texts l) (table_value w.texts r) told) (merged_rows (table_value w.texts l) (table_value w.texts r) how once)
 read_is w b h on other l r t how once told l_at r_at right text how_is told_is once_is =
-    ap (λ (o : Option NumberedTable). merge_result (table_value w.texts (table_or o)) (given_in w b)) l_at
-    ∙ merge_is w b h (table_value w.texts l) (table_value w.texts r) t how once told (ap (λ (o : Option NumberedTable). Some (table_value w.texts (table_or o))) (sym r_at) ∙ right) text how_is told_is once_is
+    rw l_at (merge_is w b h (table_value w.texts l) _ t _ _ _ (rw r_at at right) text how_is told_is once_is)
 
 pub shape_read : (w : World) (on : ObjId) (l : NumberedTable) → w.tables on.0 ≡ Some l → shape_at w.tables on ≡ Frame → l.shape ≡ Frame
 shape_read w on l at is = ap (λ (o : Option NumberedTable). (table_or o).shape) (sym at) ∙ is
 
 pub right_shape : (w : World) (b : BoundArguments) → IsMergeCall w b → (other : ObjId) (r : NumberedTable) → w.tables other.0 ≡ Some r → Some (object_value w.tables w.texts other) ≡ object_in (stands_at w.tables w.texts b 0) → r.shape ≡ Frame
-right_shape w b h other r at right = shape_read w other r at (right_is_frame w b h (object_value w.tables w.texts other) right)
-
-pub forms_so : (r : Result Value OpFault) (meant meant' : Result Entry FaultValue) (old new : World) → meant ≡ meant' → Forms r meant old new → Forms r meant' old new
-forms_so r meant meant' old new same = subst (λ (m : Result Entry FaultValue). Forms r m old new) same
+right_shape w b h other r at right = shape_read w _ r at (right_is_frame w b h _ right)
 
 -- which call it is
 merge_if : (b : Bool) (id x : ObjId) → (if b then Some x else None) ≡ Some id → (b ≡ true) × (x ≡ id)
@@ -209,26 +152,18 @@ other_if false x is = refl
 
 pub frame_called : (tables : Tables) (on : Value) (chain : Chain) (id : ObjId) → merge_of tables on chain ≡ Some id → (on ≡ Object id) × (shape_at tables id ≡ Frame)
 frame_called tables (Object x) (Plain name) id is =
-    let h = merge_if (is_merge (method_named (shape_at tables x) name)) id x is in
-    (ap (λ i. Object i) h.1, ap (shape_at tables) (sym h.1) ∙ merge_is_of_frame (shape_at tables x) name h.0)
-frame_called tables (Object x) (Group by brackets name) id is = cc
-frame_called tables (Object x) (Rolling args name) id is = cc
-frame_called tables (Object x) (Expanding args name) id is = cc
-frame_called tables (Scalar c) chain id is = cc
+    let h = merge_if _ _ x is in
+    (ap (λ i. Object i) h.1, ap (shape_at tables) (sym h.1) ∙ merge_is_of_frame _ name h.0)
+frame_called tables on chain id is = cc
 
 pub merge_called : (w : World) (on : Value) (chain : Chain) (gs : List NamedGiven) (id : ObjId) → merge_of w.tables on chain ≡ Some id → call_result (entry_in w on) (chain_in w chain) gs ≡ merge_call (object_value w.tables w.texts id) gs
 merge_called w (Object x) (Plain name) gs id is =
-    let h = merge_if (is_merge (method_named (shape_at w.tables x) name)) id x is in
+    let h = merge_if _ _ x is in
     ap (λ b. if b then merge_call (object_value w.tables w.texts x) gs else method_result (table (object_value w.tables w.texts x)) name gs) h.0 ∙ ap (λ i. merge_call (object_value w.tables w.texts i) gs) h.1
-merge_called w (Object x) (Group by brackets name) gs id is = cc
-merge_called w (Object x) (Rolling args name) gs id is = cc
-merge_called w (Object x) (Expanding args name) gs id is = cc
-merge_called w (Scalar c) chain gs id is = cc
+merge_called w on chain gs id is = cc
 
 pub other_called : (w : World) (on : Value) (chain : Chain) (gs : List NamedGiven) → is_plain chain ≡ true → merge_of w.tables on chain ≡ None → chain_result (entry_in w on) (chain_in w chain) gs ≡ call_result (entry_in w on) (chain_in w chain) gs
 other_called w (Object x) (Plain name) gs plain is =
-    sym (ap (λ b. if b then merge_call (object_value w.tables w.texts x) gs else method_result (table (object_value w.tables w.texts x)) name gs) (other_if (is_merge (method_named (shape_at w.tables x) name)) x is))
+    sym (ap (λ b. if b then merge_call (object_value w.tables w.texts x) gs else method_result (table (object_value w.tables w.texts x)) name gs) (other_if _ x is))
 other_called w (Scalar c) (Plain name) gs plain is = refl
-other_called w on (Group by brackets name) gs plain is = cc
-other_called w on (Rolling args name) gs plain is = cc
-other_called w on (Expanding args name) gs plain is = cc
+other_called w on chain gs plain is = cc

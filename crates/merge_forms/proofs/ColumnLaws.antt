@@ -1,65 +1,45 @@
 -- The columns of joined rows, with texts by number and with texts.
-use Rattle.std.proofs.Common.{◌≡◌, ◌∙◌, ◌+◌, ◌<◌, ◌≤◌, ap, refl, sym, subst, arith, ℕ, suc, Bool, true, false, not, ◌||◌, List, [], ◌∷◌, ◌++◌, map, take, drop, length, slice_get, slice_index_or, All, Option, Some, None, if◌then◌else◌, append_assoc, append-nil, nat_eq}
-use Rattle.std.specs.List.{range_with_len, position_or_len}
-use Rattle.std.proofs.Math.ListN.{get_or-map}
-use Rattle.std.proofs.Math.Seq.{drop-cons}
-use Rattle.std.proofs.lemmas.List.{length-map, map-append, take_more, at_drop_all}
-use Rattle.std.proofs.lemmas.List.Elements.{All-map, All-append}
-use Rattle.std.proofs.lemmas.List.FromFn.{map-range_with_len_more}
-use Rattle.std.proofs.lemmas.Option.{get_or_from_slice_get}
-use Rattle.cell_core.specs.declared.cell.Cell.{Cell}
-use Rattle.cell_core.specs.declared.cell.Cell.TheVariants.{Na}
-use Rattle.meaning.specs.Text.{Text}
-use Rattle.meaning.specs.Cell.{CellValue, na_cell, datum}
-use Rattle.meaning.specs.Column.{gap_cell, taken}
-use Rattle.join_meaning.specs.Pairs.{Pair}
-use Rattle.table_meaning.specs.Settled.{IsSettled}
-use Rattle.table_meaning.specs.Table.{ColumnOf, Table, column_at, column_value, no_column}
-use Rattle.column_core.specs.Columns.{CellColumn}
-use Rattle.frame_store.specs.Parts.{table_column}
-use Rattle.frame_store.specs.Shown.{columns_value}
-use Rattle.method_meaning.specs.Rows.{all_places}
+use Rattle.{
+  std.{proofs.{lemmas.{Option.{slice_get_within, get_or_from_slice_get}, List.{length-map, map-append, take_more, at_drop_all, Elements.{All-map, All-append}, FromFn.{map-range_with_len_more}}}, Common.{◌≡◌, ◌∙◌, ◌+◌, ◌≤◌, ap, refl, sym, subst, arith, ℕ, suc, Bool, true, false, not, ◌||◌, List, [], ◌∷◌, ◌++◌, map, take, drop, length, slice_get, slice_index_or, All, Option, Some, None, if◌then◌else◌, append_assoc, append-nil, nat_eq}, Math.{ListN.{get_or-map}, Seq.{drop-cons}}}, specs.List.{range_with_len, position_or_len}},
+  cell_core.specs.declared.cell.Cell.{Cell, TheVariants.{Na}},
+  meaning.specs.{Text.{Text}, Cell.{CellValue, na_cell, datum}, Column.{gap_cell, taken}},
+  join_meaning.specs.Pairs.{Pair},
+  table_meaning.specs.{Settled.{IsSettled}, Table.{ColumnOf, Table, column_at, column_value}},
+  column_core.specs.Columns.{CellColumn},
+  frame_store.specs.{Parts.{table_column}, Shown.{columns_value}},
+  method_meaning.specs.{Rows.{all_places}, Merge.{MergeKeys, is_key, right_key, right_places, key_cell, left_column, column_of_side}},
+  merge_forms.specs.Columns.{key_cell_at, key_cells, column_on, joined_or_left, left_column_on, merged_columns},
+}
 use Rattle.method_meaning.specs.Merge as meant
-use Rattle.method_meaning.specs.Merge.{MergeKeys, is_key, right_key, right_places, key_cell, left_column, column_of_side}
-use Rattle.merge_forms.specs.Columns.{key_cell_at, key_cells, column_on, joined_or_left, left_column_on, merged_columns}
 
 -- what holds of all holds of one
-pub at_all : {X : Type 0} (P : X → Type 0) (xs : List X) (k : ℕ) (x : X) → All P xs → k < length xs → slice_get xs k ≡ Some x → P x
-at_all P xs k x all lt at = subst P (get_or_from_slice_get xs k x x at) (all k x lt)
+pub at_all : {X : Type 0} (P : X → Type 0) (xs : List X) (k : ℕ) (x : X) → All P xs → slice_get xs k ≡ Some x → P x
+at_all P xs k x all at = subst P (get_or_from_slice_get _ k x x at) (all k x (slice_get_within xs k x at))
 
 -- one column more
 pub one_more_in_range : {X : Type 0} (f : ℕ → X) (place : ℕ) (x : X) (made made' : List X) → x ≡ f place → made' ≡ made ++ x ∷ [] → made ≡ map f (range_with_len 0 place) → made' ≡ map f (range_with_len 0 (place + 1))
-one_more_in_range f place x made made' is pushed before = pushed ∙ (λ i. before i ++ is i ∷ []) ∙ sym (map-range_with_len_more f 0 place place (omega arith))
+one_more_in_range f place x made made' is pushed before = pushed ∙ (λ i. before i ++ is i ∷ []) ∙ sym (map-range_with_len_more f 0 _ _ (omega arith))
 
-pub one_more_at : {X : Type 0} (f : ℕ → X) (places : List ℕ) (k place : ℕ) (x : X) (first made made' : List X) → k < length places → slice_get places k ≡ Some place → x ≡ f place → made' ≡ made ++ x ∷ [] → made ≡ first ++ map f (take k places)
+pub one_more_at : {X : Type 0} (f : ℕ → X) (places : List ℕ) (k place : ℕ) (x : X) (first made made' : List X) → slice_get places k ≡ Some place → x ≡ f place → made' ≡ made ++ x ∷ [] → made ≡ first ++ map f (take k places)
     → made' ≡ first ++ map f (take (k + 1) places)
-one_more_at f places k place x first made made' lt at is pushed before =
-    pushed
-    ∙ (λ i. before i ++ is i ∷ [])
-    ∙ append_assoc first (map f (take k places)) (f place ∷ [])
-    ∙ ap (λ p. first ++ (map f (take k places) ++ f p ∷ [])) (sym (get_or_from_slice_get places k place 0 at))
-    ∙ ap (λ l. first ++ l) (sym (ap (map f) (take_more places k 0 lt) ∙ map-append f (take k places) (slice_index_or places k 0 ∷ [])))
+one_more_at f places k place x first made made' at is pushed before = rw (pushed, before, is, take_more places k 0 (slice_get_within places k place at), map-append, get_or_from_slice_get places k place 0 at, append_assoc)
 
 -- the cells of a key, one more of them
-key_next : {C : Type 0} (na : C) (left right : List C) (ls rs : List (Option ℕ)) (row : ℕ) (l r : Option ℕ) → row < length ls → length rs ≡ length ls → slice_get ls row ≡ Some l → slice_get rs row ≡ Some r
+key_next : {C : Type 0} (na : C) (left right : List C) (ls rs : List (Option ℕ)) (row : ℕ) (l r : Option ℕ) → length rs ≡ length ls → slice_get ls row ≡ Some l → slice_get rs row ≡ Some r
     → key_cells na left right (drop row ls) (drop row rs) ≡ key_cell_at na left right l r ∷ key_cells na left right (drop (row + 1) ls) (drop (row + 1) rs)
-key_next na left right ls rs row l r lt same here there =
+key_next na left right ls rs row l r same here there =
+    let lt = slice_get_within ls row l here in
     let next : suc row ≡ row + 1 = omega arith in
     (λ i. key_cells na left right (drop-cons ls row None lt i) (drop-cons rs row None (omega (arith, lt, same)) i))
     ∙ (λ i. key_cell_at na left right (get_or_from_slice_get ls row l None here i) (get_or_from_slice_get rs row r None there i) ∷ key_cells na left right (drop (next i) ls) (drop (next i) rs))
 
-pub one_more_key : {C : Type 0} (na : C) (left right : List C) (ls rs : List (Option ℕ)) (row : ℕ) (l r : Option ℕ) (c : C) (made made' whole : List C) → row < length ls → length rs ≡ length ls → slice_get ls row ≡ Some l → slice_get rs row ≡ Some r
+pub one_more_key : {C : Type 0} (na : C) (left right : List C) (ls rs : List (Option ℕ)) (row : ℕ) (l r : Option ℕ) (c : C) (made made' whole : List C) → length rs ≡ length ls → slice_get ls row ≡ Some l → slice_get rs row ≡ Some r
     → c ≡ key_cell_at na left right l r → made' ≡ made ++ c ∷ [] → made ++ key_cells na left right (drop row ls) (drop row rs) ≡ whole → made' ++ key_cells na left right (drop (row + 1) ls) (drop (row + 1) rs) ≡ whole
-one_more_key na left right ls rs row l r c made made' whole lt same here there is pushed before =
-    ap (λ m. m ++ key_cells na left right (drop (row + 1) ls) (drop (row + 1) rs)) pushed
-    ∙ append_assoc made (c ∷ []) (key_cells na left right (drop (row + 1) ls) (drop (row + 1) rs))
-    ∙ ap (λ x. made ++ x ∷ key_cells na left right (drop (row + 1) ls) (drop (row + 1) rs)) is
-    ∙ ap (λ m. made ++ m) (sym (key_next na left right ls rs row l r lt same here there))
-    ∙ before
+one_more_key na left right ls rs row l r c made made' whole same here there is pushed before = rw (pushed, append_assoc, is, ← key_next na left right ls rs row l r same here there) before
 
 pub all_keys : {C : Type 0} (na : C) (left right : List C) (ls rs : List (Option ℕ)) (row : ℕ) (made whole : List C) → length ls ≤ row → made ++ key_cells na left right (drop row ls) (drop row rs) ≡ whole → made ≡ whole
 all_keys na left right ls rs row made whole end before =
-    sym (append-nil made) ∙ sym (at_drop_all (λ m. made ++ key_cells na left right m (drop row rs)) ls row end) ∙ before
+    sym (append-nil made) ∙ sym (at_drop_all (λ m. made ++ key_cells na left right m (drop row rs)) _ _ end) ∙ before
 
 -- how many there are
 key_count : {C : Type 0} (na : C) (left right : List C) (ls rs : List (Option ℕ)) → length rs ≡ length ls → length (key_cells na left right ls rs) ≡ length ls
@@ -72,7 +52,7 @@ module _ {C : Type 0} (na : C) (l r : List (ColumnOf C)) (keys : MergeKeys) (lef
   left_counted place = by (right_key keys place)
     where
       by : (o : Option ℕ) → length (joined_or_left na l r lefts rights place o).cells ≡ length lefts
-      by (Some other) = key_count na (column_at l place).cells (column_at r other).cells lefts rights same
+      by (Some other) = key_count _ (column_at l place).cells (column_at r other).cells lefts rights same
       by None = length-map lefts (gap_cell na (column_at l place).cells)
 
   pub columns_counted : (places : List ℕ) → All (λ (c : ColumnOf C). length c.cells ≡ length lefts) (merged_columns na l r keys places lefts rights)
@@ -111,14 +91,14 @@ module _ (l r : List (ColumnOf Cell)) (keys : MergeKeys) (lefts rights : List (O
 module _ (texts : List Text) where
   cell_on : (cells : List Cell) (gap : Option ℕ) → datum texts (gap_cell Na cells gap) ≡ gap_cell na_cell (map (datum texts) cells) gap
   cell_on cells None = refl
-  cell_on cells (Some place) = sym (get_or-map (datum texts) cells place Na)
+  cell_on cells (Some place) = sym (get_or-map (datum texts) cells _ _)
 
   cells_on : (cells : List Cell) (rows : List (Option ℕ)) → map (datum texts) (taken Na cells rows) ≡ taken na_cell (map (datum texts) cells) rows
   cells_on cells [] = refl
   cells_on cells (gap ∷ rows) = λ i. cell_on cells gap i ∷ cells_on cells rows i
 
   key_seen : (left right : List Cell) (l r : Option ℕ) → datum texts (key_cell_at Na left right l r) ≡ key_cell_at na_cell (map (datum texts) left) (map (datum texts) right) l r
-  key_seen left right None r = cell_on right r
+  key_seen left right None r = cell_on _ r
   key_seen left right (Some row) r = cell_on left (Some row)
 
   keys_seen : (left right : List Cell) (ls rs : List (Option ℕ)) → map (datum texts) (key_cells Na left right ls rs) ≡ key_cells na_cell (map (datum texts) left) (map (datum texts) right) ls rs
@@ -127,7 +107,7 @@ module _ (texts : List Text) where
   keys_seen left right (l ∷ ls) (r ∷ rs) = λ i. key_seen left right l r i ∷ keys_seen left right ls rs i
 
   column_seen : (cs : List (ColumnOf Cell)) (place : ℕ) → column_value texts (column_at cs place) ≡ column_at (columns_value texts cs) place
-  column_seen cs place = sym (get_or-map (column_value texts) cs place no_column)
+  column_seen cs place = sym (get_or-map (column_value texts) cs _ _)
 
   on_seen : (cs : List (ColumnOf Cell)) (rows : List (Option ℕ)) (place : ℕ) → column_value texts (column_on Na cs rows place) ≡ column_on na_cell (columns_value texts cs) rows place
   on_seen cs rows place = λ i. record {
@@ -150,8 +130,8 @@ module _ (texts : List Text) where
     left_seen place = by (right_key keys place)
       where
         by : (o : Option ℕ) → column_value texts (joined_or_left Na l r lefts rights place o) ≡ joined_or_left na_cell (columns_value texts l) (columns_value texts r) lefts rights place o
-        by (Some other) = key_column_seen place other
-        by None = on_seen l lefts place
+        by (Some other) = key_column_seen _ _
+        by None = on_seen l _ _
 
     each_seen : {A : Type 0} (f : A → ColumnOf Cell) (g : A → ColumnOf CellValue) → ((x : A) → column_value texts (f x) ≡ g x) → (xs : List A) → columns_value texts (map f xs) ≡ map g xs
     each_seen f g same [] = refl
@@ -160,16 +140,16 @@ module _ (texts : List Text) where
     pub columns_seen : (places : List ℕ) → columns_value texts (merged_columns Na l r keys places lefts rights) ≡ merged_columns na_cell (columns_value texts l) (columns_value texts r) keys places lefts rights
     columns_seen places =
         map-append (column_value texts) (map (left_column_on Na l r keys lefts rights) (range_with_len 0 (length l))) (map (column_on Na r rights) places)
-        ∙ (λ i. (each_seen (left_column_on Na l r keys lefts rights) (left_column_on na_cell (columns_value texts l) (columns_value texts r) keys lefts rights) left_seen (range_with_len 0 (length l))
+        ∙ (λ i. (each_seen _ _ left_seen _
         ∙ ap (λ n. map (left_column_on na_cell (columns_value texts l) (columns_value texts r) keys lefts rights) (range_with_len 0 n)) (sym (length-map l (column_value texts)))) i
-        ++ each_seen (column_on Na r rights) (column_on na_cell (columns_value texts r) rights) (on_seen r rights) places i)
+        ++ each_seen (column_on Na r rights) (column_on na_cell (columns_value texts r) rights) (on_seen r _) places i)
 
 pub columns_settled : (texts : List Text) (l r : List (ColumnOf Cell)) (keys : MergeKeys) (lefts rights : List (Option ℕ)) (places : List ℕ) → IsSettled columns_value texts l → IsSettled columns_value texts r
     → IsSettled columns_value texts (merged_columns Na l r keys places lefts rights)
 columns_settled texts l r keys lefts rights places of_left of_right = λ more.
-    columns_seen (texts ++ more) l r keys lefts rights places
+    columns_seen _ l r _ _ _ _
     ∙ (λ i. merged_columns na_cell (of_left more i) (of_right more i) keys places lefts rights)
-    ∙ sym (columns_seen texts l r keys lefts rights places)
+    ∙ sym (columns_seen _ l r _ _ _ _)
 
 -- as they are meant
 cells_meant : (left right : List CellValue) (ps : List Pair) → key_cells na_cell left right (map (λ p. p.left) ps) (map (λ p. p.right) ps) ≡ map (key_cell left right) ps

@@ -1,34 +1,19 @@
 -- The labels of columns beside those of another frame.
-use Rattle.std.proofs.Common.{◌≡◌, ◌∙◌, ◌+◌, ◌<◌, ap, refl, sym, subst, ℕ, Bool, true, false, cond, ◌||◌, List, [], ◌∷◌, ◌++◌, map, take, length, slice_get, slice_index_or, Option, Some, None, if◌then◌else◌}
-use Rattle.std.specs.Prelude.{codes}
-use Rattle.std.specs.List.{list_any}
-use Rattle.std.proofs.lemmas.List.{map-append, take_more}
-use Rattle.std.proofs.lemmas.List.Folds.{list_any-append}
-use Rattle.std.proofs.lemmas.Option.{get_or_from_slice_get}
-use Rattle.indexmap.specs.IndexSet.{insert_key}
-use Rattle.cell_core.specs.declared.cell.Label.{Label}
+use Rattle.{
+  std.{proofs.{lemmas.{Option.{slice_get_within, get_or_from_slice_get}, List.{map-append, take_more, Folds.{list_any-append}}}, Common.{◌≡◌, ◌∙◌, ◌+◌, ap, refl, sym, ℕ, Bool, true, false, cond, ◌||◌, List, [], ◌∷◌, ◌++◌, map, take, slice_get, slice_index_or, Option, Some, None, if◌then◌else◌}}, specs.{Prelude.{codes}, List.{list_any}}},
+  indexmap.specs.IndexSet.{insert_key},
+  cell_core.specs.{declared.cell.{Label.{Label}, TextId.{TextId}}, Texts.{AreDistinct, IsLonger}},
+  meaning.specs.{Text.{Text}, Cell.{LabelValue, text, label_datum}},
+  table_meaning.specs.{Settled.{IsSettled}, Table.{NumberedTable, Table, table_value, heading_value}},
+  form_meaning.specs.Select.{heading_at},
+  method_meaning.specs.{Levels.{label_cell}, Texts.{cell_text}, Rows.{all_places, places_besides}, Merge.{MergeKeys, with_suffix, is_key, suffixed_heading, right_places}},
+  frame_store.{specs.Shown.{headings_value}, proofs.Settling.{settled_later, seen_later, headings_part}},
+  selections.{specs.{Headings.{same_heading}, Selected.{heading_of, headings_at}}, proofs.{HeadingLaws.{heading_decides, same_seen, head_settled, rest_settled}, PlaceLaws.{heading_seen, heading_settled}}},
+  label_methods.proofs.{IndexingLaws.{headings_seen, headings_settled}, ResetLaws.{text_seen, text_settled}},
+  merge_forms.specs.Headings.{AreAmong, suffixed_if, label_beside, merged_headings},
+}
 use Rattle.cell_core.specs.declared.cell.Label.TheVariants as label
-use Rattle.cell_core.specs.declared.cell.TextId.{TextId}
-use Rattle.cell_core.specs.Texts.{AreDistinct, IsLonger}
-use Rattle.meaning.specs.Text.{Text}
-use Rattle.meaning.specs.Cell.{LabelValue, text, label_datum}
-use Rattle.table_meaning.specs.Settled.{IsSettled}
-use Rattle.table_meaning.specs.Table.{NumberedTable, Table, table_value, heading_value}
 use Rattle.form_meaning.specs.Finish as finish
-use Rattle.form_meaning.specs.Select.{heading_at}
-use Rattle.method_meaning.specs.Levels.{label_cell}
-use Rattle.method_meaning.specs.Texts.{cell_text}
-use Rattle.method_meaning.specs.Rows.{all_places, places_besides}
-use Rattle.method_meaning.specs.Merge.{MergeKeys, with_suffix, is_key, suffixed_heading, left_heading, right_heading, right_places}
-use Rattle.frame_store.specs.Shown.{headings_value}
-use Rattle.frame_store.proofs.Settling.{settled_later, seen_later, headings_part}
-use Rattle.selections.specs.Headings.{same_heading}
-use Rattle.selections.specs.Selected.{heading_of, headings_at}
-use Rattle.selections.proofs.HeadingLaws.{heading_decides, same_seen, head_settled, rest_settled}
-use Rattle.selections.proofs.PlaceLaws.{heading_seen, heading_settled}
-use Rattle.label_methods.proofs.IndexingLaws.{headings_seen, headings_settled}
-use Rattle.label_methods.proofs.ResetLaws.{text_seen, text_settled}
-use Rattle.merge_forms.specs.Headings.{AreAmong, suffixed_if, label_beside, merged_headings}
 
 -- one heading more in a set
 among : (q h : Option Label) (keys : List (Option Label)) → list_any (same_heading h) keys ≡ true → same_heading q h ≡ true → list_any (same_heading q) keys ≡ true
@@ -43,25 +28,21 @@ set_more : (q h : Option Label) (keys : List (Option Label)) → list_any (same_
 set_more q h keys = go (list_any (same_heading h) keys) refl
   where
     go : (b : Bool) → list_any (same_heading h) keys ≡ b → list_any (same_heading q) (cond b keys (keys ++ h ∷ [])) ≡ (list_any (same_heading q) keys || (same_heading q h || false))
-    go true there = or_there (same_heading q h) (list_any (same_heading q) keys) (among q h keys there)
-    go false there = list_any-append (same_heading q) keys (h ∷ [])
+    go true there = or_there _ _ (among q h _ there)
+    go false there = list_any-append _ keys _
 
-pub one_more_among : (t : NumberedTable) (places : List ℕ) (k place : ℕ) (h : Option Label) (keys keys' : List (Option Label)) → k < length places → slice_get places k ≡ Some place → h ≡ heading_of t place → keys' ≡ insert_key same_heading keys h
+pub one_more_among : (t : NumberedTable) (places : List ℕ) (k place : ℕ) (h : Option Label) (keys keys' : List (Option Label)) → slice_get places k ≡ Some place → h ≡ heading_of t place → keys' ≡ insert_key same_heading keys h
     → AreAmong keys (headings_at t (take k places)) → AreAmong keys' (headings_at t (take (k + 1) places))
-one_more_among t places k place h keys keys' lt at is put before = λ q.
+one_more_among t places k place h keys keys' at is put before = λ q.
     let here : h ≡ heading_of t (slice_index_or places k 0) = is ∙ ap (heading_of t) (sym (get_or_from_slice_get places k place 0 at)) in
-    ap (list_any (same_heading q)) put
-    ∙ set_more q h keys
-    ∙ (λ i. before q i || (same_heading q (here i) || false))
-    ∙ sym (list_any-append (same_heading q) (headings_at t (take k places)) (heading_of t (slice_index_or places k 0) ∷ []))
-    ∙ ap (list_any (same_heading q)) (sym (ap (headings_at t) (take_more places k 0 lt) ∙ map-append (heading_of t) (take k places) (slice_index_or places k 0 ∷ [])))
+    rw (put, set_more q h keys, before q, here, take_more places k 0 (slice_get_within places k place at), map-append, list_any-append)
 
 -- whether one of some headings is equal, by numbers and by texts
 any_seen : (texts : List Text) (h : Option Label) (hs : List (Option Label)) → AreDistinct texts → IsSettled heading_value texts h → IsSettled headings_value texts hs
     → list_any (same_heading h) hs ≡ list_any (finish.same_heading (heading_value texts h)) (headings_value texts hs)
 any_seen texts h [] distinct here settled = refl
 any_seen texts h (g ∷ gs) distinct here settled =
-    λ j. same_seen texts h g distinct here (head_settled heading_value texts g gs settled) j || any_seen texts h gs distinct here (rest_settled heading_value texts g gs settled) j
+    λ j. same_seen texts h g distinct here (head_settled heading_value texts g gs settled) j || any_seen texts h gs distinct here (rest_settled heading_value texts g _ settled) j
 
 module _ (texts : List Text) (distinct : AreDistinct texts) (t other : NumberedTable) (here : IsSettled table_value texts t) (there : IsSettled table_value texts other) (places : List ℕ) (set : List (Option Label)) (set_is : AreAmong set (headings_at other places)) where
   abbrev T : Table
@@ -73,12 +54,12 @@ module _ (texts : List Text) (distinct : AreDistinct texts) (t other : NumberedT
   pub is_among : (h : Option Label) → IsSettled heading_value texts h → list_any (same_heading h) set ≡ list_any (finish.same_heading (heading_value texts h)) others
   is_among h settled =
       set_is h
-      ∙ any_seen texts h (headings_at other places) distinct settled (headings_settled texts other places (headings_part texts other there))
-      ∙ ap (list_any (finish.same_heading (heading_value texts h))) (headings_seen texts other places)
+      ∙ any_seen _ h _ distinct settled (headings_settled _ other _ (headings_part _ _ there))
+      ∙ ap (list_any (finish.same_heading (heading_value texts h))) (headings_seen _ other _)
 
   among_at : (place : ℕ) → list_any (same_heading (heading_of t place)) set ≡ list_any (finish.same_heading (heading_at T place)) others
   among_at place =
-      is_among (heading_of t place) (heading_settled texts t.headings place (heading_of t place) refl (headings_part texts t here))
+      is_among _ (heading_settled _ _ _ _ refl (headings_part _ t here))
       ∙ ap (λ h. list_any (finish.same_heading h) others) (sym (heading_seen texts t.headings place))
 
   pub labels_are : (keys : List ℕ) (suffix : Text) (xs : List ℕ) → map (label_beside T t keys suffix set) xs ≡ map (λ place. if is_key keys place then heading_at T place else suffixed_heading suffix others (heading_at T place)) xs
@@ -102,7 +83,7 @@ module _ (texts : List Text) (t : NumberedTable) (keys : List ℕ) (suffix : Tex
 pub suffix_put : (old new : List Text) (heading : Option Label) (l : Label) (suffix words : Text) (id : TextId) (b : Bool) → b ≡ true → heading ≡ Some l → words ≡ cell_text (label_cell (label_datum old l)) ++ suffix → slice_get new id.0 ≡ Some words
     → heading_value new (Some (label.Text id)) ≡ suffixed_if b suffix (heading_value old heading)
 suffix_put old new heading l suffix words id b is headed same given =
-    ap Some (text_seen new id words given)
+    ap Some (text_seen new id _ given)
     ∙ ap (λ w. Some (text w)) same
     ∙ ap (λ h. with_suffix suffix (heading_value old h)) (sym headed)
     ∙ ap (λ t. suffixed_if t suffix (heading_value old heading)) (sym is)
@@ -116,21 +97,12 @@ text_given texts id words given = λ more j. Some (text_settled texts id words g
 -- the labels of some columns, one more of them
 module _ (first old new : List Text) (f : Table → ℕ → Option LabelValue) (t : NumberedTable) (places : List ℕ) (k place : ℕ) (h : Option Label) (labels labels' : List (Option Label)) (longer : IsLonger old new) (given : IsSettled headings_value old labels) (pushed : labels' ≡ labels ++ h ∷ []) where
   pub one_more_given : IsSettled heading_value new h → IsSettled headings_value new labels'
-  one_more_given here =
-      subst (IsSettled headings_value new) (sym pushed) (λ more.
-      map-append (heading_value (new ++ more)) labels (h ∷ [])
-      ∙ (λ j. settled_later headings_value old new labels longer given more j ++ here more j ∷ [])
-      ∙ sym (map-append (heading_value new) labels (h ∷ [])))
+  one_more_given here = rw pushed (λ more. rw (map-append, map-append, settled_later headings_value old new labels longer given more, here more))
 
-  pub one_more_label : k < length places → slice_get places k ≡ Some place → IsLonger first old → IsSettled table_value first t → heading_value new h ≡ f (table_value old t) place
+  pub one_more_label : slice_get places k ≡ Some place → IsLonger first old → IsSettled table_value first t → heading_value new h ≡ f (table_value old t) place
       → headings_value old labels ≡ map (f (table_value first t)) (take k places) → headings_value new labels' ≡ map (f (table_value first t)) (take (k + 1) places)
-  one_more_label lt at before settled is so_far =
-      let F = f (table_value first t) in
-      ap (headings_value new) pushed
-      ∙ map-append (heading_value new) labels (h ∷ [])
-      ∙ (λ j. (seen_later headings_value old new labels longer given ∙ so_far) j ++ (is ∙ ap (λ (v : Table). f v place) (seen_later table_value first old t before settled)) j ∷ [])
-      ∙ ap (λ p. map F (take k places) ++ F p ∷ []) (sym (get_or_from_slice_get places k place 0 at))
-      ∙ sym (ap (map F) (take_more places k 0 lt) ∙ map-append F (take k places) (slice_index_or places k 0 ∷ []))
+  one_more_label at before settled is so_far =
+      rw (pushed, map-append, seen_later headings_value old new labels longer given, so_far, is, seen_later table_value first old t before settled, take_more places k 0 (slice_get_within places k place at), map-append, get_or_from_slice_get places k place 0 at)
 
 -- the labels of both frames
 module _ (texts mid new : List Text) (l r : NumberedTable) (keys : MergeKeys) (distinct : AreDistinct texts) (of_left : IsSettled table_value texts l) (of_right : IsSettled table_value texts r) where
@@ -144,22 +116,20 @@ module _ (texts mid new : List Text) (l r : NumberedTable) (keys : MergeKeys) (d
       → IsLonger texts mid → IsLonger mid new → IsSettled headings_value mid labels → headings_value mid labels ≡ map (label_beside L l keys.left (codes "_x") set') all
       → headings_value new own ≡ map (label_beside (table_value mid r) r [] (codes "_y") set) rights → whole ≡ labels ++ own → headings_value new whole ≡ merged_headings L R keys
   labels_meant lefts rights all set set' labels own whole of_r of_l lefts_are rights_are all_are before longer given first second is =
-      let one : headings_value new labels ≡ map (left_heading L R keys) (all_places L) =
-      seen_later headings_value mid new labels longer given
-      ∙ first
-      ∙ labels_are texts distinct l r of_left of_right rights set' of_r keys.left (codes "_x") all
-      ∙ (λ i. map (λ place. if is_key keys.left place then heading_at L place else suffixed_heading (codes "_x") (map (heading_at R) (rights_are i)) (heading_at L place)) (all_are i)) in
-      let two : headings_value new own ≡ map (right_heading L R keys) (right_places R keys) =
-      second
-      ∙ ap (λ (v : Table). map (label_beside v r [] (codes "_y") set) rights) (seen_later table_value texts mid r before of_right)
-      ∙ labels_are texts distinct r l of_right of_left lefts set of_l [] (codes "_y") rights
-      ∙ (λ i. map (λ place. suffixed_heading (codes "_y") (map (heading_at L) (lefts_are i)) (heading_at R place)) (rights_are i)) in
-      ap (headings_value new) is ∙ map-append (heading_value new) labels own ∙ (λ i. one i ++ two i)
+      rw (
+        is,
+        map-append,
+        seen_later headings_value mid new labels longer given,
+        first,
+        second,
+        seen_later table_value texts mid r before of_right,
+        labels_are texts distinct l r of_left of_right rights set' of_r keys.left (codes "_x") all,
+        labels_are texts distinct r l of_right of_left lefts set of_l [] (codes "_y") rights,
+        lefts_are,
+        rights_are,
+        all_are,
+      )
 
 -- and they were given
 pub labels_given : (mid new : List Text) (labels own whole : List (Option Label)) → IsLonger mid new → IsSettled headings_value mid labels → IsSettled headings_value new own → whole ≡ labels ++ own → IsSettled headings_value new whole
-labels_given mid new labels own whole longer given given' is =
-    subst (IsSettled headings_value new) (sym is) (λ more.
-    map-append (heading_value (new ++ more)) labels own
-    ∙ (λ j. settled_later headings_value mid new labels longer given more j ++ given' more j)
-    ∙ sym (map-append (heading_value new) labels own))
+labels_given mid new labels own whole longer given given' is = rw is (λ more. rw (map-append, map-append, settled_later headings_value mid new labels longer given more, given' more))

@@ -1,54 +1,24 @@
 -- The frame of joined rows.
-use Rattle.std.proofs.Common.{◌≡◌, ◌∙◌, ◌+◌, ◌*◌, ◌^◌, ◌<◌, ◌≤◌, ◌&&◌, ap, refl, sym, subst, arith, ℕ, pos, suc, Bool, true, false, List, [], ◌∷◌, ◌++◌, map, length, slice_index_or, All, Option, Some, None, Result, Ok, Err, if◌then◌else◌}
-use Rattle.std.specs.Prelude.{IsSome, nat_le, codes}
-use Rattle.std.specs.List.{list_any, range_with_len}
-use Rattle.std.proofs.lemmas.Bool.Decides.{nat_tests}
-use Rattle.std.proofs.lemmas.List.{length-map, length-append}
-use Rattle.std.proofs.lemmas.List.Elements.{All-append, All-map, All-cons, All-nil, All-filter}
-use Rattle.std.proofs.lemmas.List.FromFn.{length-map-range_with_len}
-use Rattle.sorting.proofs.RankLaws.{below_range}
-use Rattle.cell_core.specs.declared.cell.Cell.TheVariants.{Na}
-use Rattle.cell_core.specs.declared.cell.Label.{Label}
-use Rattle.cell_core.specs.declared.code.Code.TheVariants.{Limit}
-use Rattle.cell_core.specs.declared.grid.Shape.TheVariants.{Frame}
-use Rattle.cell_core.specs.Texts.{AreDistinct, IsLonger}
-use Rattle.meaning.specs.Text.{Text}
-use Rattle.meaning.specs.Cell.{LabelValue, int, na_cell}
-use Rattle.meaning.specs.Fault.{FaultValue, limit, then_value}
-use Rattle.meaning.specs.FaultOf.{fault_of}
-use Rattle.column_core.specs.Blocks.{CellBlock}
-use Rattle.index_core.specs.Ranges.{number_label}
-use Rattle.multi_index.specs.Axes.{AxisValue, range_axis}
-use Rattle.join_meaning.specs.declared.How.{How}
-use Rattle.join_meaning.specs.declared.Validate.{Validate}
-use Rattle.join_meaning.specs.Pairs.{Pair, RepeatedKey}
-use Rattle.merge_concat.specs.declared.pairs.Pairs.{Pairs}
-use Rattle.merge_concat.specs.Pairs.{ArePairs}
-use Rattle.table_meaning.specs.Settled.{IsSettled}
-use Rattle.table_meaning.specs.Table.{NumberedTable, Table, table_value, heading_value}
-use Rattle.table_meaning.specs.Valid.{IsWhole}
-use Rattle.table_meaning.specs.Value.{Entry, table}
-use Rattle.form_meaning.specs.Finish.{within_limits, limited, first_repeated, unless_repeated, finished, default_labels, same_heading}
-use Rattle.form_parts.proofs.LabelLaws.{default_seen}
-use Rattle.form_meaning.specs.Infix.{common_name}
-use Rattle.form_meaning.specs.Select.{heading_at}
-use Rattle.method_meaning.specs.Rows.{all_places, places_besides}
-use Rattle.method_meaning.specs.Groups.{headings_of}
-use Rattle.method_meaning.specs.Merge.{MergeKeys, is_key, with_suffix, suffixed_heading, left_heading, right_heading, right_places, merged, merged_rows, unless_twice}
-use Rattle.frame_store.specs.declared.fault.OpFault.{OpFault}
-use Rattle.frame_store.specs.declared.fault.OpFault.TheVariants.{Refused, NoMemory}
-use Rattle.frame_store.specs.Parts.{HeadingList, HaveRows, columns_of, table_of}
-use Rattle.frame_store.specs.Shown.{headings_value, columns_value, Makes, Refuses}
-use Rattle.frame_store.proofs.Settling.{table_settled, settled_later, seen_later, columns_part}
-use Rattle.selections.specs.Headings.{NamesRepeated, repeated_heading}
-use Rattle.selections.proofs.HeadingLaws.{repeated_seen, different}
-use Rattle.selections.proofs.RefusalLaws.{repeated_settled}
-use Rattle.label_methods.proofs.TableLaws.{limited_within}
-use Rattle.merge_forms.specs.Headings.{merged_headings}
-use Rattle.merge_forms.specs.Columns.{merged_columns}
-use Rattle.merge_forms.specs.Rows.{repeated_in, pairs_in, HasMet, MeetsBy}
-use Rattle.merge_forms.specs.Tables.{IsHeaded, MayFinish}
-use Rattle.merge_forms.proofs.ColumnLaws.{columns_seen, columns_meant, columns_settled, columns_counted}
+use Rattle.{
+  std.{proofs.{Common.{◌≡◌, ◌∙◌, ◌*◌, ◌^◌, ◌<◌, ◌≤◌, ◌&&◌, ap, refl, sym, subst, arith, ℕ, pos, suc, Bool, true, false, List, [], ◌∷◌, map, length, slice_index_or, All, Option, Some, None, Result, Ok, Err, if◌then◌else◌}, lemmas.{Bool.Decides.{nat_tests}, List.{length-map, length-append, Elements.{All-append, All-map, All-cons, All-nil, All-filter}, FromFn.{length-map-range_with_len}}}}, specs.{Prelude.{IsSome, nat_le, codes}, List.{list_any, range_with_len}}},
+  sorting.proofs.RankLaws.{below_range},
+  cell_core.specs.{declared.{cell.{Cell.TheVariants.{Na}, Label.{Label}}, code.Code.TheVariants.{Limit}, grid.Shape.TheVariants.{Frame}}, Texts.{AreDistinct, IsLonger}},
+  meaning.specs.{Text.{Text}, Cell.{LabelValue, int, na_cell}, Fault.{FaultValue, limit, then_value}, FaultOf.{fault_of}},
+  column_core.specs.Blocks.{CellBlock},
+  index_core.specs.Ranges.{number_label},
+  multi_index.specs.Axes.{AxisValue, range_axis},
+  join_meaning.specs.{declared.{How.{How}, Validate.{Validate}}, Pairs.{Pair, RepeatedKey}},
+  merge_concat.specs.{declared.pairs.Pairs.{Pairs}, Pairs.{ArePairs}},
+  table_meaning.specs.{Settled.{IsSettled}, Table.{NumberedTable, Table, table_value, heading_value}, Valid.{IsWhole}, Value.{Entry, table}},
+  form_meaning.specs.{Finish.{within_limits, limited, first_repeated, unless_repeated, finished, default_labels, same_heading}, Infix.{common_name}, Select.{heading_at}},
+  form_parts.proofs.LabelLaws.{default_seen},
+  method_meaning.specs.{Rows.{all_places, places_besides}, Groups.{headings_of}, Merge.{MergeKeys, is_key, with_suffix, suffixed_heading, left_heading, right_heading, right_places, merged, merged_rows, unless_twice}},
+  frame_store.{specs.{declared.fault.OpFault.{OpFault, TheVariants.{Refused, NoMemory}}, Parts.{HeadingList, HaveRows, columns_of, table_of}, Shown.{headings_value, columns_value, Makes, Refuses}}, proofs.Settling.{table_settled, settled_later, seen_later, columns_part}},
+  selections.{specs.Headings.{NamesRepeated, repeated_heading}, proofs.{HeadingLaws.{repeated_seen}, RefusalLaws.{repeated_settled}}},
+  frame_methods.proofs.RenameLaws.{frame_heads},
+  label_methods.proofs.TableLaws.{limited_within},
+  merge_forms.{specs.{Headings.{merged_headings}, Columns.{merged_columns}, Rows.{repeated_in, pairs_in, HasMet, MeetsBy}, Tables.{IsHeaded, MayFinish}}, proofs.ColumnLaws.{columns_seen, columns_meant, columns_settled, columns_counted}},
+}
 
 -- within the limits, or beyond them
 abbrev within_then : Table → Bool → Result Entry FaultValue
@@ -63,19 +33,19 @@ too_many rows columns many = first (nat_le rows (2 ^ 26)) (nat_le columns (2 ^ 1
 
 module _ (texts : List Text) (distinct : AreDistinct texts) (labels : List (Option Label)) (settled : IsSettled headings_value texts labels) (t : Table) (h : IsHeaded texts labels t) where
   finished_by : (found : Option Label) → repeated_heading labels ≡ found → finished t ≡ unless_repeated (heading_value texts found) (limited t)
-  finished_by found is = ap (λ o. unless_repeated o (limited t)) (ap first_repeated h.headings ∙ sym (repeated_seen texts labels distinct settled) ∙ ap (heading_value texts) is)
+  finished_by found is = ap (λ o. unless_repeated o (limited t)) (ap first_repeated h.headings ∙ sym (repeated_seen _ _ distinct settled) ∙ ap (heading_value texts) is)
 
   pub may_within : (count : ℕ) → repeated_heading labels ≡ None → length t.labels ≡ count → within_limits count (length labels) ≡ true → finished t ≡ Ok (table t)
-  may_within count none rows within = finished_by None none ∙ limited_within t count (length labels) rows h.headed within
+  may_within count none rows within = finished_by _ none ∙ limited_within t _ _ rows h.headed within
 
   pub may_beyond : (count : ℕ) → repeated_heading labels ≡ None → length t.labels ≡ count → within_limits count (length labels) ≡ false → Refuses texts Limit (finished t)
-  may_beyond count none rows beyond = (finished_by None none ∙ ap (within_then t) ((λ i. within_limits (rows i) (h.headed i)) ∙ beyond), λ more. refl)
+  may_beyond count none rows beyond = (finished_by _ none ∙ ap (within_then t) ((λ i. within_limits (rows i) (h.headed i)) ∙ beyond), λ more. refl)
 
   pub may_many : repeated_heading labels ≡ None → 2 ^ 26 < length t.labels → Refuses texts Limit (finished t)
-  may_many none many = (finished_by None none ∙ ap (within_then t) (too_many (length t.labels) (length t.columns) many), λ more. refl)
+  may_many none many = (finished_by _ none ∙ ap (within_then t) (too_many _ _ many), λ more. refl)
 
   pub may_repeated : (why : OpFault) → NamesRepeated why (repeated_heading labels) → MayFinish {X = HeadingList} texts (Err why) t
-  may_repeated (Refused code) named = (finished_by (Some named.0) named.1 ∙ ap (λ c. Err (fault_of texts c)) (sym named.2), repeated_settled texts code labels named.0 named.1 named.2 settled)
+  may_repeated (Refused code) named = (finished_by _ named.1 ∙ ap (λ c. Err (fault_of texts c)) (sym named.2), repeated_settled _ _ _ _ named.1 named.2 settled)
   may_repeated NoMemory named = tt
 
 pub within_few : (rows columns : ℕ) → within_limits rows columns ≡ true → rows ≤ 2 ^ 26
@@ -90,24 +60,20 @@ within_few rows columns is = few (first (nat_le rows (2 ^ 26)) (nat_le columns (
 
 -- as many numbered rows
 pub rows_numbered : (count : ℕ) → length (range_axis count).tuples ≡ count
-rows_numbered count = length-map (map number_label (range_with_len 0 count)) (λ label. label ∷ []) ∙ length-map-range_with_len number_label 0 count
+rows_numbered count = length-map (map number_label (range_with_len 0 count)) (λ label. label ∷ []) ∙ length-map-range_with_len _ 0 _
 
 -- the frame that is meant
 module _ (l r : Table) (keys : MergeKeys) (ps : List Pair) where
   pub rows_meant : length (merged l r keys ps).labels ≡ length ps
-  rows_meant = length-map-range_with_len (λ k. int (pos k) ∷ []) 0 (length ps)
-
-  both_counted : {A B : Type 0} (f : ℕ → A) (g : ℕ → A) (h : ℕ → B) (k : ℕ → B) (xs ys : List ℕ) → length (map f xs ++ map g ys) ≡ length (map h xs ++ map k ys)
-  both_counted f g h k xs ys =
-      length-append (map f xs) (map g ys) ∙ (λ i. length-map xs f i + length-map ys g i) ∙ sym (length-append (map h xs) (map k ys) ∙ (λ i. length-map xs h i + length-map ys k i))
+  rows_meant = length-map-range_with_len (λ k. int (pos k) ∷ []) 0 _
 
   columns_headed : length (merged l r keys ps).columns ≡ length (merged_headings l r keys)
-  columns_headed = both_counted _ _ (left_heading l r keys) (right_heading l r keys) (all_places l) (right_places r keys)
+  columns_headed = simp (length-append, length-map)
 
   pub is_headed : (texts : List Text) (labels : List (Option Label)) → headings_value texts labels ≡ merged_headings l r keys → IsHeaded texts labels (merged l r keys ps)
   is_headed texts labels is = record {
     headings = sym is;
-    headed = columns_headed ∙ sym (ap (λ (hs : List (Option LabelValue)). length hs) is) ∙ length-map labels (heading_value texts);
+    headed = columns_headed ∙ sym (ap length is) ∙ length-map labels (heading_value texts);
   }
 
 -- each column has a label
@@ -128,21 +94,21 @@ module _ (l r : Table) (keys : MergeKeys) (of_left : All IsSome l.headings) (of_
   some_at t all count place lt = all place None (omega (arith, lt, count))
 
   lefts_some : All IsSome (map (left_heading l r keys) (all_places l))
-  lefts_some = All-map IsSome (left_heading l r keys) (all_places l) (λ k d lt.
+  lefts_some = All-map IsSome _ _ (λ k d lt.
       let place = slice_index_or (all_places l) k d in
-      let some = some_at l of_left left_counted place (below_range (length l.columns) k d lt) in
-      some_if (is_key keys.left place) (heading_at l place) (suffixed_heading (codes "_x") (headings_of r (right_places r keys)) (heading_at l place)) some (some_suffixed (codes "_x") (headings_of r (right_places r keys)) (heading_at l place) some))
+      let some = some_at l of_left left_counted _ (below_range (length l.columns) k d lt) in
+      some_if (is_key keys.left place) _ (suffixed_heading (codes "_x") (headings_of r (right_places r keys)) (heading_at l place)) some (some_suffixed (codes "_x") (headings_of r (right_places r keys)) _ some))
 
   rights_below : All (λ place. place < length r.columns) (right_places r keys)
-  rights_below = All-filter _ (λ place. place < length r.columns) (all_places r) (below_range (length r.columns))
+  rights_below = All-filter _ (λ place. place < length r.columns) _ (below_range (length r.columns))
 
   rights_some : All IsSome (map (right_heading l r keys) (right_places r keys))
-  rights_some = All-map IsSome (right_heading l r keys) (right_places r keys) (λ k d lt.
+  rights_some = All-map IsSome _ _ (λ k d lt.
       let place = slice_index_or (right_places r keys) k d in
-      some_suffixed (codes "_y") (headings_of l (places_besides l keys.left)) (heading_at r place) (some_at r of_right right_counted place (rights_below k d lt)))
+      some_suffixed (codes "_y") (headings_of l (places_besides l keys.left)) _ (some_at r of_right right_counted _ (rights_below k d lt)))
 
   pub all_labelled : All IsSome (merged_headings l r keys)
-  all_labelled = All-append IsSome (map (left_heading l r keys) (all_places l)) (map (right_heading l r keys) (right_places r keys)) lefts_some rights_some
+  all_labelled = All-append IsSome _ _ lefts_some rights_some
 
 -- the same by numbers
 some_seen : (texts : List Text) (h : Option Label) → IsSome (heading_value texts h) → IsSome h
@@ -154,12 +120,12 @@ seen_some texts None some = some
 seen_some texts (Some l) some = refl
 
 pub headings_some : (texts : List Text) (hs : List (Option Label)) → All IsSome hs → All IsSome (headings_value texts hs)
-headings_some texts hs all = All-map IsSome (heading_value texts) hs (λ k d lt. seen_some texts (slice_index_or hs k d) (all k d lt))
+headings_some texts hs all = All-map IsSome _ _ (λ k d lt. seen_some texts _ (all k d lt))
 
 pub some_headings : (texts : List Text) (hs : List (Option Label)) → All IsSome (headings_value texts hs) → All IsSome hs
-some_headings texts [] all = All-nil IsSome
+some_headings texts [] all = All-nil _
 some_headings texts (h ∷ hs) all =
-    All-cons IsSome h hs (some_seen texts h (all 0 None (omega arith))) (some_headings texts hs (λ k d lt. all (suc k) d (omega (arith, lt))))
+    All-cons IsSome h _ (some_seen _ h (all 0 None (omega arith))) (some_headings texts hs (λ k d lt. all (suc k) d (omega (arith, lt))))
 
 module _ (old new : List Text) (longer : IsLonger old new) (l r : NumberedTable) (left_given : IsSettled table_value old l) (right_given : IsSettled table_value old r) (keys : MergeKeys) where
   abbrev L : Table
@@ -170,15 +136,15 @@ module _ (old new : List Text) (longer : IsLonger old new) (l r : NumberedTable)
 
   pub labels_some : IsWhole l → IsWhole r → l.shape ≡ Frame → r.shape ≡ Frame → (labels : List (Option Label)) → headings_value new labels ≡ merged_headings L R keys → All IsSome labels
   labels_some left_whole right_whole left_frame right_frame labels is =
-      some_headings new labels (subst (All IsSome) (sym is)
-      (all_labelled L R keys (headings_some old l.headings (left_whole.headings.labelled left_frame)) (headings_some old r.headings (right_whole.headings.labelled right_frame))
+      some_headings _ _ (subst (All IsSome) (sym is)
+      (all_labelled L R _ (headings_some _ _ (left_whole.headings.labelled left_frame)) (headings_some _ _ (right_whole.headings.labelled right_frame))
       (length-map l.headings (heading_value old) ∙ left_whole.headed ∙ sym (length-map l.columns _))
       (length-map r.headings (heading_value old) ∙ right_whole.headed ∙ sym (length-map r.columns _))))
 
   module _ (ps : List Pair) (made : Pairs) (are : ArePairs made ps) (rights : List ℕ) (rights_are : rights ≡ right_places R keys) (name : Option Label) (named : heading_value old name ≡ common_name L.columns_name R.columns_name) (name_given : IsSettled heading_value old name) (labels : List (Option Label)) (labels_are : headings_value new labels ≡ merged_headings L R keys) (labels_given : IsSettled headings_value new labels) (count : ℕ) (counted : count ≡ length made.left) (axis : AxisValue) (axis_is : axis ≡ range_axis count)
       (headings : HeadingList) (headings_are : headings ≡ record { columns_name = name; labels = labels }) (blocks : List CellBlock) (blocks_are : columns_of blocks ≡ merged_columns Na l.columns r.columns keys rights made.left made.right) where
     rows_are : length made.left ≡ length ps
-    rows_are = ap (λ (rows : List (Option ℕ)). length rows) are.left ∙ length-map ps _
+    rows_are = ap length are.left ∙ length-map ps _
 
     abbrev whole : NumberedTable
     whole = record {
@@ -202,24 +168,24 @@ module _ (old new : List Text) (longer : IsLonger old new) (l r : NumberedTable)
 
     columns_are : columns_value new (merged_columns Na l.columns r.columns keys rights made.left made.right) ≡ (merged L R keys ps).columns
     columns_are =
-        columns_seen new l.columns r.columns keys made.left made.right rights
-        ∙ (λ i. merged_columns na_cell (seen_later columns_value old new l.columns longer (columns_part old l left_given) i) (seen_later columns_value old new r.columns longer (columns_part old r right_given) i) keys (rights_are i) (are.left i) (are.right i))
-        ∙ columns_meant L R keys ps
+        columns_seen _ _ _ _ _ _ _
+        ∙ (λ i. merged_columns na_cell (seen_later columns_value old new l.columns longer (columns_part _ l left_given) i) (seen_later columns_value old new r.columns longer (columns_part _ r right_given) i) keys (rights_are i) (are.left i) (are.right i))
+        ∙ columns_meant L R _ _
 
     whole_seen : table_value new whole ≡ merged L R keys ps
     whole_seen = λ i. record {
       shape = Frame;
       columns_name = (seen_later heading_value old new name longer name_given ∙ named) i;
       level_names = None ∷ [];
-      labels = (default_seen new count ∙ ap default_labels (counted ∙ rows_are)) i;
+      labels = (default_seen new _ ∙ ap default_labels (counted ∙ rows_are)) i;
       headings = labels_are i;
       columns = columns_are i;
     }
 
     whole_settled : IsSettled table_value new whole
     whole_settled =
-        table_settled new whole (settled_later heading_value old new name longer name_given) (λ more. refl) (λ more. default_seen (new ++ more) count ∙ sym (default_seen new count)) labels_given
-        (columns_settled new l.columns r.columns keys made.left made.right rights (settled_later columns_value old new l.columns longer (columns_part old l left_given)) (settled_later columns_value old new r.columns longer (columns_part old r right_given)))
+        table_settled _ whole (settled_later heading_value old new name longer name_given) (λ more. refl) (λ more. default_seen _ _ ∙ sym (default_seen _ _)) labels_given
+        (columns_settled new l.columns _ _ _ _ _ (settled_later columns_value old new l.columns longer (columns_part _ l left_given)) (settled_later columns_value old new r.columns longer (columns_part _ r right_given)))
 
     -- the frame that is made is the one that is meant
     pub made_is : (how : How) (once : Validate) (made' : NumberedTable) → repeated_in once L R keys ≡ None → ps ≡ pairs_in how L R keys → finished (merged L R keys ps) ≡ Ok (table (merged L R keys ps)) → made' ≡ table_of Frame axis headings blocks
@@ -236,21 +202,21 @@ module _ (old new : List Text) (longer : IsLonger old new) (l r : NumberedTable)
 
     -- its parts fit
     pub parts_fit : length made.right ≡ length made.left → All IsSome labels → repeated_heading labels ≡ None → IsWhole (table_of Frame axis headings blocks)
-    parts_fit same some none = subst (λ (t : NumberedTable). IsWhole t) (sym whole_is) record {
-      headed = sym (length-map labels (heading_value new)) ∙ ap (λ (hs : List (Option LabelValue)). length hs) labels_are ∙ sym (columns_headed L R keys ps) ∙ ap (λ (t : Table). length t.columns) (sym whole_seen) ∙ length-map whole.columns _;
-      filled = subst (λ n. HaveRows n whole.columns) (sym counted ∙ sym (rows_numbered count)) (columns_counted Na l.columns r.columns keys made.left made.right same rights);
-      headings = record { single = λ e. cc; nameless = λ e. cc; labelled = λ e. some; different = λ e. different labels some none };
+    parts_fit same some none = rw whole_is record {
+      headed = sym (length-map labels (heading_value new)) ∙ ap length labels_are ∙ sym (columns_headed L R _ _) ∙ ap (λ (t : Table). length t.columns) (sym whole_seen) ∙ length-map whole.columns _;
+      filled = subst (λ n. HaveRows n whole.columns) (sym counted ∙ sym (rows_numbered _)) (columns_counted _ _ _ _ _ _ same _);
+      headings = frame_heads _ _ some none;
     }
 
 -- as many rows as pairs
 pub pairs_counted : (l r : Table) (keys : MergeKeys) (ps : List Pair) (made : Pairs) (count : ℕ) → ArePairs made ps → count ≡ length made.left → length (merged l r keys ps).labels ≡ count
-pairs_counted l r keys ps made count are is = rows_meant l r keys ps ∙ sym (is ∙ ap (λ (rows : List (Option ℕ)). length rows) are.left ∙ length-map ps _)
+pairs_counted l r keys ps made count are is = rows_meant l r keys _ ∙ sym (is ∙ ap length are.left ∙ length-map ps _)
 
 pub met_some : (met : Option Pairs) (ps : List Pair) (made : Pairs) → met ≡ Some made → HasMet met ps → ArePairs made ps
 met_some met ps made is has = (subst (λ (o : Option Pairs). HasMet o ps) is has).0
 
 pub met_none : (met : Option Pairs) (ps : List Pair) → met ≡ None → HasMet met ps → 2 ^ 26 < length ps
-met_none met ps is has = subst (λ (o : Option Pairs). HasMet o ps) is has
+met_none met ps is has = rw is at has
 
 -- why no frame is made
 abbrev refused : {X : Type 0} → OpFault → Result X OpFault
@@ -267,5 +233,5 @@ refused_is new L R keys how once NoMemory again may = tt
 -- the columns of the right side are its own
 pub rights_inside : (texts : List Text) (r : NumberedTable) (keys : MergeKeys) (rights : List ℕ) → rights ≡ right_places (table_value texts r) keys → All (λ place. place < length r.columns) rights
 rights_inside texts r keys rights is =
-    subst (All (λ place. place < length r.columns)) (sym is)
-    (subst (λ n. All (λ place. place < n) (right_places (table_value texts r) keys)) (length-map r.columns _) (All-filter _ (λ place. place < length (table_value texts r).columns) (all_places (table_value texts r)) (below_range (length (table_value texts r).columns))))
+    rw is
+    (subst (λ n. All (λ place. place < n) (right_places (table_value texts r) keys)) (length-map r.columns _) (All-filter _ (λ place. place < length (table_value texts r).columns) _ (below_range (length (table_value texts r).columns))))

@@ -1,6 +1,6 @@
 -- What a run means by the file that its path holds.
 use Rattle.std.proofs.Common.{◌≡◌, ◌≤◌, ◌<◌, ℕ, List, [], ◌∷◌, length, Option, Some, None, refl, sym, ◌∙◌, subst, arith, codes, inl, inr, ◌⊎◌}
-use Rattle.std.specs.Prelude.{IfNone, IfSome}
+use Rattle.std.specs.Prelude.{IfSome}
 use Rattle.std.specs.FinMap.{get}
 use Rattle.outside_io.specs.Count.{HasRisen}
 use Rattle.outside_io.specs.Sink.{appended, AppendsFront}
@@ -12,15 +12,16 @@ use Rattle.script_meaning.specs.Reading.{Files}
 use Rattle.script_meaning.specs.State.{no_names}
 use Rattle.script_meaning.specs.Run.{RunResult, RunWords, IsScriptResult, IsFileResult, IsWordsResult, after_step, fetched, statements_result, with_line, too_large_line, syntax_line, not_found_line, syntax, usage}
 use Rattle.script_syntax.specs.Parsed.{IsTheScript, IsTheSyntaxLine}
-use Rattle.script_session.specs.Reads.{count_after}
-use Rattle.script_run.specs.Ends.{Outside, Ends, EndsByMeaning, EndsWithLine, Is}
+use Rattle.script_work.specs.Reads.{count_after}
+use Rattle.script_steps.specs.Ends.{Outside, Ends, EndsByMeaning, EndsWithLine, Is}
 use Rattle.script_run.specs.OneResult.{IsOne}
-use Rattle.script_run.specs.Steps.{Does}
-use Rattle.script_run.proofs.StepLaws.{does_one}
-use Rattle.script_run.proofs.RunLaws.{early_none, ends_after, ends_other, unread_first}
+use Rattle.script_steps.specs.Steps.{Does}
+use Rattle.script_steps.proofs.StepLaws.{does_one}
+use Rattle.script_steps.proofs.RunLaws.{early_none, ends_after, ends_other, unread_first}
+use Rattle.script_steps.proofs.Options.{some-weaker}
 use Rattle.script_run.proofs.OneResult.{file_one}
-use Rattle.script_run.specs.declared.status.Status.{Status}
-use Rattle.script_run.specs.declared.status.Status.TheVariants.{Done, Fault, Usage, Syntax, Input, Output, Memory}
+use Rattle.script_steps.specs.declared.status.Status.{Status}
+use Rattle.script_steps.specs.declared.status.Status.TheVariants.{Done, Fault, Usage, Syntax, Input, Output, Memory}
 
 module _ (files : Files) (status : Status) (old new : Outside) where
   -- the bytes are one script, whose statements were run
@@ -67,31 +68,6 @@ ends_unread words held old new fetches out front whole =
 pub does_fetch : (old mid : Outside) → mid.out ≡ old.out → mid.err ≡ old.err → mid.fetches ≡ count_after old.fetches 1 → old.out_faults ≤ mid.out_faults → old.err_faults ≤ mid.err_faults → Does (fetched ∷ []) old mid
 does_fetch old mid out err fetches out_faults err_faults =
     does_one fetched old mid (out ∙ sym (appended-nil old.out)) (err ∙ sym (appended-nil old.err)) fetches out_faults err_faults
-
-pub some-weaker : {T : Type 0} (o : Option T) (P Q : T → Type 0) → IfSome o P → ((x : T) → P x → Q x) → IfSome o Q
-some-weaker None P Q p f = tt
-some-weaker (Some x) P Q p f = f x p
-
-pub some-always : {T : Type 0} (o : Option T) (Q : T → Type 0) → ((x : T) → Q x) → IfSome o Q
-some-always None Q f = tt
-some-always (Some x) Q f = f x
-
-pub none-always : {T : Type 0} (o : Option T) (P : Type 0) → P → IfNone o P
-none-always None P p = p
-none-always (Some x) P p = tt
-
--- what follows for the value that is there
-pub some-told : {T : Type 0} (o : Option T) (Q : T → Type 0) → ((x : T) → o ≡ Some x → Q x) → IfSome o Q
-some-told None Q f = tt
-some-told (Some x) Q f = f x refl
-
-both : {T : Type 0} (o : Option T) (P P' Q : T → Type 0) → IfSome o P → IfSome o P' → ((x : T) → P x → P' x → Q x) → IfSome o Q
-both None P P' Q p p' f = tt
-both (Some x) P P' Q p p' f = f x p p'
-
--- what follows from what is said of one Option, and of one that is equal
-pub some-both : {T : Type 0} (o o' : Option T) (P P' Q : T → Type 0) → o' ≡ o → IfSome o P → IfSome o' P' → ((x : T) → P x → P' x → Q x) → IfSome o Q
-some-both o o' P P' Q same p p' f = both o P P' Q p (subst (λ r. IfSome r P') same p') f
 
 -- without a read or a write that failed, a run ends by its meaning
 by_meaning : (means : RunResult → Type 0) (status : Status) (old new : Outside) → Ends means status old new → (status ≡ Input → ⊥) → (status ≡ Output → ⊥) → EndsByMeaning means status old new

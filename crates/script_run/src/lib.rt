@@ -12,16 +12,11 @@
 //! ```
 #![tactic(auto)]
 
-mod advance;
-mod ending;
-mod key;
 mod laws;
 mod running;
-mod status;
-mod text;
 mod words;
 
 pub use laws::one_result;
 pub use running::run;
 pub use script_session::{FileName, FileNames, Outcome, Session, StepFault};
-pub use status::Status;
+pub use script_steps::Status;

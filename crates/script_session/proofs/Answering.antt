@@ -23,19 +23,22 @@ use Rattle.script_meaning.specs.Statement.{Answer, done, refused, then_answer, s
 use Rattle.script_session.specs.declared.fault.Outcome.{Outcome}
 use Rattle.script_session.specs.declared.fault.StepFault.{StepFault}
 use Rattle.script_session.specs.declared.fault.StepFault.TheVariants.{Refused, Input, NoMemory}
-use Rattle.script_session.specs.declared.fault.EvalFault.{EvalFault}
-use Rattle.script_session.specs.declared.fault.EvalFault.TheVariants.{Refused as EvalRefused, Input as EvalInput, NoMemory as EvalNoMemory}
-use Rattle.script_session.specs.FormFault.{HasFormFault}
+use Rattle.script_work.specs.declared.fault.EvalFault.{EvalFault}
+use Rattle.script_work.specs.declared.fault.EvalFault.TheVariants.{Refused as EvalRefused, Input as EvalInput, NoMemory as EvalNoMemory}
+use Rattle.fault_laws.specs.FormFault.{HasFormFault}
 use Rattle.outside_io.specs.Files.{FilesValue}
-use Rattle.script_session.specs.Reads.{Goes, Halts, absent_name}
+use Rattle.script_work.specs.Reads.{Goes, Halts, absent_name}
 use Rattle.frame_store.specs.World.{World, objects_of, entry_in, Keeps, Sets}
-use Rattle.script_session.specs.Bindings.{Bindings, value_at, is_named, one_object, state_over, IsOf, KeepNamed, AreGiven, AreNamed}
-use Rattle.script_session.specs.Faults.{IsNoName, IsStepFault, Performs, PerformsOnce, step_fault, marked_fault}
-use Rattle.script_session.proofs.Numbers.{nat_same, nat_eq_self, true_false, same_congr}
-use Rattle.script_session.proofs.Bindings.{named_object}
-use Rattle.script_session.proofs.States.{same_state, state_swept}
-use Rattle.script_session.proofs.Worlds.{entry_seen, some_shown}
-use Rattle.script_session.proofs.Rides.{goes_same, goes_to, halts_first, then_gives, uncaused, fault_uncaused, unnamed_fault, goes_spends, spends_none}
+use Rattle.script_work.specs.declared.work.Work.{Work}
+use Rattle.script_work.specs.Work.{names_in, world_of, state_in}
+use Rattle.script_work.specs.Bindings.{Bindings, value_at, is_named, one_object, state_over, IsOf, KeepNamed, AreGiven, AreNamed}
+use Rattle.script_work.specs.Faults.{IsNoName}
+use Rattle.script_session.specs.Faults.{IsStepFault, Performs, PerformsOnce, step_fault, marked_fault}
+use Rattle.script_work.proofs.Numbers.{nat_same, nat_eq_self, true_false, same_congr}
+use Rattle.script_work.proofs.Bindings.{named_object}
+use Rattle.script_work.proofs.States.{same_state, state_kept, state_swept}
+use Rattle.script_work.proofs.Worlds.{entry_seen, some_shown}
+use Rattle.script_work.proofs.Rides.{goes_same, goes_to, halts_first, then_gives, uncaused, fault_uncaused, unnamed_fault, goes_spends, spends_none}
 
 -- a fault of an expression is the statement's
 abbrev pub refusal : FaultValue → Answer
@@ -145,6 +148,11 @@ pub performs_after : {texts texts' : List Text} (files : Files) (old new : Files
     → Performs t texts' files old new whole r
 performs_after {texts} {texts'} files old new whole s t (Ok o) h e same = subst (λ s. Performs s texts files old new whole (Ok o)) e h
 performs_after {texts} {texts'} files old new whole s t (Err f) h e same = subst (λ ts. IsStepFault ts files old new whole f) same h
+
+-- after a statement that was refused the state is the same
+pub refused_kept : (s w : Work) (r : Result Outcome StepFault) → OnErr r (names_in w ≡ names_in s) → OnErr r (Keeps (world_of s) (world_of w)) → OnErr r (state_in w ≡ state_in s)
+refused_kept s w (Ok o) names keeps = tt
+refused_kept s w (Err f) names keeps = state_kept s w names keeps
 
 module _ (r : Result Outcome StepFault) where
   -- after a refusal all that is left by the sweep is as it was

@@ -1,50 +1,20 @@
 -- What a refusal says of what a statement means.
-use Rattle.std.specs.Prelude.{◌≡◌, Bool, false, List, Option, None, Result, Ok, Err}
-use Rattle.cell_core.specs.declared.code.Code.TheVariants.{NoName, NoAttribute, NoFile}
+use Rattle.std.specs.Prelude.{◌≡◌, Bool, false, List, None, Result, Ok, Err}
 use Rattle.meaning.specs.Text.{Text}
 use Rattle.meaning.specs.FaultOf.{fault_of}
 use Rattle.table_meaning.specs.Settled.{IsSettled}
-use Rattle.frame_store.specs.declared.arguments.Value.{Value}
 use Rattle.frame_store.specs.declared.fault.OpFault.{OpFault}
 use Rattle.frame_store.specs.declared.fault.OpFault.TheVariants.{Refused as OpRefused, NoMemory as OpNoMemory}
+use Rattle.outside_io.specs.Files.{FilesValue}
 use Rattle.script_meaning.specs.Reading.{Files, Reading, at_once}
 use Rattle.script_meaning.specs.State.{State}
 use Rattle.script_meaning.specs.Statement.{Answer, done, refused}
-use Rattle.script_session.specs.declared.fault.EvalFault.{EvalFault}
-use Rattle.script_session.specs.declared.fault.EvalFault.TheVariants.{Refused as EvalRefused, Input as EvalInput, NoMemory as EvalNoMemory}
+use Rattle.script_work.specs.Reads.{Goes, Stuck, Spends, IsCaused, absent_name}
+use Rattle.script_work.specs.declared.fault.EvalFault.{EvalFault}
+use Rattle.script_work.specs.declared.fault.EvalFault.TheVariants.{Refused as EvalRefused, Input as EvalInput, NoMemory as EvalNoMemory}
 use Rattle.script_session.specs.declared.fault.Outcome.{Outcome}
 use Rattle.script_session.specs.declared.fault.StepFault.{StepFault}
 use Rattle.script_session.specs.declared.fault.StepFault.TheVariants.{Refused, Input, NoMemory}
-use Rattle.outside_io.specs.Files.{FilesValue}
-use Rattle.script_session.specs.Reads.{Goes, Stuck, Spends, IsCaused, absent_name}
-
--- the fault of a form as one of an evaluation
-abbrev pub eval_fault : OpFault → EvalFault
-eval_fault (OpRefused c) = EvalRefused c
-eval_fault OpNoMemory = EvalNoMemory
-
--- what a form answers, as an evaluation answers it
-abbrev pub evaluated : Result Value OpFault → Result Value EvalFault
-evaluated (Ok v) = Ok v
-evaluated (Err f) = Err (eval_fault f)
-
--- the name has no value, or memory was refused
-abbrev pub IsNoName : EvalFault → Text → Option Value → Type 0
-IsNoName (EvalRefused c) n v = (v ≡ None) × (c ≡ NoName n)
-IsNoName EvalInput n v = ⊥
-IsNoName EvalNoMemory n v = Unit {0}
-
--- there is no such method or function, or memory was refused
-abbrev pub IsNoAttribute : EvalFault → Text → Bool → Type 0
-IsNoAttribute (EvalRefused c) n known = (known ≡ false) × (c ≡ NoAttribute n)
-IsNoAttribute EvalInput n known = ⊥
-IsNoAttribute EvalNoMemory n known = Unit {0}
-
--- the name has no file, or memory was refused
-abbrev pub IsNoFile : EvalFault → Text → Type 0
-IsNoFile (EvalRefused c) n = c ≡ NoFile n
-IsNoFile EvalInput n = ⊥
-IsNoFile EvalNoMemory n = Unit {0}
 
 -- the fault of a statement, before a mark
 abbrev pub step_fault : EvalFault → StepFault

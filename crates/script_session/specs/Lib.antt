@@ -1,11 +1,3 @@
-pub mod Bindings
-pub mod Uses
-pub mod FormFault
-pub mod Reads
 pub mod Faults
-pub mod Parts
-pub mod Links
-pub mod Work
-pub mod Evaluates
 pub mod Apart
 pub mod Session

@@ -6,8 +6,8 @@ use Rattle.frame_store.specs.declared.arguments.Value.TheVariants.{Object}
 use Rattle.frame_store.specs.declared.object.ObjId.{ObjId}
 use Rattle.script_meaning.specs.State.{State}
 use Rattle.frame_store.specs.World.{objects_of}
-use Rattle.script_session.specs.Bindings.{value_at}
-use Rattle.script_session.specs.Work.{names_in, world_of, state_in}
+use Rattle.script_work.specs.Bindings.{value_at}
+use Rattle.script_work.specs.Work.{names_in, world_of, state_in}
 use Rattle.script_session.specs.declared.session.Session.{Session}
 
 -- the names in order, the value of each, and which are one object

@@ -1,9 +1,6 @@
 // What a statement answers.
-ghost use Rattle.std.specs.Prelude.{◌≡◌};
-ghost use Rattle.script_session.specs.Faults.{evaluated};
-
 use cell_core::{Code, NoMemory, Words};
-use frame_store::{OpFault, Value};
+use script_work::EvalFault;
 
 /// What a statement printed.
 #[derive(Drop)]
@@ -56,49 +53,5 @@ impl From<EvalFault> for StepFault {
             EvalFault::Input => StepFault::Input,
             EvalFault::NoMemory => StepFault::NoMemory,
         }
-    }
-}
-
-// Why a value isn't found.
-#[derive(Drop)]
-pub(crate) enum EvalFault {
-    Refused(Code),
-    Input,
-    NoMemory,
-}
-
-impl From<NoMemory> for EvalFault {
-    ghost use Rattle.std.specs.Prelude.{◌≡◌};
-    ghost use Rattle.script_session.specs.declared.fault.EvalFault.TheVariants.{NoMemory as OutOfMemory};
-
-    ghost from_gives = { λ _ fault. fault ≡ OutOfMemory };
-
-    fn from(_: NoMemory) -> Self {
-        EvalFault::NoMemory
-    }
-}
-
-impl From<OpFault> for EvalFault {
-    ghost use Rattle.std.specs.Prelude.{◌≡◌};
-    ghost use Rattle.script_session.specs.Faults.{eval_fault};
-
-    ghost from_gives = { λ f fault. fault ≡ eval_fault f };
-
-    fn from(fault: OpFault) -> Self {
-        match fault {
-            OpFault::Refused(code) => EvalFault::Refused(code),
-            OpFault::NoMemory => EvalFault::NoMemory,
-        }
-    }
-}
-
-// What a form answers, as an evaluation answers it.
-pub(crate) fn evaluated(made: Result<Value, OpFault>) -> Result<Value, EvalFault>
-    ensures { result ≡ evaluated made }
-{
-    match made {
-        Ok(value) => Ok(value),
-        Err(OpFault::Refused(code)) => Err(EvalFault::Refused(code)),
-        Err(OpFault::NoMemory) => Err(EvalFault::NoMemory),
     }
 }

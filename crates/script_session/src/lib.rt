@@ -4,8 +4,7 @@
 //! bound to one object are one object, `copy()` makes an object of its own, and an object ends when no
 //! name stands for it. Each statement does what its meaning says: expressions are evaluated in order, the
 //! first fault refuses the statement, and a statement that is refused leaves names, objects and their
-//! numbers as they were. A file is fetched when the call that reads it is reached (`files`). A form that
-//! isn't built yet evaluates its parts and is then refused.
+//! numbers as they were. A file is fetched when the call that reads it is reached.
 //!
 //! ```text
 //! let mut session = Session::new(alloc);
@@ -16,22 +15,10 @@
 //! ```
 #![tactic(auto)]
 
-mod evaluating;
 mod fault;
-mod file_names;
-mod files;
-mod forms;
-mod link;
-mod literal;
-mod names;
-mod printing;
 mod session;
 mod statements;
-mod sweeping;
-mod uses;
-mod words;
-mod work;
 
 pub use fault::{Outcome, StepFault};
-pub use file_names::{FileName, FileNames};
+pub use script_work::{FileName, FileNames};
 pub use session::Session;

@@ -6,18 +6,16 @@ ghost use Rattle.script_meaning.specs.State.{no_names, without_name};
 ghost use Rattle.script_meaning.specs.Statement.{statement_result};
 ghost use Rattle.script_tree.specs.View.{form_of};
 ghost use Rattle.table_laws.specs.Validity.{AreValid};
-ghost use Rattle.frame_store.specs.Objects.{tables};
-ghost use Rattle.script_session.specs.Bindings.{bindings_of, AreNamed};
+ghost use Rattle.script_work.specs.Bindings.{AreNamed};
+ghost use Rattle.script_work.specs.Work.{names_in, tables_in};
 ghost use Rattle.script_session.specs.Apart.{ChangesOneObject};
 
 use crate::fault::{Outcome, StepFault};
-use crate::file_names::FileNames;
-use crate::names::Names;
-use crate::work::Work;
+use crate::statements::perform;
 use cell_core::TextDict;
-use frame_store::Store;
 use outside_io::Files;
 use script_tree::{Form, Statement};
+use script_work::{FileNames, Work};
 use std::alloc::Global;
 
 /// Names, each with the scalar, the Series or the frame that it stands for.
@@ -27,14 +25,14 @@ use std::alloc::Global;
 #[derive(Drop)]
 pub struct Session {
     work: Work,
-    ghost swept: { AreNamed (bindings_of work.names.values.entries) (tables work.store) },
+    ghost swept: { AreNamed (names_in work) (tables_in work) },
 }
 
 impl Session {
     ghost use Rattle.std.specs.Prelude.{ℕ};
     ghost use Rattle.script_session.specs.Session.{state_of, live_of, texts_of, LiveAreNamed};
     ghost use Rattle.outside_io.specs.Files.{Serves};
-    ghost use Rattle.script_session.specs.Reads.{files_in};
+    ghost use Rattle.script_work.specs.Reads.{files_in};
     ghost use Rattle.script_session.specs.Faults.{Performs};
 
     /// A session without names. Takes no memory.
@@ -45,13 +43,7 @@ impl Session {
         ensures valid { AreValid (live_of result) }
     {
         Session {
-            work: Work {
-                alloc,
-                dict: TextDict::new(alloc),
-                names: Names::new(alloc),
-                store: Store::new(alloc),
-                temps: Vec::new(alloc),
-            },
+            work: Work::new(alloc),
         }
     }
 
@@ -108,7 +100,7 @@ impl Session {
     pub fn texts(&self) -> &TextDict
         ensures { result.now ≡ texts_of self.now }
     {
-        &self.work.dict
+        self.work.texts()
     }
 
     // Does the statement, and ends what it has made and no name stands for.
@@ -133,7 +125,7 @@ impl Session {
         ensures apart { OnOk result (ChangesOneObject (form_of form.now)
             (state_of self.old) (state_of self.new)) }
     {
-        let result = self.work.perform(files, names, form);
+        let result = perform(&mut self.work, files, names, form);
         self.work.sweep();
         result
     }

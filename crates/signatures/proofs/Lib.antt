@@ -6,3 +6,4 @@ pub mod SureLaws
 pub mod KindLaws
 pub mod ToldLaws
 pub mod ScalarLaws
+pub mod NameLaws

@@ -3,3 +3,4 @@ pub mod Bound
 pub mod Found
 pub mod Rule
 pub mod Scalars
+pub mod Names

@@ -1,7 +1,10 @@
 // The table of signatures.
-ghost use Rattle.std.specs.Prelude.{◌≡◌, Some};
+ghost use Rattle.std.specs.Prelude.{◌≡◌, find, map};
+ghost use Rattle.std.specs.Option.{option_copied};
+ghost use Rattle.meaning.specs.Text.{same_text};
 ghost use Rattle.form_meaning.specs.Make as make;
 ghost use Rattle.form_meaning.specs.Signature as signature;
+ghost use Rattle.signatures.specs.Names.{meant};
 
 use cell_core::{Kind, Shape};
 use form_meaning::{
@@ -215,32 +218,106 @@ pub fn default_text(text: DefaultText) -> &'static str
     }
 }
 
-// The method of a Series or that of a frame.
-fn either(shape: Shape, series: Method, frame: Method) -> Method
-    ensures { signature.either shape series frame ≡ Some result }
-{
-    match shape {
-        Shape::Series => series,
-        Shape::Frame => frame,
-    }
+// A name, with the method that it means on a Series and the one that it means on a frame.
+struct MethodName {
+    name: &'static str,
+    series: Option<Method>,
+    frame: Option<Method>,
 }
 
-fn series_alone(shape: Shape, method: Method) -> Option<Method>
-    ensures { result ≡ signature.series_alone shape method }
-{
-    match shape {
-        Shape::Series => Some(method),
-        Shape::Frame => None,
-    }
+macro_rules! either {
+    ($name:literal: $series:ident, $frame:ident) => {
+        MethodName {
+            name: $name,
+            series: Some(Method::$series),
+            frame: Some(Method::$frame),
+        }
+    };
 }
 
-fn frame_alone(shape: Shape, method: Method) -> Option<Method>
-    ensures { result ≡ signature.frame_alone shape method }
+macro_rules! both {
+    ($name:literal: $method:ident) => {
+        either!($name: $method, $method)
+    };
+}
+
+macro_rules! series_alone {
+    ($name:literal: $method:ident) => {
+        MethodName {
+            name: $name,
+            series: Some(Method::$method),
+            frame: None,
+        }
+    };
+}
+
+macro_rules! frame_alone {
+    ($name:literal: $method:ident) => {
+        MethodName {
+            name: $name,
+            series: None,
+            frame: Some(Method::$method),
+        }
+    };
+}
+
+const METHOD_NAMES: &[MethodName] = &[
+    both!("copy": Copy),
+    both!("head": Head),
+    both!("tail": Tail),
+    both!("isna": Isna),
+    both!("notna": Notna),
+    both!("fillna": Fillna),
+    both!("dropna": Dropna),
+    both!("isin": Isin),
+    both!("astype": Astype),
+    either!("duplicated": DuplicatedSeries, DuplicatedFrame),
+    both!("shift": Shift),
+    both!("cumsum": Cumsum),
+    both!("cummin": Cummin),
+    both!("cummax": Cummax),
+    both!("sum": Sum),
+    both!("min": Min),
+    both!("max": Max),
+    both!("any": Any),
+    both!("all": All),
+    both!("count": Count),
+    both!("nunique": Nunique),
+    either!("sort_values": SortValuesSeries, SortValuesFrame),
+    both!("sort_index": SortIndex),
+    either!("reindex": ReindexSeries, ReindexFrame),
+    either!("rename": RenameSeries, RenameFrame),
+    both!("rename_axis": RenameAxis),
+    frame_alone!("set_index": SetIndex),
+    both!("reset_index": ResetIndex),
+    frame_alone!("drop": DropColumns),
+    both!("droplevel": Droplevel),
+    both!("swaplevel": Swaplevel),
+    both!("xs": Xs),
+    series_alone!("to_frame": ToFrame),
+    both!("to_csv": ToCsv),
+    frame_alone!("groupby": Groupby),
+    both!("rolling": Rolling),
+    both!("expanding": Expanding),
+    frame_alone!("merge": Merge),
+    frame_alone!("stack": Stack),
+    series_alone!("unstack": Unstack),
+    frame_alone!("pivot": Pivot),
+    frame_alone!("pivot_table": PivotTable),
+    frame_alone!("melt": Melt),
+];
+
+fn method_names() -> &'static [MethodName]
+    ensures { map meant result.now ≡ signature.method_names }
 {
-    match shape {
-        Shape::Series => None,
-        Shape::Frame => Some(method),
-    }
+    METHOD_NAMES
+}
+
+// The first row of a name.
+fn row_of<'a>(rows: &'a [MethodName], name: &str) -> Option<&'a MethodName>
+    ensures { option_copied result ≡ find (λ row. same_text row.name.now name.now) rows.now }
+{
+    rows.iter().find(|row| row.name == name)
 }
 
 /// The method that a name means on a Series or a frame; `None` where it has none of that name, which
@@ -248,51 +325,10 @@ fn frame_alone(shape: Shape, method: Method) -> Option<Method>
 pub fn method_named(shape: Shape, name: &str) -> Option<Method>
     ensures { result ≡ signature.method_named shape name.now }
 {
-    match name {
-        "copy" => Some(Method::Copy),
-        "head" => Some(Method::Head),
-        "tail" => Some(Method::Tail),
-        "isna" => Some(Method::Isna),
-        "notna" => Some(Method::Notna),
-        "fillna" => Some(Method::Fillna),
-        "dropna" => Some(Method::Dropna),
-        "isin" => Some(Method::Isin),
-        "astype" => Some(Method::Astype),
-        "duplicated" => Some(either(shape, Method::DuplicatedSeries, Method::DuplicatedFrame)),
-        "shift" => Some(Method::Shift),
-        "cumsum" => Some(Method::Cumsum),
-        "cummin" => Some(Method::Cummin),
-        "cummax" => Some(Method::Cummax),
-        "sum" => Some(Method::Sum),
-        "min" => Some(Method::Min),
-        "max" => Some(Method::Max),
-        "any" => Some(Method::Any),
-        "all" => Some(Method::All),
-        "count" => Some(Method::Count),
-        "nunique" => Some(Method::Nunique),
-        "sort_values" => Some(either(shape, Method::SortValuesSeries, Method::SortValuesFrame)),
-        "sort_index" => Some(Method::SortIndex),
-        "reindex" => Some(either(shape, Method::ReindexSeries, Method::ReindexFrame)),
-        "rename" => Some(either(shape, Method::RenameSeries, Method::RenameFrame)),
-        "rename_axis" => Some(Method::RenameAxis),
-        "set_index" => frame_alone(shape, Method::SetIndex),
-        "reset_index" => Some(Method::ResetIndex),
-        "drop" => frame_alone(shape, Method::DropColumns),
-        "droplevel" => Some(Method::Droplevel),
-        "swaplevel" => Some(Method::Swaplevel),
-        "xs" => Some(Method::Xs),
-        "to_frame" => series_alone(shape, Method::ToFrame),
-        "to_csv" => Some(Method::ToCsv),
-        "groupby" => frame_alone(shape, Method::Groupby),
-        "rolling" => Some(Method::Rolling),
-        "expanding" => Some(Method::Expanding),
-        "merge" => frame_alone(shape, Method::Merge),
-        "stack" => frame_alone(shape, Method::Stack),
-        "unstack" => series_alone(shape, Method::Unstack),
-        "pivot" => frame_alone(shape, Method::Pivot),
-        "pivot_table" => frame_alone(shape, Method::PivotTable),
-        "melt" => frame_alone(shape, Method::Melt),
-        _ => None,
+    let row = row_of(method_names(), name)?;
+    match shape {
+        Shape::Series => row.series,
+        Shape::Frame => row.frame,
     }
 }
 

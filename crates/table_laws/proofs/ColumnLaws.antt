@@ -112,6 +112,9 @@ cumulated_keeps op rows c h = by (cumulation_takes op c.kind) refl
     by true e = record { filled = length_running (cumulation_cell op) [] c.cells ∙ h.filled; held = cumulated_held op c.kind c.cells e h.held }
     by false e = tt
 
+-- what a method makes of each column
+pub ruleset column_answers = (mapped_keeps, filled_keeps, cast_keeps, shifted_keeps, cumulated_keeps)
+
 -- the column of a list
 pub list_keeps : (cells : List CellValue) → IfOk (list_column cells) (IsColumn (length cells))
 list_keeps cells = by (list_all (holds (first_kind cells)) cells) refl

@@ -8,7 +8,7 @@ use Rattle.table_meaning.specs.Change.{put_at, with_column}
 use Rattle.table_meaning.specs.Valid.{AreHeadings}
 use Rattle.frame_store.specs.Objects.{Tables, with_object, with_moved, table_or, table_at}
 
-pub nat_eq_self : (n : ℕ) → nat_eq n n ≡ true
+nat_eq_self : (n : ℕ) → nat_eq n n ≡ true
 nat_eq_self n = grind (arith, nat_tests)
 
 nat_same : (a b : ℕ) → nat_eq a b ≡ true → a ≡ b

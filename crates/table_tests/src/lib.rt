@@ -1,9 +1,7 @@
-//! Tests of the store, signatures, selections and settings: what no clause says, and what no script reaches.
+//! Tests of the store and of printed frames: what no clause says, and what no script reaches.
 #![tactic(auto)]
 
 #[cfg(test)]
-mod arguments;
-#[cfg(test)]
-mod forms;
+mod printed;
 #[cfg(test)]
 mod store;

@@ -8,10 +8,9 @@ ghost use Rattle.table_tests.specs.Stored.{two_rows};
 
 use cell_core::{Cell, Grid, Kind, Label, NoMemory, Shape};
 use column_core::{Block, Column};
-use frame_store::{Blocks, Headings, ObjId, Store};
+use frame_store::{Blocks, Headings, ObjId, ObjRef, Store};
 use multi_index::Axis;
 use std::alloc::Global;
-use std::test::Fail;
 
 fn numbers(alloc: Global, first: i64, second: i64) -> Result<Block, NoMemory>
     ensures { IfOk result (λ block. block ≡ single_block record { kind = Int64; cells = Int first ∷ Int second ∷ [] }) }
@@ -39,42 +38,52 @@ fn series(alloc: Global, store: &mut Store, block: Block) -> Result<ObjId, NoMem
     store.add(Shape::Series, axis, headings, blocks)
 }
 
+// Whether the table is a Series of two rows, of which the second has this cell.
+fn has_second(table: &ObjRef<'_>, cell: Cell) -> bool {
+    table.shape() == Shape::Series
+        && table.rows() == 2
+        && table.columns() == 1
+        && table.cell(1, 0) == cell
+}
+
+// Whether the table has no name, and its rows are counted.
+fn is_plain(table: &ObjRef<'_>) -> bool {
+    table.rows() == 2
+        && table.columns() == 1
+        && table.levels() == 1
+        && table.heading(0) == None
+        && table.label(1, 0) == Label::Int(1)
+}
+
 #[test]
-fn an_object_is_read(rt: HostRuntime) -> Result<(), Fail> {
+fn an_object_is_read(rt: HostRuntime) -> Result<(), NoMemory> {
     let mut store = Store::new(rt.alloc());
     let on = series(rt.alloc(), &mut store, numbers(rt.alloc(), 3, 4)?)?;
     let table = store.read(on);
-    assert_eq!(rt; table.rows(), 2);
-    assert_eq!(rt; table.columns(), 1);
-    assert_eq!(rt; table.levels(), 1);
-    assert_eq!(rt; table.shape(), Shape::Series);
-    assert_eq!(rt; table.heading(0), None);
-    assert_eq!(rt; table.label(1, 0), Label::Int(1));
-    assert_eq!(rt; table.cell(1, 0), Cell::Int(4));
+    assert!(rt; has_second(&table, Cell::Int(4)));
+    assert!(rt; is_plain(&table));
     Ok(())
 }
 
 #[test]
-fn the_cells_of_live_objects_are_held(rt: HostRuntime) -> Result<(), Fail> {
+fn the_cells_of_live_objects_are_held(rt: HostRuntime) -> Result<(), NoMemory> {
     let mut store = Store::new(rt.alloc());
     let on = series(rt.alloc(), &mut store, numbers(rt.alloc(), 3, 4)?)?;
-    assert_eq!(rt; store.held(), 2);
+    assert!(rt; store.held() == 2);
     store.drop_object(on);
-    assert_eq!(rt; store.held(), 0);
+    assert!(rt; store.held() == 0);
     Ok(())
 }
 
 #[test]
-fn a_series_ends_where_its_column_moves(rt: HostRuntime) -> Result<(), Fail> {
+fn a_series_ends_where_its_column_moves(rt: HostRuntime) -> Result<(), NoMemory> {
     let mut store = Store::new(rt.alloc());
     let on = series(rt.alloc(), &mut store, numbers(rt.alloc(), 3, 4)?)?;
     let other = series(rt.alloc(), &mut store, numbers(rt.alloc(), 5, 6)?)?;
     store.move_column(on, 0, None, other)?;
-    assert_eq!(rt; store.contains(other), false);
-    assert_eq!(rt; store.held(), 2);
+    assert!(rt; !store.contains(other));
+    assert!(rt; store.held() == 2);
     let table = store.read(on);
-    assert_eq!(rt; table.rows(), 2);
-    assert_eq!(rt; table.columns(), 1);
-    assert_eq!(rt; table.cell(1, 0), Cell::Int(6));
+    assert!(rt; has_second(&table, Cell::Int(6)));
     Ok(())
 }

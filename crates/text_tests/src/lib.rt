@@ -1,11 +1,11 @@
-//! Tests of the crates of texts: tokens and trees of scripts, printed tables, files and sinks.
+//! Tests of the crates of texts: pieces, fronts and lists of a script, files and sinks.
 #![tactic(auto)]
 
 #[cfg(test)]
 mod outside;
 #[cfg(test)]
-mod printed;
+mod parts;
+#[cfg(test)]
+mod pieces;
 #[cfg(test)]
 mod syntax;
-#[cfg(test)]
-mod tokens;

@@ -1,92 +1,129 @@
 // Files and sinks in memory and of the machine, at each call that fails.
+use cell_core::NoMemory;
 use outside_io::{
     Fetch, Files, Got, MemFiles, MemSink, Put, ReadFault, RealFiles, RealSink, Sink, WriteFault,
     read_whole, write_piece,
 };
-use std::io::{ErrorKind, Write};
-use std::test::Fail;
-use std::{fs, io};
+use std::alloc::Global;
+use std::fs;
+use std::io::{self, ErrorKind, Write};
 
-#[test]
-fn reads_up_to_the_limit(rt: HostRuntime) -> Result<(), Fail> {
-    let mut files = MemFiles::new(rt.alloc());
+type Found<'a> = Result<&'a [u8], ReadFault>;
+
+const FAILS: Found<'static> = Err(ReadFault::Failed);
+
+// Whether a read of the whole file, of at most so many bytes, finds this.
+fn reads<F: Files>(alloc: Global, files: &mut F, path: &str, limit: u8, want: Found<'_>) -> bool {
+    match (read_whole(alloc, files, path, limit as usize), want) {
+        (Ok(whole), Ok(bytes)) => whole.as_slice() == bytes,
+        (Err(fault), Err(wanted)) => fault == wanted,
+        _ => false,
+    }
+}
+
+fn hold_files(files: &mut MemFiles) -> Result<(), NoMemory> {
     files.hold("empty", b"")?;
     files.hold("orders", b"id")?;
-    files.hold("orders", b"id,price\n")?;
-    let whole = read_whole(rt.alloc(), &mut files, "orders", 9)?;
-    assert_eq!(rt; whole.as_slice(), b"id,price\n".as_slice());
+    files.hold("orders", b"id,price\n")
+}
+
+#[test]
+fn reads_up_to_the_limit(rt: HostRuntime) {
+    let mut files = MemFiles::new(rt.alloc());
+    assert!(rt; hold_files(&mut files).is_ok());
     for (path, limit, want) in [
-        ("orders", 8, Some(ReadFault::TooLong)),
-        ("orders", 0, Some(ReadFault::TooLong)),
-        ("empty", 0, None),
-        ("order", 9, Some(ReadFault::Absent)),
+        ("orders", 9, Ok(b"id,price\n".as_slice())),
+        ("orders", 8, Err(ReadFault::TooLong)),
+        ("orders", 0, Err(ReadFault::TooLong)),
+        ("empty", 0, Ok(b"".as_slice())),
+        ("order", 9, Err(ReadFault::Absent)),
     ] {
-        let fault = read_whole(rt.alloc(), &mut files, path, limit).err();
-        assert_eq!(rt; fault, want, "at {path} and {limit}");
+        assert!(rt;
+            reads(rt.alloc(), &mut files, path, limit, want),
+            "at {path} and {limit}"
+        );
     }
-    Ok(())
+}
+
+// Whether two reads of a file of two bytes find these, where a call fails.
+fn read_twice(
+    alloc: Global,
+    failing: u64,
+    first: Found<'_>,
+    second: Found<'_>,
+) -> Result<bool, NoMemory> {
+    let mut files = MemFiles::new(alloc);
+    files.hold("orders", b"id")?;
+    files.fail_at(failing)?;
+    Ok(
+        reads(alloc, &mut files, "orders", 9, first)
+            && reads(alloc, &mut files, "orders", 9, second),
+    )
 }
 
 // A file of two bytes is read by a fetch, a read that gives both and one at its end.
 #[test]
-fn fails_at_each_call(rt: HostRuntime) -> Result<(), Fail> {
-    for call in 0..4 {
-        let mut files = MemFiles::new(rt.alloc());
-        files.hold("orders", b"id")?;
-        files.fail_at(call)?;
-        let first = read_whole(rt.alloc(), &mut files, "orders", 9).err();
-        let second = read_whole(rt.alloc(), &mut files, "orders", 9).err();
-        let fails = Some(ReadFault::Failed);
-        assert_eq!(rt; first, if call < 3 { fails } else { None }, "at {call}");
-        assert_eq!(rt;
-            second,
-            if call == 3 { fails } else { None },
-            "after {call}"
+fn fails_at_each_call(rt: HostRuntime) {
+    let id = Ok(b"id".as_slice());
+    for call in 0..3 {
+        assert!(rt;
+            read_twice(rt.alloc(), call, FAILS, id) == Ok(true),
+            "at {call}"
         );
     }
-    Ok(())
+    assert!(rt; read_twice(rt.alloc(), 3, id, FAILS) == Ok(true));
 }
 
-#[test]
-fn reads_on_what_was_replaced(rt: HostRuntime) -> Result<(), Fail> {
-    let mut files = MemFiles::new(rt.alloc());
+// Whether the file that was fetched is read on after it was replaced.
+fn reads_on(alloc: Global, files: &mut MemFiles) -> Result<bool, NoMemory> {
     files.hold("orders", b"id")?;
-    assert_eq!(rt; files.fetch("orders"), Fetch::Fetched);
+    let fetched = files.fetch("orders");
     files.hold("orders", b"name")?;
     let mut piece = [0u8; 8];
-    assert_eq!(rt; files.read(&mut piece), Got::Bytes(2));
-    assert_eq!(rt; &piece[..2], b"id".as_slice());
-    assert_eq!(rt; files.read(&mut piece), Got::End);
-    let whole = read_whole(rt.alloc(), &mut files, "orders", 9)?;
-    assert_eq!(rt; whole.as_slice(), b"name".as_slice());
-    Ok(())
+    let read = files.read(&mut piece);
+    let ended = files.read(&mut [0u8; 8]);
+    Ok(
+        fetched == Fetch::Fetched
+            && read == Got::Bytes(2)
+            && &piece[..2] == b"id".as_slice()
+            && ended == Got::End
+            && reads(alloc, files, "orders", 9, Ok(b"name".as_slice())),
+    )
 }
 
 #[test]
-fn writes_what_fits(rt: HostRuntime) -> Result<(), Fail> {
+fn reads_on_what_was_replaced(rt: HostRuntime) {
+    let mut files = MemFiles::new(rt.alloc());
+    assert!(rt; reads_on(rt.alloc(), &mut files) == Ok(true));
+}
+
+fn writes_five_bytes(sink: &mut MemSink) -> bool {
+    write_piece(sink, b"id\n") == Ok(())
+        && write_piece(sink, b"") == Ok(())
+        && write_piece(sink, b"price\n") == Err(WriteFault::Failed)
+        && sink.put(b"x") == Put::Failed
+        && sink.written() == b"id\npr".as_slice()
+}
+
+#[test]
+fn writes_what_fits(rt: HostRuntime) -> Result<(), NoMemory> {
     let mut sink = MemSink::with_room(rt.alloc(), 5)?;
-    write_piece(&mut sink, b"id\n")?;
-    write_piece(&mut sink, b"")?;
-    assert_eq!(rt; write_piece(&mut sink, b"price\n"), Err(WriteFault::Failed));
-    assert_eq!(rt; sink.put(b"x"), Put::Failed);
-    assert_eq!(rt; sink.written(), b"id\npr".as_slice());
+    assert!(rt; writes_five_bytes(&mut sink));
     Ok(())
 }
 
+const PATH: &str = "outside_io_test.txt";
+
 #[test]
-fn reads_files_of_the_machine(rt: HostRuntime) -> Result<(), Fail> {
-    let path = "outside_io_test.txt";
-    fs::write(&rt, path, "id,price\n")?;
+fn reads_files_of_the_machine(rt: HostRuntime) -> Result<(), io::Error> {
+    fs::write(&rt, PATH, "id,price\n")?;
     let mut files = RealFiles::over(rt.clone()?);
-    let whole = read_whole(rt.alloc(), &mut files, path, 9)?;
-    assert_eq!(rt; whole.as_slice(), b"id,price\n".as_slice());
-    let fault = read_whole(rt.alloc(), &mut files, path, 8).err();
-    assert_eq!(rt; fault, Some(ReadFault::TooLong));
-    fs::remove_file(&rt, path)?;
-    let fault = read_whole(rt.alloc(), &mut files, path, 9).err();
-    assert_eq!(rt; fault, Some(ReadFault::Absent));
-    let fault = read_whole(rt.alloc(), &mut files, ".", 9).err();
-    assert_eq!(rt; fault, Some(ReadFault::Failed));
+    let whole = Ok(b"id,price\n".as_slice());
+    assert!(rt; reads(rt.alloc(), &mut files, PATH, 9, whole));
+    assert!(rt; reads(rt.alloc(), &mut files, PATH, 8, Err(ReadFault::TooLong)));
+    fs::remove_file(&rt, PATH)?;
+    assert!(rt; reads(rt.alloc(), &mut files, PATH, 9, Err(ReadFault::Absent)));
+    assert!(rt; reads(rt.alloc(), &mut files, ".", 9, FAILS));
     Ok(())
 }
 
@@ -111,25 +148,27 @@ impl Write for Stream {
     }
 }
 
+// What a piece that is written to such a stream ends with.
+fn written(most: usize, flushes: bool) -> Result<(), WriteFault> {
+    let mut sink = RealSink::over(Stream { most, flushes });
+    write_piece(&mut sink, b"id\n")
+}
+
 #[test]
-fn writes_to_a_stream(rt: HostRuntime) -> Result<(), Fail> {
+fn writes_to_a_stream_that_fails(rt: HostRuntime) {
+    let fails = Err(WriteFault::Failed);
+    assert!(rt; written(1, true) == Ok(()));
+    assert!(rt; written(0, true) == fails);
+    assert!(rt; written(1, false) == fails);
+}
+
+#[test]
+fn writes_to_a_stream(rt: HostRuntime) -> Result<(), WriteFault> {
     let mut bytes = Vec::new(rt.alloc());
     let mut sink = RealSink::over(&mut bytes);
     write_piece(&mut sink, b"id\n")?;
     write_piece(&mut sink, b"7\n")?;
     drop(sink);
-    assert_eq!(rt; bytes.as_slice(), b"id\n7\n".as_slice());
-    for (most, flushes, want) in [
-        (1, true, Ok(())),
-        (0, true, Err(WriteFault::Failed)),
-        (1, false, Err(WriteFault::Failed)),
-    ] {
-        let mut sink = RealSink::over(Stream { most, flushes });
-        assert_eq!(rt;
-            write_piece(&mut sink, b"id\n"),
-            want,
-            "at {most} and {flushes}"
-        );
-    }
+    assert!(rt; bytes.as_slice() == b"id\n7\n".as_slice());
     Ok(())
 }

@@ -1,6 +1,8 @@
-use Rattle.std.proofs.Common.{◌≡◌, map, take, All}
-use Rattle.frame_store.specs.Parts.{axis_of}
-use Rattle.concat_forms.specs.Axes.{IsAlike}
+use Rattle.{
+  std.proofs.Common.{◌≡◌, map, take, All},
+  frame_store.specs.Parts.{axis_of},
+  concat_forms.specs.Axes.{IsAlike},
+}
 use Rattle.concat_forms.proofs.axes.axes_of.Given as goal
 
 abbrev pub invariant-loop-part : goal.invariant-loop-part

@@ -1,13 +1,10 @@
-use Rattle.std.proofs.Common.{◌≡◌, ◌∙◌, ◌<◌, ◌+◌, ◌-◌, List, Option, ap, sym, subst, length, take, arith}
-use Rattle.std.proofs.lemmas.List.{length-set, append-nil}
-use Rattle.cell_core.specs.declared.cell.Label.{Label}
-use Rattle.multi_index.specs.Axes.{AxisValue}
-use Rattle.table_meaning.specs.Settled.{IsSettled}
-use Rattle.table_meaning.specs.Table.{heading_value}
-use Rattle.frame_store.specs.Shown.{headings_value}
-use Rattle.concat_forms.specs.Parts.{parts_value}
-use Rattle.concat_forms.proofs.NameLaws.{level_more, given_more}
-use Rattle.concat_forms.proofs.PlaceLaws.{taken_seen}
+use Rattle.{
+  std.proofs.{Common.{◌≡◌, ◌∙◌, ◌<◌, ◌+◌, ◌-◌, ap, sym, subst, length, take, arith}, lemmas.List.{length-set, append-nil}},
+  multi_index.specs.Axes.{AxisValue},
+  table_meaning.specs.Settled.{IsSettled},
+  frame_store.specs.Shown.{headings_value},
+  concat_forms.{specs.Parts.{parts_value}, proofs.{NameLaws.{level_more, given_more}, PlaceLaws.{taken_seen}}},
+}
 use Rattle.concat_forms.proofs.axes.named.Goals as goal
 
 pub loop-level-init : goal.loop-level-init
@@ -18,7 +15,7 @@ loop-level-init c =
     record {
       tuples = λ i. c.args.axis.tuples;
       count = λ i. length c.args.axis.names;
-      named = ap (λ n. headings_value dict (take n c.args.axis.names)) none ∙ taken_seen (heading_value dict) before c.args.axis.names ∙ sym (append-nil (take before (headings_value dict c.args.axis.names)));
+      named = ap (λ n. headings_value dict (take n c.args.axis.names)) none ∙ taken_seen _ _ _ ∙ sym (append-nil (take before (headings_value dict c.args.axis.names)));
       given = subst (λ n. IsSettled headings_value dict (take n c.args.axis.names)) (ap (λ n. n - c.args.levels) (sym c.levels.ensures.count) ∙ sym none) c.requires.given;
     }
 
@@ -34,8 +31,8 @@ loop-level-preserved c =
     let next : before + (level + 1) ≡ k + 1 = omega arith in
     record {
       tuples = ap (λ (x : AxisValue). x.tuples) c.set_name.ensures ∙ c.loop-level.invariant.tuples;
-      count = ap (λ (l : List (Option Label)). length l) set ∙ length-set names k c.name_of_all.result ∙ c.loop-level.invariant.count;
+      count = ap length set ∙ length-set names k c.name_of_all.result ∙ c.loop-level.invariant.count;
       named = ap (λ n. headings_value dict (take n c.set_name.new.self.names)) next
-          ∙ level_more dict (parts_value dict c.args.parts.now) names c.set_name.new.self.names (take before (headings_value dict c.args.axis.names)) k level c.name_of_all.result lt set c.name_of_all.ensures.name c.loop-level.invariant.named;
-      given = subst (λ n. IsSettled headings_value dict (take n c.set_name.new.self.names)) (sym next) (given_more dict names c.set_name.new.self.names k c.name_of_all.result lt set c.name_of_all.ensures.given c.loop-level.invariant.given);
+          ∙ level_more _ (parts_value dict c.args.parts.now) _ _ (take before (headings_value dict c.args.axis.names)) k level _ lt set c.name_of_all.ensures.name c.loop-level.invariant.named;
+      given = rw next (given_more _ _ _ k _ lt set c.name_of_all.ensures.given c.loop-level.invariant.given);
     }

@@ -1,8 +1,9 @@
-use Rattle.std.proofs.Common.{◌≡◌, ◌+◌, ◌++◌, take, length}
-use Rattle.table_meaning.specs.Settled.{IsSettled}
-use Rattle.frame_store.specs.Shown.{headings_value}
-use Rattle.concat_forms.specs.Parts.{parts_value}
-use Rattle.concat_forms.specs.Axes.{names_of_levels}
+use Rattle.{
+  std.proofs.Common.{◌≡◌, ◌+◌, ◌++◌, take, length},
+  table_meaning.specs.Settled.{IsSettled},
+  frame_store.specs.Shown.{headings_value},
+  concat_forms.specs.{Parts.{parts_value}, Axes.{names_of_levels}},
+}
 use Rattle.concat_forms.proofs.axes.named.Given as goal
 
 -- the names so far

@@ -1,5 +1,7 @@
-use Rattle.std.proofs.Common.{◌≡◌, ◌≤◌, take}
-use Rattle.concat_forms.specs.Columns.{rows_in}
+use Rattle.{
+  std.proofs.Common.{◌≡◌, ◌≤◌, take},
+  concat_forms.specs.Columns.{rows_in},
+}
 use Rattle.concat_forms.proofs.axes.rows_in.Given as goal
 
 -- the rows so far, which are few

@@ -1,29 +1,26 @@
-use Rattle.std.proofs.Common.{◌≡◌, ◌∙◌, ◌-◌, ap, sym, subst, length, Some, None, map, take}
-use Rattle.multi_index.specs.Axes.{AxisValue}
-use Rattle.table_meaning.specs.Settled.{IsSettled}
-use Rattle.table_meaning.specs.Table.{NumberedTable}
-use Rattle.method_meaning.specs.Concat.{Concatenation}
-use Rattle.frame_store.specs.Shown.{headings_value}
-use Rattle.concat_forms.specs.Asked.{keys_value}
-use Rattle.concat_forms.proofs.AxisLaws.{lent, items_in, numbered_axis, numbered_given, numbered_rows, axes_alike, nameless_given, axis_of_parts, axis_given, axis_rows}
+use Rattle.{
+  std.proofs.Common.{◌≡◌, ◌∙◌, ap, sym, length, Some, map},
+  table_meaning.specs.Table.{NumberedTable},
+  method_meaning.specs.Concat.{Concatenation},
+  concat_forms.proofs.{AxisLaws.{lent, items_in, numbered_axis, numbered_given, numbered_rows, axes_alike, nameless_given, axis_of_parts, axis_given, axis_rows}, below.axis_of_all.Goals.{in-Some, in-None}},
+}
 use Rattle.concat_forms.proofs.below.axis_of_all.Goals as goal
-use Rattle.concat_forms.proofs.below.axis_of_all.Goals.{in-Some, in-None}
 
 pub returns-then-asked-clause-axis : goal.returns-then-asked-clause-axis
-returns-then-asked-clause-axis c = numbered_axis c.args.dict.now c.args.asked.now.renumbered (keys_value c.args.dict.now c.args.asked.now.keys) c.args.parts.now c.args.rows c.range.result c.if-asked.true c.requires.rows c.range.ensures
+returns-then-asked-clause-axis c = numbered_axis _ _ _ _ _ _ c.if-asked.true c.requires.rows c.range.ensures
 
 pub returns-then-asked-clause-given : goal.returns-then-asked-clause-given
-returns-then-asked-clause-given c = numbered_given c.args.dict.now c.args.rows c.range.result c.range.ensures
+returns-then-asked-clause-given c = numbered_given _ _ _ c.range.ensures
 
 pub returns-then-asked-clause-count : goal.returns-then-asked-clause-count
-returns-then-asked-clause-count c = numbered_rows c.args.rows c.range.result c.range.ensures
+returns-then-asked-clause-count c = numbered_rows _ _ c.range.ensures
 
 pub axis_below-requires-clause-alike : goal.axis_below-requires-clause-alike
-axis_below-requires-clause-alike c = axes_alike c.deref.result.now c.args.parts.now (ap (map (λ axis. axis.now)) c.deref.ensures.value ∙ c.in_ok-axes.ensures.axes) c.requires.levels
+axis_below-requires-clause-alike c = axes_alike _ _ (ap (map (λ axis. axis.now)) c.deref.ensures.value ∙ c.in_ok-axes.ensures.axes) c.requires.levels
 
 pub named-requires-clause-given : goal.named-requires-clause-given
 named-requires-clause-given c =
-    subst (λ (a : AxisValue). IsSettled headings_value c.args.dict.now (take (length a.names - c.levels.result) a.names)) (sym c.in_ok-axis.ensures) (nameless_given c.args.dict.now _ _)
+    rw c.in_ok-axis.ensures (nameless_given _ _ _)
 
 pub returns-clause-axis : goal.returns-clause-axis
 returns-clause-axis c =

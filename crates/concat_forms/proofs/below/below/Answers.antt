@@ -1,17 +1,17 @@
-use Rattle.std.proofs.Common.{◌∙◌, sym, subst, refl, Result}
-use Rattle.meaning.specs.Fault.{FaultValue}
-use Rattle.table_meaning.specs.Value.{Entry}
-use Rattle.frame_store.specs.Shown.{Makes}
-use Rattle.concat_forms.specs.Parts.{parts_value}
-use Rattle.concat_forms.specs.Asked.{asked_value}
-use Rattle.concat_forms.proofs.KindLaws.{series_seen, frames_seen, all_series, all_frames, below_series, below_frames, below_neither}
+use Rattle.{
+  std.proofs.Common.{◌∙◌, sym, subst, refl, Result},
+  meaning.specs.Fault.{FaultValue},
+  table_meaning.specs.Value.{Entry},
+  frame_store.specs.Shown.{Makes},
+  concat_forms.{specs.{Parts.{parts_value}, Asked.{asked_value}}, proofs.KindLaws.{series_seen, frames_seen, all_series, all_frames, below_series, below_frames, below_neither}},
+}
 use Rattle.concat_forms.proofs.below.below.Goals as goal
 
 pub series_below-requires-clause-shape : goal.series_below-requires-clause-shape
-series_below-requires-clause-shape c = all_series c.args.parts.now (sym c.are_series.ensures ∙ c.if-are_series.true)
+series_below-requires-clause-shape c = all_series _ (sym c.are_series.ensures ∙ c.if-are_series.true)
 
 pub frames_below-requires-clause-shape : goal.frames_below-requires-clause-shape
-frames_below-requires-clause-shape c = all_frames c.args.parts.now (sym c.are_frames.ensures ∙ c.if-are_frames.true)
+frames_below-requires-clause-shape c = all_frames _ (sym c.are_frames.ensures ∙ c.if-are_frames.true)
 
 pub returns-then-are_series : goal.returns-then-are_series
 returns-then-are_series c =

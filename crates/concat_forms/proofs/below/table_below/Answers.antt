@@ -1,28 +1,28 @@
-use Rattle.std.proofs.Common.{◌≡◌, ◌∙◌, ◌<◌, ◌≤◌, ap, sym, subst, refl, length, true, false, arith, rules}
-use Rattle.table_meaning.specs.Settled.{IsSettled}
-use Rattle.table_meaning.specs.Table.{table_value}
-use Rattle.form_meaning.specs.Finish.{within_limits}
-use Rattle.concat_forms.specs.Axes.{levels_for}
-use Rattle.concat_forms.proofs.TableLaws.{none_of_parts, beyond_of_parts, levels_of_parts, finished_of_parts, many_rows, table_given, table_whole}
+use Rattle.{
+  std.proofs.Common.{◌≡◌, ◌∙◌, ◌<◌, ◌≤◌, ap, sym, subst, refl, length, true, false, arith, rules},
+  table_meaning.specs.{Settled.{IsSettled}, Table.{table_value}},
+  form_meaning.specs.Finish.{within_limits},
+  concat_forms.{specs.Axes.{levels_for}, proofs.TableLaws.{none_of_parts, beyond_of_parts, levels_of_parts, finished_of_parts, many_rows, table_given, table_whole}},
+}
 use Rattle.concat_forms.proofs.below.table_below.Goals as goal
 
 pub returns-then-not-all_kinds_meet : goal.returns-then-not-all_kinds_meet
 returns-then-not-all_kinds_meet c = (
-  none_of_parts c.args.dict.now c.len.ensures.distinct c.args.shape c.args.asked.now c.args.headings.now c.requires.headings.single c.requires.given c.args.parts.now c.requires.some c.requires.shape c.requires.known c.requires.fit
+  none_of_parts _ c.len.ensures.distinct _ c.args.asked.now _ c.requires.headings.single c.requires.given _ c.requires.some c.requires.shape c.requires.known c.requires.fit
       (sym c.all_kinds_meet.ensures ∙ c.if-not-all_kinds_meet.true),
   λ more. refl,
 )
 
 pub returns-in_default : goal.returns-in_default
 returns-in_default c = (
-  beyond_of_parts c.args.dict.now c.len.ensures.distinct c.args.shape c.args.asked.now c.args.headings.now c.requires.headings.single c.requires.given c.args.parts.now c.requires.some c.requires.shape c.requires.known c.requires.fit
-      (sym c.all_kinds_meet.ensures ∙ c.if-not-all_kinds_meet.false) (many_rows _ (length c.args.headings.now) c.in_default.ensures),
+  beyond_of_parts _ c.len.ensures.distinct _ c.args.asked.now _ c.requires.headings.single c.requires.given _ c.requires.some c.requires.shape c.requires.known c.requires.fit
+      (sym c.all_kinds_meet.ensures ∙ c.if-not-all_kinds_meet.false) (many_rows _ _ c.in_default.ensures),
   λ more. refl,
 )
 
 pub returns-then-levels_for-gt4 : goal.returns-then-levels_for-gt4
 returns-then-levels_for-gt4 c = (
-  levels_of_parts c.args.dict.now c.len.ensures.distinct c.args.shape c.args.asked.now c.args.headings.now c.requires.headings.single c.requires.given c.args.parts.now c.index-parts-0.result c.requires.some c.index-parts-0.is c.requires.shape c.requires.known c.requires.fit
+  levels_of_parts _ c.len.ensures.distinct _ c.args.asked.now _ c.requires.headings.single c.requires.given _ _ c.requires.some c.index-parts-0.is c.requires.shape c.requires.known c.requires.fit
       (sym c.all_kinds_meet.ensures ∙ c.if-not-all_kinds_meet.false) (subst (λ n. 4 < n) c.levels_for.ensures.count c.if-levels_for-gt4.true),
   λ more. refl,
 )
@@ -30,14 +30,14 @@ returns-then-levels_for-gt4 c = (
 pub returns-then-not-within_limits : goal.returns-then-not-within_limits
 returns-then-not-within_limits c =
     let told : within_limits c.in-Some.rows (length c.args.headings.now) ≡ false = search rules in (
-      beyond_of_parts c.args.dict.now c.len.ensures.distinct c.args.shape c.args.asked.now c.args.headings.now c.requires.headings.single c.requires.given c.args.parts.now c.requires.some c.requires.shape c.requires.known c.requires.fit
+      beyond_of_parts _ c.len.ensures.distinct _ c.args.asked.now _ c.requires.headings.single c.requires.given _ c.requires.some c.requires.shape c.requires.known c.requires.fit
           (sym c.all_kinds_meet.ensures ∙ c.if-not-all_kinds_meet.false) (ap (λ n. within_limits n (length c.args.headings.now)) (sym c.in-Some.ensures.0) ∙ told),
       λ more. refl,
     )
 
 pub new-requires-clause-whole : goal.new-requires-clause-whole
 new-requires-clause-whole c =
-    table_whole c.args.dict.now c.args.shape c.args.parts.now c.args.headings.now c.name_of_all-columns_name.result c.in_ok-axis.axis c.in_ok-headings.headings c.in_ok-blocks.blocks c.requires.known c.requires.shape c.requires.headings c.name_of_all-columns_name.ensures.name
+    table_whole _ _ _ _ _ _ _ _ c.requires.known c.requires.shape c.requires.headings c.name_of_all-columns_name.ensures.name
     (c.in_ok-axis.ensures.count ∙ c.in-Some.ensures.0) c.in_ok-headings.ensures c.in_ok-blocks.ensures.columns
 
 pub returns : goal.returns
@@ -47,10 +47,10 @@ returns c =
     let some : 1 ≤ levels_for (length c.index-parts-0.result.level_names) c.args.asked.now = subst (λ n. 1 ≤ n) c.levels_for.ensures.count c.levels_for.ensures.some in
     let few : levels_for (length c.index-parts-0.result.level_names) c.args.asked.now ≤ 4 = subst (λ n. n ≤ 4) c.levels_for.ensures.count (omega (arith, c.if-levels_for-gt4.false)) in
     let is = c.new.ensures in (
-      finished_of_parts dict c.len.ensures.distinct c.args.shape c.args.asked.now c.args.headings.now c.requires.headings.single c.requires.given c.args.parts.now c.index-parts-0.result c.new.result c.name_of_all-columns_name.result c.in_ok-axis.axis c.in_ok-headings.headings c.in_ok-blocks.blocks
+      finished_of_parts _ c.len.ensures.distinct _ c.args.asked.now _ c.requires.headings.single c.requires.given _ _ _ _ _ _ _
           c.requires.some c.index-parts-0.is c.requires.shape c.requires.known c.requires.fit (sym c.all_kinds_meet.ensures ∙ c.if-not-all_kinds_meet.false) (ap (λ n. within_limits n (length c.args.headings.now)) (sym c.in-Some.ensures.0) ∙ told) some few
           c.name_of_all-columns_name.ensures.name c.in_ok-axis.ensures.axis c.in_ok-headings.ensures c.in_ok-blocks.ensures.columns is,
       subst (IsSettled table_value dict) (sym is)
-          (table_given dict c.args.shape c.args.parts.now c.args.headings.now c.name_of_all-columns_name.result c.in_ok-axis.axis c.in_ok-headings.headings c.in_ok-blocks.blocks c.requires.known c.name_of_all-columns_name.ensures.given c.in_ok-axis.ensures.given c.requires.given c.in_ok-headings.ensures
+          (table_given _ _ _ _ _ _ _ _ c.requires.known c.name_of_all-columns_name.ensures.given c.in_ok-axis.ensures.given c.requires.given c.in_ok-headings.ensures
           c.in_ok-blocks.ensures.columns),
     )

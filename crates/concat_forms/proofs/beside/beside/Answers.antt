@@ -1,32 +1,30 @@
-use Rattle.std.proofs.Common.{◌∙◌, ap, sym, subst, refl, map, Result}
-use Rattle.meaning.specs.Fault.{FaultValue}
-use Rattle.table_meaning.specs.Value.{Entry}
-use Rattle.frame_store.specs.Parts.{axis_of}
-use Rattle.frame_store.specs.Shown.{Makes}
-use Rattle.concat_forms.specs.Asked.{asked_value}
-use Rattle.concat_forms.proofs.MetLaws.{equal_axis, equal_given, beside_equal, beside_levels, beside_met}
+use Rattle.{
+  std.proofs.Common.{◌∙◌, ap, sym, refl, map},
+  frame_store.specs.Parts.{axis_of},
+  concat_forms.{specs.Asked.{asked_value}, proofs.MetLaws.{equal_axis, equal_given, beside_equal, beside_levels, beside_met}},
+}
 use Rattle.concat_forms.proofs.beside.beside.Goals as goal
 
 pub on_axis-requires-clause-given : goal.on_axis-requires-clause-given
 on_axis-requires-clause-given c =
-    equal_given c.args.dict.now c.args.parts.now c.index-parts-0.result c.in_ok-axis.axis c.requires.some c.index-parts-0.is (c.in_ok-axis.ensures ∙ c.axis.ensures ∙ ap axis_of c.table.ensures) c.requires.known
+    equal_given _ _ _ _ c.requires.some c.index-parts-0.is (c.in_ok-axis.ensures ∙ c.axis.ensures ∙ ap axis_of c.table.ensures) c.requires.known
 
 pub on_axis-requires-clause-axis : goal.on_axis-requires-clause-axis
 on_axis-requires-clause-axis c =
     let copied = c.in_ok-axis.ensures ∙ c.axis.ensures ∙ ap axis_of c.table.ensures in
-    equal_axis c.args.dict.now c.deref.result.now c.args.parts.now c.index-parts-0.result c.in_ok-axis.axis c.requires.some c.index-parts-0.is (ap (map (λ axis. axis.now)) c.deref.ensures.value ∙ c.in_ok-axes.ensures.axes) (sym c.have_same_labels.ensures ∙ c.if-have_same_labels.true) copied
-    (equal_given c.args.dict.now c.args.parts.now c.index-parts-0.result c.in_ok-axis.axis c.requires.some c.index-parts-0.is copied c.requires.known)
+    equal_axis _ _ _ _ _ c.requires.some c.index-parts-0.is (ap (map (λ axis. axis.now)) c.deref.ensures.value ∙ c.in_ok-axes.ensures.axes) (sym c.have_same_labels.ensures ∙ c.if-have_same_labels.true) copied
+    (equal_given _ _ _ _ c.requires.some c.index-parts-0.is copied c.requires.known)
 
 pub returns-then-have_same_labels : goal.returns-then-have_same_labels
 returns-then-have_same_labels c =
     let dict = c.args.dict.now in
     let is = beside_equal dict c.len.ensures.distinct c.deref.result.now c.args.parts.now (ap (map (λ axis. axis.now)) c.deref.ensures.value ∙ c.in_ok-axes.ensures.axes) c.requires.known (asked_value dict c.args.asked.now) c.index-parts-0.result c.in_ok-axis.axis c.requires.some c.index-parts-0.is
     (sym c.have_same_labels.ensures ∙ c.if-have_same_labels.true) (c.in_ok-axis.ensures ∙ c.axis.ensures ∙ ap axis_of c.table.ensures) in
-    subst (λ (m : Result Entry FaultValue). Makes dict c.on_axis.result m) (sym is) c.on_axis.ensures
+    rw is c.on_axis.ensures
 
 pub returns-then-not-have_same_levels : goal.returns-then-not-have_same_levels
 returns-then-not-have_same_levels c = (
-  beside_levels c.args.dict.now c.len.ensures.distinct c.deref.result.now c.args.parts.now (ap (map (λ axis. axis.now)) c.deref.ensures.value ∙ c.in_ok-axes.ensures.axes) c.requires.known (asked_value c.args.dict.now c.args.asked.now) (sym c.have_same_labels.ensures ∙ c.if-have_same_labels.false)
+  beside_levels _ c.len.ensures.distinct _ _ (ap (map (λ axis. axis.now)) c.deref.ensures.value ∙ c.in_ok-axes.ensures.axes) c.requires.known (asked_value c.args.dict.now c.args.asked.now) (sym c.have_same_labels.ensures ∙ c.if-have_same_labels.false)
       (sym c.have_same_levels.ensures ∙ c.if-not-have_same_levels.true),
   λ more. refl,
 )
@@ -36,4 +34,4 @@ returns c =
     let dict = c.args.dict.now in
     let is = beside_met dict c.len.ensures.distinct c.deref.result.now c.args.parts.now (ap (map (λ axis. axis.now)) c.deref.ensures.value ∙ c.in_ok-axes.ensures.axes) c.requires.known (asked_value dict c.args.asked.now) (sym c.have_same_labels.ensures ∙ c.if-have_same_labels.false)
     (sym c.have_same_levels.ensures ∙ c.if-not-have_same_levels.false) in
-    subst (λ (m : Result Entry FaultValue). Makes dict c.met.result m) (sym is) c.met.ensures
+    rw is c.met.ensures

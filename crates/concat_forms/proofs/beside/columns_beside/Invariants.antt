@@ -1,10 +1,10 @@
-use Rattle.std.proofs.Common.{◌≡◌, take, length}
-use Rattle.std.specs.List.{flat_map}
-use Rattle.method_meaning.specs.Concat.{columns_beside}
-use Rattle.frame_store.specs.Shown.{labels_value}
-use Rattle.form_parts.specs.Makes.{blocks_value}
-use Rattle.concat_forms.specs.Parts.{parts_value}
-use Rattle.concat_forms.specs.Beside.{AreBlocks}
+use Rattle.{
+  std.{proofs.Common.{◌≡◌, take, length}, specs.List.{flat_map}},
+  method_meaning.specs.Concat.{columns_beside},
+  frame_store.specs.Shown.{labels_value},
+  form_parts.specs.Makes.{blocks_value},
+  concat_forms.specs.{Parts.{parts_value}, Beside.{AreBlocks}},
+}
 use Rattle.concat_forms.proofs.beside.columns_beside.Given as goal
 
 -- the columns of the parts so far

@@ -1,15 +1,12 @@
-use Rattle.std.proofs.Common.{◌≡◌, ◌∙◌, ◌-◌, ap, sym, subst, refl, length, take, true, false, List, Option, rules, arith}
-use Rattle.std.proofs.lemmas.Result.{err_from_is_err_and}
-use Rattle.std.proofs.lemmas.List.{length-map}
-use Rattle.cell_core.specs.declared.cell.Label.{Label}
-use Rattle.table_meaning.specs.Settled.{IsSettled}
-use Rattle.table_meaning.specs.Table.{tuple_value, table_value}
-use Rattle.form_meaning.specs.Finish.{within_limits}
-use Rattle.frame_store.specs.Shown.{labels_value, headings_value}
-use Rattle.selections.specs.Headings.{NamesRepeated, repeated_heading}
-use Rattle.concat_forms.specs.Parts.{parts_value}
-use Rattle.concat_forms.specs.Axes.{named_after}
-use Rattle.concat_forms.proofs.FrameLaws.{all_numbered, headings_refused, beyond_limits, finished_so, level_names_so, frame_so, frame_given, frame_whole}
+use Rattle.{
+  std.proofs.{Common.{◌≡◌, ◌∙◌, ◌-◌, ap, sym, subst, refl, length, true, false, List, Option, rules, arith}, lemmas.{Result.{err_from_is_err_and}, List.{length-map}}},
+  cell_core.specs.declared.cell.Label.{Label},
+  table_meaning.specs.{Settled.{IsSettled}, Table.{tuple_value, table_value}},
+  form_meaning.specs.Finish.{within_limits},
+  frame_store.specs.Shown.{labels_value, headings_value},
+  selections.specs.Headings.{NamesRepeated, repeated_heading},
+  concat_forms.{specs.{Parts.{parts_value}, Axes.{named_after}}, proofs.FrameLaws.{all_numbered, headings_refused, beyond_limits, finished_so, level_names_so, frame_so, frame_given, frame_whole}},
+}
 use Rattle.concat_forms.proofs.beside.on_axis.Goals as goal
 
 pub returns-in_err-headings : goal.returns-in_err-headings
@@ -27,35 +24,34 @@ returns-then-not-within_limits c =
     let none = ap repeated_heading (sym (c.deref.ensures.value ∙ c.in_ok-list.ensures)) ∙ c.in_ok-headings.ensures.different in
     let told : within_limits (length c.args.axis.tuples) (length c.in_ok-list.list.items) ≡ false = search rules in
     let beyond : within_limits (length labels) (length (all_numbered c.args.renumbered c.args.parts.now)) ≡ false = (λ i. within_limits (length-map c.args.axis.tuples (tuple_value dict) i) (length (sym c.in_ok-list.ensures i))) ∙ told in
-    (beyond_limits dict c.len.ensures.distinct c.args.parts.now c.requires.known c.args.renumbered labels none beyond, λ more. refl)
+    (beyond_limits _ c.len.ensures.distinct _ c.requires.known _ _ none beyond, λ more. refl)
 
 pub named-axis-requires-clause-given : goal.named-axis-requires-clause-given
 named-axis-requires-clause-given c =
     let none : length c.args.axis.names - c.levels-levels.result ≡ 0 = omega (arith, c.levels-levels.ensures.count) in
-    subst (λ n. IsSettled headings_value c.args.dict.now (take n c.args.axis.names)) (sym none) (λ more. refl)
+    rw none (λ more. refl)
 
 pub new-requires-clause-whole : goal.new-requires-clause-whole
 new-requires-clause-whole c =
     let named = c.deref.ensures.value ∙ c.in_ok-list.ensures in
-    frame_whole c.args.dict.now c.args.parts.now c.args.renumbered (labels_value c.args.dict.now c.args.axis.tuples) c.named-axis.result c.name_of_all-columns_name.result c.in_ok-headings.headings c.in_ok-blocks.blocks (length c.args.axis.tuples) c.requires.known
-    (ap (λ (l : List (List Label)). length l) c.named-axis.ensures.tuples) (c.in_ok-headings.ensures.made ∙ (λ i. record { columns_name = c.name_of_all-columns_name.result; labels = named i })) (ap repeated_heading (sym named) ∙ c.in_ok-headings.ensures.different) c.in_ok-blocks.ensures.columns c.in_ok-blocks.ensures.blocks
+    frame_whole _ _ _ _ _ _ _ _ _ c.requires.known
+    (ap length c.named-axis.ensures.tuples) (c.in_ok-headings.ensures.made ∙ (λ i. record { columns_name = c.name_of_all-columns_name.result; labels = named i })) (ap repeated_heading (sym named) ∙ c.in_ok-headings.ensures.different) c.in_ok-blocks.ensures.columns c.in_ok-blocks.ensures.blocks
 
 pub returns : goal.returns
 returns c =
     let dict = c.args.dict.now in
     let parts = c.args.parts.now in
-    let renumbered = c.args.renumbered in
     let labels = labels_value dict c.args.axis.tuples in
     let listed = c.deref.ensures.value ∙ c.in_ok-list.ensures in
     let none = ap repeated_heading (sym listed) ∙ c.in_ok-headings.ensures.different in
     let told : within_limits (length c.args.axis.tuples) (length c.in_ok-list.list.items) ≡ true = search rules in
-    let within : within_limits (length labels) (length (all_numbered renumbered parts)) ≡ true = (λ i. within_limits (length-map c.args.axis.tuples (tuple_value dict) i) (length (sym c.in_ok-list.ensures i))) ∙ told in
+    let within : within_limits (length labels) (length (all_numbered c.args.renumbered parts)) ≡ true = (λ i. within_limits (length-map c.args.axis.tuples (tuple_value dict) i) (length (sym c.in_ok-list.ensures i))) ∙ told in
     let headed = c.in_ok-headings.ensures.made ∙ (λ i. record { columns_name = c.name_of_all-columns_name.result; labels = listed i }) in
-    let names = c.named-axis.ensures.names ∙ ap (λ n. named_after (headings_value dict c.args.axis.names) n (parts_value dict parts)) c.levels-levels.ensures.count ∙ level_names_so dict c.args.axis.names parts c.requires.some c.requires.levels in (
-      finished_so dict c.len.ensures.distinct parts c.requires.known renumbered labels c.new.result none within
-          (frame_so dict parts renumbered c.args.axis c.named-axis.result c.name_of_all-columns_name.result c.in_ok-headings.headings c.in_ok-blocks.blocks c.named-axis.ensures.tuples names c.name_of_all-columns_name.ensures.name headed c.in_ok-blocks.ensures.columns
+    let names = c.named-axis.ensures.names ∙ ap (λ n. named_after (headings_value dict c.args.axis.names) n (parts_value dict parts)) c.levels-levels.ensures.count ∙ level_names_so _ _ _ c.requires.some c.requires.levels in (
+      finished_so _ c.len.ensures.distinct _ c.requires.known _ _ _ none within
+          (frame_so _ parts c.args.renumbered c.args.axis _ _ _ _ c.named-axis.ensures.tuples names c.name_of_all-columns_name.ensures.name headed c.in_ok-blocks.ensures.columns
           ∙ ap (table_value dict) (sym c.new.ensures)),
       subst (IsSettled table_value dict) (sym c.new.ensures)
-          (frame_given dict parts renumbered c.named-axis.result c.name_of_all-columns_name.result c.in_ok-headings.headings c.in_ok-blocks.blocks (length c.args.axis.tuples) c.requires.known (subst (IsSettled labels_value dict) (sym c.named-axis.ensures.tuples) c.requires.given)
+          (frame_given _ _ _ _ _ _ _ _ c.requires.known (subst (IsSettled labels_value dict) (sym c.named-axis.ensures.tuples) c.requires.given)
           c.named-axis.ensures.given c.name_of_all-columns_name.ensures.given headed c.in_ok-blocks.ensures.blocks),
     )

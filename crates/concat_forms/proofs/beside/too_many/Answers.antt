@@ -1,8 +1,9 @@
-use Rattle.std.proofs.Common.{◌∙◌, ap, subst, sym, List, Option, refl}
-use Rattle.std.proofs.lemmas.Result.{err_from_is_err_and}
-use Rattle.cell_core.specs.declared.cell.Label.{Label}
-use Rattle.selections.specs.Headings.{NamesRepeated, repeated_heading}
-use Rattle.concat_forms.proofs.FrameLaws.{headings_refused, too_many_rows}
+use Rattle.{
+  std.proofs.{Common.{◌∙◌, ap, subst, sym, List, Option, refl}, lemmas.Result.{err_from_is_err_and}},
+  cell_core.specs.declared.cell.Label.{Label},
+  selections.specs.Headings.{NamesRepeated, repeated_heading},
+  concat_forms.proofs.FrameLaws.{headings_refused, too_many_rows},
+}
 use Rattle.concat_forms.proofs.beside.too_many.Goals as goal
 
 pub returns-in_err-different_headings : goal.returns-in_err-different_headings
@@ -16,4 +17,4 @@ returns-in_err-different_headings c = λ labels many.
 pub returns : goal.returns
 returns c = λ labels many.
     let named = c.deref.ensures.value ∙ c.in_ok-list.ensures in
-    (too_many_rows c.args.dict.now c.len.ensures.distinct c.args.parts.now c.requires.known c.args.renumbered labels (ap repeated_heading (sym named) ∙ c.in_ok-different_headings.ensures.different) many, λ more. refl)
+    (too_many_rows _ c.len.ensures.distinct _ c.requires.known _ _ (ap repeated_heading (sym named) ∙ c.in_ok-different_headings.ensures.different) many, λ more. refl)

@@ -1,7 +1,9 @@
-use Rattle.std.proofs.Common.{◌≡◌, ◌++◌, take, All}
-use Rattle.cell_core.specs.declared.cell.Cell.TheVariants.{Na}
-use Rattle.form_meaning.specs.Infix.{on_rows}
-use Rattle.frame_store.specs.Parts.{columns_of, IsSingle}
+use Rattle.{
+  std.proofs.Common.{◌≡◌, ◌++◌, take, All},
+  cell_core.specs.declared.cell.Cell.TheVariants.{Na},
+  form_meaning.specs.Infix.{on_rows},
+  frame_store.specs.Parts.{columns_of, IsSingle},
+}
 use Rattle.concat_forms.proofs.beside.with_columns.Given as goal
 
 -- the columns so far

@@ -1,16 +1,10 @@
-use Rattle.std.proofs.Common.{◌≡◌, ◌∙◌, ap, sym, subst, refl, List, Some, Ok}
-use Rattle.std.specs.Option.{option_map}
-use Rattle.std.specs.Prelude.{slice_get, IfSome}
-use Rattle.form_meaning.specs.declared.Parameter.{Parameter}
-use Rattle.signatures.specs.Filled.{sure_form}
-use Rattle.signatures.specs.Bound.{IsBound}
-use Rattle.frame_store.specs.Arguments.{items_of, AreLive}
-use Rattle.frame_store.specs.Objects.{tables}
-use Rattle.frame_store.specs.Readers.{AreLiveLentItems}
-use Rattle.frame_store.specs.Shown.{Makes}
-use Rattle.frame_store.specs.World.{world}
-use Rattle.concat_forms.specs.Parts.{parts_value, AreKnownParts}
-use Rattle.concat_forms.proofs.CallingLaws.{none_listed, call_is, asked_given}
+use Rattle.{
+  std.{proofs.Common.{◌∙◌, ap, sym, subst, refl, List, Ok}, specs.{Option.{option_map}, Prelude.{slice_get, IfSome}}},
+  form_meaning.specs.declared.Parameter.{Parameter},
+  signatures.specs.{Filled.{sure_form}, Bound.{IsBound}},
+  frame_store.specs.{Arguments.{items_of, AreLive}, Objects.{tables}, Readers.{AreLiveLentItems}, Shown.{Makes}, World.{world}},
+  concat_forms.{specs.Parts.{parts_value}, proofs.CallingLaws.{none_listed, call_is, asked_given}},
+}
 use Rattle.concat_forms.proofs.calling.concat.Goals as goal
 
 -- bound: b = c.in_ok-bound.bound; h : IsBound w (function_parameters Concat) args (Ok b) is c.in_ok-bound.ensures, with
@@ -35,25 +29,24 @@ pub returns-in_default : goal.returns-in_default
 returns-in_default c =
     let w = world c.args.store.now c.args.dict.now in
     let h = subst (λ (ps : List Parameter). IsBound w ps c.args.args.now (Ok c.in_ok-bound.bound)) c.function_parameters.ensures c.in_ok-bound.ensures in
-    (none_listed w c.args.args.now c.in_ok-bound.bound h (ap (option_map (λ parts. items_of w.tables w.texts parts.now)) (sym c.in_default.is) ∙ c.list_or_none.ensures.value w.tables w.texts), λ more. refl)
+    (none_listed w _ c.in_ok-bound.bound h (ap (option_map (λ parts. items_of w.tables w.texts parts.now)) (sym c.in_default.is) ∙ c.list_or_none.ensures.value w.tables w.texts), λ more. refl)
 
 pub concatenated-requires-clause-known : goal.concatenated-requires-clause-known
-concatenated-requires-clause-known c = subst (AreKnownParts c.args.dict.now) (sym c.deref.ensures.value) (c.in_ok-parts.ensures.known c.args.dict.now c.requires.settled)
+concatenated-requires-clause-known c = rw c.deref.ensures.value (c.in_ok-parts.ensures.known c.args.dict.now c.requires.settled)
 
 pub concatenated-requires-clause-keys : goal.concatenated-requires-clause-keys
 concatenated-requires-clause-keys c =
     let w = world c.args.store.now c.args.dict.now in
     let h = subst (λ (ps : List Parameter). IsBound w ps c.args.args.now (Ok c.in_ok-bound.bound)) c.function_parameters.ensures c.in_ok-bound.ensures in
-    asked_given w c.args.args.now c.in_ok-bound.bound h c.in_ok-asked.asked c.requires.known (c.in_ok-asked.ensures.keys w.tables)
+    asked_given w _ c.in_ok-bound.bound h _ c.requires.known (c.in_ok-asked.ensures.keys w.tables)
 
 pub returns : goal.returns
 returns c =
     let w = world c.args.store.now c.args.dict.now in
     let b = c.in_ok-bound.bound in
-    let a = c.in_ok-asked.asked in
     let h = subst (λ (ps : List Parameter). IsBound w ps c.args.args.now (Ok b)) c.function_parameters.ensures c.in_ok-bound.ensures in
     let objects = ap (option_map (λ parts. items_of w.tables w.texts parts.now)) (sym c.in-Some.is) ∙ c.list_or_none.ensures.value w.tables w.texts in
     let told = c.in_ok-asked.ensures in
     subst (Makes c.args.dict.now c.concatenated.result)
-    (sym (call_is w c.args.args.now b h (items_of w.tables w.texts c.in-Some.objects.now) (parts_value w.texts c.deref.result.now) c.is_across.result a objects (ap (parts_value w.texts) c.deref.ensures.value ∙ c.in_ok-parts.ensures.parts w.texts)
+    (sym (call_is w _ b h _ _ _ _ objects (ap (parts_value w.texts) c.deref.ensures.value ∙ c.in_ok-parts.ensures.parts w.texts)
     (c.is_across.ensures w.tables w.texts) (told.renumbered w.tables w.texts) (told.inner w.tables) (told.keys w.tables w.texts))) c.concatenated.ensures

@@ -1,5 +1,7 @@
-use Rattle.std.proofs.Common.{◌≡◌, drop}
-use Rattle.concat_forms.specs.Columns.{all_kinds_meet}
+use Rattle.{
+  std.proofs.Common.{◌≡◌, drop},
+  concat_forms.specs.Columns.{all_kinds_meet},
+}
 use Rattle.concat_forms.proofs.columns.all_kinds_meet.Given as goal
 
 abbrev pub invariant-loop-heading : goal.invariant-loop-heading

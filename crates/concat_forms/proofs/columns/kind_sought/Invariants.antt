@@ -1,5 +1,7 @@
-use Rattle.std.proofs.Common.{◌≡◌, drop}
-use Rattle.concat_forms.specs.Columns.{kind_sought}
+use Rattle.{
+  std.proofs.Common.{◌≡◌, drop},
+  concat_forms.specs.Columns.{kind_sought},
+}
 use Rattle.concat_forms.proofs.columns.kind_sought.Given as goal
 
 abbrev pub invariant-loop-part : goal.invariant-loop-part

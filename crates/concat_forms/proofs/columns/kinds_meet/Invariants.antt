@@ -1,7 +1,7 @@
-use Rattle.std.proofs.Common.{◌≡◌, drop}
-use Rattle.std.specs.List.{list_all}
-use Rattle.concat_forms.specs.Parts.{column_sought}
-use Rattle.concat_forms.specs.Columns.{fits_kind}
+use Rattle.{
+  std.{proofs.Common.{◌≡◌, drop}, specs.List.{list_all}},
+  concat_forms.specs.{Parts.{column_sought}, Columns.{fits_kind}},
+}
 use Rattle.concat_forms.proofs.columns.kinds_meet.Given as goal
 
 abbrev pub invariant-loop-part : goal.invariant-loop-part

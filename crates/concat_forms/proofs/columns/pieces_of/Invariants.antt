@@ -1,5 +1,7 @@
-use Rattle.std.proofs.Common.{◌≡◌, map, take}
-use Rattle.concat_forms.specs.Columns.{piece_of}
+use Rattle.{
+  std.proofs.Common.{◌≡◌, map, take},
+  concat_forms.specs.Columns.{piece_of},
+}
 use Rattle.concat_forms.proofs.columns.pieces_of.Given as goal
 
 abbrev pub invariant-loop-part : goal.invariant-loop-part

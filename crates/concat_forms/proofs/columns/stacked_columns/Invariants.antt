@@ -1,9 +1,10 @@
-use Rattle.std.proofs.Common.{◌≡◌, List, take, All}
-use Rattle.meaning.specs.Text.{Text}
-use Rattle.frame_store.specs.Parts.{IsSingle}
-use Rattle.frame_store.specs.Shown.{columns_value}
-use Rattle.form_parts.specs.Makes.{blocks_value}
-use Rattle.concat_forms.specs.Columns.{columns_stacked}
+use Rattle.{
+  std.proofs.Common.{◌≡◌, List, take, All},
+  meaning.specs.Text.{Text},
+  frame_store.specs.{Parts.{IsSingle}, Shown.{columns_value}},
+  form_parts.specs.Makes.{blocks_value},
+  concat_forms.specs.Columns.{columns_stacked},
+}
 use Rattle.concat_forms.proofs.columns.stacked_columns.Given as goal
 
 -- the columns so far

@@ -1,9 +1,9 @@
-use Rattle.std.proofs.Common.{◌≡◌, ◌++◌, map, drop, List}
-use Rattle.meaning.specs.Text.{Text}
-use Rattle.meaning.specs.Cell.{label_datum}
-use Rattle.form_meaning.specs.Select.{labels_of}
-use Rattle.frame_store.specs.Arguments.{items_of}
-use Rattle.frame_store.specs.Objects.{Tables}
+use Rattle.{
+  std.proofs.Common.{◌≡◌, ◌++◌, map, drop, List},
+  meaning.specs.{Text.{Text}, Cell.{label_datum}},
+  form_meaning.specs.Select.{labels_of},
+  frame_store.specs.{Arguments.{items_of}, Objects.{Tables}},
+}
 use Rattle.concat_forms.proofs.gathering.labels_of.Given as goal
 
 -- the labels so far, and those that are left

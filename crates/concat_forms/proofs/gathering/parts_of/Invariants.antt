@@ -1,9 +1,10 @@
-use Rattle.std.proofs.Common.{◌≡◌, ◌++◌, drop, List}
-use Rattle.meaning.specs.Text.{Text}
-use Rattle.method_meaning.specs.Concat.{tables_of}
-use Rattle.frame_store.specs.Arguments.{items_of}
-use Rattle.frame_store.specs.Objects.{tables}
-use Rattle.concat_forms.specs.Parts.{parts_value, AreSettledParts}
+use Rattle.{
+  std.proofs.Common.{◌≡◌, ◌++◌, drop, List},
+  meaning.specs.Text.{Text},
+  method_meaning.specs.Concat.{tables_of},
+  frame_store.specs.{Arguments.{items_of}, Objects.{tables}},
+  concat_forms.specs.Parts.{parts_value, AreSettledParts},
+}
 use Rattle.concat_forms.proofs.gathering.parts_of.Given as goal
 
 -- the parts so far, and the objects that are left

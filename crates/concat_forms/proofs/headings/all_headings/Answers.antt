@@ -1,7 +1,8 @@
-use Rattle.std.proofs.Common.{◌∙◌, ◌++◌, ap}
-use Rattle.meaning.specs.Reduce.{distinct}
-use Rattle.concat_forms.specs.Parts.{same_heading}
-use Rattle.concat_forms.proofs.HeadingLaws.{all_united}
+use Rattle.{
+  std.proofs.Common.{◌∙◌, ◌++◌, ap},
+  meaning.specs.Reduce.{distinct},
+  concat_forms.{specs.Parts.{same_heading}, proofs.HeadingLaws.{all_united}},
+}
 use Rattle.concat_forms.proofs.headings.all_headings.Goals as goal
 
 pub returns : goal.returns

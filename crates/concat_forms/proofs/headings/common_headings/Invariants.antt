@@ -1,5 +1,7 @@
-use Rattle.std.proofs.Common.{◌≡◌, take}
-use Rattle.concat_forms.specs.Headings.{common_headings}
+use Rattle.{
+  std.proofs.Common.{◌≡◌, take},
+  concat_forms.specs.Headings.{common_headings},
+}
 use Rattle.concat_forms.proofs.headings.common_headings.Given as goal
 
 -- the headings so far that all have

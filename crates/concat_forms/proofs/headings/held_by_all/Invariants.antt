@@ -1,5 +1,7 @@
-use Rattle.std.proofs.Common.{◌≡◌, drop}
-use Rattle.concat_forms.specs.Headings.{held_by_all}
+use Rattle.{
+  std.proofs.Common.{◌≡◌, drop},
+  concat_forms.specs.Headings.{held_by_all},
+}
 use Rattle.concat_forms.proofs.headings.held_by_all.Given as goal
 
 -- what is left says what all say

@@ -1,5 +1,7 @@
-use Rattle.std.proofs.Common.{◌≡◌, ◌++◌, ◌≤◌, drop, length}
-use Rattle.concat_forms.specs.Headings.{numbered}
+use Rattle.{
+  std.proofs.Common.{◌≡◌, ◌++◌, ◌≤◌, drop, length},
+  concat_forms.specs.Headings.{numbered},
+}
 use Rattle.concat_forms.proofs.headings.numbered.Given as goal
 
 -- the headings so far, and the others numbered from the next number on

@@ -1,15 +1,12 @@
-use Rattle.std.proofs.Common.{◌≡◌, ◌∙◌, ap, sym, subst, List, Option}
-use Rattle.std.specs.Prelude.{IfOk}
-use Rattle.cell_core.specs.declared.cell.Label.{Label}
-use Rattle.join_meaning.specs.Concat.{united}
-use Rattle.concat_forms.specs.Parts.{same_heading, headings_of_each}
-use Rattle.concat_forms.specs.Headings.{common_headings}
-use Rattle.concat_forms.proofs.HeadingLaws.{first_united}
-use Rattle.concat_forms.proofs.PlaceLaws.{rest_of}
+use Rattle.{
+  std.proofs.Common.{◌∙◌, ap, sym},
+  join_meaning.specs.Concat.{united},
+  concat_forms.{specs.{Parts.{same_heading, headings_of_each}, Headings.{common_headings}}, proofs.{HeadingLaws.{first_united}, PlaceLaws.{rest_of}}},
+}
 use Rattle.concat_forms.proofs.headings.united_headings.Goals as goal
 
 pub returns-in-len1-up : goal.returns-in-len1-up
 returns-in-len1-up c =
     let parts = c.args.parts.now in
     let is = ap (common_headings c.first-item.result.headings) (rest_of parts) ∙ first_united parts c.first-item.result c.in-len1-up.len_at_least c.first-item.is ∙ ap (λ b. united same_heading b (headings_of_each parts)) (sym c.if-not-inner.false) in
-    subst (λ (l : List (Option Label)). IfOk c.common_headings.result (λ made. made.items ≡ l)) is c.common_headings.ensures
+    rw is at c.common_headings.ensures

@@ -1,6 +1,7 @@
-use Rattle.std.proofs.Common.{◌≡◌, drop}
-use Rattle.std.specs.List.{list_all}
-use Rattle.method_meaning.specs.Concat.{is_series}
+use Rattle.{
+  std.{proofs.Common.{◌≡◌, drop}, specs.List.{list_all}},
+  method_meaning.specs.Concat.{is_series},
+}
 use Rattle.concat_forms.proofs.names.are_series.Given as goal
 
 abbrev pub invariant-loop-part : goal.invariant-loop-part

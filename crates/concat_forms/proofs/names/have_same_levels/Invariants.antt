@@ -1,5 +1,4 @@
-use Rattle.std.proofs.Common.{◌≡◌, nat_eq, length, drop}
-use Rattle.std.specs.List.{list_all}
+use Rattle.std.{proofs.Common.{◌≡◌, nat_eq, length, drop}, specs.List.{list_all}}
 use Rattle.concat_forms.proofs.names.have_same_levels.Given as goal
 
 abbrev pub invariant-loop-other : goal.invariant-loop-other

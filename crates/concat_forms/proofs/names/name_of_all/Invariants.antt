@@ -1,9 +1,10 @@
-use Rattle.std.proofs.Common.{◌≡◌, map, fold, drop}
-use Rattle.table_meaning.specs.Settled.{IsSettled}
-use Rattle.table_meaning.specs.Table.{heading_value}
-use Rattle.form_meaning.specs.Infix.{common_name}
+use Rattle.{
+  std.proofs.Common.{◌≡◌, map, fold, drop},
+  table_meaning.specs.{Settled.{IsSettled}, Table.{heading_value}},
+  form_meaning.specs.Infix.{common_name},
+  concat_forms.specs.Parts.{name_at, parts_value},
+}
 use Rattle.method_meaning.specs.Concat as meant
-use Rattle.concat_forms.specs.Parts.{name_at, parts_value}
 use Rattle.concat_forms.proofs.names.name_of_all.Given as goal
 
 -- the name that the parts so far have, and what it comes to

@@ -1,10 +1,9 @@
-use Rattle.std.proofs.Common.{◌∙◌, ap, sym, subst, List, Result}
-use Rattle.meaning.specs.Cell.{LabelValue}
-use Rattle.meaning.specs.Fault.{FaultValue}
-use Rattle.form_parts.specs.Makes.{MakesBy}
-use Rattle.constructors.specs.Index.{index_given}
-use Rattle.constructors.specs.Made.{axis_labels, free_labels}
-use Rattle.constructors.proofs.AxisLaws.{free_same}
+use Rattle.{
+  std.proofs.Common.{◌∙◌, ap, sym, subst, List, Result},
+  meaning.specs.{Cell.{LabelValue}, Fault.{FaultValue}},
+  form_parts.specs.Makes.{MakesBy},
+  constructors.{specs.{Index.{index_given}, Made.{axis_labels, free_labels}}, proofs.AxisLaws.{free_same}},
+}
 use Rattle.constructors.proofs.axes.bare_axis.Goals as goal
 
 pub returns-in-Some-clause-labels : goal.returns-in-Some-clause-labels

@@ -1,15 +1,17 @@
-use Rattle.std.proofs.Common.{refl}
-use Rattle.constructors.proofs.RowLaws.{rows_next, rows_differ}
+use Rattle.{
+  std.proofs.Common.{refl},
+  constructors.proofs.RowLaws.{rows_next, rows_differ},
+}
 use Rattle.constructors.proofs.frames.common_rows.Goals as goal
 
 pub returns-then-got-rows : goal.returns-then-got-rows
 returns-then-got-rows c = λ texts. (
-  rows_differ texts c.args.columns.now c.loop-place.place c.at-in-loop-place.result.now c.rows-rows.result c.rows-got.result _
+  rows_differ _ _ _ _ _ _ _
       c.requires c.at-in-loop-place.ensures c.rows-got.ensures c.if-got-rows.true (c.loop-place.invariant texts),
   λ more. refl,
 )
 
 pub loop-place-preserved : goal.loop-place-preserved
 loop-place-preserved c = λ texts.
-    rows_next texts c.args.columns.now c.loop-place.place c.at-in-loop-place.result.now c.rows-rows.result c.rows-got.result _
+    rows_next _ _ _ _ _ _ _
     c.requires c.at-in-loop-place.ensures c.rows-got.ensures c.if-got-rows.false (c.loop-place.invariant texts)

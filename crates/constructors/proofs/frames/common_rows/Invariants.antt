@@ -1,7 +1,9 @@
-use Rattle.std.proofs.Common.{◌≡◌, List, drop}
-use Rattle.meaning.specs.Text.{Text}
-use Rattle.form_parts.specs.Makes.{blocks_value}
-use Rattle.constructors.specs.Made.{same_rows, common_rows}
+use Rattle.{
+  std.proofs.Common.{◌≡◌, List, drop},
+  meaning.specs.Text.{Text},
+  form_parts.specs.Makes.{blocks_value},
+  constructors.specs.Made.{same_rows, common_rows},
+}
 use Rattle.constructors.proofs.frames.common_rows.Given as goal
 
 -- the columns so far have as many rows as the first

@@ -1,10 +1,8 @@
-use Rattle.std.proofs.Common.{List, [], Option}
-use Rattle.std.specs.Option.{option_map}
-use Rattle.std.proofs.lemmas.Result.{err_from_is_err_and}
-use Rattle.meaning.specs.Text.{Text}
-use Rattle.meaning.specs.Cell.{LabelValue}
-use Rattle.constructors.specs.Index.{rows_labels}
-use Rattle.constructors.proofs.FrameLaws.{columns_refused, rows_refused, frame_answer, frame_settled, frame_whole}
+use Rattle.{
+  std.{proofs.{Common.{List, [], Option}, lemmas.Result.{err_from_is_err_and}}, specs.Option.{option_map}},
+  meaning.specs.{Text.{Text}, Cell.{LabelValue}},
+  constructors.{specs.Index.{rows_labels}, proofs.FrameLaws.{columns_refused, rows_refused, frame_answer, frame_settled, frame_whole}},
+}
 use Rattle.constructors.proofs.frames.frame_of.Goals as goal
 
 pub returns-in_err-columns : goal.returns-in_err-columns
@@ -21,14 +19,14 @@ returns-in_err-axis c = λ live.
 
 pub new-requires-clause-whole : goal.new-requires-clause-whole
 new-requires-clause-whole c =
-    frame_whole c.args.pairs.now c.in_ok-places.places.entries c.in_ok-columns.columns c.in_ok-axis.axis c.in_ok-headings.headings
+    frame_whole c.args.pairs.now c.in_ok-places.places.entries _ _ _
     (c.in_ok-columns.ensures.columns []) c.in_ok-axis.ensures.rows c.in_ok-headings.ensures.labels c.in_ok-headings.ensures.different
 
 pub returns : goal.returns
 returns c = λ live.
     let index : List Text → Option (List (List LabelValue)) = λ texts. option_map (λ items. rows_labels texts items.now) c.args.index in (
-      frame_answer live c.args.dict.now c.args.pairs.now c.in_ok-places.places.entries (index c.args.dict.now) c.in_ok-columns.columns c.in_ok-axis.axis c.in_ok-headings.headings c.new.result
+      frame_answer _ _ c.args.pairs.now c.in_ok-places.places.entries _ _ _ _ _
           (c.in_ok-places.ensures.pairs live) (c.in_ok-columns.ensures.columns c.args.dict.now) (c.in_ok-axis.ensures.labels c.args.dict.now) c.in_ok-axis.ensures.names c.in_ok-headings.ensures.labels c.new.ensures,
-      frame_settled c.args.dict.now c.args.pairs.now c.in_ok-places.places.entries index c.in_ok-columns.columns c.in_ok-axis.axis c.in_ok-headings.headings c.new.result
+      frame_settled _ c.args.pairs.now c.in_ok-places.places.entries _ _ _ _ _
           c.requires.values c.in_ok-places.ensures.settled c.requires.index c.in_ok-columns.ensures.columns c.in_ok-axis.ensures.labels c.in_ok-axis.ensures.names c.in_ok-headings.ensures.labels c.new.ensures,
     )

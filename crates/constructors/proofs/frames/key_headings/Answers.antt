@@ -1,9 +1,11 @@
-use Rattle.std.proofs.Common.{◌≡◌, map, Some, None, rules}
-use Rattle.indexmap.specs.IndexMap.{keys}
-use Rattle.constructors.proofs.FrameLaws.{keys_fit}
+use Rattle.{
+  std.proofs.Common.{◌≡◌, map, Some, None, rules},
+  indexmap.specs.IndexMap.{keys},
+  constructors.proofs.FrameLaws.{keys_fit},
+}
 use Rattle.constructors.proofs.frames.key_headings.Goals as goal
 
 pub returns-clause-different : goal.returns-clause-different
 returns-clause-different c =
     let is : c.loop-label.headings ≡ record { columns_name = None; labels = map (λ key. Some key) (keys c.args.places.now) } = search rules in
-    keys_fit (keys c.args.places.now) c.loop-label.headings c.keys-label-items.ensures.unique is
+    keys_fit _ _ c.keys-label-items.ensures.unique is

@@ -1,5 +1,7 @@
-use Rattle.std.proofs.Common.{◌≡◌, ◌++◌, map, Some, None}
-use Rattle.indexmap.specs.IndexMap.{keys}
+use Rattle.{
+  std.proofs.Common.{◌≡◌, ◌++◌, map, Some, None},
+  indexmap.specs.IndexMap.{keys},
+}
 use Rattle.constructors.proofs.frames.key_headings.Given as goal
 
 -- the headings so far, before the other keys

@@ -1,28 +1,22 @@
-use Rattle.std.proofs.Common.{◌∙◌, ap, sym, subst, refl, List, Bor, Result}
-use Rattle.meaning.specs.Fault.{FaultValue}
-use Rattle.table_meaning.specs.Settled.{IsSettled}
-use Rattle.table_meaning.specs.Value.{Entry}
-use Rattle.form_meaning.specs.Binding.{bound_of}
-use Rattle.form_meaning.specs.declared.Function.TheVariants as function
-use Rattle.form_meaning.specs.Signature.{function_parameters}
-use Rattle.frame_store.specs.declared.arguments.Item.{Item}
-use Rattle.frame_store.specs.Objects.{tables}
-use Rattle.frame_store.specs.Arguments.{arguments_of}
-use Rattle.frame_store.specs.Shown.{Makes}
-use Rattle.frame_store.specs.World.{world}
-use Rattle.constructors.proofs.GivenLaws.{index_settled, index_levels}
-use Rattle.constructors.proofs.DictLaws.{keys_given, lists_given, frame_given}
+use Rattle.{
+  std.proofs.Common.{◌∙◌, ap, sym, subst, refl, List, Bor, Result},
+  meaning.specs.Fault.{FaultValue},
+  table_meaning.specs.{Settled.{IsSettled}, Value.{Entry}},
+  form_meaning.specs.Binding.{bound_of},
+  frame_store.specs.{declared.arguments.Item.{Item}, Objects.{tables}, Arguments.{arguments_of}, Shown.{Makes}, World.{world}},
+  constructors.proofs.{GivenLaws.{index_settled, index_levels}, DictLaws.{keys_given, lists_given, frame_given}},
+}
 use Rattle.constructors.proofs.given.made_frame.Goals as goal
 
 pub frame_of-requires-clause-keys : goal.frame_of-requires-clause-keys
 frame_of-requires-clause-keys c =
     let live = tables c.args.store.now in
-    keys_given c.in_ok-bound.bound 0 c.dict.result.now live c.args.dict.now c.dict.ensures.value (subst (IsSettled (arguments_of live) c.args.dict.now) (sym c.in_ok-bound.ensures.2) c.requires.given)
+    keys_given c.in_ok-bound.bound 0 c.dict.result.now _ _ c.dict.ensures.value (subst (IsSettled (arguments_of live) c.args.dict.now) (sym c.in_ok-bound.ensures.2) c.requires.given)
 
 pub frame_of-requires-clause-values : goal.frame_of-requires-clause-values
 frame_of-requires-clause-values c =
     let live = tables c.args.store.now in
-    lists_given c.in_ok-bound.bound 0 c.dict.result.now live c.args.dict.now c.dict.ensures.value (subst (IsSettled (arguments_of live) c.args.dict.now) (sym c.in_ok-bound.ensures.2) c.requires.given)
+    lists_given c.in_ok-bound.bound 0 c.dict.result.now _ _ c.dict.ensures.value (subst (IsSettled (arguments_of live) c.args.dict.now) (sym c.in_ok-bound.ensures.2) c.requires.given)
 
 pub frame_of-requires-clause-levels : goal.frame_of-requires-clause-levels
 frame_of-requires-clause-levels c =
@@ -31,14 +25,14 @@ frame_of-requires-clause-levels c =
     let w = world c.args.store.now dict in
     let b = c.in_ok-bound.bound in
     let is = c.function_parameters-parameters.ensures in
-    index_levels (function_parameters function.DataFrame) _ _ w b c.list_or_none.result
+    index_levels _ _ _ w b _
     (ap (λ ps. bound_of ps (arguments_of live dict b.args.now)) (sym is) ∙ ap (λ gs. bound_of c.function_parameters-parameters.result.now (arguments_of live dict gs)) c.in_ok-bound.ensures.2 ∙ c.in_ok-bound.ensures.0)
     (c.in_ok-bound.ensures.1 ∙ is) refl refl (c.list_or_none.ensures.value live dict)
 
 pub frame_of-requires-clause-index : goal.frame_of-requires-clause-index
 frame_of-requires-clause-index c =
     let live = tables c.args.store.now in
-    index_settled (λ (b : Bor (List Item)). b.now) c.in_ok-bound.bound 1 c.list_or_none.result live c.args.dict.now c.list_or_none.ensures.value
+    index_settled (λ (b : Bor (List Item)). b.now) c.in_ok-bound.bound 1 _ _ _ c.list_or_none.ensures.value
     (subst (IsSettled (arguments_of live) c.args.dict.now) (sym c.in_ok-bound.ensures.2) c.requires.given)
 
 pub returns : goal.returns
@@ -48,7 +42,7 @@ returns c =
     let gs = arguments_of live dict c.args.args.now in
     let is = c.function_parameters-parameters.ensures in
     subst (λ (m : Result Entry FaultValue). Makes dict c.frame_of.result m)
-    (frame_given (λ (b : Bor (List Item)). b.now) gs (world c.args.store.now dict) c.in_ok-bound.bound c.dict.result.now c.list_or_none.result
+    (frame_given (λ (b : Bor (List Item)). b.now) gs _ c.in_ok-bound.bound c.dict.result.now _
     (ap (λ ps. bound_of ps gs) (sym is) ∙ c.in_ok-bound.ensures.0) (c.in_ok-bound.ensures.1 ∙ is)
     (c.dict.ensures.value live dict) (c.list_or_none.ensures.value live dict))
     (c.frame_of.ensures live)

@@ -1,24 +1,18 @@
-use Rattle.std.proofs.Common.{◌∙◌, ap, sym, subst, refl, List, Bor, Result}
-use Rattle.meaning.specs.Fault.{FaultValue}
-use Rattle.table_meaning.specs.Settled.{IsSettled}
-use Rattle.table_meaning.specs.Value.{Entry}
-use Rattle.form_meaning.specs.Binding.{bound_of}
-use Rattle.form_meaning.specs.declared.Function.TheVariants as function
-use Rattle.form_meaning.specs.Signature.{function_parameters}
-use Rattle.frame_store.specs.declared.arguments.Item.{Item}
-use Rattle.frame_store.specs.Objects.{tables}
-use Rattle.frame_store.specs.Arguments.{arguments_of}
-use Rattle.frame_store.specs.Shown.{Makes}
-use Rattle.frame_store.specs.World.{world}
-use Rattle.signatures.proofs.ToldLaws.{name_given}
-use Rattle.signatures.proofs.ScalarLaws.{items_settled}
-use Rattle.constructors.proofs.GivenLaws.{index_settled, index_levels, series_given}
+use Rattle.{
+  std.proofs.Common.{◌∙◌, ap, sym, subst, refl, List, Bor, Result},
+  meaning.specs.Fault.{FaultValue},
+  table_meaning.specs.{Settled.{IsSettled}, Value.{Entry}},
+  form_meaning.specs.Binding.{bound_of},
+  frame_store.specs.{declared.arguments.Item.{Item}, Objects.{tables}, Arguments.{arguments_of}, Shown.{Makes}, World.{world}},
+  signatures.proofs.{ToldLaws.{name_given}, ScalarLaws.{items_settled}},
+  constructors.proofs.GivenLaws.{index_settled, index_levels, series_given},
+}
 use Rattle.constructors.proofs.given.made_series.Goals as goal
 
 pub series_of-requires-clause-values : goal.series_of-requires-clause-values
 series_of-requires-clause-values c =
     let live = tables c.args.store.now in
-    items_settled c.in_ok-bound.bound 0 c.list-values.result.now live c.args.dict.now c.list-values.ensures.value (subst (IsSettled (arguments_of live) c.args.dict.now) (sym c.in_ok-bound.ensures.2) c.requires.given)
+    items_settled c.in_ok-bound.bound 0 _ _ _ c.list-values.ensures.value (subst (IsSettled (arguments_of live) c.args.dict.now) (sym c.in_ok-bound.ensures.2) c.requires.given)
 
 pub series_of-requires-clause-levels : goal.series_of-requires-clause-levels
 series_of-requires-clause-levels c =
@@ -27,20 +21,20 @@ series_of-requires-clause-levels c =
     let w = world c.args.store.now dict in
     let b = c.in_ok-bound.bound in
     let is = c.function_parameters-parameters.ensures in
-    index_levels (function_parameters function.Series) _ _ w b c.list_or_none-index.result
+    index_levels _ _ _ w b _
     (ap (λ ps. bound_of ps (arguments_of live dict b.args.now)) (sym is) ∙ ap (λ gs. bound_of c.function_parameters-parameters.result.now (arguments_of live dict gs)) c.in_ok-bound.ensures.2 ∙ c.in_ok-bound.ensures.0)
     (c.in_ok-bound.ensures.1 ∙ is) refl refl (c.list_or_none-index.ensures.value live dict)
 
 pub series_of-requires-clause-index : goal.series_of-requires-clause-index
 series_of-requires-clause-index c =
     let live = tables c.args.store.now in
-    index_settled (λ (b : Bor (List Item)). b.now) c.in_ok-bound.bound 1 c.list_or_none-index.result live c.args.dict.now c.list_or_none-index.ensures.value
+    index_settled (λ (b : Bor (List Item)). b.now) c.in_ok-bound.bound 1 _ _ _ c.list_or_none-index.ensures.value
     (subst (IsSettled (arguments_of live) c.args.dict.now) (sym c.in_ok-bound.ensures.2) c.requires.given)
 
 pub series_of-requires-clause-name : goal.series_of-requires-clause-name
 series_of-requires-clause-name c =
     let live = tables c.args.store.now in
-    name_given c.in_ok-bound.bound 2 c.scalar_or_none.result c.name_of-name.result live c.args.dict.now c.scalar_or_none.ensures c.name_of-name.ensures
+    name_given c.in_ok-bound.bound 2 _ _ _ _ c.scalar_or_none.ensures c.name_of-name.ensures
     (subst (IsSettled (arguments_of live) c.args.dict.now) (sym c.in_ok-bound.ensures.2) c.requires.given)
 
 pub returns-clause-answer : goal.returns-clause-answer
@@ -50,7 +44,7 @@ returns-clause-answer c =
     let gs = arguments_of live dict c.args.args.now in
     let is = c.function_parameters-parameters.ensures in
     subst (λ (m : Result Entry FaultValue). Makes c.series_of.new.dict c.series_of.result m)
-    (series_given (λ (b : Bor (List Item)). b.now) gs (world c.args.store.now dict) c.in_ok-bound.bound c.list-values.result.now c.list_or_none-index.result c.scalar_or_none.result c.name_of-name.result c.kind_or_none-kind.result
+    (series_given (λ (b : Bor (List Item)). b.now) gs _ c.in_ok-bound.bound _ _ _ _ _
     (ap (λ ps. bound_of ps gs) (sym is) ∙ c.in_ok-bound.ensures.0) (c.in_ok-bound.ensures.1 ∙ is)
     (c.list-values.ensures.value live dict) (c.list_or_none-index.ensures.value live dict) (c.scalar_or_none.ensures live dict) (c.name_of-name.ensures dict) (c.kind_or_none-kind.ensures live))
     c.series_of.ensures.answer

@@ -1,8 +1,9 @@
-use Rattle.std.proofs.Common.{◌≡◌, ◌++◌, map, length, List}
-use Rattle.meaning.specs.Text.{Text}
-use Rattle.meaning.specs.Operator.{cell_label}
-use Rattle.table_meaning.specs.Table.{tuple_value}
-use Rattle.signatures.specs.Scalars.{scalars}
+use Rattle.{
+  std.proofs.Common.{◌≡◌, ◌++◌, map, length, List},
+  meaning.specs.{Text.{Text}, Operator.{cell_label}},
+  table_meaning.specs.Table.{tuple_value},
+  signatures.specs.Scalars.{scalars},
+}
 use Rattle.constructors.proofs.index.push_labels.Given as goal
 
 -- the labels so far, before the others

@@ -1,13 +1,12 @@
-use Rattle.std.proofs.Common.{◌≡◌, ◌∙◌, ap, List, ◌++◌, map}
-use Rattle.meaning.specs.Text.{Text}
-use Rattle.meaning.specs.Operator.{cell_label}
-use Rattle.table_meaning.specs.Table.{tuple_value}
-use Rattle.form_meaning.specs.Make.{row_labels}
-use Rattle.frame_store.specs.Arguments.{item_of}
-use Rattle.frame_store.specs.Objects.{Tables}
-use Rattle.signatures.specs.Scalars.{scalars}
-use Rattle.constructors.specs.Index.{label_in}
-use Rattle.constructors.proofs.IndexLaws.{on_ok, tuple_seen, scalar_seen}
+use Rattle.{
+  std.proofs.Common.{◌≡◌, ◌∙◌, ap, List, ◌++◌, map},
+  meaning.specs.{Text.{Text}, Operator.{cell_label}},
+  table_meaning.specs.Table.{tuple_value},
+  form_meaning.specs.Make.{row_labels},
+  frame_store.specs.{Arguments.{item_of}, Objects.{Tables}},
+  signatures.specs.Scalars.{scalars},
+  constructors.{specs.Index.{label_in}, proofs.IndexLaws.{on_ok, tuple_seen, scalar_seen}},
+}
 use Rattle.constructors.proofs.index.put_labels.Goals as goal
 
 pub returns-in-Some : goal.returns-in-Some

@@ -1,8 +1,10 @@
-use Rattle.std.proofs.Common.{◌≡◌, ◌++◌, drop, List}
-use Rattle.meaning.specs.Text.{Text}
-use Rattle.multi_index.specs.Axes.{HaveLevels}
-use Rattle.frame_store.specs.Shown.{labels_value}
-use Rattle.constructors.specs.Index.{rows_labels}
+use Rattle.{
+  std.proofs.Common.{◌≡◌, ◌++◌, drop, List},
+  meaning.specs.Text.{Text},
+  multi_index.specs.Axes.{HaveLevels},
+  frame_store.specs.Shown.{labels_value},
+  constructors.specs.Index.{rows_labels},
+}
 use Rattle.constructors.proofs.index.row_tuples.Given as goal
 
 -- the labels so far, before those of the other rows

@@ -1,18 +1,20 @@
-use Rattle.std.proofs.Common.{◌<◌, length, arith}
-use Rattle.constructors.proofs.PairLaws.{pair_step, keys_step, places_inside, keys_settled}
+use Rattle.{
+  std.proofs.Common.{◌<◌, length, arith},
+  constructors.proofs.PairLaws.{pair_step, keys_step, places_inside, keys_settled},
+}
 use Rattle.constructors.proofs.pairs.last_places.Goals as goal
 
 pub loop-place-preserved : goal.loop-place-preserved
 loop-place-preserved c =
     let lt : c.loop-place.place < length c.args.pairs.now = omega arith in
     record {
-      inside = keys_step c.args.dict.now c.args.pairs.now c.loop-place.places.entries c.insert.new.self.entries c.loop-place.place c.index-pairs-place.result c.loop-place.invariant.inside lt c.requires c.in_ok-insert.ensures.entries;
-      pairs = λ live. pair_step live c.args.dict.now c.args.pairs.now c.loop-place.places.entries c.insert.new.self.entries c.loop-place.place c.index-pairs-place.result _
+      inside = keys_step _ c.args.pairs.now c.loop-place.places.entries c.insert.new.self.entries _ c.index-pairs-place.result c.loop-place.invariant.inside lt c.requires c.in_ok-insert.ensures.entries;
+      pairs = λ live. pair_step _ _ c.args.pairs.now c.loop-place.places.entries c.insert.new.self.entries _ c.index-pairs-place.result _
           c.len.ensures.distinct c.loop-place.invariant.inside lt c.requires c.in_ok-insert.ensures.entries (c.loop-place.invariant.pairs live);
     }
 
 pub returns-clause-inside : goal.returns-clause-inside
-returns-clause-inside c = places_inside c.args.dict.now (length c.args.pairs.now) c.loop-place.places.entries c.loop-place.invariant.inside
+returns-clause-inside c = places_inside _ _ c.loop-place.places.entries c.loop-place.invariant.inside
 
 pub returns-clause-settled : goal.returns-clause-settled
-returns-clause-settled c = keys_settled c.args.dict.now (length c.args.pairs.now) c.loop-place.places.entries c.loop-place.invariant.inside
+returns-clause-settled c = keys_settled _ _ c.loop-place.places.entries c.loop-place.invariant.inside

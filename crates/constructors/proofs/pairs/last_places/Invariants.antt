@@ -1,9 +1,9 @@
-use Rattle.std.proofs.Common.{◌≡◌, All, length, drop}
-use Rattle.form_meaning.specs.Make.{pairs_in, pairs_onto}
-use Rattle.frame_store.specs.Objects.{Tables}
-use Rattle.frame_store.specs.Arguments.{entries_of}
-use Rattle.constructors.specs.Pairs.{entries_seen}
-use Rattle.constructors.proofs.PairLaws.{IsKey}
+use Rattle.{
+  std.proofs.Common.{◌≡◌, All, length, drop},
+  form_meaning.specs.Make.{pairs_in, pairs_onto},
+  frame_store.specs.{Objects.{Tables}, Arguments.{entries_of}},
+  constructors.{specs.Pairs.{entries_seen}, proofs.PairLaws.{IsKey}},
+}
 use Rattle.constructors.proofs.pairs.last_places.Given as goal
 
 -- the pairs so far, before the others

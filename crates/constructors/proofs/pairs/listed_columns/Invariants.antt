@@ -1,10 +1,11 @@
-use Rattle.std.proofs.Common.{◌≡◌, ◌<◌, ℕ, All, List, length}
-use Rattle.indexmap.specs.IndexMap.{values}
-use Rattle.meaning.specs.Text.{Text}
-use Rattle.form_meaning.specs.Finish.{try_all}
-use Rattle.frame_store.specs.Parts.{IsSingle}
-use Rattle.constructors.specs.Pairs.{lists_seen, listed_column}
-use Rattle.constructors.proofs.ColumnLaws.{columns_with}
+use Rattle.{
+  std.proofs.Common.{◌≡◌, ◌<◌, ℕ, All, List, length},
+  indexmap.specs.IndexMap.{values},
+  meaning.specs.Text.{Text},
+  form_meaning.specs.Finish.{try_all},
+  frame_store.specs.Parts.{IsSingle},
+  constructors.{specs.Pairs.{lists_seen, listed_column}, proofs.ColumnLaws.{columns_with}},
+}
 use Rattle.constructors.proofs.pairs.listed_columns.Given as goal
 
 -- the columns so far, before those at the other places

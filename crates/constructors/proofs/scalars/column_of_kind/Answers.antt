@@ -1,6 +1,7 @@
-use Rattle.std.proofs.Common.{◌∙◌}
-use Rattle.std.proofs.lemmas.Result.{err_from_is_err_and}
-use Rattle.constructors.proofs.ScalarLaws.{held_step, held_refused}
+use Rattle.{
+  std.proofs.{Common.{◌∙◌}, lemmas.Result.{err_from_is_err_and}},
+  constructors.proofs.ScalarLaws.{held_step, held_refused},
+}
 use Rattle.constructors.proofs.scalars.column_of_kind.Goals as goal
 
 pub returns-in_err-push_scalar : goal.returns-in_err-push_scalar
@@ -13,6 +14,6 @@ pub loop-rest-preserved : goal.loop-rest-preserved
 loop-rest-preserved c =
     record {
       kind = c.push_scalar.ensures.kind ∙ c.loop-rest.invariant.kind;
-      cells = λ texts. held_step texts c.args.kind c.loop-rest.rest.now c.first-item.result c.scalar.result c.loop-rest.column c.push_scalar.new.column _
+      cells = λ texts. held_step _ _ _ _ _ _ c.push_scalar.new.column _
           c.first-item.is c.in-len1-up.len_at_least c.scalar.ensures c.loop-rest.invariant.kind c.in_ok-push_scalar.ensures.ok (c.loop-rest.invariant.cells texts);
     }

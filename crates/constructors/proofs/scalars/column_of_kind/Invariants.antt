@@ -1,8 +1,9 @@
-use Rattle.std.proofs.Common.{◌≡◌, length, List, map}
-use Rattle.meaning.specs.Text.{Text}
-use Rattle.meaning.specs.Cell.{datum}
-use Rattle.signatures.specs.Scalars.{scalars}
-use Rattle.constructors.specs.Scalars.{held_after, held_column}
+use Rattle.{
+  std.proofs.Common.{◌≡◌, length, List, map},
+  meaning.specs.{Text.{Text}, Cell.{datum}},
+  signatures.specs.Scalars.{scalars},
+  constructors.specs.Scalars.{held_after, held_column},
+}
 use Rattle.constructors.proofs.scalars.column_of_kind.Given as goal
 
 -- the scalars so far, before the others

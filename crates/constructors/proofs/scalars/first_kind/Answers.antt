@@ -1,9 +1,11 @@
-use Rattle.std.proofs.Common.{Some, None}
-use Rattle.constructors.proofs.ScalarLaws.{kind_step}
+use Rattle.{
+  std.proofs.Common.{Some, None},
+  constructors.proofs.ScalarLaws.{kind_step},
+}
 use Rattle.constructors.proofs.scalars.first_kind.Goals as goal
 
 pub returns-in-Some : goal.returns-in-Some
-returns-in-Some c = λ texts. kind_step texts c.loop-rest.rest.now c.first-item.result c.scalar.result (Some c.in-Some.kind) _ c.first-item.is c.in-len1-up.len_at_least c.scalar.ensures c.in-Some.ensures (c.loop-rest.invariant texts)
+returns-in-Some c = λ texts. kind_step _ _ _ _ (Some c.in-Some.kind) _ c.first-item.is c.in-len1-up.len_at_least c.scalar.ensures c.in-Some.ensures (c.loop-rest.invariant texts)
 
 pub loop-rest-preserved : goal.loop-rest-preserved
-loop-rest-preserved c = λ texts. kind_step texts c.loop-rest.rest.now c.first-item.result c.scalar.result None _ c.first-item.is c.in-len1-up.len_at_least c.scalar.ensures c.in-None.ensures (c.loop-rest.invariant texts)
+loop-rest-preserved c = λ texts. kind_step _ _ _ _ None _ c.first-item.is c.in-len1-up.len_at_least c.scalar.ensures c.in-None.ensures (c.loop-rest.invariant texts)

@@ -1,7 +1,9 @@
-use Rattle.std.proofs.Common.{◌≡◌, length, List}
-use Rattle.meaning.specs.Text.{Text}
-use Rattle.form_meaning.specs.Set.{first_kind}
-use Rattle.signatures.specs.Scalars.{scalars}
+use Rattle.{
+  std.proofs.Common.{◌≡◌, length, List},
+  meaning.specs.Text.{Text},
+  form_meaning.specs.Set.{first_kind},
+  signatures.specs.Scalars.{scalars},
+}
 use Rattle.constructors.proofs.scalars.first_kind.Given as goal
 
 -- no scalar so far is present

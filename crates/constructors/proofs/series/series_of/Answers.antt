@@ -1,18 +1,15 @@
-use Rattle.std.proofs.Common.{◌≡◌, ◌∙◌, ap, sym, List, length, Option}
-use Rattle.std.specs.Option.{option_map}
-use Rattle.std.proofs.lemmas.Result.{err_from_is_err_and}
-use Rattle.meaning.specs.Text.{Text}
-use Rattle.meaning.specs.Cell.{LabelValue}
-use Rattle.column_core.specs.Columns.{CellColumn}
-use Rattle.table_meaning.specs.Table.{heading_value}
-use Rattle.signatures.specs.Scalars.{scalars}
-use Rattle.constructors.specs.Index.{rows_labels}
-use Rattle.constructors.specs.Made.{index_labels}
-use Rattle.constructors.proofs.MadeLaws.{column_given, axis_count, axis_refused, series_answer, series_settled}
+use Rattle.{
+  std.{proofs.{Common.{◌≡◌, ◌∙◌, ap, sym, List, length, Option}, lemmas.Result.{err_from_is_err_and}}, specs.Option.{option_map}},
+  meaning.specs.{Text.{Text}, Cell.{LabelValue}},
+  column_core.specs.Columns.{CellColumn},
+  table_meaning.specs.Table.{heading_value},
+  signatures.specs.Scalars.{scalars},
+  constructors.{specs.{Index.{rows_labels}, Made.{index_labels}}, proofs.MadeLaws.{column_given, axis_count, axis_refused, series_answer, series_settled}},
+}
 use Rattle.constructors.proofs.series.series_of.Goals as goal
 
 pub cast_to-requires : goal.cast_to-requires
-cast_to-requires c = column_given c.args.dict.now c.args.values.now c.in_ok-listed.listed c.in_ok-listed.ensures c.requires.values
+cast_to-requires c = column_given _ c.args.values.now _ c.in_ok-listed.ensures c.requires.values
 
 pub returns-in_err-axis-clause-answer : goal.returns-in_err-axis-clause-answer
 returns-in_err-axis-clause-answer c =
@@ -27,16 +24,16 @@ pub series_table-requires : goal.series_table-requires
 series_table-requires c =
     let index : List Text → Option (List (List LabelValue)) = λ texts. option_map (λ items. rows_labels texts items.now) c.args.index in
     let count : c.len.result ≡ length c.in_ok-column.column.cells = c.len.ensures ∙ ap (λ (v : CellColumn). length v.cells) c.as_ref.ensures in
-    sym count ∙ axis_count c.cast_to.new.dict c.len.result 1 (index c.cast_to.new.dict) c.in_ok-axis.axis (c.in_ok-axis.ensures.labels c.cast_to.new.dict)
+    sym count ∙ axis_count _ _ 1 _ c.in_ok-axis.axis (c.in_ok-axis.ensures.labels c.cast_to.new.dict)
 
 pub returns-clause-answer : goal.returns-clause-answer
 returns-clause-answer c =
     let index : List Text → Option (List (List LabelValue)) = λ texts. option_map (λ items. rows_labels texts items.now) c.args.index in
     let count : c.len.result ≡ length c.in_ok-column.column.cells = c.len.ensures ∙ ap (λ (v : CellColumn). length v.cells) c.as_ref.ensures in (
-      series_answer c.args.dict.now c.cast_to.new.dict (scalars c.args.dict.now c.args.values.now) index c.args.name c.args.kind c.in_ok-listed.listed c.in_ok-column.column c.in_ok-axis.axis c.in_ok-series_table.field-0
+      series_answer _ _ (scalars c.args.dict.now c.args.values.now) _ _ _ _ _ _ _
           c.in_ok-column.ensures.longer (c.in_ok-listed.ensures c.args.dict.now) c.in_ok-column.ensures.answer c.requires.index (λ texts. ap (λ n. index_labels n 1 (index texts)) (sym count) ∙ c.in_ok-axis.ensures.labels texts)
           c.in_ok-axis.ensures.names c.requires.name c.in_ok-series_table.ensures,
-      series_settled c.args.dict.now c.cast_to.new.dict index c.args.name c.in_ok-column.column c.in_ok-axis.axis c.in_ok-series_table.field-0
+      series_settled _ _ _ _ _ _ _
           c.in_ok-column.ensures.longer c.in_ok-column.ensures.given c.requires.index (λ texts. ap (λ n. index_labels n 1 (index texts)) (sym count) ∙ c.in_ok-axis.ensures.labels texts)
           c.in_ok-axis.ensures.names c.requires.name c.in_ok-series_table.ensures,
     )

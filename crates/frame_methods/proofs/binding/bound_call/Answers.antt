@@ -3,7 +3,8 @@ use Rattle.std.proofs.lemmas.Result.{err_from_is_err_and}
 use Rattle.table_meaning.specs.Settled.{IsSettled}
 use Rattle.table_meaning.specs.Table.{NumberedTable, table_value}
 use Rattle.form_meaning.specs.declared.Method.{Method}
-use Rattle.form_meaning.specs.Signature.{method_named, parameters_of}
+use Rattle.form_meaning.specs.Signature.{method_named, parameters_of, fits_shape}
+use Rattle.form_meaning.proofs.ShapeLaws.{named_fits}
 use Rattle.method_meaning.specs.Methods.{is_built}
 use Rattle.method_meaning.specs.Calls.{called}
 use Rattle.frame_store.specs.Arguments.{arguments_of}
@@ -12,9 +13,7 @@ use Rattle.frame_store.specs.Shown.{Refuses}
 use Rattle.frame_store.specs.World.{world, arguments_in}
 use Rattle.signatures.specs.Bound.{code_of}
 use Rattle.frame_methods.specs.Built.{method_of}
-use Rattle.frame_methods.specs.Calls.{fits_shape}
 use Rattle.frame_methods.proofs.AnswerLaws.{built_is, call_meant, call_unbound}
-use Rattle.frame_methods.proofs.ShapeLaws.{shaped}
 use Rattle.frame_methods.proofs.binding.bound_call.Goals as goal
 
 pub returns : goal.returns
@@ -24,7 +23,7 @@ returns c =
     let t = table_value c.args.dict.now (table_at (tables c.args.store.now) c.args.on.0) in
     let gs = arguments_in w c.args.args.now in
     let named : method_named shape c.args.name.now ≡ Some c.in-Some.method = ap (λ s. method_named s c.args.name.now) (ap (λ (n : NumberedTable). n.shape) (ap table_or c.read.ensures.table) ∙ sym c.shape.ensures) ∙ sym c.in-Some.ensures in
-    let fits = shaped shape c.args.name.now c.in-Some.method named in
+    let fits = named_fits shape c.args.name.now c.in-Some.method named in
     let built = built_is (is_built c.in-Some.method) c.in-Some.method (method_of c.in-Some-of.built) c.in-Some-of.ensures in (
       ap (λ o. called o c.args.name.now gs t) named
           ∙ call_meant c.in-Some.method c.in-Some-of.built c.parameters.result.now c.in_ok-bound.bound w gs c.args.name.now t c.in-Some-of.ensures c.parameters.ensures c.in_ok-bound.ensures.0,

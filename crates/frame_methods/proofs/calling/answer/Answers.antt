@@ -20,6 +20,7 @@ use Rattle.frame_methods.specs.Summaries.{summary_value}
 use Rattle.label_methods.proofs.AnswerLaws.{known_table, forms_so}
 use Rattle.frame_methods.proofs.AnswerLaws.{answer_is, answer_by, summary_meant}
 use Rattle.frame_methods.proofs.RenameLaws.{pairs_settled}
+use Rattle.frame_methods.proofs.ShapeLaws.{rename_of_series, rename_of_frame, to_frame_of_series, drop_of_frame}
 use Rattle.frame_methods.proofs.calling.answer.Goals as goal
 
 -- one cell of each column
@@ -99,3 +100,16 @@ returns-in-ToCsv c =
     (ap (λ o. on o (λ b. csv_answer b t)) (c.truth.ensures w.tables w.texts)
     ∙ answer_by w (method_of call.built) method.ToCsv call.bound t (λ a. on (truth_in (a 0)) (λ b. csv_answer b t)) (ap method_of c.in-ToCsv.is) c.requires.call.parameters refl)
     (c.answer_made-in-ToCsv.ensures c.args.dict.now _ c.to_csv-text.ensures.longer c.requires.settled c.to_csv-text.ensures.answer)
+
+-- methods that a shape alone has
+pub rename_series-requires-clause-shape : goal.rename_series-requires-clause-shape
+rename_series-requires-clause-shape c = rename_of_series _ _ (ap method_of c.in-RenameSeries.is) c.requires.call.shaped
+
+pub rename_frame-requires-clause-shape : goal.rename_frame-requires-clause-shape
+rename_frame-requires-clause-shape c = rename_of_frame _ _ (ap method_of c.in-RenameFrame.is) c.requires.call.shaped
+
+pub to_frame-requires-clause-shape : goal.to_frame-requires-clause-shape
+to_frame-requires-clause-shape c = to_frame_of_series _ _ (ap method_of c.in-ToFrame.is) c.requires.call.shaped
+
+pub drop_columns-requires-clause-shape : goal.drop_columns-requires-clause-shape
+drop_columns-requires-clause-shape c = drop_of_frame _ _ (ap method_of c.in-DropColumns.is) c.requires.call.shaped

@@ -1,10 +1,11 @@
-use Rattle.std.proofs.Common.{◌≡◌, ap, sym, refl, None, Option}
+use Rattle.std.proofs.Common.{◌≡◌, ap, sym, subst, refl, true, None, Option}
 use Rattle.table_meaning.specs.Table.{table_value}
 use Rattle.table_meaning.specs.Value.{GivenList, scalar_in, list_in}
 use Rattle.form_meaning.specs.Make.{on}
 use Rattle.form_meaning.specs.declared.Method.TheVariants as method
 use Rattle.method_meaning.specs.Reindex.{reindex_result}
 use Rattle.method_meaning.specs.Section.{xs_result}
+use Rattle.frame_store.specs.Arguments.{shape_at}
 use Rattle.frame_store.specs.Objects.{tables, table_at, table_or}
 use Rattle.frame_store.specs.World.{world}
 use Rattle.signatures.proofs.ToldLaws.{scalar_given, told_settled}
@@ -13,7 +14,7 @@ use Rattle.label_methods.specs.Reindexed.{list_lent}
 use Rattle.label_methods.proofs.AnswerLaws.{known_table}
 use Rattle.frame_methods.proofs.AnswerLaws.{makes_by}
 use Rattle.label_methods.proofs.LevelMoveLaws.{option_given}
-use Rattle.frame_methods.proofs.ShapeLaws.{frame_fits}
+use Rattle.frame_methods.proofs.ShapeLaws.{reindex_of_frame}
 use Rattle.frame_methods.proofs.calling.labels_made.Goals as goal
 
 -- labels of rows
@@ -31,7 +32,7 @@ returns-in-ReindexSeries c =
 
 -- labels of rows, or of columns
 pub reindex-requires-in-ReindexFrame-clause-frame : goal.reindex-requires-in-ReindexFrame-clause-frame
-reindex-requires-in-ReindexFrame-clause-frame c = λ some. frame_fits _ (label_method c.args.method) (ap label_method c.in-ReindexFrame.is) c.requires.call.shaped
+reindex-requires-in-ReindexFrame-clause-frame c = λ some. reindex_of_frame _ _ (ap label_method c.in-ReindexFrame.is) c.requires.call.shaped
 
 pub reindex-requires-in-ReindexFrame-clause-rows : goal.reindex-requires-in-ReindexFrame-clause-rows
 reindex-requires-in-ReindexFrame-clause-rows c = λ more.

@@ -24,6 +24,7 @@ use Rattle.label_methods.proofs.AnswerLaws.{known_table}
 use Rattle.frame_methods.proofs.AnswerLaws.{makes_by}
 use Rattle.label_methods.proofs.LevelNameLaws.{names_given}
 use Rattle.label_methods.proofs.LevelMoveLaws.{option_given}
+use Rattle.frame_methods.proofs.ShapeLaws.{set_index_of_frame}
 use Rattle.frame_methods.proofs.calling.levels_made.Goals as goal
 
 pub set_index-requires-clause-known : goal.set_index-requires-clause-known
@@ -96,3 +97,8 @@ swap_levels-requires-clause-first c = option_given c.args.bound.now 0 c.scalar_o
 
 pub swap_levels-requires-clause-second : goal.swap_levels-requires-clause-second
 swap_levels-requires-clause-second c = option_given c.args.bound.now 1 c.scalar_or_none-in-Swaplevel.result (tables c.args.store.now) c.args.dict.now c.scalar_or_none-in-Swaplevel.ensures c.requires.call.given
+
+pub set_index-requires-clause-shape : goal.set_index-requires-clause-shape
+set_index-requires-clause-shape c =
+    ap (λ (n : NumberedTable). n.shape) (sym (ap table_or c.read-source.ensures.table))
+    ∙ set_index_of_frame _ _ (ap level_method c.in-SetIndex.is) c.requires.call.shaped

@@ -124,3 +124,6 @@ returns-in-SortIndex c =
     makes_by w (row_method c.args.method) method.SortIndex c.args.bound.now c.read-source.result _ c.sort_index.result (λ a t. on (truth_in (a 0)) (λ b. sorted_result t b t.labels)) _ at (ap row_method c.in-SortIndex.is) c.requires.call.parameters (λ v. refl)
     (ap (λ o. on o (λ b. sorted_result s b s.labels)) (c.truth-in-SortIndex.ensures w.tables w.texts))
     c.sort_index.ensures
+
+pub sort_values-requires-clause-places : goal.sort_values-requires-clause-places
+sort_values-requires-clause-places c = places_inside c.in_ok-places-in-SortValuesSeries.places c.columns-in-SortValuesSeries.result (length c.read-source.result.columns) c.in_ok-places-in-SortValuesSeries.ensures c.columns-in-SortValuesSeries.ensures

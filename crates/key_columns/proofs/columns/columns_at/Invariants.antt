@@ -1,6 +1,8 @@
-use Rattle.std.proofs.Common.{◌≡◌, map, take, length, All}
-use Rattle.table_meaning.specs.Table.{column_at}
-use Rattle.frame_store.specs.Parts.{table_column}
+use Rattle.{
+  std.proofs.Common.{◌≡◌, map, take, length, All},
+  table_meaning.specs.Table.{column_at},
+  frame_store.specs.Parts.{table_column},
+}
 use Rattle.key_columns.proofs.columns.columns_at.Given as goal
 
 -- the columns so far

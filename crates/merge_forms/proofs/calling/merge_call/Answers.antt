@@ -1,21 +1,23 @@
-use Rattle.std.proofs.Common.{◌∙◌, ap, sym}
-use Rattle.form_meaning.specs.Binding.{bound_of, on_bound}
-use Rattle.method_meaning.specs.Merge.{merge_result}
-use Rattle.frame_store.specs.Arguments.{object_value}
-use Rattle.frame_store.specs.World.{world, arguments_in}
-use Rattle.merge_forms.proofs.CallLaws.{forms_so, is_call, bound_reads}
+use Rattle.{
+  label_methods.proofs.AnswerLaws.{forms_so},
+  std.proofs.Common.{◌∙◌, ap, sym},
+  form_meaning.specs.Binding.{bound_of, on_bound},
+  method_meaning.specs.Merge.{merge_result},
+  frame_store.specs.{Arguments.{object_value}, World.{world, arguments_in}},
+  merge_forms.proofs.CallLaws.{is_call, bound_reads},
+}
 use Rattle.merge_forms.proofs.calling.merge_call.Goals as goal
 
 pub merged-table-requires-clause-call : goal.merged-table-requires-clause-call
 merged-table-requires-clause-call c =
     let w = world c.args.store.now c.args.dict.now in
-    is_call w c.parameters.result.now c.args.args.now c.in_ok-bound.bound c.parameters.ensures c.requires.arguments c.in_ok-bound.ensures
+    is_call w _ _ _ c.parameters.ensures c.requires.arguments c.in_ok-bound.ensures
 
 pub returns : goal.returns
 returns c =
     let w = world c.args.store.now c.args.dict.now in
     let l = object_value w.tables w.texts c.args.on in
     let gs = arguments_in w c.args.args.now in
-    forms_so c.placed.result _ _ _ _
-    (sym (ap (λ ps. on_bound (bound_of ps gs) (merge_result l)) (sym c.parameters.ensures) ∙ bound_reads w c.parameters.result.now c.args.args.now (merge_result l) c.in_ok-bound.bound c.in_ok-bound.ensures))
+    forms_so _ _ _ _ _
+    (sym (ap (λ ps. on_bound (bound_of ps gs) (merge_result l)) (sym c.parameters.ensures) ∙ bound_reads w _ _ _ c.in_ok-bound.bound c.in_ok-bound.ensures))
     (c.placed.ensures.answers c.args.dict.now _ c.merged-table.ensures.longer c.requires.settled c.merged-table.ensures.answer)

@@ -1,9 +1,9 @@
-use Rattle.std.proofs.Common.{◌≡◌, ◌++◌, length, map, take, All}
-use Rattle.std.specs.List.{range_with_len}
-use Rattle.cell_core.specs.declared.cell.Cell.TheVariants.{Na}
-use Rattle.frame_store.specs.Parts.{columns_of, IsSingle}
-use Rattle.merge_forms.specs.Keys.{keys_value}
-use Rattle.merge_forms.specs.Columns.{column_on, left_column_on}
+use Rattle.{
+  std.{proofs.Common.{◌≡◌, ◌++◌, length, map, take, All}, specs.List.{range_with_len}},
+  cell_core.specs.declared.cell.Cell.TheVariants.{Na},
+  frame_store.specs.Parts.{columns_of, IsSingle},
+  merge_forms.specs.{Keys.{keys_value}, Columns.{column_on, left_column_on}},
+}
 use Rattle.merge_forms.proofs.columns.columns_met.Given as goal
 
 -- the columns so far

@@ -1,6 +1,8 @@
-use Rattle.std.proofs.Common.{◌≡◌, ◌++◌, drop}
-use Rattle.cell_core.specs.declared.cell.Cell.TheVariants.{Na}
-use Rattle.merge_forms.specs.Columns.{key_cells}
+use Rattle.{
+  std.proofs.Common.{◌≡◌, ◌++◌, drop},
+  cell_core.specs.declared.cell.Cell.TheVariants.{Na},
+  merge_forms.specs.Columns.{key_cells},
+}
 use Rattle.merge_forms.proofs.columns.key_column.Given as goal
 
 -- the cells so far, before those of the other rows

@@ -1,9 +1,9 @@
-use Rattle.std.proofs.Common.{◌≡◌, map, All}
-use Rattle.std.specs.List.{range_with_len}
-use Rattle.cell_core.specs.declared.cell.Cell.TheVariants.{Na}
-use Rattle.frame_store.specs.Parts.{columns_of, IsSingle}
-use Rattle.merge_forms.specs.Keys.{keys_value}
-use Rattle.merge_forms.specs.Columns.{left_column_on}
+use Rattle.{
+  std.{proofs.Common.{◌≡◌, map, All}, specs.List.{range_with_len}},
+  cell_core.specs.declared.cell.Cell.TheVariants.{Na},
+  frame_store.specs.Parts.{columns_of, IsSingle},
+  merge_forms.specs.{Keys.{keys_value}, Columns.{left_column_on}},
+}
 use Rattle.merge_forms.proofs.columns.left_columns.Given as goal
 
 -- the columns so far

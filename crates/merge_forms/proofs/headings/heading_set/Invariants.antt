@@ -1,6 +1,8 @@
-use Rattle.std.proofs.Common.{take}
-use Rattle.selections.specs.Selected.{headings_at}
-use Rattle.merge_forms.specs.Headings.{AreAmong}
+use Rattle.{
+  std.proofs.Common.{take},
+  selections.specs.Selected.{headings_at},
+  merge_forms.specs.Headings.{AreAmong},
+}
 use Rattle.merge_forms.proofs.headings.heading_set.Given as goal
 
 -- the headings so far

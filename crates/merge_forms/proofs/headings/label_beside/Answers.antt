@@ -1,25 +1,22 @@
-use Rattle.std.proofs.Common.{◌≡◌, ◌∙◌, ap, sym, subst, Option}
-use Rattle.std.specs.Prelude.{is_some, IfOk}
-use Rattle.meaning.specs.Cell.{LabelValue}
-use Rattle.table_meaning.specs.Table.{heading_value}
-use Rattle.frame_store.proofs.Settling.{headings_part}
-use Rattle.selections.proofs.PlaceLaws.{heading_settled}
-use Rattle.merge_forms.proofs.HeadingLaws.{key_label, other_label}
+use Rattle.{
+  std.{proofs.Common.{◌∙◌, ap, sym}, specs.Prelude.{is_some}},
+  frame_store.proofs.Settling.{headings_part},
+  selections.proofs.PlaceLaws.{heading_settled},
+  merge_forms.proofs.HeadingLaws.{key_label, other_label},
+}
 use Rattle.merge_forms.proofs.headings.label_beside.Goals as goal
 
 pub heading_beside-requires : goal.heading_beside-requires
-heading_beside-requires c = heading_settled c.args.dict.now c.args.on.now.headings c.args.column c.heading-heading.result c.heading-heading.ensures.value (headings_part c.args.dict.now c.args.on.now c.requires.known.given)
+heading_beside-requires c = heading_settled _ _ _ _ c.heading-heading.ensures.value (headings_part _ _ c.requires.known.given)
 
 pub returns-in-Some-clause-given : goal.returns-in-Some-clause-given
-returns-in-Some-clause-given c = heading_settled c.args.dict.now c.args.on.now.headings c.args.column c.heading-heading.result c.heading-heading.ensures.value (headings_part c.args.dict.now c.args.on.now c.requires.known.given)
+returns-in-Some-clause-given c = heading_settled _ _ _ _ c.heading-heading.ensures.value (headings_part _ _ c.requires.known.given)
 
 pub returns-in-Some-clause-label : goal.returns-in-Some-clause-label
 returns-in-Some-clause-label c =
-    key_label c.args.dict.now c.args.on.now c.args.keys.now c.args.suffix.now c.args.others.now.keys c.args.column c.heading-heading.result c.heading-heading.ensures.value
+    key_label _ c.args.on.now c.args.keys.now c.args.suffix.now c.args.others.now.keys c.args.column _ c.heading-heading.ensures.value
     (sym c.key_at.ensures.key ∙ ap (λ o. is_some o) c.in-Some.is)
 
 pub returns-in-None-clause-label : goal.returns-in-None-clause-label
 returns-in-None-clause-label c =
-    subst (λ (v : Option LabelValue). IfOk c.heading_beside.result (λ made. heading_value c.heading_beside.new.dict made ≡ v))
-    (other_label c.args.dict.now c.args.on.now c.args.keys.now c.args.suffix.now c.args.others.now.keys c.args.column c.heading-heading.result c.heading-heading.ensures.value (sym c.key_at.ensures.key ∙ ap (λ o. is_some o) c.in-None.is))
-    c.heading_beside.ensures.heading
+    rw (← other_label c.args.dict.now c.args.on.now c.args.keys.now c.args.suffix.now c.args.others.now.keys c.args.column c.heading-heading.result c.heading-heading.ensures.value (sym c.key_at.ensures.key ∙ ap (λ o. is_some o) c.in-None.is)) c.heading_beside.ensures.heading

@@ -1,9 +1,10 @@
-use Rattle.std.proofs.Common.{◌≡◌, map, take}
-use Rattle.meaning.specs.Cell.{IsLonger}
-use Rattle.table_meaning.specs.Settled.{IsSettled}
-use Rattle.table_meaning.specs.Table.{table_value}
-use Rattle.frame_store.specs.Shown.{headings_value}
-use Rattle.merge_forms.specs.Headings.{label_beside}
+use Rattle.{
+  std.proofs.Common.{◌≡◌, map, take},
+  meaning.specs.Cell.{IsLonger},
+  table_meaning.specs.{Settled.{IsSettled}, Table.{table_value}},
+  frame_store.specs.Shown.{headings_value},
+  merge_forms.specs.Headings.{label_beside},
+}
 use Rattle.merge_forms.proofs.headings.labels_beside.Given as goal
 
 -- the labels so far

@@ -1,6 +1,8 @@
-use Rattle.std.proofs.Common.{◌≡◌, drop}
-use Rattle.method_meaning.specs.Merge.{are_same_kinds}
-use Rattle.merge_forms.specs.Keys.{kinds_of}
+use Rattle.{
+  std.proofs.Common.{◌≡◌, drop},
+  method_meaning.specs.Merge.{are_same_kinds},
+  merge_forms.specs.Keys.{kinds_of},
+}
 use Rattle.merge_forms.proofs.keys.are_same_kinds.Given as goal
 
 -- the keys from here on decide it

@@ -1,8 +1,9 @@
-use Rattle.std.proofs.Common.{◌≡◌, map, filter, take, Some}
-use Rattle.table_meaning.specs.Settled.{IsSettled}
-use Rattle.frame_store.specs.Shown.{cells_value, headings_value}
-use Rattle.merge_forms.specs.Keys.{cell_labels}
-use Rattle.merge_forms.proofs.KeyLaws.{is_common}
+use Rattle.{
+  std.proofs.Common.{◌≡◌, map, filter, take, Some},
+  table_meaning.specs.Settled.{IsSettled},
+  frame_store.specs.Shown.{cells_value, headings_value},
+  merge_forms.{specs.Keys.{cell_labels}, proofs.KeyLaws.{is_common}},
+}
 use Rattle.merge_forms.proofs.keys.common_labels.Given as goal
 
 -- the common labels so far

@@ -1,9 +1,9 @@
-use Rattle.std.proofs.Common.{◌≡◌, ◌<◌, ◌≤◌, refl, true, false, length, option_map, arith, rules}
-use Rattle.std.proofs.lemmas.Result.{err_from_is_err_and}
-use Rattle.table_meaning.specs.Table.{table_value}
-use Rattle.method_meaning.specs.Merge.{are_same_kinds, checked_keys}
-use Rattle.merge_forms.specs.Keys.{keys_seen, cell_labels, keys_told, kinds_of}
-use Rattle.merge_forms.proofs.KeyLaws.{stops, checked_by, many_keys, few_keys}
+use Rattle.{
+  std.proofs.{Common.{◌≡◌, ◌≤◌, refl, true, false, length, option_map, arith, rules}, lemmas.Result.{err_from_is_err_and}},
+  table_meaning.specs.Table.{table_value},
+  method_meaning.specs.Merge.{are_same_kinds, checked_keys},
+  merge_forms.{specs.Keys.{keys_seen, cell_labels, keys_told, kinds_of}, proofs.KeyLaws.{stops, checked_by, many_keys, few_keys}},
+}
 use Rattle.merge_forms.proofs.keys.keys_of_merge.Goals as goal
 
 pub returns-in_err-keys-clause-answer : goal.returns-in_err-keys-clause-answer
@@ -16,26 +16,17 @@ returns-in_err-keys-clause-answer c =
 
 pub returns-then-not-are_same_kinds-clause-answer : goal.returns-then-not-are_same_kinds-clause-answer
 returns-then-not-are_same_kinds-clause-answer c =
-    let dict = c.args.dict.now in
-    let keys = c.in_ok-keys.keys in
-    let other : are_same_kinds (kinds_of c.args.l.now keys.left) (kinds_of c.args.r.now keys.right) ≡ false = search rules in
-    (checked_by dict c.args.l.now c.args.r.now keys (option_map (cell_labels dict) c.args.told) false _ c.in_ok-keys.ensures.answer other refl, λ more. refl)
+    (checked_by c.args.dict.now c.args.l.now c.args.r.now c.in_ok-keys.keys (option_map (cell_labels c.args.dict.now) c.args.told) false _ c.in_ok-keys.ensures.answer (search rules) refl, λ more. refl)
 
 pub returns-then-len-gt4-clause-answer : goal.returns-then-len-gt4-clause-answer
 returns-then-len-gt4-clause-answer c =
-    let dict = c.args.dict.now in
     let keys = c.in_ok-keys.keys in
-    let same : are_same_kinds (kinds_of c.args.l.now keys.left) (kinds_of c.args.r.now keys.right) ≡ true = search rules in
-    let many : 4 < length keys.left = search rules in
-    (checked_by dict c.args.l.now c.args.r.now keys (option_map (cell_labels dict) c.args.told) true true c.in_ok-keys.ensures.answer same (many_keys (length keys.left) many), λ more. refl)
+    (checked_by c.args.dict.now c.args.l.now c.args.r.now keys (option_map (cell_labels c.args.dict.now) c.args.told) true true c.in_ok-keys.ensures.answer (search rules) (many_keys (length keys.left) (search rules)), λ more. refl)
 
 pub returns-clause-answer : goal.returns-clause-answer
 returns-clause-answer c =
-    let dict = c.args.dict.now in
     let keys = c.in_ok-keys.keys in
-    let same : are_same_kinds (kinds_of c.args.l.now keys.left) (kinds_of c.args.r.now keys.right) ≡ true = search rules in
-    let few : length keys.left ≤ 4 = omega arith in
-    checked_by dict c.args.l.now c.args.r.now keys (option_map (cell_labels dict) c.args.told) true false c.in_ok-keys.ensures.answer same (few_keys (length keys.left) few)
+    checked_by c.args.dict.now c.args.l.now c.args.r.now keys (option_map (cell_labels c.args.dict.now) c.args.told) true false c.in_ok-keys.ensures.answer (search rules) (few_keys (length keys.left) (omega arith))
 
 pub returns-clause-keys : goal.returns-clause-keys
 returns-clause-keys c =

@@ -1,38 +1,26 @@
-use Rattle.std.proofs.Common.{◌≡◌, ◌∙◌, ◌≤◌, refl, ap, sym, subst, length, Option, List, option_map, arith}
-use Rattle.std.specs.Prelude.{IfSome}
-use Rattle.std.proofs.lemmas.List.{length-map}
-use Rattle.cell_core.specs.declared.cell.Cell.{Cell}
-use Rattle.meaning.specs.Cell.{datum}
-use Rattle.meaning.specs.Operator.{cell_label}
-use Rattle.table_meaning.specs.Settled.{IsSettled}
-use Rattle.table_meaning.specs.Table.{table_value}
-use Rattle.frame_store.specs.Shown.{cells_value}
-use Rattle.merge_forms.specs.Keys.{keys_seen, cell_labels, keys_told}
-use Rattle.merge_forms.proofs.KeyLaws.{makes_so, common_meant, none_common}
+use Rattle.{
+  std.proofs.{Common.{◌≤◌, refl, length, arith}, lemmas.List.{length-map}},
+  meaning.specs.{Cell.{datum}, Operator.{cell_label}},
+  table_meaning.specs.Table.{table_value},
+  frame_store.specs.Shown.{cells_value},
+  merge_forms.{specs.Keys.{cell_labels}, proofs.KeyLaws.{common_meant, none_common}},
+}
 use Rattle.merge_forms.proofs.keys.keys_told.Goals as goal
 
 pub keys_named-requires-clause-given : goal.keys_named-requires-clause-given
-keys_named-requires-clause-given c = subst (λ (o : Option (List Cell)). IfSome o (IsSettled cells_value c.args.dict.now)) c.in-Some.is c.requires.given
+keys_named-requires-clause-given c = rw c.in-Some.is at c.requires.given
 
 pub keys_named-requires-clause-some : goal.keys_named-requires-clause-some
-keys_named-requires-clause-some c = subst (λ (o : Option (List Cell)). IfSome o (λ cells. 1 ≤ length cells)) c.in-Some.is c.requires.some
+keys_named-requires-clause-some c = rw c.in-Some.is at c.requires.some
 
 pub returns-in-Some-clause-answer : goal.returns-in-Some-clause-answer
-returns-in-Some-clause-answer c =
-    let dict = c.args.dict.now in
-    let L = table_value dict c.args.l.now in
-    let R = table_value dict c.args.r.now in
-    makes_so keys_seen dict c.keys_named.result _ _ (ap (λ (o : Option (List Cell)). keys_told L R (option_map (cell_labels dict) o)) (sym c.in-Some.is)) c.keys_named.ensures.answer
+returns-in-Some-clause-answer c = rw c.in-Some.is c.keys_named.ensures.answer
 
 pub returns-then-len-eq0-clause-answer : goal.returns-then-len-eq0-clause-answer
 returns-then-len-eq0-clause-answer c =
     let dict = c.args.dict.now in
-    let L = table_value dict c.args.l.now in
-    let R = table_value dict c.args.r.now in
-    let labels = cell_labels dict c.in_ok-labels-in-None.labels in
-    let count : length labels ≡ length c.in_ok-labels-in-None.labels = length-map (cells_value dict c.in_ok-labels-in-None.labels) cell_label ∙ length-map c.in_ok-labels-in-None.labels (datum dict) in
-    let none : length labels ≡ 0 = omega (arith, count) in
-    (ap (λ (o : Option (List Cell)). keys_told L R (option_map (cell_labels dict) o)) c.in-None.is ∙ none_common L R labels c.in_ok-labels-in-None.ensures.labels none, λ more. refl)
+    let labels = c.in_ok-labels-in-None.labels in
+    rw c.in-None.is (none_common (table_value dict c.args.l.now) (table_value dict c.args.r.now) _ c.in_ok-labels-in-None.ensures.labels (omega (arith, length-map (cells_value dict labels) cell_label, length-map labels (datum dict))), λ more. refl)
 
 pub keys_named-requires-in-None-clause-some : goal.keys_named-requires-in-None-clause-some
 keys_named-requires-in-None-clause-some c = omega arith
@@ -40,9 +28,6 @@ keys_named-requires-in-None-clause-some c = omega arith
 pub returns-else-len-eq0-clause-answer : goal.returns-else-len-eq0-clause-answer
 returns-else-len-eq0-clause-answer c =
     let dict = c.args.dict.now in
-    let L = table_value dict c.args.l.now in
-    let R = table_value dict c.args.r.now in
-    let labels = cell_labels dict c.in_ok-labels-in-None.labels in
-    let count : length labels ≡ length c.in_ok-labels-in-None.labels = length-map (cells_value dict c.in_ok-labels-in-None.labels) cell_label ∙ length-map c.in_ok-labels-in-None.labels (datum dict) in
-    let some : 1 ≤ length labels = omega (arith, count) in
-    makes_so keys_seen dict c.keys_named-in-None.result _ _ (common_meant L R labels c.in_ok-labels-in-None.ensures.labels some ∙ ap (λ (o : Option (List Cell)). keys_told L R (option_map (cell_labels dict) o)) (sym c.in-None.is)) c.keys_named-in-None.ensures.answer
+    let labels = c.in_ok-labels-in-None.labels in
+    let some : 1 ≤ length (cell_labels dict labels) = omega (arith, length-map (cells_value dict labels) cell_label, length-map labels (datum dict)) in
+    rw (c.in-None.is, ← common_meant (table_value dict c.args.l.now) (table_value dict c.args.r.now) (cell_labels dict labels) c.in_ok-labels-in-None.ensures.labels some) c.keys_named-in-None.ensures.answer

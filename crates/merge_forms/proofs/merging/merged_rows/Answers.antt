@@ -1,21 +1,15 @@
-use Rattle.std.proofs.Common.{◌≡◌, ◌∙◌, ◌<◌, ◌^◌, refl, ap, sym, subst, true, false, length, List, Option, None, arith, rules}
-use Rattle.std.proofs.lemmas.Result.{err_from_is_err_and}
-use Rattle.std.specs.Prelude.{IfSome}
-use Rattle.cell_core.specs.declared.cell.Label.{Label}
-use Rattle.cell_core.specs.declared.code.Code.TheVariants.{Limit}
-use Rattle.frame_store.specs.declared.fault.OpFault.TheVariants.{Refused}
-use Rattle.merge_concat.specs.declared.pairs.Pairs.{Pairs}
-use Rattle.table_meaning.specs.Settled.{IsSettled}
-use Rattle.table_meaning.specs.Table.{table_value, heading_value}
-use Rattle.form_meaning.specs.Finish.{finished, within_limits}
-use Rattle.form_meaning.specs.Infix.{common_name}
-use Rattle.method_meaning.specs.Merge.{merged}
-use Rattle.frame_store.proofs.Settling.{columns_name_part}
-use Rattle.selections.specs.Headings.{repeated_heading, NamesRepeated}
-use Rattle.label_methods.proofs.NamedLaws.{others_meant}
-use Rattle.merge_forms.specs.Keys.{keys_value}
-use Rattle.merge_forms.specs.Rows.{repeated_in, pairs_in, AreRowsMet}
-use Rattle.merge_forms.proofs.TableLaws.{met_refused, refused_is, may_repeated, may_many, may_beyond, may_within, within_few, is_headed, rows_meant, labels_some, made_is, parts_fit, rights_inside, pairs_counted, met_some, met_none}
+use Rattle.{
+  std.{proofs.{Common.{◌≡◌, ◌∙◌, ◌<◌, ◌^◌, refl, ap, sym, subst, true, false, length, List, Option, None, arith, rules}, lemmas.Result.{err_from_is_err_and}}, specs.Prelude.{IfSome}},
+  cell_core.specs.declared.{cell.Label.{Label}, code.Code.TheVariants.{Limit}},
+  frame_store.{specs.declared.fault.OpFault.TheVariants.{Refused}, proofs.Settling.{columns_name_part}},
+  merge_concat.specs.declared.pairs.Pairs.{Pairs},
+  table_meaning.specs.Table.{table_value, heading_value},
+  form_meaning.specs.{Finish.{finished, within_limits}, Infix.{common_name}},
+  method_meaning.specs.Merge.{merged},
+  selections.specs.Headings.{repeated_heading, NamesRepeated},
+  label_methods.proofs.NamedLaws.{others_meant},
+  merge_forms.{specs.{Keys.{keys_value}, Rows.{repeated_in, pairs_in, AreRowsMet}}, proofs.TableLaws.{met_refused, refused_is, may_repeated, may_many, may_beyond, may_within, within_few, is_headed, rows_meant, labels_some, made_is, parts_fit, rights_inside, pairs_counted, met_some, met_none}},
+}
 use Rattle.merge_forms.proofs.merging.merged_rows.Goals as goal
 
 pub returns-in_err-met-clause-answer : goal.returns-in_err-met-clause-answer
@@ -29,58 +23,52 @@ returns-in_err-met-clause-answer c =
     rw (p.1, p.2) (met_refused dict (repeated_in c.args.once L R keys) ps (finished (merged L R keys ps)) c.in_err-met.field-0.0 c.in_err-met.ensures.rows)
 
 pub common_name-name-requires-clause-a : goal.common_name-name-requires-clause-a
-common_name-name-requires-clause-a c = subst (IsSettled heading_value c.args.dict.now) (sym c.columns_name.ensures) (columns_name_part c.args.dict.now c.args.l.now c.requires.left.given)
+common_name-name-requires-clause-a c = rw c.columns_name.ensures (columns_name_part _ _ c.requires.left.given)
 
 pub common_name-name-requires-clause-b : goal.common_name-name-requires-clause-b
-common_name-name-requires-clause-b c = subst (IsSettled heading_value c.args.dict.now) (sym c.columns_name-2.ensures) (columns_name_part c.args.dict.now c.args.r.now c.requires.right.given)
+common_name-name-requires-clause-b c = rw c.columns_name-2.ensures (columns_name_part _ _ c.requires.right.given)
 
 pub returns-in_err-headings-clause-answer : goal.returns-in_err-headings-clause-answer
 returns-in_err-headings-clause-answer c =
-    let old = c.args.dict.now in
     let new = c.merged_labels.new.dict in
-    let L = table_value old c.args.l.now in
-    let R = table_value old c.args.r.now in
+    let L = table_value c.args.dict.now c.args.l.now in
+    let R = table_value c.args.dict.now c.args.r.now in
     let keys = keys_value c.args.keys.now in
     let ps = pairs_in c.args.how L R keys in
-    let labels = c.in_ok-labels.labels.items in
     let why = c.in_err-headings.field-0.0 in
-    let headed = is_headed L R keys ps new labels c.in_ok-labels.ensures.labels in
+    let headed = is_headed L R keys ps new c.in_ok-labels.labels.items c.in_ok-labels.ensures.labels in
     let p = err_from_is_err_and c.from_residual-in_err-headings.result c.from_residual-in_err-headings.ensures.1 in
     rw (p.1, p.2) (refused_is new L R keys c.args.how c.args.once why c.in_ok-met.ensures.rows.0
-    (may_repeated new c.len.ensures.distinct labels c.in_ok-labels.ensures.given (merged L R keys ps) headed why (subst (λ (hs : List (Option Label)). NamesRepeated why (repeated_heading hs)) c.as_slice.ensures.value c.in_err-headings.ensures.refused)))
+    (may_repeated new c.len.ensures.distinct c.in_ok-labels.labels.items c.in_ok-labels.ensures.given (merged L R keys ps) headed why (subst (λ (hs : List (Option Label)). NamesRepeated why (repeated_heading hs)) c.as_slice.ensures.value c.in_err-headings.ensures.refused)))
 
 pub returns-in_default-clause-answer : goal.returns-in_default-clause-answer
 returns-in_default-clause-answer c =
-    let old = c.args.dict.now in
     let new = c.merged_labels.new.dict in
-    let L = table_value old c.args.l.now in
-    let R = table_value old c.args.r.now in
+    let L = table_value c.args.dict.now c.args.l.now in
+    let R = table_value c.args.dict.now c.args.r.now in
     let keys = keys_value c.args.keys.now in
-    let ps = pairs_in c.args.how L R keys in
     let labels = c.in_ok-labels.labels.items in
-    let headed = is_headed L R keys ps new labels c.in_ok-labels.ensures.labels in
+    let headed = is_headed L R _ _ _ _ c.in_ok-labels.ensures.labels in
     let none : repeated_heading labels ≡ None = ap repeated_heading (sym c.as_slice.ensures.value) ∙ c.in_ok-headings.ensures.different in
-    let many = met_none c.in_ok-met.met ps c.in_default.is c.in_ok-met.ensures.rows.1 in
-    refused_is new L R keys c.args.how c.args.once (Refused Limit) c.in_ok-met.ensures.rows.0
-    (may_many new c.len.ensures.distinct labels c.in_ok-labels.ensures.given (merged L R keys ps) headed none (subst (λ n. 2 ^ 26 < n) (sym (rows_meant L R keys ps)) many))
+    let many = met_none _ _ c.in_default.is c.in_ok-met.ensures.rows.1 in
+    refused_is new L R _ c.args.how _ (Refused Limit) c.in_ok-met.ensures.rows.0
+    (may_many _ c.len.ensures.distinct _ c.in_ok-labels.ensures.given _ headed none (subst (λ n. 2 ^ 26 < n) (sym (rows_meant L R keys _)) many))
 
 pub returns-then-not-within_limits-clause-answer : goal.returns-then-not-within_limits-clause-answer
 returns-then-not-within_limits-clause-answer c =
-    let old = c.args.dict.now in
     let new = c.merged_labels.new.dict in
-    let L = table_value old c.args.l.now in
-    let R = table_value old c.args.r.now in
+    let L = table_value c.args.dict.now c.args.l.now in
+    let R = table_value c.args.dict.now c.args.r.now in
     let keys = keys_value c.args.keys.now in
-    let ps = pairs_in c.args.how L R keys in
     let labels = c.in_ok-labels.labels.items in
-    let headed = is_headed L R keys ps new labels c.in_ok-labels.ensures.labels in
+    let headed = is_headed L R _ _ _ _ c.in_ok-labels.ensures.labels in
     let none : repeated_heading labels ≡ None = ap repeated_heading (sym c.as_slice.ensures.value) ∙ c.in_ok-headings.ensures.different in
-    let are = met_some c.in_ok-met.met ps c.in-Some.pairs c.in-Some.is c.in_ok-met.ensures.rows.1 in
+    let are = met_some _ _ _ c.in-Some.is c.in_ok-met.ensures.rows.1 in
     let counted : c.len-2.result ≡ length labels = omega arith in
     let beyond : c.within_limits.result ≡ false = search rules in
-    let rows = pairs_counted L R keys ps c.in-Some.pairs c.len-count.result are c.len-count.ensures in
-    refused_is new L R keys c.args.how c.args.once (Refused Limit) c.in_ok-met.ensures.rows.0
-    (may_beyond new c.len.ensures.distinct labels c.in_ok-labels.ensures.given (merged L R keys ps) headed c.len-count.result none rows (ap (within_limits c.len-count.result) (sym counted) ∙ sym c.within_limits.ensures ∙ beyond))
+    let rows = pairs_counted L R keys _ _ _ are c.len-count.ensures in
+    refused_is new L R _ c.args.how _ (Refused Limit) c.in_ok-met.ensures.rows.0
+    (may_beyond _ c.len.ensures.distinct _ c.in_ok-labels.ensures.given _ headed _ none rows (ap (within_limits c.len-count.result) (sym counted) ∙ sym c.within_limits.ensures ∙ beyond))
 
 pub range-requires : goal.range-requires
 range-requires c =
@@ -90,54 +78,45 @@ range-requires c =
 
 pub columns_met-requires-clause-rights : goal.columns_met-requires-clause-rights
 columns_met-requires-clause-rights c =
-    let old = c.args.dict.now in
-    rights_inside old c.args.r.now (keys_value c.args.keys.now) c.in_ok-rights.rights (others_meant old c.args.r.now c.args.keys.now.right c.in_ok-rights.rights c.columns.result c.in_ok-rights.ensures c.columns.ensures)
+    rights_inside c.args.dict.now c.args.r.now (keys_value c.args.keys.now) _ (others_meant c.args.dict.now c.args.r.now _ _ _ c.in_ok-rights.ensures c.columns.ensures)
 
 pub columns_met-requires-clause-rows : goal.columns_met-requires-clause-rows
-columns_met-requires-clause-rows c = subst (λ (o : Option Pairs). IfSome o (AreRowsMet c.args.l.now c.args.r.now)) c.in-Some.is c.in_ok-met.ensures.inside
+columns_met-requires-clause-rows c = rw c.in-Some.is at c.in_ok-met.ensures.inside
 
 pub new-requires-clause-whole : goal.new-requires-clause-whole
 new-requires-clause-whole c =
     let old = c.args.dict.now in
-    let new = c.merged_labels.new.dict in
     let l = c.args.l.now in
     let r = c.args.r.now in
-    let L = table_value old l in
-    let R = table_value old r in
-    let keys = keys_value c.args.keys.now in
-    let ps = pairs_in c.args.how L R keys in
     let labels = c.in_ok-labels.labels.items in
     let name = c.common_name-name.result in
     let none : repeated_heading labels ≡ None = ap repeated_heading (sym c.as_slice.ensures.value) ∙ c.in_ok-headings.ensures.different in
-    let are = met_some c.in_ok-met.met ps c.in-Some.pairs c.in-Some.is c.in_ok-met.ensures.rows.1 in
+    let are = met_some _ _ _ c.in-Some.is c.in_ok-met.ensures.rows.1 in
     let met : AreRowsMet l r c.in-Some.pairs = subst (λ (o : Option Pairs). IfSome o (AreRowsMet l r)) c.in-Some.is c.in_ok-met.ensures.inside in
     let named = c.common_name-name.ensures.name ∙ (λ i. common_name (heading_value old (c.columns_name.ensures i)) (heading_value old (c.columns_name-2.ensures i))) in
-    let some = labels_some old new c.in_ok-labels.ensures.longer l r c.requires.left.given c.requires.right.given keys c.requires.left.whole c.requires.right.whole c.requires.frames.0 c.requires.frames.1 labels c.in_ok-labels.ensures.labels in
-    parts_fit old new c.in_ok-labels.ensures.longer l r c.requires.left.given c.requires.right.given keys ps c.in-Some.pairs are c.in_ok-rights.rights
-    (others_meant old r c.args.keys.now.right c.in_ok-rights.rights c.columns.result c.in_ok-rights.ensures c.columns.ensures) name named c.common_name-name.ensures.settled labels c.in_ok-labels.ensures.labels c.in_ok-labels.ensures.given c.len-count.result c.len-count.ensures
-    c.in_ok-axis.axis c.in_ok-axis.ensures c.in_ok-headings.headings (c.in_ok-headings.ensures.made ∙ (λ i. record { columns_name = name; labels = c.as_slice.ensures.value i })) _ c.in_ok-blocks.ensures.columns met.same some none
+    let some = labels_some _ _ c.in_ok-labels.ensures.longer l r c.requires.left.given c.requires.right.given _ c.requires.left.whole c.requires.right.whole c.requires.frames.0 c.requires.frames.1 _ c.in_ok-labels.ensures.labels in
+    parts_fit _ _ c.in_ok-labels.ensures.longer l r c.requires.left.given c.requires.right.given _ _ _ are _
+    (others_meant _ r _ _ _ c.in_ok-rights.ensures c.columns.ensures) _ named c.common_name-name.ensures.settled _ c.in_ok-labels.ensures.labels c.in_ok-labels.ensures.given _ c.len-count.ensures
+    _ c.in_ok-axis.ensures _ (c.in_ok-headings.ensures.made ∙ (λ i. record { columns_name = name; labels = c.as_slice.ensures.value i })) _ c.in_ok-blocks.ensures.columns met.same some none
 
 pub returns-clause-answer : goal.returns-clause-answer
 returns-clause-answer c =
     let old = c.args.dict.now in
-    let new = c.merged_labels.new.dict in
-    let l = c.args.l.now in
     let r = c.args.r.now in
-    let L = table_value old l in
+    let L = table_value old c.args.l.now in
     let R = table_value old r in
     let keys = keys_value c.args.keys.now in
-    let ps = pairs_in c.args.how L R keys in
     let labels = c.in_ok-labels.labels.items in
     let name = c.common_name-name.result in
-    let headed = is_headed L R keys ps new labels c.in_ok-labels.ensures.labels in
+    let headed = is_headed L R _ _ _ _ c.in_ok-labels.ensures.labels in
     let none : repeated_heading labels ≡ None = ap repeated_heading (sym c.as_slice.ensures.value) ∙ c.in_ok-headings.ensures.different in
-    let are = met_some c.in_ok-met.met ps c.in-Some.pairs c.in-Some.is c.in_ok-met.ensures.rows.1 in
-    let rows = pairs_counted L R keys ps c.in-Some.pairs c.len-count.result are c.len-count.ensures in
+    let are = met_some _ _ _ c.in-Some.is c.in_ok-met.ensures.rows.1 in
+    let rows = pairs_counted L R keys _ _ _ are c.len-count.ensures in
     let within : c.within_limits.result ≡ true = search rules in
     let counted : c.len-2.result ≡ length labels = omega arith in
     let named = c.common_name-name.ensures.name ∙ (λ i. common_name (heading_value old (c.columns_name.ensures i)) (heading_value old (c.columns_name-2.ensures i))) in
-    let shows = may_within new c.len.ensures.distinct labels c.in_ok-labels.ensures.given (merged L R keys ps) headed c.len-count.result none rows (ap (within_limits c.len-count.result) (sym counted) ∙ sym c.within_limits.ensures ∙ within) in
-    made_is old new c.in_ok-labels.ensures.longer l r c.requires.left.given c.requires.right.given keys ps c.in-Some.pairs are c.in_ok-rights.rights
-    (others_meant old r c.args.keys.now.right c.in_ok-rights.rights c.columns.result c.in_ok-rights.ensures c.columns.ensures) name named c.common_name-name.ensures.settled labels c.in_ok-labels.ensures.labels c.in_ok-labels.ensures.given c.len-count.result c.len-count.ensures
-    c.in_ok-axis.axis c.in_ok-axis.ensures c.in_ok-headings.headings (c.in_ok-headings.ensures.made ∙ (λ i. record { columns_name = name; labels = c.as_slice.ensures.value i })) _ c.in_ok-blocks.ensures.columns
-    c.args.how c.args.once c.new.result c.in_ok-met.ensures.rows.0 refl shows c.new.ensures
+    let shows = may_within _ c.len.ensures.distinct _ c.in_ok-labels.ensures.given _ headed _ none rows (ap (within_limits c.len-count.result) (sym counted) ∙ sym c.within_limits.ensures ∙ within) in
+    made_is _ _ c.in_ok-labels.ensures.longer _ r c.requires.left.given c.requires.right.given _ _ _ are _
+    (others_meant _ r _ _ _ c.in_ok-rights.ensures c.columns.ensures) _ named c.common_name-name.ensures.settled _ c.in_ok-labels.ensures.labels c.in_ok-labels.ensures.given _ c.len-count.ensures
+    _ c.in_ok-axis.ensures _ (c.in_ok-headings.ensures.made ∙ (λ i. record { columns_name = name; labels = c.as_slice.ensures.value i })) _ c.in_ok-blocks.ensures.columns
+    _ _ _ c.in_ok-met.ensures.rows.0 refl shows c.new.ensures

@@ -4,11 +4,11 @@ use Rattle.outside_io.specs.Files.{Serves}
 use Rattle.script_meaning.specs.State.{no_names}
 use Rattle.script_meaning.specs.Run.{statements_result}
 use Rattle.script_tree.specs.ScriptView.{statements_of}
-use Rattle.script_session.specs.Reads.{files_in}
+use Rattle.script_work.specs.Reads.{files_in}
 use Rattle.script_session.specs.Session.{state_of}
-use Rattle.script_run.specs.Errors.{Warns}
-use Rattle.script_run.specs.Ends.{outside}
-use Rattle.script_run.specs.Steps.{ComesTo}
+use Rattle.script_steps.specs.Errors.{Warns}
+use Rattle.script_steps.specs.Ends.{outside}
+use Rattle.script_steps.specs.Steps.{ComesTo}
 use Rattle.script_run.proofs.running.run_script.Given as goal
 
 -- the steps that were done, and then those of the statements that are left, are the steps of all statements

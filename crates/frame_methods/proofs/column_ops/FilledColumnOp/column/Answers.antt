@@ -1,11 +1,11 @@
-use Rattle.std.proofs.Common.{◌≡◌, true, refl, subst, rules}
+use Rattle.std.proofs.Common.{◌≡◌, true, refl, subst, arith, rules}
 use Rattle.cell_core.specs.declared.cell.Kind.{Kind}
 use Rattle.meaning.specs.Cell.{holds, datum}
 use Rattle.frame_methods.proofs.OpLaws.{filled_given, filled_answer}
 use Rattle.frame_methods.proofs.column_ops.FilledColumnOp.column.Goals as goal
 
 pub returns-clause-given : goal.returns-clause-given
-returns-clause-given c = filled_given c.args.self.now.value c.args.dict.now c.args.a.kind c.args.a c.in_ok-fillna.field-0 c.requires.own c.requires.cells c.in_ok-fillna.ensures
+returns-clause-given c = filled_given c.args.self.now.value c.args.dict.now c.args.a.kind c.args.a c.in_ok-fillna.field-0 (c.requires.own 0 c.args.self.now.value (omega arith)) c.requires.cells c.in_ok-fillna.ensures
 
 pub returns-clause-answer : goal.returns-clause-answer
 returns-clause-answer c =

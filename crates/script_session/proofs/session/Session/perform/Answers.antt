@@ -1,16 +1,16 @@
 use Rattle.std.proofs.Common.{refl, sym, ◌∙◌, ap}
-use Rattle.script_session.specs.Bindings.{Bindings, state_over}
-use Rattle.script_session.specs.Work.{names_in, tables_in, world_of, state_in}
+use Rattle.script_work.specs.Bindings.{Bindings, state_over}
+use Rattle.script_work.specs.Work.{names_in, tables_in, world_of, state_in}
 use Rattle.script_tree.specs.View.{form_of}
-use Rattle.script_session.proofs.States.{state_swept, refused_kept}
-use Rattle.script_session.proofs.Naming.{live_are_named, named_live}
-use Rattle.script_session.proofs.Answering.{performs_after, state_refused, live_refused}
+use Rattle.script_work.proofs.States.{state_swept}
+use Rattle.script_work.proofs.Naming.{live_are_named, named_live}
+use Rattle.script_session.proofs.Answering.{performs_after, refused_kept, state_refused, live_refused}
 use Rattle.script_session.proofs.Settings.{apart_after}
 use Rattle.script_session.proofs.session.Session.perform.Goals as goal
 
 pub returns-clause-answers : goal.returns-clause-answers
 returns-clause-answers g c =
-    let p = c.perform-result.new.self in
+    let p = c.perform-result.new.work in
     let w = c.sweep.new.self in
     let e = c.sweep.ensures in
     λ held. performs_after _ _ _ _ (state_in p) (state_in w) c.perform-result.result (c.perform-result.ensures.answers held)
@@ -19,7 +19,7 @@ returns-clause-answers g c =
 pub returns-clause-apart : goal.returns-clause-apart
 returns-clause-apart g c =
     let s = c.args.self.now.work in
-    let p = c.perform-result.new.self in
+    let p = c.perform-result.new.work in
     let w = c.sweep.new.self in
     let e = c.sweep.ensures in
     apart_after c.perform-result.result (form_of c.args.form.now) (state_in s) (state_in p) (state_in w) c.perform-result.ensures.apart
@@ -28,7 +28,7 @@ returns-clause-apart g c =
 pub returns-clause-same : goal.returns-clause-same
 returns-clause-same g c =
     let s = c.args.self.now.work in
-    let p = c.perform-result.new.self in
+    let p = c.perform-result.new.work in
     let w = c.sweep.new.self in
     let e = c.sweep.ensures in
     let same = refused_kept s p c.perform-result.result c.perform-result.ensures.names c.perform-result.ensures.kept in
@@ -37,7 +37,7 @@ returns-clause-same g c =
 pub returns-clause-objects : goal.returns-clause-objects
 returns-clause-objects g c =
     let s = c.args.self.now.work in
-    let p = c.perform-result.new.self in
+    let p = c.perform-result.new.work in
     let w = c.sweep.new.self in
     let e = c.sweep.ensures in
     live_refused c.perform-result.result (names_in s) (names_in p) (names_in w) (world_of s) (world_of p) (world_of w) c.perform-result.ensures.names c.perform-result.ensures.kept e.names e.texts e.kept e.named c.args.self.now.swept (named_live s.names.values.entries s.names.unique (tables_in s) s.live)

@@ -1,0 +1,89 @@
+-- Lists whose parts are evaluated one after the other.
+use Rattle.std.proofs.Common.{◌≡◌, List, sym, ◌∙◌, ap, subst}
+use Rattle.std.specs.Prelude.{Result, Ok, Err, IsErrAnd}
+use Rattle.meaning.specs.Text.{Contents}
+use Rattle.script_meaning.specs.Reading.{Files, Reads, gives}
+use Rattle.script_meaning.specs.State.{State}
+use Rattle.script_evaluation.specs.Evaluates.{Moment, Evaluates}
+use Rattle.outside_io.specs.Files.{Serves}
+use Rattle.script_work.specs.Reads.{Goes, Halts, files_in}
+use Rattle.frame_store.specs.World.{World, Keeps}
+use Rattle.script_work.specs.Work.{names_in, world_of, state_in}
+use Rattle.script_work.specs.declared.file_names.FileName.{FileName}
+use Rattle.script_work.specs.declared.fault.EvalFault.{EvalFault}
+use Rattle.script_work.specs.declared.fault.EvalFault.TheVariants.{NoMemory}
+use Rattle.script_work.specs.declared.work.Work.{Work}
+use Rattle.script_work.proofs.Rides.{serves_both, goes_by, goes_to, ahead, joined, loop_next, loop_fault, loop_end, loop_spends}
+use Rattle.script_work.proofs.States.{state_kept}
+use Rattle.script_work.proofs.Worlds.{keeps_both}
+
+-- the parts so far are joined to what the rest gives
+pub record Gathers {L : Type 0} (paths : List FileName) (join : L → L → L) (whole rest : Files → State → Reads L) (so_far : L) (old new : Moment) : Type 0 where
+  pub names : names_in new.work ≡ names_in old.work
+  pub kept : Keeps (world_of old.work) (world_of new.work)
+  pub serves : Serves old.files new.files
+  pub seen : (held : Contents) → Goes held old.files new.files (whole (files_in paths held) (state_in old.work)) (joined join so_far (rest (files_in paths held) (state_in old.work)))
+
+module _ {paths : List FileName} {L : Type 0} {join : L → L → L} {whole : Files → State → Reads L} where
+  -- all parts are there
+  pub gathered : {V : Type 0} {known : Work → V → Type 0} {view : World → V → L} {rest : Files → State → Reads L} {old new : Moment} (end : L) (v : V) → Gathers paths join whole rest (view (world_of new.work) v) old new
+      → ((files : Files) → rest files (state_in old.work) ≡ gives end) → join (view (world_of new.work) v) end ≡ view (world_of new.work) v → known new.work v → Evaluates paths known view whole old new (Ok v)
+  gathered {view = view} {rest = rest} {old = old} {new = new} end v x is law known =
+      record {
+        names = x.names;
+        kept = x.kept;
+        serves = x.serves;
+        reads = λ held. let files = files_in paths held in loop_end {G = L} (λ g l. l) join (rest files (state_in old.work)) end (view (world_of new.work) v) (x.seen held) (is files) law;
+        found = known;
+      }
+
+-- a part means the same in the state that was reached, and the rest from it on is this part and what is left
+module _ {paths : List FileName} {L : Type 0} {join : L → L → L} {whole all : Files → State → Reads L} {so_far : L} {old mid : Moment} (x : Gathers paths join whole all so_far old mid) where
+  before : {G : Type 0} (first : Files → State → Reads G) (files : Files) → first files (state_in old.work) ≡ first files (state_in mid.work)
+  before first files = ap (λ s. first files s) (sym (state_kept old.work mid.work x.names x.kept))
+
+  seen_as : (some : Files → Reads L) → ((files : Files) → all files (state_in old.work) ≡ some files) → (held : Contents) → let files = files_in paths held in Goes held old.files mid.files (whole files (state_in old.work)) (joined join so_far (some files))
+  seen_as some is held = goes_to (x.seen held) (ap (joined join so_far) (is (files_in paths held)))
+
+module _ {paths : List FileName} {G L : Type 0} (cons : G → L → L) {join : L → L → L} {whole all : Files → State → Reads L} {so_far : L} {first : Files → State → Reads G} (rest : Files → State → Reads L) {old mid new : Moment} (x : Gathers paths join whole all so_far old mid)
+    (is : (files : Files) → all files (state_in old.work) ≡ ahead cons (first files (state_in old.work)) (rest files (state_in old.work))) where
+  module _ {V : Type 0} {known : Work → V → Type 0} {view : World → V → G} where
+    -- one part more
+    pub gathers_next : (so_far' : L) (v : V) → Evaluates paths known view first mid new (Ok v) → ((l : L) → join so_far (cons (view (world_of new.work) v) l) ≡ join so_far' l) → Gathers paths join whole rest so_far' old new
+    gathers_next so_far' v y law =
+        record {
+          names = y.names ∙ x.names;
+          kept = keeps_both (world_of old.work) (world_of mid.work) (world_of new.work) x.kept y.kept;
+          serves = serves_both x.serves y.serves;
+          seen = λ held. let files = files_in paths held in let s = state_in old.work in
+              loop_next cons join x.serves (first files s) (rest files s) so_far (seen_as x (λ files. ahead cons (first files (state_in old.work)) (rest files (state_in old.work))) is held) (view (world_of new.work) v) so_far' (goes_by (before x first files) (y.reads held)) law;
+        }
+
+    module _ {V' : Type 0} {known' : Work → V' → Type 0} {view' : World → V' → L} where
+      -- a part halts
+      pub gathers_none : {f : EvalFault} → Evaluates paths known view first mid new (Err f) → (r : Result V' EvalFault) → IsErrAnd r (λ e. e ≡ f) → Evaluates paths known' view' whole old new r
+      gathers_none y (Ok v) same = absurd same
+      gathers_none {f} y (Err e) same =
+          record {
+            names = y.names ∙ x.names;
+            kept = keeps_both (world_of old.work) (world_of mid.work) (world_of new.work) x.kept y.kept;
+            serves = serves_both x.serves y.serves;
+            reads = λ held. let files = files_in paths held in let s = state_in old.work in
+                subst (λ (e : EvalFault). Halts Err (world_of new.work).texts files old.files new.files (whole files s) e) (sym same)
+                (loop_fault (world_of new.work).texts files new.files cons join x.serves (first files s) (rest files s) so_far (seen_as x (λ files. ahead cons (first files (state_in old.work)) (rest files (state_in old.work))) is held) f (subst (λ r. Halts Err (world_of new.work).texts files mid.files new.files r f) (sym (before x first files)) (y.reads held)));
+            found = tt;
+          }
+
+      -- memory is refused behind a part
+      pub gathers_out : (v : V) → Evaluates paths known view first mid new (Ok v) → (r : Result V' EvalFault) → IsErrAnd r (λ e. e ≡ NoMemory) → Evaluates paths known' view' whole old new r
+      gathers_out v y (Ok u) same = absurd same
+      gathers_out v y (Err e) same =
+          record {
+            names = y.names ∙ x.names;
+            kept = keeps_both (world_of old.work) (world_of mid.work) (world_of new.work) x.kept y.kept;
+            serves = serves_both x.serves y.serves;
+            reads = λ held. let files = files_in paths held in let s = state_in old.work in
+                subst (λ (e : EvalFault). Halts Err (world_of new.work).texts files old.files new.files (whole files s) e) (sym same)
+                (loop_spends cons join x.serves (first files s) (rest files s) so_far (seen_as x (λ files. ahead cons (first files (state_in old.work)) (rest files (state_in old.work))) is held) (view (world_of new.work) v) (goes_by (before x first files) (y.reads held)));
+            found = tt;
+          }

@@ -1,0 +1,5 @@
+pub mod Parts
+pub mod Trees
+pub mod Evaluations
+pub mod Gathering
+pub mod Seconds

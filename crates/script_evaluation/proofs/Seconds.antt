@@ -1,0 +1,43 @@
+-- Parts that may be left out, where they stand.
+use Rattle.std.proofs.Common.{List, Option, Some, refl}
+use Rattle.std.specs.Prelude.{Ok, Err, option_map, IfSome}
+use Rattle.meaning.specs.Text.{Text}
+use Rattle.table_meaning.specs.Value.{Entry, GivenSub, one}
+use Rattle.frame_store.specs.declared.arguments.Argument.TheVariants.{One}
+use Rattle.frame_store.specs.declared.arguments.Subscript.{Subscript}
+use Rattle.frame_store.specs.declared.arguments.Value.{Value}
+use Rattle.script_meaning.specs.Reading.{Files, Reads, gives, then_read}
+use Rattle.script_meaning.specs.State.{State}
+use Rattle.script_evaluation.specs.Evaluates.{Moment, IsValue, Evaluates, argument_in, subscript_in}
+use Rattle.frame_store.specs.World.{World, IsKnownArgument, IsKnownSubscript, entry_in}
+use Rattle.script_work.specs.Work.{world_of}
+use Rattle.script_work.specs.declared.file_names.FileName.{FileName}
+use Rattle.script_work.specs.declared.fault.EvalFault.{EvalFault}
+use Rattle.script_work.specs.declared.work.Work.{Work}
+use Rattle.script_evaluation.proofs.Evaluations.{stops, makes}
+use Rattle.script_evaluation.proofs.Parts.{argument_known}
+
+abbrev is_second : Work → Option Subscript → Type 0
+is_second w s = IfSome s (IsKnownSubscript (world_of w))
+
+abbrev second_in : World → Option Subscript → Option GivenSub
+second_in w s = option_map (subscript_in w) s
+
+module _ {paths : List FileName} {old new : Moment} where
+  module _ {meant : Files → State → Reads GivenSub} where
+    pub seconds_stop : {f : EvalFault} → Evaluates paths (λ w s. IsKnownSubscript (world_of w) s) subscript_in meant old new (Err f)
+        → Evaluates paths is_second second_in (λ files s. then_read (meant files s) (λ g. gives (Some g))) old new (Err f)
+    seconds_stop {f} x = stops (λ files s g. gives (Some g)) x (Err f) refl
+
+    pub seconds : (v : Subscript) → Evaluates paths (λ w s. IsKnownSubscript (world_of w) s) subscript_in meant old new (Ok v)
+        → Evaluates paths is_second second_in (λ files s. then_read (meant files s) (λ g. gives (Some g))) old new (Ok (Some v))
+    seconds v x = makes (λ g. Some g) v (Some v) x x.found refl
+
+  module _ {meant : Files → State → Reads Entry} {name : Option Text} where
+    pub strides_stop : {f : EvalFault} → Evaluates paths (IsValue name) entry_in meant old new (Err f)
+        → Evaluates paths (λ w a. IsKnownArgument (world_of w) a) argument_in (λ files s. then_read (meant files s) (λ v. gives (one v))) old new (Err f)
+    strides_stop {f} x = stops (λ files s v. gives (one v)) x (Err f) refl
+
+    pub strides : (v : Value) → Evaluates paths (IsValue name) entry_in meant old new (Ok v)
+        → Evaluates paths (λ w a. IsKnownArgument (world_of w) a) argument_in (λ files s. then_read (meant files s) (λ v. gives (one v))) old new (Ok (One v))
+    strides v x = makes (λ v. one v) v (One v) x (argument_known (world_of new.work) v x.found.known) refl

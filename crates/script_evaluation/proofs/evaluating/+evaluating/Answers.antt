@@ -1,0 +1,981 @@
+use Rattle.std.proofs.Common.{refl, [], ◌∷◌, ◌++◌, length, codes, ◌≡◌, sym, ◌∙◌, ap, subst, Some, None, drop, ◌+◌, ◌≤◌, max, suc, arith, true, Option, Err}
+use Rattle.std.specs.Prelude.{List, is_some, option_map, IsErrAnd, IfSome}
+use Rattle.std.proofs.lemmas.List.{append-nil}
+use Rattle.language_meaning.specs.Tree.{arg_list, named_args, arg_pairs}
+use Rattle.language_meaning.specs.Depth.{depth, step_depth, optional_arg_depth, arg_depth, list_depth, args_depth, pairs_depth}
+use Rattle.meaning.specs.Cell.{label_datum}
+use Rattle.meaning.specs.Operator.{cell_label}
+use Rattle.table_meaning.specs.Value.{Entry, cell, GivenSub, nothing, one, row, many, entries, key_given, span_given, more_given, more_entries, no_given, no_entries}
+use Rattle.form_meaning.specs.Signature.{function_named}
+use Rattle.form_meaning.specs.Infix.{infix_result, sign_result}
+use Rattle.form_meaning.specs.Select.{length_result}
+use Rattle.select_meaning.specs.Select.{plain, through, select_result}
+use Rattle.method_meaning.specs.Calls as calls
+use Rattle.method_meaning.specs.Calls.{has_method, call_result}
+use Rattle.frame_store.proofs.RowLaws.{item_of-Row, argument_of-Table}
+use Rattle.frame_store.specs.declared.arguments.Argument.TheVariants as argument
+use Rattle.frame_store.specs.declared.arguments.Item.TheVariants as item
+use Rattle.frame_store.specs.declared.arguments.Subscript.TheVariants as subscript
+use Rattle.frame_store.specs.declared.arguments.Named.{Named}
+use Rattle.script_tokens.specs.View.{binary_of}
+use Rattle.script_meaning.specs.Reading.{Reads, at_once, gives, then_read}
+use Rattle.script_meaning.specs.Expression.{where_named, is_minus, made, named_by, value_of, stepped, named_of, parts_of as parts_given, part_of, pairs_of, given_of, sub_of, second_of, brackets_of, bound_of, stride_of, cell_of}
+use Rattle.script_tree.specs.View.{unary_of, expr_of, step_of, arg_of, accessor_of, optional_arg, parts_of, named_parts_of, pair_parts_of, sub_of as view_sub, literal_of}
+use Rattle.script_tree.proofs.Rows.{expr_of-Make, step_of-Method, step_of-Group, step_of-Rolling, step_of-Expanding, arg_of-Many, arg_of-Row, arg_of-Table}
+use Rattle.selections.specs.Selected.{way_of}
+use Rattle.script_evaluation.specs.Parts.{optional_sub, optional_expr, brackets_in}
+use Rattle.frame_store.specs.World.{World, entry_in, IsKnownArgument, AreKnownArguments}
+use Rattle.script_evaluation.specs.Evaluates.{item_in, items_in, argument_in, pairs_in, arguments_in, subscript_in}
+use Rattle.script_work.specs.Faults.{IsNoAttribute}
+use Rattle.script_work.specs.Work.{world_of, state_in}
+use Rattle.script_work.proofs.Worlds.{keeps_both, value_seen, value_kept, subscript_seen, subscript_kept, items_seen, items_kept, pairs_seen, pairs_kept, arguments_seen, arguments_kept, argument_seen, argument_kept, brackets_seen, brackets_kept}
+use Rattle.script_evaluation.proofs.Seconds.{seconds_stop, seconds, strides_stop, strides}
+use Rattle.script_evaluation.proofs.Evaluations.{evaluates_by, runs_out, stops, goes_on, adds, makes, stays, as_value, forms, knows, knows_none, names_value, writes_out, value_if}
+use Rattle.script_evaluation.proofs.Gathering.{gathered, gathers_next, gathers_none, gathers_out}
+use Rattle.script_evaluation.proofs.Parts.{join_parts, join_pairs, parts_end, pairs_end, items_push, pairs_push, arguments_push, items_known, pairs_known, arguments_known, item_known, argument_known, nothing_known, many_known, tuple_known, key_known, span_known, row_known, table_known}
+use Rattle.fault_laws.proofs.FormFaults.{sign_result_fault, infix_result_fault, length_result_fault}
+use Rattle.fault_laws.proofs.SelectFaults.{select_result_fault}
+use Rattle.fault_laws.proofs.CallFaults.{call_result_fault}
+use Rattle.meaning.specs.Text.{Text}
+use Rattle.label_methods.specs.Chains.{chain_in, IsKnownChain}
+use Rattle.table_meaning.specs.Value.{Given, NamedGiven}
+use Rattle.script_evaluation.specs.Links.{link_name, chain_behind, chain_meant, after_brackets, after_link, linked}
+use Rattle.script_evaluation.specs.declared.link.Link.{Link}
+use Rattle.script_evaluation.specs.declared.link.Link.TheVariants.{Groupby, Rolling, Expanding}
+use Rattle.cell_core.specs.declared.words.Words.{Words}
+use Rattle.frame_store.specs.declared.arguments.Argument.{Argument}
+use Rattle.frame_store.specs.declared.arguments.NamedList.{NamedList}
+use Rattle.script_work.proofs.Rides.{both_then, then_gives}
+use Rattle.script_evaluation.proofs.Trees.{drop_item, drop_end, item_depth, named_depth, pair_depth, sub_of-Span, step_of-Access}
+use Rattle.script_evaluation.proofs.evaluating.+evaluating.Goals as goal
+
+pub evaluate-returns-in-Name : goal.evaluate-returns-in-Name
+evaluate-returns-in-Name g t c =
+    let s = c.args.work.now in
+    as_value c.args.expr.now (Some c.in-Name.name)
+    (names_value s c.in-Name.name c.named.result c.named.ensures.found c.named.ensures.known c.named.ensures.fault)
+    (ap (λ e. named_by (expr_of e)) c.in-Name.is) (λ fs. ap (λ e. value_of fs (state_in s) (expr_of e)) c.in-Name.is)
+
+pub evaluate-returns-in-Literal : goal.evaluate-returns-in-Literal
+evaluate-returns-in-Literal g t c =
+    let s = c.args.work.now in
+    let u = c.literal.new.self in
+    let x = c.literal.ensures in
+    as_value c.args.expr.now None
+    (writes_out s u (cell (cell_of (literal_of c.in-Literal.literal))) c.literal.result x.names x.kept x.value x.known x.object x.memory)
+    (ap (λ e. named_by (expr_of e)) c.in-Literal.is) (λ fs. ap (λ e. value_of fs (state_in s) (expr_of e)) c.in-Literal.is)
+
+pub evaluate-returns-in-Paren : goal.evaluate-returns-in-Paren
+evaluate-returns-in-Paren g t c =
+    let s = c.args.work.now in
+    let same = c.in-Paren.is in
+    as_value c.args.expr.now (named_by (expr_of c.deref-in-Paren.result.now)) c.evaluate-in-Paren.ensures
+    (ap (λ e. named_by (expr_of e)) c.in-Paren.is ∙ ap (λ e. named_by (expr_of e)) (sym c.deref-in-Paren.ensures))
+    (λ fs. ap (λ e. value_of fs (state_in s) (expr_of e)) c.in-Paren.is ∙ ap (λ e. value_of fs (state_in s) (expr_of e)) (sym c.deref-in-Paren.ensures))
+
+pub evaluate-returns-in_err-value-in-Unary : goal.evaluate-returns-in_err-value-in-Unary
+evaluate-returns-in_err-value-in-Unary g t c =
+    let s = c.args.work.now in
+    let o = is_minus (unary_of c.in-Unary.op) in
+    as_value c.args.expr.now None
+    (stops (λ fs s v. at_once (sign_result o v)) c.in_err-value-in-Unary.ensures c.from_residual.result c.from_residual.ensures.1)
+    (ap (λ e. named_by (expr_of e)) c.in-Unary.is)
+    (λ fs. ap (λ e. value_of fs (state_in s) (expr_of e)) c.in-Unary.is ∙ ap (λ e. then_read (value_of fs (state_in s) (expr_of e)) (λ v. at_once (sign_result o v))) (sym c.deref.ensures))
+
+pub evaluate-sign-requires : goal.evaluate-sign-requires
+evaluate-sign-requires g t c =
+    c.in_ok-value-in-Unary.ensures.found.known
+
+pub evaluate-returns-in_ok-value-in-Unary : goal.evaluate-returns-in_ok-value-in-Unary
+evaluate-returns-in_ok-value-in-Unary g t c =
+    let s = c.args.work.now in
+    let o = is_minus (unary_of c.in-Unary.op) in
+    let w = c.evaluate.new.work in
+    let u = c.sign.new.self in
+    let v = c.in_ok-value-in-Unary.value in
+    let meant = sign_result o (entry_in (world_of w) v) in
+    as_value c.args.expr.now None
+    (goes_on (λ fs s v. at_once (sign_result o v)) v c.in_ok-value-in-Unary.ensures
+    (forms w u meant (sign_result_fault o (entry_in (world_of w) v)) c.sign.ensures.names c.sign.result c.evaluated.result c.evaluated.ensures c.sign.ensures.answers))
+    (ap (λ e. named_by (expr_of e)) c.in-Unary.is)
+    (λ fs. ap (λ e. value_of fs (state_in s) (expr_of e)) c.in-Unary.is ∙ ap (λ e. then_read (value_of fs (state_in s) (expr_of e)) (λ v. at_once (sign_result o v))) (sym c.deref.ensures))
+
+pub evaluate-returns-in_err-a-in-Infix : goal.evaluate-returns-in_err-a-in-Infix
+evaluate-returns-in_err-a-in-Infix g t c =
+    let s = c.args.work.now in
+    let o = binary_of c.in-Infix.op in
+    as_value c.args.expr.now None
+    (stops (λ fs s v. then_read (value_of fs s (expr_of c.in-Infix.right.value)) (λ w. at_once (infix_result o v w))) c.in_err-a-in-Infix.ensures c.from_residual-in_err-a-in-Infix.result c.from_residual-in_err-a-in-Infix.ensures.1)
+    (ap (λ e. named_by (expr_of e)) c.in-Infix.is)
+    (λ fs. ap (λ e. value_of fs (state_in s) (expr_of e)) c.in-Infix.is ∙ ap (λ e. then_read (value_of fs (state_in s) (expr_of e)) (λ v. then_read (value_of fs (state_in s) (expr_of c.in-Infix.right.value)) (λ w. at_once (infix_result o v w)))) (sym c.deref-in-Infix.ensures))
+
+pub evaluate-returns-in_err-b-in-Infix : goal.evaluate-returns-in_err-b-in-Infix
+evaluate-returns-in_err-b-in-Infix g t c =
+    let s = c.args.work.now in
+    let o = binary_of c.in-Infix.op in
+    let w = c.evaluate-in-Infix.new.work in
+    let a = entry_in (world_of w) c.in_ok-a-in-Infix.a in
+    as_value c.args.expr.now None
+    (goes_on (λ fs s v. then_read (value_of fs s (expr_of c.in-Infix.right.value)) (λ w. at_once (infix_result o v w))) c.in_ok-a-in-Infix.a c.in_ok-a-in-Infix.ensures
+    (evaluates_by (stops (λ fs s b. at_once (infix_result o a b)) c.in_err-b-in-Infix.ensures c.from_residual-in_err-b-in-Infix.result c.from_residual-in_err-b-in-Infix.ensures.1)
+    (λ fs. ap (λ e. then_read (value_of fs (state_in w) (expr_of e)) (λ b. at_once (infix_result o a b))) (sym c.deref-in-Infix-2.ensures))))
+    (ap (λ e. named_by (expr_of e)) c.in-Infix.is)
+    (λ fs. ap (λ e. value_of fs (state_in s) (expr_of e)) c.in-Infix.is ∙ ap (λ e. then_read (value_of fs (state_in s) (expr_of e)) (λ v. then_read (value_of fs (state_in s) (expr_of c.in-Infix.right.value)) (λ w. at_once (infix_result o v w)))) (sym c.deref-in-Infix.ensures))
+
+pub evaluate-infix-requires : goal.evaluate-infix-requires
+evaluate-infix-requires g t c =
+    let w = c.evaluate-in-Infix.new.work in
+    let u = c.evaluate-in-Infix-2.new.work in
+    let x = c.in_ok-a-in-Infix.ensures in
+    let y = c.in_ok-b-in-Infix.ensures in
+    record { left = value_kept (world_of w) (world_of u) w.settled u.settled y.kept c.in_ok-a-in-Infix.a x.found.known; right = y.found.known }
+
+pub evaluate-returns-in_ok-b-in-Infix : goal.evaluate-returns-in_ok-b-in-Infix
+evaluate-returns-in_ok-b-in-Infix g t c =
+    let s = c.args.work.now in
+    let o = binary_of c.in-Infix.op in
+    let w = c.evaluate-in-Infix.new.work in
+    let u = c.evaluate-in-Infix-2.new.work in
+    let z = c.infix.new.self in
+    let x = c.in_ok-a-in-Infix.ensures in
+    let y = c.in_ok-b-in-Infix.ensures in
+    let first = c.in_ok-a-in-Infix.a in
+    let a = entry_in (world_of w) first in
+    let b = entry_in (world_of u) c.in_ok-b-in-Infix.b in
+    let same = value_seen (world_of w) (world_of u) w.settled u.settled y.kept first x.found.known in
+    as_value c.args.expr.now None
+    (goes_on (λ fs s v. then_read (value_of fs s (expr_of c.in-Infix.right.value)) (λ w. at_once (infix_result o v w))) first x
+    (evaluates_by (goes_on (λ fs s b. at_once (infix_result o a b)) c.in_ok-b-in-Infix.b y
+    (evaluates_by (forms u z (infix_result o (entry_in (world_of u) first) b) (infix_result_fault o (entry_in (world_of u) first) b) c.infix.ensures.names c.infix.result c.evaluated-in-Infix.result c.evaluated-in-Infix.ensures c.infix.ensures.answers)
+    (λ fs. ap (λ e. at_once (infix_result o e b)) (sym same))))
+    (λ fs. ap (λ e. then_read (value_of fs (state_in w) (expr_of e)) (λ b. at_once (infix_result o a b))) (sym c.deref-in-Infix-2.ensures))))
+    (ap (λ e. named_by (expr_of e)) c.in-Infix.is)
+    (λ fs. ap (λ e. value_of fs (state_in s) (expr_of e)) c.in-Infix.is ∙ ap (λ e. then_read (value_of fs (state_in s) (expr_of e)) (λ v. then_read (value_of fs (state_in s) (expr_of c.in-Infix.right.value)) (λ w. at_once (infix_result o v w)))) (sym c.deref-in-Infix.ensures))
+
+pub evaluate-returns-in_err-on-in-After : goal.evaluate-returns-in_err-on-in-After
+evaluate-returns-in_err-on-in-After g t c =
+    let s = c.args.work.now in
+    as_value c.args.expr.now None
+    (stops (λ fs s v. stepped fs s v (step_of c.in-After.step.value)) c.in_err-on-in-After.ensures c.from_residual-in_err-on-in-After.result c.from_residual-in_err-on-in-After.ensures.1)
+    (ap (λ e. named_by (expr_of e)) c.in-After.is)
+    (λ fs. ap (λ e. value_of fs (state_in s) (expr_of e)) c.in-After.is ∙ ap (λ e. then_read (value_of fs (state_in s) (expr_of e)) (λ v. stepped fs (state_in s) v (step_of c.in-After.step.value))) (sym c.deref-in-After.ensures))
+
+pub evaluate-returns-in_ok-on-in-After : goal.evaluate-returns-in_ok-on-in-After
+evaluate-returns-in_ok-on-in-After g t c =
+    let s = c.args.work.now in
+    let w = c.evaluate-in-After.new.work in
+    let v = entry_in (world_of w) c.in_ok-on-in-After.on in
+    as_value c.args.expr.now None
+    (goes_on (λ fs s v. stepped fs s v (step_of c.in-After.step.value)) c.in_ok-on-in-After.on c.in_ok-on-in-After.ensures
+    (evaluates_by c.after.ensures (λ fs. ap (λ e. stepped fs (state_in w) v (step_of e)) (sym c.deref-in-After-2.ensures))))
+    (ap (λ e. named_by (expr_of e)) c.in-After.is)
+    (λ fs. ap (λ e. value_of fs (state_in s) (expr_of e)) c.in-After.is ∙ ap (λ e. then_read (value_of fs (state_in s) (expr_of e)) (λ v. stepped fs (state_in s) v (step_of c.in-After.step.value))) (sym c.deref-in-After.ensures))
+
+pub evaluate-returns-in_err-value-in-Len : goal.evaluate-returns-in_err-value-in-Len
+evaluate-returns-in_err-value-in-Len g t c =
+    let s = c.args.work.now in
+    as_value c.args.expr.now None
+    (stops (λ fs s v. at_once (length_result v)) c.in_err-value-in-Len.ensures c.from_residual-in_err-value-in-Len.result c.from_residual-in_err-value-in-Len.ensures.1)
+    (ap (λ e. named_by (expr_of e)) c.in-Len.is)
+    (λ fs. ap (λ e. value_of fs (state_in s) (expr_of e)) c.in-Len.is ∙ ap (λ e. then_read (value_of fs (state_in s) (expr_of e)) (λ v. at_once (length_result v))) (sym c.deref-in-Len.ensures))
+
+pub evaluate-length-requires : goal.evaluate-length-requires
+evaluate-length-requires g t c =
+    c.in_ok-value-in-Len.ensures.found.known
+
+pub evaluate-returns-in_ok-value-in-Len : goal.evaluate-returns-in_ok-value-in-Len
+evaluate-returns-in_ok-value-in-Len g t c =
+    let s = c.args.work.now in
+    let w = c.evaluate-in-Len.new.work in
+    let v = c.in_ok-value-in-Len.value in
+    as_value c.args.expr.now None
+    (goes_on (λ fs s v. at_once (length_result v)) v c.in_ok-value-in-Len.ensures
+    (forms w w (length_result (entry_in (world_of w) v)) (length_result_fault (entry_in (world_of w) v)) refl c.length.result c.evaluated-in-Len.result c.evaluated-in-Len.ensures c.length.ensures))
+    (ap (λ e. named_by (expr_of e)) c.in-Len.is)
+    (λ fs. ap (λ e. value_of fs (state_in s) (expr_of e)) c.in-Len.is ∙ ap (λ e. then_read (value_of fs (state_in s) (expr_of e)) (λ v. at_once (length_result v))) (sym c.deref-in-Len.ensures))
+
+pub evaluate-arguments-requires : goal.evaluate-arguments-requires
+evaluate-arguments-requires g t c =
+    let deep : depth (expr_of c.args.expr.now) ≡ suc (args_depth (named_args (named_parts_of c.in-Make.args))) = ap depth (ap expr_of c.in-Make.is ∙ expr_of-Make c.in-Make.function c.in-Make.args) in
+    λ κs within. (omega (arith, deep, c.decreases), within)
+
+pub evaluate-returns-in_err-expect_function-in-Make : goal.evaluate-returns-in_err-expect_function-in-Make
+evaluate-returns-in_err-expect_function-in-Make g t c =
+    let s = c.args.work.now in
+    let n = c.in-Make.function in
+    let x = c.in_err-expect_function-in-Make in
+    as_value c.args.expr.now None
+    (knows_none (λ fs s. then_read (named_of fs s (named_args (named_parts_of c.in-Make.args))) (made fs n)) x.field-0.0 (is_some (function_named n)) n (subst (λ k. IsNoAttribute x.field-0.0 k (is_some (function_named k))) c.as_str.ensures x.ensures.fault) c.from_residual-in_err-expect_function-in-Make.result c.from_residual-in_err-expect_function-in-Make.ensures.1)
+    (ap (λ e. named_by (expr_of e)) c.in-Make.is ∙ ap named_by (expr_of-Make n c.in-Make.args))
+    (λ fs. ap (λ e. value_of fs (state_in s) (expr_of e)) c.in-Make.is ∙ ap (value_of fs (state_in s)) (expr_of-Make n c.in-Make.args))
+
+pub evaluate-returns-in_err-args-in-Make : goal.evaluate-returns-in_err-args-in-Make
+evaluate-returns-in_err-args-in-Make g t c =
+    let s = c.args.work.now in
+    let n = c.in-Make.function in
+    let known : is_some (function_named n) ≡ true = ap (λ k. is_some (function_named k)) (sym c.as_str.ensures) ∙ c.in_ok-expect_function-in-Make.ensures.known in
+    as_value c.args.expr.now None
+    (knows (λ fs s. then_read (named_of fs s (named_args (named_parts_of c.in-Make.args))) (made fs n)) (is_some (function_named n)) n known (stops (λ fs s. made fs n) c.in_err-args-in-Make.ensures c.from_residual-in_err-args-in-Make.result c.from_residual-in_err-args-in-Make.ensures.1))
+    (ap (λ e. named_by (expr_of e)) c.in-Make.is ∙ ap named_by (expr_of-Make n c.in-Make.args))
+    (λ fs. ap (λ e. value_of fs (state_in s) (expr_of e)) c.in-Make.is ∙ ap (value_of fs (state_in s)) (expr_of-Make n c.in-Make.args))
+
+pub evaluate-call-requires : goal.evaluate-call-requires
+evaluate-call-requires g t c =
+    c.in_ok-args-in-Make.ensures.found
+
+pub evaluate-returns-in_ok-args-in-Make : goal.evaluate-returns-in_ok-args-in-Make
+evaluate-returns-in_ok-args-in-Make g t c =
+    let s = c.args.work.now in
+    let n = c.in-Make.function in
+    let known : is_some (function_named n) ≡ true = ap (λ k. is_some (function_named k)) (sym c.as_str.ensures) ∙ c.in_ok-expect_function-in-Make.ensures.known in
+    let y = c.call.ensures in
+    as_value c.args.expr.now None
+    (knows (λ fs s. then_read (named_of fs s (named_args (named_parts_of c.in-Make.args))) (made fs n)) (is_some (function_named n)) n known (goes_on (λ fs s. made fs n) c.in_ok-args-in-Make.args c.in_ok-args-in-Make.ensures
+    record { names = y.names; kept = y.kept; serves = y.serves; reads = y.reads; found = value_if c.call.new.self c.call.result y.known y.object }))
+    (ap (λ e. named_by (expr_of e)) c.in-Make.is ∙ ap named_by (expr_of-Make n c.in-Make.args))
+    (λ fs. ap (λ e. value_of fs (state_in s) (expr_of e)) c.in-Make.is ∙ ap (value_of fs (state_in s)) (expr_of-Make n c.in-Make.args))
+
+pub after-returns-in_err-key-in-Item : goal.after-returns-in_err-key-in-Item
+after-returns-in_err-key-in-Item g t c =
+    let s = c.args.work.now in
+    let v = entry_in (world_of s) c.args.on in
+    evaluates_by (stops (λ fs s g. at_once (select_result v plain (key_given g) None)) c.in_err-key-in-Item.ensures c.from_residual.result c.from_residual.ensures.1)
+    (λ fs. ap (λ y. stepped fs (state_in s) v (step_of y)) c.in-Item.is)
+
+pub after-select-requires : goal.after-select-requires
+after-select-requires g t c =
+    let s = c.args.work.now in
+    let w = c.given.new.work in
+    let x = c.in_ok-key-in-Item.ensures in
+    record {
+      on = value_kept (world_of s) (world_of w) s.settled w.settled x.kept c.args.on c.requires;
+      first = key_known (world_of w) c.in_ok-key-in-Item.key x.found;
+      second = tt;
+    }
+
+pub after-returns-in_ok-key-in-Item : goal.after-returns-in_ok-key-in-Item
+after-returns-in_ok-key-in-Item g t c =
+    let s = c.args.work.now in
+    let v = entry_in (world_of s) c.args.on in
+    let w = c.given.new.work in
+    let u = c.select.new.self in
+    let x = c.in_ok-key-in-Item.ensures in
+    let on = entry_in (world_of w) c.args.on in
+    let key = key_given (argument_in (world_of w) c.in_ok-key-in-Item.key) in
+    let same = value_seen (world_of s) (world_of w) s.settled w.settled x.kept c.args.on c.requires in
+    evaluates_by (goes_on (λ fs s g. at_once (select_result v plain (key_given g) None)) c.in_ok-key-in-Item.key x
+    (evaluates_by (forms w u (select_result on plain key None) (select_result_fault on plain key None) c.select.ensures.names c.select.result c.evaluated.result c.evaluated.ensures c.select.ensures.answers)
+    (λ fs. ap (λ e. at_once (select_result e plain key None)) (sym same))))
+    (λ fs. ap (λ y. stepped fs (state_in s) v (step_of y)) c.in-Item.is)
+
+pub after-returns-in_err-first-in-Access : goal.after-returns-in_err-first-in-Access
+after-returns-in_err-first-in-Access g t c =
+    let s = c.args.work.now in
+    let v = entry_in (world_of s) c.args.on in
+    let y = c.in-Access in
+    let by = accessor_of y.by in
+    evaluates_by (stops (λ fs s q. at_once (select_result v (through by) q.0 q.1)) c.in_err-first-in-Access.ensures c.from_residual-in_err-first-in-Access.result c.from_residual-in_err-first-in-Access.ensures.1)
+    (λ fs. ap (λ y. stepped fs (state_in s) v (step_of y)) c.in-Access.is ∙ ap (stepped fs (state_in s) v) (step_of-Access y.by y.first y.second) ∙ both_then Err _ _ (λ g h. at_once (select_result v (through by) g h)))
+
+pub after-select-requires-in-Access : goal.after-select-requires-in-Access
+after-select-requires-in-Access g t c =
+    let s = c.args.work.now in
+    let w = c.subscripts.new.work in
+    let x = c.in_ok-first-in-Access.ensures in
+    record {
+      on = value_kept (world_of s) (world_of w) s.settled w.settled x.kept c.args.on c.requires;
+      first = x.found.0;
+      second = x.found.1;
+    }
+
+pub after-returns-in_ok-first-in-Access : goal.after-returns-in_ok-first-in-Access
+after-returns-in_ok-first-in-Access g t c =
+    let s = c.args.work.now in
+    let v = entry_in (world_of s) c.args.on in
+    let y = c.in-Access in
+    let by = accessor_of y.by in
+    let w = c.subscripts.new.work in
+    let u = c.select-in-Access.new.self in
+    let x = c.in_ok-first-in-Access.ensures in
+    let on = entry_in (world_of w) c.args.on in
+    let first = subscript_in (world_of w) c.in_ok-first-in-Access.first in
+    let second = option_map (subscript_in (world_of w)) c.in_ok-first-in-Access.second in
+    let way = way_of c.selector_of.result in
+    let same = value_seen (world_of s) (world_of w) s.settled w.settled x.kept c.args.on c.requires in
+    evaluates_by (goes_on (λ fs s q. at_once (select_result v (through by) q.0 q.1)) (c.in_ok-first-in-Access.first, c.in_ok-first-in-Access.second) x
+    (evaluates_by (forms w u (select_result on way first second) (select_result_fault on way first second) c.select-in-Access.ensures.names c.select-in-Access.result c.evaluated-in-Access.result c.evaluated-in-Access.ensures c.select-in-Access.ensures.answers)
+    (λ fs. ap (λ e. at_once (select_result e (through by) first second)) (sym same) ∙ ap (λ way. at_once (select_result on way first second)) (sym c.selector_of.ensures))))
+    (λ fs. ap (λ y. stepped fs (state_in s) v (step_of y)) c.in-Access.is ∙ ap (stepped fs (state_in s) v) (step_of-Access y.by y.first y.second) ∙ both_then Err _ _ (λ g h. at_once (select_result v (through by) g h)))
+
+pub after-arguments-requires : goal.after-arguments-requires
+after-arguments-requires g t c =
+    let deep : step_depth (step_of c.args.step.now) ≡ args_depth (named_args (named_parts_of c.in-Method.args)) = ap step_depth (ap step_of c.in-Method.is ∙ step_of-Method c.in-Method.name c.in-Method.args) in
+    λ κs within. (omega (arith, deep, c.decreases), within)
+
+pub after-returns-in_err-expect_method-in-Method : goal.after-returns-in_err-expect_method-in-Method
+after-returns-in_err-expect_method-in-Method g t c =
+    let s = c.args.work.now in
+    let v = entry_in (world_of s) c.args.on in
+    let n = c.in-Method.name in
+    let x = c.in_err-expect_method-in-Method in
+    evaluates_by (knows_none (λ fs s. then_read (named_of fs s (named_args (named_parts_of c.in-Method.args))) (λ gs. at_once (call_result v (calls.plain n) gs))) x.field-0.0 (has_method v n) n (subst (λ k. IsNoAttribute x.field-0.0 k (has_method v k)) c.as_str.ensures (x.ensures.fault (world_of s).texts)) c.from_residual-in_err-expect_method-in-Method.result c.from_residual-in_err-expect_method-in-Method.ensures.1)
+    (λ fs. ap (λ y. stepped fs (state_in s) v (step_of y)) c.in-Method.is ∙ ap (stepped fs (state_in s) v) (step_of-Method n c.in-Method.args))
+
+pub after-returns-in_err-args-in-Method : goal.after-returns-in_err-args-in-Method
+after-returns-in_err-args-in-Method g t c =
+    let s = c.args.work.now in
+    let v = entry_in (world_of s) c.args.on in
+    let n = c.in-Method.name in
+    let known : has_method v n ≡ true = ap (has_method v) (sym c.as_str.ensures) ∙ c.in_ok-expect_method-in-Method.ensures.known s.dict in
+    evaluates_by (knows (λ fs s. then_read (named_of fs s (named_args (named_parts_of c.in-Method.args))) (λ gs. at_once (call_result v (calls.plain n) gs))) (has_method v n) n known (stops (λ fs s gs. at_once (call_result v (calls.plain n) gs)) c.in_err-args-in-Method.ensures c.from_residual-in_err-args-in-Method.result c.from_residual-in_err-args-in-Method.ensures.1))
+    (λ fs. ap (λ y. stepped fs (state_in s) v (step_of y)) c.in-Method.is ∙ ap (stepped fs (state_in s) v) (step_of-Method n c.in-Method.args))
+
+pub after-returns-in_err-name-in-Method : goal.after-returns-in_err-name-in-Method
+after-returns-in_err-name-in-Method g t c =
+    let s = c.args.work.now in
+    let v = entry_in (world_of s) c.args.on in
+    let n = c.in-Method.name in
+    let known : has_method v n ≡ true = ap (has_method v) (sym c.as_str.ensures) ∙ c.in_ok-expect_method-in-Method.ensures.known s.dict in
+    evaluates_by (knows (λ fs s. then_read (named_of fs s (named_args (named_parts_of c.in-Method.args))) (λ gs. at_once (call_result v (calls.plain n) gs))) (has_method v n) n known (goes_on (λ fs s gs. at_once (call_result v (calls.plain n) gs)) c.in_ok-args-in-Method.args c.in_ok-args-in-Method.ensures (runs_out c.from_residual-in_err-name-in-Method.result c.from_residual-in_err-name-in-Method.ensures.1)))
+    (λ fs. ap (λ y. stepped fs (state_in s) v (step_of y)) c.in-Method.is ∙ ap (stepped fs (state_in s) v) (step_of-Method n c.in-Method.args))
+
+pub after-method-requires : goal.after-method-requires
+after-method-requires g t c =
+    let s = c.args.work.now in
+    let w = c.arguments.new.work in
+    let x = c.in_ok-args-in-Method.ensures in
+    record {
+      on = value_kept (world_of s) (world_of w) s.settled w.settled x.kept c.args.on c.requires;
+      before = tt;
+      arguments = x.found;
+    }
+
+pub after-returns-in_ok-name-in-Method : goal.after-returns-in_ok-name-in-Method
+after-returns-in_ok-name-in-Method g t c =
+    let s = c.args.work.now in
+    let v = entry_in (world_of s) c.args.on in
+    let n = c.in-Method.name in
+    let known : has_method v n ≡ true = ap (has_method v) (sym c.as_str.ensures) ∙ c.in_ok-expect_method-in-Method.ensures.known s.dict in
+    let w = c.arguments.new.work in
+    let u = c.method.new.self in
+    let x = c.in_ok-args-in-Method.ensures in
+    let on = entry_in (world_of w) c.args.on in
+    let k = calls.plain c.in_ok-name-in-Method.name in
+    let args = arguments_in (world_of w) c.in_ok-args-in-Method.args in
+    let same = value_seen (world_of s) (world_of w) s.settled w.settled x.kept c.args.on c.requires in
+    evaluates_by (knows (λ fs s. then_read (named_of fs s (named_args (named_parts_of c.in-Method.args))) (λ gs. at_once (call_result v (calls.plain n) gs))) (has_method v n) n known (goes_on (λ fs s gs. at_once (call_result v (calls.plain n) gs)) c.in_ok-args-in-Method.args x
+    (evaluates_by (forms w u (call_result on k args) (call_result_fault on k args) c.method.ensures.names c.method.result c.evaluated-in-Method.result c.evaluated-in-Method.ensures c.method.ensures.answers)
+    (λ fs. ap (λ e. at_once (call_result e (calls.plain n) args)) (sym same) ∙ ap (λ k. at_once (call_result on (calls.plain k) args)) (sym c.as_str-in-Method.ensures ∙ sym c.in_ok-name-in-Method.ensures)))))
+    (λ fs. ap (λ y. stepped fs (state_in s) v (step_of y)) c.in-Method.is ∙ ap (stepped fs (state_in s) v) (step_of-Method n c.in-Method.args))
+
+-- what a chain is seen as
+chain_seen : (w : World) (link : Link) (args : NamedList) (by : Option Argument) (name : Words) → chain_in w (chain_behind link args by name) ≡ chain_meant link (arguments_in w args) (brackets_in w by) name
+chain_seen w Groupby args by name = refl
+chain_seen w Rolling args by name = refl
+chain_seen w Expanding args by name = refl
+
+-- its arguments and brackets are known
+chain_known : (w : World) (link : Link) (args : NamedList) (by : Option Argument) (name : Words) → AreKnownArguments w args.items.items → IfSome by (IsKnownArgument w) → IsKnownChain w (chain_behind link args by name)
+chain_known w Groupby args by name known k = (known, k)
+chain_known w Rolling args by name known k = tt
+chain_known w Expanding args by name known k = tt
+
+-- a call without brackets reads nothing in their place
+no_brackets : (v : Entry) (n : Text) (args more : Reads (List NamedGiven)) → where_named (has_method v n) n (then_read args (λ g. then_read more (λ gs. at_once (call_result v (calls.through n) gs))))
+    ≡ where_named (has_method v n) n (then_read args (λ g. then_read (gives None) (λ (h : Option Given). then_read more (λ gs. at_once (call_result v (calls.through n) gs)))))
+no_brackets v n args more =
+    let nowhere : Option Given = None in
+    ap (λ m. where_named (has_method v n) n (then_read args (λ g. m))) (sym (then_gives Err nowhere (λ (h : Option Given). then_read more (λ gs. at_once (call_result v (calls.through n) gs)))))
+
+pub after-through-requires : goal.after-through-requires
+after-through-requires g t c =
+    let deep : step_depth (step_of c.args.step.now) ≡ max (args_depth (named_args (named_parts_of c.in-Group.args))) (max (optional_arg_depth (optional_arg c.in-Group.by)) (args_depth (named_args (named_parts_of c.in-Group.more)))) = ap step_depth (ap step_of c.in-Group.is ∙ step_of-Group c.in-Group.args c.in-Group.by c.in-Group.name c.in-Group.more) in
+    rw c.linked-call.ensures (λ κs within. (omega (arith, deep, c.decreases), (within, c.requires)))
+
+pub after-through-requires-in-Rolling : goal.after-through-requires-in-Rolling
+after-through-requires-in-Rolling g t c =
+    let deep : step_depth (step_of c.args.step.now) ≡ max (args_depth (named_args (named_parts_of c.in-Rolling.args))) (args_depth (named_args (named_parts_of c.in-Rolling.more))) = ap step_depth (ap step_of c.in-Rolling.is ∙ step_of-Rolling c.in-Rolling.args c.in-Rolling.name c.in-Rolling.more) in
+    rw c.linked-call-in-Rolling.ensures (λ κs within. (omega (arith, deep, c.decreases), (within, c.requires)))
+
+pub after-through-requires-in-Expanding : goal.after-through-requires-in-Expanding
+after-through-requires-in-Expanding g t c =
+    let deep : step_depth (step_of c.args.step.now) ≡ max (args_depth (named_args (named_parts_of c.in-Expanding.args))) (args_depth (named_args (named_parts_of c.in-Expanding.more))) = ap step_depth (ap step_of c.in-Expanding.is ∙ step_of-Expanding c.in-Expanding.args c.in-Expanding.name c.in-Expanding.more) in
+    rw c.linked-call-in-Expanding.ensures (λ κs within. (omega (arith, deep, c.decreases), (within, c.requires)))
+
+pub after-returns-in-Group : goal.after-returns-in-Group
+after-returns-in-Group g t c =
+    let s = c.args.work.now in
+    let v = entry_in (world_of s) c.args.on in
+    let y = c.in-Group in
+    evaluates_by c.through.ensures (λ fs. ap (λ y. stepped fs (state_in s) v (step_of y)) c.in-Group.is ∙ ap (stepped fs (state_in s) v) (step_of-Group y.args y.by y.name y.more) ∙ ap (linked fs (state_in s) v) (sym c.linked-call.ensures))
+
+pub after-returns-in-Rolling : goal.after-returns-in-Rolling
+after-returns-in-Rolling g t c =
+    let s = c.args.work.now in
+    let v = entry_in (world_of s) c.args.on in
+    let y = c.in-Rolling in
+    evaluates_by c.through-in-Rolling.ensures (λ fs. ap (λ y. stepped fs (state_in s) v (step_of y)) c.in-Rolling.is ∙ ap (stepped fs (state_in s) v) (step_of-Rolling y.args y.name y.more)
+    ∙ no_brackets v (codes "rolling") (named_of fs (state_in s) (named_args (named_parts_of y.args))) (named_of fs (state_in s) (named_args (named_parts_of y.more))) ∙ ap (linked fs (state_in s) v) (sym c.linked-call-in-Rolling.ensures))
+
+pub after-returns-in-Expanding : goal.after-returns-in-Expanding
+after-returns-in-Expanding g t c =
+    let s = c.args.work.now in
+    let v = entry_in (world_of s) c.args.on in
+    let y = c.in-Expanding in
+    evaluates_by c.through-in-Expanding.ensures (λ fs. ap (λ y. stepped fs (state_in s) v (step_of y)) c.in-Expanding.is ∙ ap (stepped fs (state_in s) v) (step_of-Expanding y.args y.name y.more)
+    ∙ no_brackets v (codes "expanding") (named_of fs (state_in s) (named_args (named_parts_of y.args))) (named_of fs (state_in s) (named_args (named_parts_of y.more))) ∙ ap (linked fs (state_in s) v) (sym c.linked-call-in-Expanding.ensures))
+
+pub through-returns-in_err-expect_method : goal.through-returns-in_err-expect_method
+through-returns-in_err-expect_method g t c =
+    let s = c.args.work.now in
+    let v = entry_in (world_of s) c.args.on in
+    let call = c.args.call in
+    let n = link_name call.link in
+    let x = c.in_err-expect_method in
+    knows_none (λ fs s. then_read (named_of fs s (named_args (named_parts_of call.args.now))) (after_link fs s v call)) x.field-0.0 (has_method v n) n (subst (λ k. IsNoAttribute x.field-0.0 k (has_method v k)) c.name.ensures (x.ensures.fault (world_of s).texts)) c.from_residual.result c.from_residual.ensures.1
+
+pub through-returns-in_err-args : goal.through-returns-in_err-args
+through-returns-in_err-args g t c =
+    let s = c.args.work.now in
+    let v = entry_in (world_of s) c.args.on in
+    let call = c.args.call in
+    let n = link_name call.link in
+    let known : has_method v n ≡ true = ap (has_method v) (sym c.name.ensures) ∙ c.in_ok-expect_method.ensures.known s.dict in
+    knows (λ fs s. then_read (named_of fs s (named_args (named_parts_of call.args.now))) (after_link fs s v call)) (has_method v n) n known
+    (stops (λ fs s. after_link fs s v call) c.in_err-args.ensures c.from_residual-in_err-args.result c.from_residual-in_err-args.ensures.1)
+
+pub through-returns-in_err-by : goal.through-returns-in_err-by
+through-returns-in_err-by g t c =
+    let s = c.args.work.now in
+    let v = entry_in (world_of s) c.args.on in
+    let call = c.args.call in
+    let n = link_name call.link in
+    let known : has_method v n ≡ true = ap (has_method v) (sym c.name.ensures) ∙ c.in_ok-expect_method.ensures.known s.dict in
+    let a = arguments_in (world_of c.arguments.new.work) c.in_ok-args.args in
+    knows (λ fs s. then_read (named_of fs s (named_args (named_parts_of call.args.now))) (after_link fs s v call)) (has_method v n) n known
+    (goes_on (λ fs s. after_link fs s v call) c.in_ok-args.args c.in_ok-args.ensures
+    (stops (λ fs s. after_brackets fs s v call a) c.in_err-by.ensures c.from_residual-in_err-by.result c.from_residual-in_err-by.ensures.1))
+
+pub through-returns-in_err-more : goal.through-returns-in_err-more
+through-returns-in_err-more g t c =
+    let s = c.args.work.now in
+    let v = entry_in (world_of s) c.args.on in
+    let call = c.args.call in
+    let n = link_name call.link in
+    let known : has_method v n ≡ true = ap (has_method v) (sym c.name.ensures) ∙ c.in_ok-expect_method.ensures.known s.dict in
+    let a = arguments_in (world_of c.arguments.new.work) c.in_ok-args.args in
+    let b = brackets_in (world_of c.brackets.new.work) c.in_ok-by.by in
+    knows (λ fs s. then_read (named_of fs s (named_args (named_parts_of call.args.now))) (after_link fs s v call)) (has_method v n) n known
+    (goes_on (λ fs s. after_link fs s v call) c.in_ok-args.args c.in_ok-args.ensures
+    (goes_on (λ fs s. after_brackets fs s v call a) c.in_ok-by.by c.in_ok-by.ensures
+    (stops (λ fs s gs. at_once (call_result v (chain_meant call.link a b call.name.now) gs)) c.in_err-more.ensures c.from_residual-in_err-more.result c.from_residual-in_err-more.ensures.1)))
+
+pub through-returns-in_err-name : goal.through-returns-in_err-name
+through-returns-in_err-name g t c =
+    let s = c.args.work.now in
+    let v = entry_in (world_of s) c.args.on in
+    let call = c.args.call in
+    let n = link_name call.link in
+    let known : has_method v n ≡ true = ap (has_method v) (sym c.name.ensures) ∙ c.in_ok-expect_method.ensures.known s.dict in
+    let a = arguments_in (world_of c.arguments.new.work) c.in_ok-args.args in
+    let b = brackets_in (world_of c.brackets.new.work) c.in_ok-by.by in
+    knows (λ fs s. then_read (named_of fs s (named_args (named_parts_of call.args.now))) (after_link fs s v call)) (has_method v n) n known
+    (goes_on (λ fs s. after_link fs s v call) c.in_ok-args.args c.in_ok-args.ensures
+    (goes_on (λ fs s. after_brackets fs s v call a) c.in_ok-by.by c.in_ok-by.ensures
+    (goes_on (λ fs s gs. at_once (call_result v (chain_meant call.link a b call.name.now) gs)) c.in_ok-more.more c.in_ok-more.ensures
+    (runs_out c.from_residual-in_err-name.result c.from_residual-in_err-name.ensures.1))))
+
+pub through-method-requires : goal.through-method-requires
+through-method-requires g t c =
+    let s = c.args.work.now in
+    let p = c.arguments.new.work in
+    let q = c.brackets.new.work in
+    let w = c.arguments-2.new.work in
+    let x = c.in_ok-args.ensures in
+    let y = c.in_ok-by.ensures in
+    let z = c.in_ok-more.ensures in
+    let kept = keeps_both _ _ _ x.kept (keeps_both _ _ _ y.kept z.kept) in
+    let args = arguments_kept (world_of p) (world_of w) p.settled w.settled (keeps_both _ _ _ y.kept z.kept) c.in_ok-args.args.items.items x.found in
+    let by = brackets_kept (world_of q) (world_of w) q.settled w.settled z.kept c.in_ok-by.by y.found in
+    record {
+      on = value_kept (world_of s) (world_of w) s.settled w.settled kept c.args.on c.requires;
+      before = subst (IsKnownChain (world_of w)) (sym c.chain.ensures) (chain_known (world_of w) c.args.call.link c.in_ok-args.args c.in_ok-by.by c.in_ok-name.name args by);
+      arguments = z.found;
+    }
+
+pub through-returns : goal.through-returns
+through-returns g t c =
+    let s = c.args.work.now in
+    let v = entry_in (world_of s) c.args.on in
+    let call = c.args.call in
+    let n = link_name call.link in
+    let known : has_method v n ≡ true = ap (has_method v) (sym c.name.ensures) ∙ c.in_ok-expect_method.ensures.known s.dict in
+    let p = c.arguments.new.work in
+    let q = c.brackets.new.work in
+    let w = c.arguments-2.new.work in
+    let u = c.method.new.self in
+    let x = c.in_ok-args.ensures in
+    let y = c.in_ok-by.ensures in
+    let z = c.in_ok-more.ensures in
+    let on = entry_in (world_of w) c.args.on in
+    let a = arguments_in (world_of p) c.in_ok-args.args in
+    let b = brackets_in (world_of q) c.in_ok-by.by in
+    let k = chain_in (world_of w) c.chain.result in
+    let args = arguments_in (world_of w) c.in_ok-more.more in
+    let kept = keeps_both _ _ _ x.kept (keeps_both _ _ _ y.kept z.kept) in
+    let same = value_seen (world_of s) (world_of w) s.settled w.settled kept c.args.on c.requires in
+    let args_same : arguments_in (world_of w) c.in_ok-args.args ≡ a = arguments_seen (world_of p) (world_of w) p.settled w.settled (keeps_both _ _ _ y.kept z.kept) c.in_ok-args.args.items.items x.found in
+    let by_same : brackets_in (world_of w) c.in_ok-by.by ≡ b = brackets_seen (world_of q) (world_of w) q.settled w.settled z.kept c.in_ok-by.by y.found in
+    let named : c.in_ok-name.name ≡ call.name.now = c.in_ok-name.ensures ∙ c.as_str.ensures in
+    let chained : k ≡ chain_meant call.link a b call.name.now =
+    ap (chain_in (world_of w)) c.chain.ensures ∙ chain_seen (world_of w) call.link c.in_ok-args.args c.in_ok-by.by c.in_ok-name.name
+    ∙ (λ i. chain_meant call.link (args_same i) (by_same i) (named i)) in
+    knows (λ fs s. then_read (named_of fs s (named_args (named_parts_of call.args.now))) (after_link fs s v call)) (has_method v n) n known
+    (goes_on (λ fs s. after_link fs s v call) c.in_ok-args.args x
+    (goes_on (λ fs s. after_brackets fs s v call a) c.in_ok-by.by y
+    (goes_on (λ fs s gs. at_once (call_result v (chain_meant call.link a b call.name.now) gs)) c.in_ok-more.more z
+    (evaluates_by (forms w u (call_result on k args) (call_result_fault on k args) c.method.ensures.names c.method.result c.evaluated.result c.evaluated.ensures c.method.ensures.answers)
+    (λ fs. ap (λ e. at_once (call_result e (chain_meant call.link a b call.name.now) args)) (sym same) ∙ ap (λ k. at_once (call_result on k args)) (sym chained))))))
+
+pub subscripts-returns-in_err-first : goal.subscripts-returns-in_err-first
+subscripts-returns-in_err-first g t c =
+    stops (λ fs s v. then_read (second_of fs s (optional_sub c.args.second.now)) (λ w. let p : GivenSub × Option GivenSub = (v, w) in gives p)) c.in_err-first.ensures c.from_residual.result c.from_residual.ensures.1
+
+pub subscripts-returns-in_err-second-in-Some : goal.subscripts-returns-in_err-second-in-Some
+subscripts-returns-in_err-second-in-Some g t c =
+    let w = c.sub.new.work in
+    let a = subscript_in (world_of w) c.in_ok-first.first in
+    goes_on (λ fs s v. then_read (second_of fs s (optional_sub c.args.second.now)) (λ w. let p : GivenSub × Option GivenSub = (v, w) in gives p)) c.in_ok-first.first c.in_ok-first.ensures
+    (evaluates_by (stops (λ fs s h. let p : GivenSub × Option GivenSub = (a, h) in gives p) (seconds_stop c.in_err-second-in-Some.ensures) c.from_residual-in_err-second-in-Some.result c.from_residual-in_err-second-in-Some.ensures.1)
+    (λ fs. ap (λ o. then_read (second_of fs (state_in w) (optional_sub o)) (λ h. let p : GivenSub × Option GivenSub = (a, h) in gives p)) c.in-Some.is))
+
+pub subscripts-returns-in_ok-second-in-Some : goal.subscripts-returns-in_ok-second-in-Some
+subscripts-returns-in_ok-second-in-Some g t c =
+    let w = c.sub.new.work in
+    let u = c.sub-in-Some.new.work in
+    let x = c.in_ok-first.ensures in
+    let y = c.in_ok-second-in-Some.ensures in
+    let first = c.in_ok-first.first in
+    let second = c.in_ok-second-in-Some.second in
+    let a = subscript_in (world_of w) first in
+    let same = subscript_seen (world_of w) (world_of u) w.settled u.settled y.kept first x.found in
+    goes_on (λ fs s v. then_read (second_of fs s (optional_sub c.args.second.now)) (λ w. let p : GivenSub × Option GivenSub = (v, w) in gives p)) first x
+    (evaluates_by (makes (λ h. let p : GivenSub × Option GivenSub = (a, h) in p) (Some second) (first, Some second) (seconds second y)
+    (subscript_kept (world_of w) (world_of u) w.settled u.settled y.kept first x.found, y.found)
+    (ap (λ z. let p : GivenSub × Option GivenSub = (z, Some (subscript_in (world_of u) second)) in p) same))
+    (λ fs. ap (λ o. then_read (second_of fs (state_in w) (optional_sub o)) (λ h. let p : GivenSub × Option GivenSub = (a, h) in gives p)) c.in-Some.is))
+
+pub subscripts-returns-in-None : goal.subscripts-returns-in-None
+subscripts-returns-in-None g t c =
+    let w = c.sub.new.work in
+    let x = c.in_ok-first.ensures in
+    let first = c.in_ok-first.first in
+    let a = subscript_in (world_of w) first in
+    goes_on (λ fs s v. then_read (second_of fs s (optional_sub c.args.second.now)) (λ w. let p : GivenSub × Option GivenSub = (v, w) in gives p)) first x
+    (evaluates_by (stays (first, None) (x.found, tt))
+    (λ fs. ap (λ o. then_read (second_of fs (state_in w) (optional_sub o)) (λ h. let p : GivenSub × Option GivenSub = (a, h) in gives p)) c.in-None.is))
+
+pub sub-returns-in_err-key-in-Key : goal.sub-returns-in_err-key-in-Key
+sub-returns-in_err-key-in-Key g t c =
+    let s = c.args.work.now in
+    evaluates_by (stops (λ fs s g. gives (key_given g)) c.in_err-key-in-Key.ensures c.from_residual.result c.from_residual.ensures.1)
+    (λ fs. ap (λ y. sub_of fs (state_in s) (view_sub y)) c.in-Key.is)
+
+pub sub-returns-in_ok-key-in-Key : goal.sub-returns-in_ok-key-in-Key
+sub-returns-in_ok-key-in-Key g t c =
+    let s = c.args.work.now in
+    let w = c.given.new.work in
+    let x = c.in_ok-key-in-Key.ensures in
+    evaluates_by (makes (λ g. key_given g) c.in_ok-key-in-Key.key (subscript.Key c.in_ok-key-in-Key.key) x (key_known (world_of w) c.in_ok-key-in-Key.key x.found) refl)
+    (λ fs. ap (λ y. sub_of fs (state_in s) (view_sub y)) c.in-Key.is)
+
+pub sub-returns-in_err-from-in-Span : goal.sub-returns-in_err-from-in-Span
+sub-returns-in_err-from-in-Span g t c =
+    let s = c.args.work.now in
+    let y = c.in-Span in
+    evaluates_by (stops (λ fs s g. then_read (bound_of fs s (optional_arg y.to)) (λ h. then_read (stride_of fs s (optional_expr y.by)) (λ k. gives (span_given g h k)))) c.in_err-from-in-Span.ensures c.from_residual-in_err-from-in-Span.result c.from_residual-in_err-from-in-Span.ensures.1)
+    (λ fs. ap (λ z. sub_of fs (state_in s) (view_sub z)) y.is ∙ ap (sub_of fs (state_in s)) (sub_of-Span y.from y.to y.by))
+
+pub sub-returns-in_err-to-in-Span : goal.sub-returns-in_err-to-in-Span
+sub-returns-in_err-to-in-Span g t c =
+    let s = c.args.work.now in
+    let y = c.in-Span in
+    let w = c.bound.new.work in
+    let a = argument_in (world_of w) c.in_ok-from-in-Span.from in
+    evaluates_by (goes_on (λ fs s g. then_read (bound_of fs s (optional_arg y.to)) (λ h. then_read (stride_of fs s (optional_expr y.by)) (λ k. gives (span_given g h k)))) c.in_ok-from-in-Span.from c.in_ok-from-in-Span.ensures
+    (stops (λ fs s h. then_read (stride_of fs s (optional_expr y.by)) (λ k. gives (span_given a h k))) c.in_err-to-in-Span.ensures c.from_residual-in_err-to-in-Span.result c.from_residual-in_err-to-in-Span.ensures.1))
+    (λ fs. ap (λ z. sub_of fs (state_in s) (view_sub z)) y.is ∙ ap (sub_of fs (state_in s)) (sub_of-Span y.from y.to y.by))
+
+pub sub-returns-in_err-by-in-Some : goal.sub-returns-in_err-by-in-Some
+sub-returns-in_err-by-in-Some g t c =
+    let s = c.args.work.now in
+    let y = c.in-Span in
+    let w = c.bound.new.work in
+    let a = argument_in (world_of w) c.in_ok-from-in-Span.from in
+    let u = c.bound-in-Span.new.work in
+    let b = argument_in (world_of u) c.in_ok-to-in-Span.to in
+    evaluates_by (goes_on (λ fs s g. then_read (bound_of fs s (optional_arg y.to)) (λ h. then_read (stride_of fs s (optional_expr y.by)) (λ k. gives (span_given g h k)))) c.in_ok-from-in-Span.from c.in_ok-from-in-Span.ensures
+    (goes_on (λ fs s h. then_read (stride_of fs s (optional_expr y.by)) (λ k. gives (span_given a h k))) c.in_ok-to-in-Span.to c.in_ok-to-in-Span.ensures
+    (evaluates_by (stops (λ fs s k. gives (span_given a b k)) (strides_stop c.in_err-by-in-Some.ensures) c.from_residual-in_err-by-in-Some.result c.from_residual-in_err-by-in-Some.ensures.1)
+    (λ fs. ap (λ o. then_read (stride_of fs (state_in u) (optional_expr o)) (λ k. gives (span_given a b k))) c.in-Some.is))))
+    (λ fs. ap (λ z. sub_of fs (state_in s) (view_sub z)) y.is ∙ ap (sub_of fs (state_in s)) (sub_of-Span y.from y.to y.by))
+
+pub sub-returns-in_ok-by-in-Some : goal.sub-returns-in_ok-by-in-Some
+sub-returns-in_ok-by-in-Some g t c =
+    let s = c.args.work.now in
+    let y = c.in-Span in
+    let w = c.bound.new.work in
+    let a = argument_in (world_of w) c.in_ok-from-in-Span.from in
+    let u = c.bound-in-Span.new.work in
+    let b = argument_in (world_of u) c.in_ok-to-in-Span.to in
+    let r = c.evaluate.new.work in
+    let x1 = c.in_ok-from-in-Span.ensures in
+    let x2 = c.in_ok-to-in-Span.ensures in
+    let x3 = c.in_ok-by-in-Some.ensures in
+    let from = c.in_ok-from-in-Span.from in
+    let to = c.in_ok-to-in-Span.to in
+    let by = argument.One c.in_ok-by-in-Some.by in
+    let late = keeps_both (world_of w) (world_of u) (world_of r) x2.kept x3.kept in
+    evaluates_by (goes_on (λ fs s g. then_read (bound_of fs s (optional_arg y.to)) (λ h. then_read (stride_of fs s (optional_expr y.by)) (λ k. gives (span_given g h k)))) from x1
+    (goes_on (λ fs s h. then_read (stride_of fs s (optional_expr y.by)) (λ k. gives (span_given a h k))) to x2
+    (evaluates_by (makes (λ k. span_given a b k) by (subscript.Span from to by) (strides c.in_ok-by-in-Some.by x3)
+    (span_known (world_of r) from to by (argument_kept (world_of w) (world_of r) w.settled r.settled late from x1.found) (argument_kept (world_of u) (world_of r) u.settled r.settled x3.kept to x2.found) (argument_known (world_of r) c.in_ok-by-in-Some.by x3.found.known))
+    (ap (λ z. span_given z (argument_in (world_of r) to) (argument_in (world_of r) by)) (argument_seen (world_of w) (world_of r) w.settled r.settled late from x1.found)
+    ∙ ap (λ z. span_given a z (argument_in (world_of r) by)) (argument_seen (world_of u) (world_of r) u.settled r.settled x3.kept to x2.found)))
+    (λ fs. ap (λ o. then_read (stride_of fs (state_in u) (optional_expr o)) (λ k. gives (span_given a b k))) c.in-Some.is))))
+    (λ fs. ap (λ z. sub_of fs (state_in s) (view_sub z)) y.is ∙ ap (sub_of fs (state_in s)) (sub_of-Span y.from y.to y.by))
+
+pub sub-returns-in-None : goal.sub-returns-in-None
+sub-returns-in-None g t c =
+    let s = c.args.work.now in
+    let y = c.in-Span in
+    let w = c.bound.new.work in
+    let a = argument_in (world_of w) c.in_ok-from-in-Span.from in
+    let u = c.bound-in-Span.new.work in
+    let b = argument_in (world_of u) c.in_ok-to-in-Span.to in
+    let x1 = c.in_ok-from-in-Span.ensures in
+    let x2 = c.in_ok-to-in-Span.ensures in
+    let from = c.in_ok-from-in-Span.from in
+    let to = c.in_ok-to-in-Span.to in
+    evaluates_by (goes_on (λ fs s g. then_read (bound_of fs s (optional_arg y.to)) (λ h. then_read (stride_of fs s (optional_expr y.by)) (λ k. gives (span_given g h k)))) from x1
+    (evaluates_by (makes (λ h. span_given a h nothing) to (subscript.Span from to argument.Nothing) x2
+    (span_known (world_of u) from to argument.Nothing (argument_kept (world_of w) (world_of u) w.settled u.settled x2.kept from x1.found) x2.found (nothing_known (world_of u)))
+    (ap (λ z. span_given z b nothing) (argument_seen (world_of w) (world_of u) w.settled u.settled x2.kept from x1.found)))
+    (λ fs. ap (λ o. then_read (bound_of fs (state_in w) (optional_arg y.to)) (λ h. then_read (stride_of fs (state_in w) (optional_expr o)) (λ k. gives (span_given a h k)))) c.in-None.is)))
+    (λ fs. ap (λ z. sub_of fs (state_in s) (view_sub z)) y.is ∙ ap (sub_of fs (state_in s)) (sub_of-Span y.from y.to y.by))
+
+pub brackets-returns-in_err-given-in-Some : goal.brackets-returns-in_err-given-in-Some
+brackets-returns-in_err-given-in-Some g t c =
+    let s = c.args.work.now in
+    evaluates_by (stops (λ fs s h. gives (Some h)) c.in_err-given-in-Some.ensures c.from_residual.result c.from_residual.ensures.1) (λ fs. ap (λ o. brackets_of fs (state_in s) (optional_arg o)) c.in-Some.is)
+
+pub brackets-returns-in_ok-given-in-Some : goal.brackets-returns-in_ok-given-in-Some
+brackets-returns-in_ok-given-in-Some g t c =
+    let s = c.args.work.now in
+    let given = c.in_ok-given-in-Some.given in
+    let x = c.in_ok-given-in-Some.ensures in
+    evaluates_by (makes (λ h. Some h) given (Some given) x x.found refl) (λ fs. ap (λ o. brackets_of fs (state_in s) (optional_arg o)) c.in-Some.is)
+
+pub brackets-returns-in-None : goal.brackets-returns-in-None
+brackets-returns-in-None g t c =
+    let s = c.args.work.now in
+    evaluates_by (stays None tt) (λ fs. ap (λ o. brackets_of fs (state_in s) (optional_arg o)) c.in-None.is)
+
+pub bound-returns-in-Some : goal.bound-returns-in-Some
+bound-returns-in-Some g t c =
+    let s = c.args.work.now in
+    evaluates_by c.given.ensures (λ fs. ap (λ o. bound_of fs (state_in s) (optional_arg o)) c.in-Some.is)
+
+pub bound-returns-in-None : goal.bound-returns-in-None
+bound-returns-in-None g t c =
+    let s = c.args.work.now in
+    evaluates_by (stays argument.Nothing (nothing_known (world_of s))) (λ fs. ap (λ o. bound_of fs (state_in s) (optional_arg o)) c.in-None.is)
+
+pub given-returns-in_err-value-in-Expr : goal.given-returns-in_err-value-in-Expr
+given-returns-in_err-value-in-Expr g t c =
+    let s = c.args.work.now in
+    evaluates_by (stops (λ fs s v. gives (one v)) c.in_err-value-in-Expr.ensures c.from_residual.result c.from_residual.ensures.1)
+    (λ fs. ap (λ a. given_of fs (state_in s) (arg_of a)) c.in-Expr.is)
+
+pub given-returns-in_ok-value-in-Expr : goal.given-returns-in_ok-value-in-Expr
+given-returns-in_ok-value-in-Expr g t c =
+    let s = c.args.work.now in
+    let w = c.evaluate.new.work in
+    let x = c.in_ok-value-in-Expr.ensures in
+    let v = c.in_ok-value-in-Expr.value in
+    evaluates_by (makes (λ v. one v) v (argument.One v) x (argument_known (world_of w) v x.found.known) refl)
+    (λ fs. ap (λ a. given_of fs (state_in s) (arg_of a)) c.in-Expr.is)
+
+pub given-items-requires : goal.given-items-requires
+given-items-requires g t c =
+    let deep : arg_depth (arg_of c.args.arg.now) ≡ suc (list_depth (arg_list (parts_of c.in-Many.parts))) = ap arg_depth (ap arg_of c.in-Many.is ∙ arg_of-Many c.in-Many.parts) in
+    λ κs within. (omega (arith, deep, c.decreases), within)
+
+pub given-returns-in_err-items-in-Many : goal.given-returns-in_err-items-in-Many
+given-returns-in_err-items-in-Many g t c =
+    let s = c.args.work.now in
+    evaluates_by (stops (λ fs s v. gives (many v)) c.in_err-items-in-Many.ensures c.from_residual-in_err-items-in-Many.result c.from_residual-in_err-items-in-Many.ensures.1)
+    (λ fs. ap (λ a. given_of fs (state_in s) (arg_of a)) c.in-Many.is ∙ ap (given_of fs (state_in s)) (arg_of-Many c.in-Many.parts))
+
+pub given-returns-in_ok-items-in-Many : goal.given-returns-in_ok-items-in-Many
+given-returns-in_ok-items-in-Many g t c =
+    let s = c.args.work.now in
+    let w = c.items.new.work in
+    let x = c.in_ok-items-in-Many.ensures in
+    let v = c.in_ok-items-in-Many.items in
+    evaluates_by (makes (λ v. many v) v (argument.Many v) x (many_known (world_of w) v x.found) refl)
+    (λ fs. ap (λ a. given_of fs (state_in s) (arg_of a)) c.in-Many.is ∙ ap (given_of fs (state_in s)) (arg_of-Many c.in-Many.parts))
+
+pub given-items-requires-in-Row : goal.given-items-requires-in-Row
+given-items-requires-in-Row g t c =
+    let deep : arg_depth (arg_of c.args.arg.now) ≡ suc (list_depth (arg_list (parts_of c.in-Row.parts))) = ap arg_depth (ap arg_of c.in-Row.is ∙ arg_of-Row c.in-Row.parts) in
+    λ κs within. (omega (arith, deep, c.decreases), within)
+
+pub given-returns-in_err-items-in-Row : goal.given-returns-in_err-items-in-Row
+given-returns-in_err-items-in-Row g t c =
+    let s = c.args.work.now in
+    evaluates_by (stops (λ fs s v. gives (row v)) c.in_err-items-in-Row.ensures c.from_residual-in_err-items-in-Row.result c.from_residual-in_err-items-in-Row.ensures.1)
+    (λ fs. ap (λ a. given_of fs (state_in s) (arg_of a)) c.in-Row.is ∙ ap (given_of fs (state_in s)) (arg_of-Row c.in-Row.parts))
+
+pub given-returns-in_ok-items-in-Row : goal.given-returns-in_ok-items-in-Row
+given-returns-in_ok-items-in-Row g t c =
+    let s = c.args.work.now in
+    let w = c.items-in-Row.new.work in
+    let x = c.in_ok-items-in-Row.ensures in
+    let v = c.in_ok-items-in-Row.items in
+    evaluates_by (makes (λ v. row v) v (argument.Row v) x (tuple_known (world_of w) v x.found) refl)
+    (λ fs. ap (λ a. given_of fs (state_in s) (arg_of a)) c.in-Row.is ∙ ap (given_of fs (state_in s)) (arg_of-Row c.in-Row.parts))
+
+pub given-entries-requires : goal.given-entries-requires
+given-entries-requires g t c =
+    let deep : arg_depth (arg_of c.args.arg.now) ≡ suc (pairs_depth (arg_pairs (pair_parts_of c.in-Table.pairs))) = ap arg_depth (ap arg_of c.in-Table.is ∙ arg_of-Table c.in-Table.pairs) in
+    λ κs within. (omega (arith, deep, c.decreases), within)
+
+pub given-returns-in_err-entries-in-Table : goal.given-returns-in_err-entries-in-Table
+given-returns-in_err-entries-in-Table g t c =
+    let s = c.args.work.now in
+    evaluates_by (stops (λ fs s v. gives (entries v)) c.in_err-entries-in-Table.ensures c.from_residual-in_err-entries-in-Table.result c.from_residual-in_err-entries-in-Table.ensures.1)
+    (λ fs. ap (λ a. given_of fs (state_in s) (arg_of a)) c.in-Table.is ∙ ap (given_of fs (state_in s)) (arg_of-Table c.in-Table.pairs))
+
+pub given-returns-in_ok-entries-in-Table : goal.given-returns-in_ok-entries-in-Table
+given-returns-in_ok-entries-in-Table g t c =
+    let s = c.args.work.now in
+    let w = c.entries.new.work in
+    let x = c.in_ok-entries-in-Table.ensures in
+    let v = c.in_ok-entries-in-Table.entries in
+    evaluates_by (makes (λ v. entries v) v (argument.Table v) x (table_known (world_of w) v x.found) (argument_of-Table (world_of w).tables (world_of w).texts v))
+    (λ fs. ap (λ a. given_of fs (state_in s) (arg_of a)) c.in-Table.is ∙ ap (given_of fs (state_in s)) (arg_of-Table c.in-Table.pairs))
+
+pub given-returns-in-Nothing : goal.given-returns-in-Nothing
+given-returns-in-Nothing g t c =
+    let s = c.args.work.now in
+    evaluates_by (stays argument.Nothing (nothing_known (world_of s))) (λ fs. ap (λ a. given_of fs (state_in s) (arg_of a)) c.in-Nothing.is)
+
+pub item-returns-in_err-value-in-Expr : goal.item-returns-in_err-value-in-Expr
+item-returns-in_err-value-in-Expr g t c =
+    let s = c.args.work.now in
+    evaluates_by (stops (λ fs s v. gives (one v)) c.in_err-value-in-Expr.ensures c.from_residual.result c.from_residual.ensures.1)
+    (λ fs. ap (λ a. part_of fs (state_in s) (arg_of a)) c.in-Expr.is)
+
+pub item-returns-in_ok-value-in-Expr : goal.item-returns-in_ok-value-in-Expr
+item-returns-in_ok-value-in-Expr g t c =
+    let s = c.args.work.now in
+    let w = c.evaluate.new.work in
+    let x = c.in_ok-value-in-Expr.ensures in
+    let v = c.in_ok-value-in-Expr.value in
+    evaluates_by (makes (λ v. one v) v (item.One v) x (item_known (world_of w) v x.found.known) refl)
+    (λ fs. ap (λ a. part_of fs (state_in s) (arg_of a)) c.in-Expr.is)
+
+pub item-items-requires : goal.item-items-requires
+item-items-requires g t c =
+    let deep : arg_depth (arg_of c.args.arg.now) ≡ suc (list_depth (arg_list (parts_of c.in-Row.parts))) = ap arg_depth (ap arg_of c.in-Row.is ∙ arg_of-Row c.in-Row.parts) in
+    λ κs within. (omega (arith, deep, c.decreases), within)
+
+pub item-returns-in_err-items-in-Row : goal.item-returns-in_err-items-in-Row
+item-returns-in_err-items-in-Row g t c =
+    let s = c.args.work.now in
+    evaluates_by (stops (λ fs s v. gives (row v)) c.in_err-items-in-Row.ensures c.from_residual-in_err-items-in-Row.result c.from_residual-in_err-items-in-Row.ensures.1)
+    (λ fs. ap (λ a. part_of fs (state_in s) (arg_of a)) c.in-Row.is ∙ ap (part_of fs (state_in s)) (arg_of-Row c.in-Row.parts))
+
+pub item-returns-in_ok-items-in-Row : goal.item-returns-in_ok-items-in-Row
+item-returns-in_ok-items-in-Row g t c =
+    let s = c.args.work.now in
+    let w = c.items.new.work in
+    let x = c.in_ok-items-in-Row.ensures in
+    let v = c.in_ok-items-in-Row.items in
+    evaluates_by (makes (λ v. row v) v (item.Row v) x (row_known (world_of w) v x.found) (item_of-Row (world_of w).tables (world_of w).texts v))
+    (λ fs. ap (λ a. part_of fs (state_in s) (arg_of a)) c.in-Row.is ∙ ap (part_of fs (state_in s)) (arg_of-Row c.in-Row.parts))
+
+pub arguments-given-requires : goal.arguments-given-requires
+arguments-given-requires g t c =
+    let deep : arg_depth (arg_of c.at.result.now.1) ≤ args_depth (named_args (named_parts_of c.args.args.now)) = named_depth (named_parts_of c.args.args.now) c.loop-i.i _ c.at.ensures in
+    λ κs within. (omega (arith, deep, c.decreases), within)
+
+pub arguments-returns-in_err-value : goal.arguments-returns-in_err-value
+arguments-returns-in_err-value g t c =
+    let s = c.args.work.now in
+    let inv = c.loop-i.invariant in
+    let xs = named_parts_of c.args.args.now in
+    let n = c.at.result.now.0 in
+    gathers_none (λ g l. (record { name = n; value = g }) ∷ l) (λ fs s. named_of fs s (named_args (drop (c.loop-i.i + 1) xs))) inv.gathers (λ fs. ap (λ l. named_of fs (state_in s) (named_args l)) (drop_item xs c.loop-i.i _ c.at.ensures)) c.in_err-value.ensures c.from_residual.result c.from_residual.ensures.1
+
+pub arguments-returns-in_err-name : goal.arguments-returns-in_err-name
+arguments-returns-in_err-name g t c =
+    let s = c.args.work.now in
+    let inv = c.loop-i.invariant in
+    let xs = named_parts_of c.args.args.now in
+    let n = c.at.result.now.0 in
+    gathers_out (λ g l. (record { name = n; value = g }) ∷ l) (λ fs s. named_of fs s (named_args (drop (c.loop-i.i + 1) xs))) inv.gathers (λ fs. ap (λ l. named_of fs (state_in s) (named_args l)) (drop_item xs c.loop-i.i _ c.at.ensures)) c.in_ok-value.value c.in_ok-value.ensures c.from_residual-in_err-name.result c.from_residual-in_err-name.ensures.1
+
+pub arguments-returns-in_err-push : goal.arguments-returns-in_err-push
+arguments-returns-in_err-push g t c =
+    let s = c.args.work.now in
+    let inv = c.loop-i.invariant in
+    let xs = named_parts_of c.args.args.now in
+    let n = c.at.result.now.0 in
+    gathers_out (λ g l. (record { name = n; value = g }) ∷ l) (λ fs s. named_of fs s (named_args (drop (c.loop-i.i + 1) xs))) inv.gathers (λ fs. ap (λ l. named_of fs (state_in s) (named_args l)) (drop_item xs c.loop-i.i _ c.at.ensures)) c.in_ok-value.value c.in_ok-value.ensures c.from_residual-in_err-push.result c.from_residual-in_err-push.ensures.1
+
+pub arguments-loop-i-preserved : goal.arguments-loop-i-preserved
+arguments-loop-i-preserved g t c =
+    let s = c.args.work.now in
+    let inv = c.loop-i.invariant in
+    let xs = named_parts_of c.args.args.now in
+    let n = c.at.result.now.0 in
+    let w = c.loop-i.work in
+    let u = c.given.new.work in
+    let x = c.in_ok-value.ensures in
+    let args = c.loop-i.arguments.items.items in
+    let args' = c.push.new.self.items.items in
+    let one : Named = record { name = c.in_ok-name.name; value = c.in_ok-value.value } in
+    let g = argument_in (world_of u) c.in_ok-value.value in
+    record {
+      known = arguments_known (world_of u) args args' one c.in_ok-push.ensures.ok (arguments_kept (world_of w) (world_of u) w.settled u.settled x.kept args inv.known) x.found;
+      gathers = gathers_next (λ g l. (record { name = n; value = g }) ∷ l) (λ fs s. named_of fs s (named_args (drop (c.loop-i.i + 1) xs))) inv.gathers (λ fs. ap (λ l. named_of fs (state_in s) (named_args l)) (drop_item xs c.loop-i.i _ c.at.ensures)) (arguments_in (world_of u) c.push.new.self) c.in_ok-value.value x
+          (λ l. ap (λ k. arguments_in (world_of w) c.loop-i.arguments ++ (record { name = k; value = g }) ∷ l) (sym c.in_ok-name.ensures)
+          ∙ ap (λ z. z ++ (record { name = c.in_ok-name.name; value = g }) ∷ l) (sym (arguments_seen (world_of w) (world_of u) w.settled u.settled x.kept args inv.known))
+          ∙ arguments_push (world_of u).tables (world_of u).texts args args' one c.in_ok-push.ensures.ok l);
+    }
+
+pub arguments-returns : goal.arguments-returns
+arguments-returns g t c =
+    let s = c.args.work.now in
+    let inv = c.loop-i.invariant in
+    let xs = named_parts_of c.args.args.now in
+    let over : length xs ≤ c.loop-i.i = omega (arith, c.len-i-end.ensures, c.loop-i-test.false) in
+    gathered [] c.loop-i.arguments inv.gathers (λ fs. ap (λ l. named_of fs (state_in s) (named_args l)) (drop_end xs c.loop-i.i over)) (append-nil _) inv.known
+
+pub items-item-requires : goal.items-item-requires
+items-item-requires g t c =
+    let deep : arg_depth (arg_of c.at.result.now) ≤ list_depth (arg_list (parts_of c.args.parts.now)) = item_depth (parts_of c.args.parts.now) c.loop-i.i _ c.at.ensures in
+    λ κs within. (omega (arith, deep, c.decreases), within)
+
+pub items-returns-in_err-item : goal.items-returns-in_err-item
+items-returns-in_err-item g t c =
+    let s = c.args.work.now in
+    let inv = c.loop-i.invariant in
+    let xs = parts_of c.args.parts.now in
+    gathers_none more_given (λ fs s. parts_given fs s (arg_list (drop (c.loop-i.i + 1) xs))) inv.gathers (λ fs. ap (λ l. parts_given fs (state_in s) (arg_list l)) (drop_item xs c.loop-i.i _ c.at.ensures)) c.in_err-item.ensures c.from_residual.result c.from_residual.ensures.1
+
+pub items-returns-in_err-push : goal.items-returns-in_err-push
+items-returns-in_err-push g t c =
+    let s = c.args.work.now in
+    let inv = c.loop-i.invariant in
+    let xs = parts_of c.args.parts.now in
+    gathers_out more_given (λ fs s. parts_given fs s (arg_list (drop (c.loop-i.i + 1) xs))) inv.gathers (λ fs. ap (λ l. parts_given fs (state_in s) (arg_list l)) (drop_item xs c.loop-i.i _ c.at.ensures)) c.in_ok-item.item c.in_ok-item.ensures c.from_residual-in_err-push.result c.from_residual-in_err-push.ensures.1
+
+pub items-loop-i-preserved : goal.items-loop-i-preserved
+items-loop-i-preserved g t c =
+    let s = c.args.work.now in
+    let inv = c.loop-i.invariant in
+    let xs = parts_of c.args.parts.now in
+    let w = c.loop-i.work in
+    let u = c.item.new.work in
+    let x = c.in_ok-item.ensures in
+    let items = c.loop-i.items.items.items in
+    let items' = c.push.new.self.items.items in
+    record {
+      known = items_known (world_of u) items items' c.in_ok-item.item c.in_ok-push.ensures.ok (items_kept (world_of w) (world_of u) w.settled u.settled x.kept items inv.known) x.found;
+      gathers = gathers_next more_given (λ fs s. parts_given fs s (arg_list (drop (c.loop-i.i + 1) xs))) inv.gathers (λ fs. ap (λ l. parts_given fs (state_in s) (arg_list l)) (drop_item xs c.loop-i.i _ c.at.ensures)) (items_in (world_of u) c.push.new.self) c.in_ok-item.item x
+          (λ l. ap (λ z. join_parts z (more_given (item_in (world_of u) c.in_ok-item.item) l)) (sym (items_seen (world_of w) (world_of u) w.settled u.settled x.kept items inv.known))
+          ∙ items_push (world_of u).tables (world_of u).texts items items' c.in_ok-item.item c.in_ok-push.ensures.ok l);
+    }
+
+pub items-returns : goal.items-returns
+items-returns g t c =
+    let s = c.args.work.now in
+    let inv = c.loop-i.invariant in
+    let xs = parts_of c.args.parts.now in
+    let over : length xs ≤ c.loop-i.i = omega (arith, c.len-i-end.ensures, c.loop-i-test.false) in
+    gathered no_given c.loop-i.items inv.gathers (λ fs. ap (λ l. parts_given fs (state_in s) (arg_list l)) (drop_end xs c.loop-i.i over)) (parts_end _) inv.known
+
+pub entries-given-requires : goal.entries-given-requires
+entries-given-requires g t c =
+    let deep : arg_depth (arg_of c.at.result.now.1) ≤ pairs_depth (arg_pairs (pair_parts_of c.args.pairs.now)) = pair_depth (pair_parts_of c.args.pairs.now) c.loop-i.i _ c.at.ensures in
+    λ κs within. (omega (arith, deep, c.decreases), within)
+
+pub entries-returns-in_err-value : goal.entries-returns-in_err-value
+entries-returns-in_err-value g t c =
+    let s = c.args.work.now in
+    let inv = c.loop-i.invariant in
+    let xs = pair_parts_of c.args.pairs.now in
+    let k = cell_label (cell_of (literal_of c.at.result.now.0)) in
+    gathers_none (more_entries k) (λ fs s. pairs_of fs s (arg_pairs (drop (c.loop-i.i + 1) xs))) inv.gathers (λ fs. ap (λ l. pairs_of fs (state_in s) (arg_pairs l)) (drop_item xs c.loop-i.i _ c.at.ensures)) c.in_err-value.ensures c.from_residual.result c.from_residual.ensures.1
+
+pub entries-returns-in_err-label : goal.entries-returns-in_err-label
+entries-returns-in_err-label g t c =
+    let s = c.args.work.now in
+    let inv = c.loop-i.invariant in
+    let xs = pair_parts_of c.args.pairs.now in
+    let k = cell_label (cell_of (literal_of c.at.result.now.0)) in
+    let v = c.given.new.work in
+    let u = c.key.new.self in
+    let x = c.in_ok-value.ensures in
+    let value = c.in_ok-value.value in
+    let later = adds v u value x c.in_err-label.ensures.names c.in_err-label.ensures.kept (argument_kept (world_of v) (world_of u) v.settled u.settled c.in_err-label.ensures.kept value x.found) (argument_seen (world_of v) (world_of u) v.settled u.settled c.in_err-label.ensures.kept value x.found) in
+    gathers_out (more_entries k) (λ fs s. pairs_of fs s (arg_pairs (drop (c.loop-i.i + 1) xs))) inv.gathers (λ fs. ap (λ l. pairs_of fs (state_in s) (arg_pairs l)) (drop_item xs c.loop-i.i _ c.at.ensures)) value later c.from_residual-in_err-label.result (subst (λ f. IsErrAnd c.from_residual-in_err-label.result (λ e. e ≡ f)) c.in_err-label.ensures.memory c.from_residual-in_err-label.ensures.1)
+
+pub entries-returns-in_err-push : goal.entries-returns-in_err-push
+entries-returns-in_err-push g t c =
+    let s = c.args.work.now in
+    let inv = c.loop-i.invariant in
+    let xs = pair_parts_of c.args.pairs.now in
+    let k = cell_label (cell_of (literal_of c.at.result.now.0)) in
+    let v = c.given.new.work in
+    let u = c.key.new.self in
+    let x = c.in_ok-value.ensures in
+    let value = c.in_ok-value.value in
+    let later = adds v u value x c.in_ok-label.ensures.names c.in_ok-label.ensures.kept (argument_kept (world_of v) (world_of u) v.settled u.settled c.in_ok-label.ensures.kept value x.found) (argument_seen (world_of v) (world_of u) v.settled u.settled c.in_ok-label.ensures.kept value x.found) in
+    gathers_out (more_entries k) (λ fs s. pairs_of fs s (arg_pairs (drop (c.loop-i.i + 1) xs))) inv.gathers (λ fs. ap (λ l. pairs_of fs (state_in s) (arg_pairs l)) (drop_item xs c.loop-i.i _ c.at.ensures)) value later c.from_residual-in_err-push.result c.from_residual-in_err-push.ensures.1
+
+pub entries-loop-i-preserved : goal.entries-loop-i-preserved
+entries-loop-i-preserved g t c =
+    let s = c.args.work.now in
+    let inv = c.loop-i.invariant in
+    let xs = pair_parts_of c.args.pairs.now in
+    let k = cell_label (cell_of (literal_of c.at.result.now.0)) in
+    let v = c.given.new.work in
+    let u = c.key.new.self in
+    let x = c.in_ok-value.ensures in
+    let value = c.in_ok-value.value in
+    let later = adds v u value x c.in_ok-label.ensures.names c.in_ok-label.ensures.kept (argument_kept (world_of v) (world_of u) v.settled u.settled c.in_ok-label.ensures.kept value x.found) (argument_seen (world_of v) (world_of u) v.settled u.settled c.in_ok-label.ensures.kept value x.found) in
+    let w = c.loop-i.work in
+    let y = c.in_ok-label.ensures in
+    let label = c.in_ok-label.label in
+    let pairs = c.loop-i.entries.pairs.items in
+    let pairs' = c.push.new.self.pairs.items in
+    let kept = keeps_both (world_of w) (world_of v) (world_of u) x.kept y.kept in
+    record {
+      known = pairs_known (world_of u) pairs pairs' label value c.in_ok-push.ensures.ok (pairs_kept (world_of w) (world_of u) w.settled u.settled kept pairs inv.known) y.given later.found;
+      gathers = gathers_next (more_entries k) (λ fs s. pairs_of fs s (arg_pairs (drop (c.loop-i.i + 1) xs))) inv.gathers (λ fs. ap (λ l. pairs_of fs (state_in s) (arg_pairs l)) (drop_item xs c.loop-i.i _ c.at.ensures)) (pairs_in (world_of u) c.push.new.self) value later
+          (λ l. ap (λ z. join_pairs (pairs_in (world_of w) c.loop-i.entries) (more_entries z (argument_in (world_of u) value) l)) (sym y.label)
+          ∙ ap (λ z. join_pairs z (more_entries (label_datum (world_of u).texts label) (argument_in (world_of u) value) l)) (sym (pairs_seen (world_of w) (world_of u) w.settled u.settled kept pairs inv.known))
+          ∙ pairs_push (world_of u).tables (world_of u).texts pairs pairs' label value c.in_ok-push.ensures.ok l);
+    }
+
+pub entries-returns : goal.entries-returns
+entries-returns g t c =
+    let s = c.args.work.now in
+    let inv = c.loop-i.invariant in
+    let xs = pair_parts_of c.args.pairs.now in
+    let over : length xs ≤ c.loop-i.i = omega (arith, c.len-i-end.ensures, c.loop-i-test.false) in
+    gathered no_entries c.loop-i.entries inv.gathers (λ fs. ap (λ l. pairs_of fs (state_in s) (arg_pairs l)) (drop_end xs c.loop-i.i over)) (pairs_end _) inv.known

@@ -1,7 +1,0 @@
-use Rattle.std.proofs.Common.{◌≡◌, ◌++◌, string_bytes}
-use Rattle.std.specs.Str.Iter.{chars_rest}
-use Rattle.meaning.specs.FaultText.{quoted_bytes}
-use Rattle.script_run.proofs.key.push_escaped.Given as goal
-
-abbrev pub invariant-loop-character : goal.invariant-loop-character
-invariant-loop-character l = string_bytes l.line ++ quoted_bytes (chars_rest l.character-iterator) ≡ string_bytes l.fn.line ++ quoted_bytes l.text

@@ -1,7 +1,0 @@
-use Rattle.std.proofs.Common.{append_assoc}
-use Rattle.std.proofs.Math.Facts.{to_z-of_z}
-use Rattle.script_run.proofs.text.push_position.Goals as goal
-
-pub returns : goal.returns
-returns c =
-    simp append_assoc (simp append_assoc at (rw (c.in_ok-push_number.ensures, to_z-of_z c.ranges.position, c.in_ok-push_str.ensures.bytes) at c.push_counted.ensures))

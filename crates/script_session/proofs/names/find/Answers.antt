@@ -1,6 +1,0 @@
-use Rattle.std.proofs.Common.{sym, ◌∙◌}
-use Rattle.script_session.proofs.Bindings.{value_at-bindings_of}
-use Rattle.script_session.proofs.names.find.Goals as goal
-
-pub returns : goal.returns
-returns c = c.copied.ensures ∙ c.get.ensures.value ∙ sym (value_at-bindings_of c.args.names.now.entries c.args.name.now)

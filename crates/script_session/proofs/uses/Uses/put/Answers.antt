@@ -1,8 +1,0 @@
-use Rattle.std.proofs.Common.{◌∙◌, nat_eq}
-use Rattle.indexmap.specs.IndexMap.{get}
-use Rattle.script_session.specs.Uses.{same_id}
-use Rattle.script_session.proofs.UseLaws.{was_put, cond_if}
-use Rattle.script_session.proofs.uses.Uses.put.Goals as goal
-
-pub returns : goal.returns
-returns c = λ other. (was_put c.insert.result (get same_id c.args.self.now.counts c.args.id) c.insert.ensures.updates c.insert.ensures.absent c.requires).0 other ∙ cond_if (nat_eq c.args.id.0 other.0) _ _

@@ -1,0 +1,4 @@
+pub mod Options
+pub mod StepLaws
+pub mod RunLaws
+pub mod ErrorLaws

@@ -1,0 +1,4 @@
+pub mod Ends
+pub mod Errors
+pub mod Exit
+pub mod Steps

@@ -1,0 +1,113 @@
+-- The file of a name, as it is fetched.
+use Rattle.std.proofs.Common.{◌≡◌, ◌<◌, ◌^◌, ◌+◌, ℕ, Bool, true, false, List, [], ◌∷◌, length, Option, Some, None, refl, sym, ◌∙◌, ap, subst, arith, inl, inr}
+use Rattle.std.specs.Prelude.{Result, Ok, Err, nat_lt, if◌then◌else◌}
+use Rattle.std.specs.FinMap.{get}
+use Rattle.std.specs.Str.Lossy.{utf8_valid_len}
+use Rattle.csv.specs.Reading.{records, default_config, strip_bom}
+use Rattle.outside_io.specs.Count.{HasRisen, raised}
+use Rattle.outside_io.specs.Whole.{IsWholeFile, IsLonger, IsAbsent}
+use Rattle.meaning.specs.Text.{Text, Contents}
+use Rattle.meaning.specs.Fault.{FaultValue, limit}
+use Rattle.meaning.specs.FaultOf.{fault_of}
+use Rattle.table_meaning.specs.Settled.{IsSettled}
+use Rattle.table_meaning.specs.Value.{Given, NamedGiven, dict_in}
+use Rattle.form_meaning.specs.declared.Function.TheVariants.{ReadCsv}
+use Rattle.std.proofs.lemmas.Bool.Decides.{nat_tests}
+use Rattle.cell_core.specs.declared.cell.Kind.{Kind}
+use Rattle.form_meaning.specs.declared.Parameter.{Parameter}
+use Rattle.form_meaning.specs.Signature.{function_parameters}
+use Rattle.form_meaning.specs.Binding.{Bound, not_taken, not_listed, bound, fit, none_missing, are_listed, argument_at, arguments_from, on_bound}
+use Rattle.csv_meaning.specs.CsvRead.{beyond_limits, not_utf8, columns_of_file, columns_of_records}
+use Rattle.method_meaning.specs.Readers.{name_of_bound, file_name_of, csv_result, read_result, frame_or_fault, kinds_given}
+use Rattle.script_meaning.specs.Reading.{Reads, at_once, after, path_of_name, of_bytes, of_path, of_file}
+use Rattle.script_work.specs.declared.file_names.FileName.{FileName}
+use Rattle.script_work.specs.declared.fault.EvalFault.{EvalFault}
+use Rattle.script_work.specs.declared.fault.EvalFault.TheVariants.{Refused, Input, NoMemory}
+use Rattle.script_work.specs.Faults.{IsNoFile}
+use Rattle.outside_io.specs.Files.{FilesValue}
+use Rattle.script_work.specs.Reads.{Holds, Goes, Stuck, Spends, Halts, RefusesLong, IsCaused, absent_name, paths_of, files_in}
+use Rattle.script_work.proofs.Rides.{goes_same, spends_none}
+
+module _ {A : Type 0} (texts : List Text) (names : List FileName) (held : Contents) (name : Text) (go : List ℕ → Result A FaultValue) where
+  abbrev whole : Reads A
+  whole = of_file (files_in names held) name go
+
+  -- a name that stands for no path
+  pub unnamed_file : (s : FilesValue) (f : EvalFault) → path_of_name (paths_of names) name ≡ None → IsNoFile f name → Halts Err texts (files_in names held) s s whole f
+  unnamed_file s (Refused c) none is = (
+    goes_same (ap (λ p. of_path held name p go) none ∙ ap (λ c. let r : Reads A = at_once (Err (fault_of texts c)) in r) (sym is)),
+    subst (λ c. IsCaused (paths_of names) s s (absent_name c)) (sym is) (inl none),
+    subst (IsSettled fault_of texts) (sym is) (λ more. refl),
+  )
+  unnamed_file s Input none is = absurd is
+  unnamed_file s NoMemory none is = spends_none
+
+  module _ (path : Text) (found : path_of_name (paths_of names) name ≡ Some path) (old new : FilesValue) (once : new.fetches ≡ raised old.fetches 1) where
+    whole_fetches : whole.fetches ≡ 1 + 0
+    whole_fetches = ap (λ p. (of_path held name p go).fetches) found
+
+    -- something was fetched, so the files tell their contents
+    never : Holds None 1 whole.fetches held → ⊥
+    never (inl none) = omega (arith, none)
+    never (inr none) = omega (arith, none, whole_fetches)
+
+    fetched : (r : Result A FaultValue) → (Holds old.contents 1 whole.fetches held → of_bytes name (get held path) go ≡ r) → Goes held old new whole (at_once r)
+    fetched r is = record { fetched = 1; counted = once; meant = λ h. ap (λ p. of_path held name p go) found ∙ ap (λ r. after 1 (at_once r)) (is h) }
+
+    pub spent_file : Spends held old new whole
+    spent_file = record { fetched = 1; counted = once; within = λ h. omega (arith, whole_fetches) }
+
+    pub whole_file : (bytes : List ℕ) → IsWholeFile old.contents path bytes → Goes held old new whole (at_once (go bytes))
+    whole_file bytes is = fetched (go bytes) (at old.contents is)
+      where
+        at : (contents : Option Contents) → IsWholeFile contents path bytes → Holds contents 1 whole.fetches held → of_bytes name (get held path) go ≡ go bytes
+        at None is h = absurd (never h)
+        at (Some told) is h = ap (λ c. of_bytes name (get c path) go) h ∙ ap (λ o. of_bytes name o go) is
+
+    pub absent_file : (f : EvalFault) → IsNoFile f name → IsAbsent old.contents path → HasRisen old.absences new.absences → Halts Err texts (files_in names held) old new whole f
+    absent_file (Refused c) none is risen = (
+      fetched (Err (fault_of texts c)) (at old.contents is),
+      subst (λ c. IsCaused (paths_of names) old new (absent_name c)) (sym none) (inr risen),
+      subst (IsSettled fault_of texts) (sym none) (λ more. refl),
+    )
+      where
+        at : (contents : Option Contents) → IsAbsent contents path → Holds contents 1 whole.fetches held → of_bytes name (get held path) go ≡ Err (fault_of texts c)
+        at None is h = absurd (never h)
+        at (Some told) is h = ap (λ c. of_bytes name (get c path) go) h ∙ ap (λ o. of_bytes name o go) is ∙ ap (λ c. let r : Result A FaultValue = Err (fault_of texts c) in r) (sym none)
+    absent_file Input none is risen = absurd none
+    absent_file NoMemory none is risen = spent_file
+
+    pub long_file : RefusesLong go → IsLonger old.contents path (2 ^ 28) → Goes held old new whole (at_once (Err limit))
+    long_file refuses is = fetched (Err limit) (at old.contents is)
+      where
+        at : (contents : Option Contents) → IsLonger contents path (2 ^ 28) → Holds contents 1 whole.fetches held → of_bytes name (get held path) go ≡ Err limit
+        at None is h = absurd (never h)
+        at (Some told) is h = ap (λ c. of_bytes name (get c path) go) h ∙ ap (λ o. of_bytes name o go) is.1 ∙ refuses is.0 is.2
+
+    pub failed_file : HasRisen old.faults new.faults → Stuck held old new whole
+    failed_file risen = record { fetched = 1; counted = once; some = omega (arith); within = λ h. omega (arith, whole_fetches); risen = risen }
+
+-- bytes beyond the limits are refused, where the arguments name a file
+module _ (gs : List NamedGiven) where
+  abbrev ps : List Parameter
+  ps = function_parameters ReadCsv
+
+  abbrev bound_by : Bool → Bool → Bool → Bound
+  bound_by a b c = if a then (if b then (if c then bound (arguments_from ps gs 0 ps) else not_listed) else not_taken) else not_taken
+
+  long_columns : (bytes : List ℕ) → 2 ^ 28 < length bytes → (kinds : List (Text × Kind)) → columns_of_file bytes kinds ≡ Err beyond_limits
+  long_columns bytes long kinds =
+      let beyond : nat_lt (2 ^ 28) (length bytes) ≡ true = grind (arith, nat_tests) in
+      ap (λ b. if b then Err beyond_limits else if nat_lt (utf8_valid_len bytes) (length bytes) then Err (not_utf8 (utf8_valid_len bytes)) else columns_of_records kinds (records default_config (strip_bom bytes))) beyond
+
+  long_result : (bytes : List ℕ) → 2 ^ 28 < length bytes → (name backend dtype : Given) → csv_result bytes (name ∷ backend ∷ dtype ∷ []) ≡ Err limit
+  long_result bytes long name backend dtype = ap frame_or_fault (long_columns bytes long (kinds_given (dict_in dtype)))
+
+  pub refuses_long : (name : Text) → file_name_of ReadCsv gs ≡ Ok name → RefusesLong (λ bytes. read_result bytes gs)
+  refuses_long name is bytes long = go (fit ps 0 gs) (none_missing ps gs 0 ps) (are_listed ps 0 gs) is
+    where
+      go : (a b c : Bool) → name_of_bound (bound_by a b c) ≡ Ok name → on_bound (bound_by a b c) (csv_result bytes) ≡ Err limit
+      go true true true e = long_result bytes long (argument_at ps gs 0) (argument_at ps gs (0 + 1)) (argument_at ps gs (0 + 1 + 1))
+      go true true false e = Prim.cc
+      go true false c e = Prim.cc
+      go false b c e = Prim.cc

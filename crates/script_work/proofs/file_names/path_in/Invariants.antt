@@ -1,0 +1,10 @@
+use Rattle.std.proofs.Common.{◌≡◌, length}
+use Rattle.script_meaning.specs.Reading.{path_of_name}
+use Rattle.script_work.specs.Reads.{paths_of}
+use Rattle.script_work.proofs.file_names.path_in.Given as goal
+
+abbrev pub invariant-loop-rest : goal.invariant-loop-rest
+invariant-loop-rest l = path_of_name (paths_of l.pairs) l.name ≡ path_of_name (paths_of l.rest) l.name
+
+abbrev pub decreases-loop-rest : goal.decreases-loop-rest
+decreases-loop-rest l = length l.rest

@@ -1,0 +1,8 @@
+use Rattle.std.proofs.Common.{◌∙◌, ap}
+use Rattle.std.specs.Prelude.{nat_lt}
+use Rattle.script_work.specs.Bindings.{bindings_of}
+use Rattle.script_work.proofs.UseLaws.{named_uses}
+use Rattle.script_work.proofs.names.Names.has.Goals as goal
+
+pub returns : goal.returns
+returns c = ap (λ n. nat_lt 0 n) (c.count.ensures ∙ c.args.self.now.counted c.args.id) ∙ named_uses (bindings_of c.args.self.now.values.entries) c.args.id.0

@@ -1,0 +1,25 @@
+use Rattle.std.proofs.Common.{sym, ◌∙◌, subst}
+use Rattle.frame_store.specs.Objects.{tables}
+use Rattle.script_work.specs.Bindings.{bindings_of, AreNoted}
+use Rattle.script_work.proofs.LiveObjects.{noted_named, noted_ended, kept_ended}
+use Rattle.script_work.proofs.sweeping.sweep.Goals as goal
+
+pub loop-id-preserved-then-not-has : goal.loop-id-preserved-then-not-has
+loop-id-preserved-then-not-has c =
+    let bs = bindings_of c.args.names.now.values.entries in
+    let unnamed = sym c.has.ensures ∙ c.if-not-has.true in
+    let before = subst (λ ts. AreNoted bs ts (tables c.loop-id.store)) c.in-Some.ensures.items c.loop-id.invariant.noted in
+    record {
+      noted = noted_ended bs c.pop.new.self.items c.in-Some.id (tables c.loop-id.store) _ before c.end.ensures;
+      kept = kept_ended bs c.in-Some.id (tables c.args.store.now) _ _ c.loop-id.invariant.kept unnamed c.end.ensures;
+    }
+
+pub loop-id-preserved : goal.loop-id-preserved
+loop-id-preserved c =
+    let bs = bindings_of c.args.names.now.values.entries in
+    let named = sym c.has.ensures ∙ c.if-not-has.false in
+    let before = subst (λ ts. AreNoted bs ts (tables c.loop-id.store)) c.in-Some.ensures.items c.loop-id.invariant.noted in
+    record {
+      noted = noted_named bs c.pop.new.self.items c.in-Some.id (tables c.loop-id.store) before named;
+      kept = c.loop-id.invariant.kept;
+    }

@@ -1,0 +1,13 @@
+use Rattle.std.proofs.Common.{vec_len}
+use Rattle.frame_store.specs.Objects.{tables}
+use Rattle.script_work.specs.Bindings.{bindings_of, AreNoted, KeepNamed}
+use Rattle.script_work.proofs.sweeping.sweep.Given as goal
+
+abbrev pub invariant-loop-id : goal.invariant-loop-id
+invariant-loop-id l = record {
+  noted : AreNoted (bindings_of l.names.values.entries) l.temps.items (tables l.store);
+  kept : KeepNamed (bindings_of l.names.values.entries) (tables l.fn.store) (tables l.store);
+}
+
+abbrev pub decreases-loop-id : goal.decreases-loop-id
+decreases-loop-id l = vec_len l.temps

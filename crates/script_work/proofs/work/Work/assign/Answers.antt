@@ -1,0 +1,58 @@
+use Rattle.std.proofs.Common.{◌∙◌, ◌++◌, ap, sym, subst, Result}
+use Rattle.std.specs.Prelude.{IfSome, option_map}
+use Rattle.meaning.specs.Fault.{FaultValue}
+use Rattle.table_laws.specs.Validity.{IsHeldCell, IsValidGiven}
+use Rattle.table_laws.proofs.SetLaws.{assign_result_keeps}
+use Rattle.table_meaning.specs.Table.{Table}
+use Rattle.select_meaning.specs.Set.{assign_result}
+use Rattle.frame_store.specs.Objects.{tables}
+use Rattle.frame_store.specs.World.{World, Sets, entry_in, subscript_in}
+use Rattle.selections.specs.Selected.{way_of}
+use Rattle.settings.specs.Assigned.{moved_object, without}
+use Rattle.script_work.specs.Work.{names_in, world_of}
+use Rattle.script_work.proofs.Worlds.{live_set, noted_set, given_after}
+use Rattle.script_work.proofs.Binding.{swept_live}
+use Rattle.script_work.proofs.Validity.{object_valid, argument_valid, set_valid}
+use Rattle.script_work.proofs.Spending.{unnamed_spare, spent_valid, spent_keeps, spent_noted, spent_on, second_seen}
+use Rattle.script_work.proofs.work.Work.assign.Goals as goal
+
+pub assign-requires-clause-value : goal.assign-requires-clause-value
+assign-requires-clause-value c =
+    let s = c.args.self.now in
+    let n = c.new_value-value.ensures in
+    record { live = n.live; given = λ more. n.meant (s.dict ++ more) ∙ c.requires.value.given more ∙ sym (n.meant s.dict) }
+
+pub invariant_of-self : goal.invariant_of-self
+invariant_of-self c =
+    let s = c.args.self.now in
+    let n = c.new_value-value.ensures in
+    let spare = moved_object c.new_value-value.result in
+    let old : World = without c.assign.result spare (world_of s) in
+    let new : World = record { tables = tables c.assign.new.store; texts = c.assign.new.dict } in
+    let sets : Sets c.assign.result c.args.on _ old new = c.assign.ensures in
+    let held = subst (λ o. IfSome o IsHeldCell) (c.scalar-scalar.ensures (tables s.store) s.dict) (c.is_held.ensures.held s.dict) in
+    let valid = subst IsValidGiven (sym (n.meant s.dict)) (argument_valid (world_of s) c.args.value.now s.valid c.requires.value.live held) in
+    let named = spent_keeps (names_in s) c.assign.result spare (tables s.store) (unnamed_spare (names_in s) c.args.value.now spare n.spare) in
+    record {
+      settled = sets.2;
+      valid = set_valid c.assign.result c.args.on _ old new sets (assign_result_keeps _ _ _ _ _ (object_valid (world_of s) c.args.on s.valid c.requires.on.live) valid) (spent_valid s.dict c.assign.result spare (tables s.store) s.valid);
+      live = live_set old new (names_in s) c.assign.result c.args.on _ sets (swept_live (names_in s) (tables s.store) old.tables named s.live);
+      given = given_after (names_in s) s.dict _ sets.1 s.given;
+      noted = noted_set old new (names_in s) s.temps.items c.assign.result c.args.on _ (spent_on (tables s.store) c.args.on spare c.assign.result n.other c.requires.on.live) sets
+          (spent_noted (names_in s) s.temps.items c.assign.result spare (tables s.store) s.noted);
+    }
+
+pub returns-clause-sets : goal.returns-clause-sets
+returns-clause-sets c =
+    let s = c.args.self.now in
+    let n = c.new_value-value.ensures in
+    let spare = moved_object c.new_value-value.result in
+    let new : World = record { tables = tables c.assign.new.store; texts = c.assign.new.dict } in
+    let second = second_seen (subscript_in (world_of s)) c.as_ref-second.result ∙ ap (option_map (subscript_in (world_of s))) c.as_ref-second.ensures.value in
+    record {
+      spare = spare;
+      unnamed = n.spare;
+      sets = subst (λ (m : Result Table FaultValue). Sets c.assign.result c.args.on m (without c.assign.result spare (world_of s)) new)
+          (λ j. assign_result (entry_in (world_of s) c.args.on) (way_of c.args.by) (subscript_in (world_of s) c.args.first.now) (second j) (n.meant s.dict j))
+          c.assign.ensures;
+    }

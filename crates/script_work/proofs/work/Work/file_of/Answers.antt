@@ -1,0 +1,39 @@
+use Rattle.std.proofs.Common.{ap, sym, ◌∙◌}
+use Rattle.std.specs.Prelude.{Err}
+use Rattle.frame_store.specs.Arguments.{arguments_of}
+use Rattle.form_meaning.specs.declared.Function.TheVariants.{ReadCsv}
+use Rattle.method_meaning.specs.Readers.{file_name_of, read_result}
+use Rattle.script_meaning.specs.Reading.{at_once, then_read, of_file}
+use Rattle.script_work.specs.declared.fault.EvalFault.TheVariants.{Refused}
+use Rattle.script_work.specs.Reads.{files_in}
+use Rattle.script_work.specs.Work.{world_of}
+use Rattle.script_work.proofs.Fetching.{refuses_long}
+use Rattle.fault_laws.proofs.FormFaults.{file_name_of_fault}
+use Rattle.script_work.proofs.Rides.{goes_same, bytes_by, halts_first, then_gives, serves_self, fault_uncaused}
+use Rattle.script_work.proofs.work.Work.file_of.Goals as goal
+
+pub returns-in-Ok-clause-reads : goal.returns-in-Ok-clause-reads
+returns-in-Ok-clause-reads g c =
+    let w = world_of c.args.self.now in
+    let given = arguments_of w.tables w.texts c.args.args.now.items.items in
+    let is = c.in-Ok.ensures.0 in
+    λ held.
+    let fs = files_in c.args.names.now held in
+    bytes_by w.texts _ _ _ (λ bytes. read_result bytes given) c.file_named.result
+    (ap (λ r. then_read (at_once r) (λ name. of_file fs name (λ bytes. read_result bytes given))) is
+    ∙ then_gives Err _ (λ name. of_file fs name (λ bytes. read_result bytes given))
+    ∙ ap (λ n. of_file fs n (λ bytes. read_result bytes given)) (sym c.text.ensures))
+    (c.file_named.ensures.reads w.texts held (λ bytes. read_result bytes given) (refuses_long given _ is))
+
+pub returns-in-Err-clause-reads : goal.returns-in-Err-clause-reads
+returns-in-Err-clause-reads g c =
+    let w = world_of c.args.self.now in
+    let given = arguments_of w.tables w.texts c.args.args.now.items.items in
+    let F = g.F.Files in
+    let here = F.seen c.args.files.now in
+    λ held.
+    let fs = files_in c.args.names.now held in
+    halts_first w.texts _ _ _ _ Err (λ name. of_file fs name (λ bytes. read_result bytes given)) (Refused c.in-Err.code) (goes_same (ap (λ r. at_once r) c.in-Err.ensures.0), fault_uncaused w.texts fs.paths here here c.in-Err.code (file_name_of ReadCsv given) (file_name_of_fault ReadCsv given) c.in-Err.ensures.0, c.in-Err.ensures.1)
+
+pub returns-in-Err-clause-serves : goal.returns-in-Err-clause-serves
+returns-in-Err-clause-serves g c = serves_self _

@@ -1,0 +1,34 @@
+use Rattle.std.proofs.Common.{ℕ, List, Bor, option_map}
+use Rattle.frame_store.specs.Objects.{tables}
+use Rattle.frame_store.specs.World.{World, Forms, arguments_in}
+use Rattle.script_work.specs.Work.{names_in, world_of}
+use Rattle.script_work.proofs.Worlds.{form_keeps, live_after, given_after, noted_made, noted_refused}
+use Rattle.table_laws.proofs.CallLaws.{function_result_keeps}
+use Rattle.script_work.proofs.Validity.{form_valid, arguments_valid}
+use Rattle.script_work.proofs.work.Work.make.Goals as goal
+
+pub invariant_of-self-in-Break-branch-2 : goal.invariant_of-self-in-Break-branch-2
+invariant_of-self-in-Break-branch-2 c =
+    let s = c.args.self.now in
+    let new : World = record { tables = tables c.make.new.store; texts = c.make.new.dict } in
+    let answers : Forms c.make.result _ (world_of s) new = c.make.ensures in
+    record {
+      settled = answers.2;
+      valid = form_valid c.make.result _ (world_of s) new answers (function_result_keeps (option_map (λ (b : Bor (List ℕ)). b.now) c.args.file) c.as_str-name.result.now (arguments_in (world_of s) c.args.args.now.items.items) (arguments_valid (world_of s) c.args.args.now.items.items s.valid c.requires)) s.valid;
+      live = live_after (names_in s) (world_of s) new (form_keeps c.make.result _ (world_of s) new answers) s.live;
+      given = given_after (names_in s) s.dict _ answers.1 s.given;
+      noted = noted_refused (names_in s) s.temps.items _ c.make.result c.in_err-made.field-0.0 _ (world_of s) new c.in_err-made.was answers c.reserve.ensures.items s.noted;
+    }
+
+pub invariant_of-self-2 : goal.invariant_of-self-2
+invariant_of-self-2 c =
+    let s = c.args.self.now in
+    let new : World = record { tables = tables c.make.new.store; texts = c.make.new.dict } in
+    let answers : Forms c.make.result _ (world_of s) new = c.make.ensures in
+    record {
+      settled = answers.2;
+      valid = form_valid c.make.result _ (world_of s) new answers (function_result_keeps (option_map (λ (b : Bor (List ℕ)). b.now) c.args.file) c.as_str-name.result.now (arguments_in (world_of s) c.args.args.now.items.items) (arguments_valid (world_of s) c.args.args.now.items.items s.valid c.requires)) s.valid;
+      live = live_after (names_in s) (world_of s) new (form_keeps c.make.result _ (world_of s) new answers) s.live;
+      given = given_after (names_in s) s.dict _ answers.1 s.given;
+      noted = noted_made (names_in s) s.temps.items _ _ c.make.result c.in_ok-made.made _ (world_of s) new c.in_ok-made.was answers c.reserve.ensures.items c.note.ensures s.noted;
+    }

@@ -1,0 +1,33 @@
+use Rattle.frame_store.specs.Objects.{tables}
+use Rattle.frame_store.specs.World.{World, Forms}
+use Rattle.script_work.specs.Work.{names_in, world_of}
+use Rattle.script_work.proofs.Worlds.{form_keeps, live_after, given_after, noted_made, noted_refused}
+use Rattle.table_laws.proofs.CallLaws.{call_result_keeps}
+use Rattle.script_work.proofs.Validity.{object_valid, form_valid, arguments_valid}
+use Rattle.script_work.proofs.work.Work.method.Goals as goal
+
+pub invariant_of-self-in-Break-branch-2 : goal.invariant_of-self-in-Break-branch-2
+invariant_of-self-in-Break-branch-2 c =
+    let s = c.args.self.now in
+    let new : World = record { tables = tables c.chain_call.new.store; texts = c.chain_call.new.dict } in
+    let answers : Forms c.chain_call.result _ (world_of s) new = c.chain_call.ensures in
+    record {
+      settled = answers.2;
+      valid = form_valid c.chain_call.result _ (world_of s) new answers (call_result_keeps _ _ _ (object_valid (world_of s) c.args.on s.valid c.requires.on.live) (arguments_valid (world_of s) c.args.args.now.items.items s.valid c.requires.arguments)) s.valid;
+      live = live_after (names_in s) (world_of s) new (form_keeps c.chain_call.result _ (world_of s) new answers) s.live;
+      given = given_after (names_in s) s.dict _ answers.1 s.given;
+      noted = noted_refused (names_in s) s.temps.items _ c.chain_call.result c.in_err-made.field-0.0 _ (world_of s) new c.in_err-made.was answers c.reserve.ensures.items s.noted;
+    }
+
+pub invariant_of-self-2 : goal.invariant_of-self-2
+invariant_of-self-2 c =
+    let s = c.args.self.now in
+    let new : World = record { tables = tables c.chain_call.new.store; texts = c.chain_call.new.dict } in
+    let answers : Forms c.chain_call.result _ (world_of s) new = c.chain_call.ensures in
+    record {
+      settled = answers.2;
+      valid = form_valid c.chain_call.result _ (world_of s) new answers (call_result_keeps _ _ _ (object_valid (world_of s) c.args.on s.valid c.requires.on.live) (arguments_valid (world_of s) c.args.args.now.items.items s.valid c.requires.arguments)) s.valid;
+      live = live_after (names_in s) (world_of s) new (form_keeps c.chain_call.result _ (world_of s) new answers) s.live;
+      given = given_after (names_in s) s.dict _ answers.1 s.given;
+      noted = noted_made (names_in s) s.temps.items _ _ c.chain_call.result c.in_ok-made.made _ (world_of s) new c.in_ok-made.was answers c.reserve.ensures.items c.note.ensures s.noted;
+    }

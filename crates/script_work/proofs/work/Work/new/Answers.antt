@@ -1,0 +1,15 @@
+use Rattle.std.proofs.Common.{◌≡◌, Bool, true, false, refl, sym, subst, IsSome}
+use Rattle.table_meaning.specs.Settled.{IsSettled}
+use Rattle.frame_store.specs.Objects.{Tables}
+use Rattle.frame_store.specs.Shown.{shown}
+use Rattle.table_laws.specs.Validity.{AreValid}
+use Rattle.script_work.proofs.work.Work.new.Goals as goal
+
+pub invariant_of-result-clause-settled : goal.invariant_of-result-clause-settled
+invariant_of-result-clause-settled c = subst (λ (h : Tables). IsSettled shown c.new.result h) (sym c.new-3.ensures) (λ more. refl)
+
+pub invariant_of-result-clause-valid : goal.invariant_of-result-clause-valid
+invariant_of-result-clause-valid c = subst (λ (h : Tables). AreValid (shown c.new.result h)) (sym c.new-3.ensures) (λ id t is. Prim.cc)
+
+pub invariant_of-result-clause-noted : goal.invariant_of-result-clause-noted
+invariant_of-result-clause-noted c = λ id live. let none : ◌≡◌ {A = Bool} false true = subst (λ (h : Tables). IsSome (h id)) c.new-3.ensures live in Prim.cc

@@ -1,0 +1,5 @@
+pub mod Bindings
+pub mod Uses
+pub mod Reads
+pub mod Faults
+pub mod Work

@@ -1,0 +1,38 @@
+-- What stands in the midst of a statement.
+use Rattle.std.specs.Prelude.{◌≡◌, false, Option, IfSome, ⊤, Result}
+use Rattle.meaning.specs.Fault.{FaultValue}
+use Rattle.table_meaning.specs.Table.{Table}
+use Rattle.frame_store.specs.Objects.{Tables, tables}
+use Rattle.frame_store.specs.declared.object.ObjId.{ObjId}
+use Rattle.frame_store.specs.declared.arguments.Value.{Value}
+use Rattle.frame_store.specs.declared.arguments.Value.TheVariants.{Object}
+use Rattle.frame_store.specs.declared.arguments.Argument.{Argument}
+use Rattle.frame_store.specs.declared.arguments.Argument.TheVariants.{One}
+use Rattle.frame_store.specs.declared.fault.OpFault.{OpFault}
+use Rattle.script_meaning.specs.State.{State}
+use Rattle.frame_store.specs.World.{World, Sets}
+use Rattle.settings.specs.Assigned.{without}
+use Rattle.script_work.specs.Bindings.{Bindings, bindings_of, is_named, state_over}
+use Rattle.script_work.specs.declared.work.Work.{Work}
+
+abbrev pub names_in : Work → Bindings
+names_in w = bindings_of w.names.values.entries
+
+abbrev pub tables_in : Work → Tables
+tables_in w = tables w.store
+
+abbrev pub world_of : Work → World
+world_of w = record { tables = tables w.store; texts = w.dict }
+
+abbrev pub state_in : Work → State
+state_in w = state_over (names_in w) (world_of w)
+
+-- the object is the value, and no name stands for it
+abbrev pub IsUnnamedValue : Bindings → Argument → ObjId → Type 0
+IsUnnamedValue bs value id = (is_named bs id.0 ≡ false) × (value ≡ One (Object id))
+
+-- what a setting by a value does: the object of the value may end with it, if no name stands for it
+pub record SetsFrom (bs : Bindings) (value : Argument) (r : Result ⊤ OpFault) (on : Value) (meant : Result Table FaultValue) (old new : World) : Type 0 where
+  pub spare : Option ObjId
+  pub unnamed : IfSome spare (IsUnnamedValue bs value)
+  pub sets : Sets r on meant (without r spare old) new

@@ -1,0 +1,119 @@
+// Calls of the functions of `pd`, and the files that they read.
+ghost use Rattle.std.specs.Prelude.{◌≡◌, ℕ, List, Result, IfOk};
+ghost use Rattle.meaning.specs.Text.{Text, Contents};
+ghost use Rattle.meaning.specs.Fault.{FaultValue};
+ghost use Rattle.table_meaning.specs.Value.{Entry};
+ghost use Rattle.form_meaning.specs.declared.Function.TheVariants.{ReadCsv};
+ghost use Rattle.method_meaning.specs.Readers.{file_name_of, read_result};
+ghost use Rattle.script_meaning.specs.Reading.{at_once, then_read, of_file};
+ghost use Rattle.script_meaning.specs.Expression.{made};
+ghost use Rattle.frame_store.specs.World.{Keeps, IsKnownValue, AreKnownArguments, entry_in, arguments_in};
+ghost use Rattle.script_work.specs.Bindings.{IsOf};
+ghost use Rattle.outside_io.specs.Files.{Serves};
+ghost use Rattle.script_work.specs.Reads.{files_in, Reaches, ReachesBytes, RefusesLong};
+ghost use Rattle.script_work.specs.Faults.{IsNoFile};
+
+use crate::fault::{EvalFault, evaluated};
+use crate::file_names::FileNames;
+use crate::work::Work;
+use cell_core::{Code, Words};
+use file_readers::{file_name, reads_file};
+use frame_store::{NamedList, Value};
+use outside_io::{Bytes, Files, ReadFault, read_whole};
+use std::alloc::Global;
+
+// A longer file is beyond the limits of tables.
+const MOST_BYTES: usize = 1 << 28;
+
+impl Work {
+    ghost use Rattle.std.specs.Prelude.{None};
+    ghost use Rattle.script_work.specs.Work.{names_in, world_of};
+
+    /// What a function of `pd` gives. One that reads a file is asked for its name first, and the file is
+    /// fetched then, once. The refusals are those of the function, in its order; a file that isn't there is a
+    /// `FileNotFoundError` that gives its name, and one that can't be read [`EvalFault::Input`].
+    pub fn call<F: Files>(
+        &mut self,
+        files: &mut F,
+        names: &FileNames,
+        function: &Words,
+        args: &NamedList,
+    ) -> Result<Value, EvalFault>
+        requires { AreKnownArguments (world_of self.old) args.now.items.items }
+        ensures names { names_in self.new ≡ names_in self.old }
+        ensures kept { Keeps (world_of self.old) (world_of self.new) }
+        ensures reads { (held : Contents) →
+            Reaches (entry_in (world_of self.new)) (world_of self.new).texts
+            (files_in names.now held) (F.seen files.old) (F.seen files.new)
+            (made (files_in names.now held) function.now
+            (arguments_in (world_of self.old) args.now.items.items))
+            result }
+        ensures known { IfOk result (λ v. IsKnownValue (world_of self.new) v) }
+        ensures object { IfOk result (λ v. IsOf (names_in self.new) None v) }
+        ensures serves { Serves (F.seen files.old) (F.seen files.new) }
+    {
+        if !reads_file(function.as_str()) {
+            return evaluated(self.make(function, args, None));
+        }
+        let bytes = self.file_of(files, names, args)?;
+        evaluated(self.make(function, args, Some(bytes.as_slice())))
+    }
+
+    // The bytes of the file that the arguments name.
+    fn file_of<F: Files>(
+        &self,
+        files: &mut F,
+        names: &FileNames,
+        args: &NamedList,
+    ) -> Result<Bytes, EvalFault>
+        requires { AreKnownArguments (world_of self.now) args.now.items.items }
+        ensures reads { let given = arguments_in (world_of self.now) args.now.items.items in
+            (held : Contents) →
+            ReachesBytes (λ bytes. read_result bytes given) (world_of self.now).texts
+            (files_in names.now held) (F.seen files.old) (F.seen files.new)
+            (then_read (at_once (file_name_of ReadCsv given)) (λ name.
+            of_file (files_in names.now held) name (λ bytes. read_result bytes given)))
+            result }
+        ensures serves { Serves (F.seen files.old) (F.seen files.new) }
+    {
+        match file_name(&self.store, &self.dict, "read_csv", args) {
+            Ok(name) => file_named(self.alloc, files, names, self.dict.text(name)),
+            Err(code) => Err(EvalFault::Refused(code)),
+        }
+    }
+}
+
+// The bytes of the file of a name.
+fn file_named<F: Files>(
+    alloc: Global,
+    files: &mut F,
+    names: &FileNames,
+    name: &str,
+) -> Result<Bytes, EvalFault>
+    ensures reads { (texts : List Text) (held : Contents) (go : List ℕ → Result Entry FaultValue) →
+        RefusesLong go →
+        ReachesBytes go texts (files_in names.now held) (F.seen files.old) (F.seen files.new)
+        (of_file (files_in names.now held) name.now go) result }
+    ensures serves { Serves (F.seen files.old) (F.seen files.new) }
+{
+    let Some(path) = names.path(name) else {
+        return Err(no_file(alloc, name));
+    };
+    match read_whole(alloc, files, path, MOST_BYTES) {
+        Ok(bytes) => Ok(bytes),
+        Err(ReadFault::Absent) => Err(no_file(alloc, name)),
+        Err(ReadFault::TooLong) => Err(EvalFault::Refused(Code::Limit)),
+        Err(ReadFault::Failed) => Err(EvalFault::Input),
+        Err(ReadFault::NoMemory) => Err(EvalFault::NoMemory),
+    }
+}
+
+// The fault of a name without a file.
+fn no_file(alloc: Global, name: &str) -> EvalFault
+    ensures { IsNoFile result name.now }
+{
+    match Words::from_text(alloc, name) {
+        Ok(name) => EvalFault::Refused(Code::NoFile(name)),
+        Err(_) => EvalFault::NoMemory,
+    }
+}
