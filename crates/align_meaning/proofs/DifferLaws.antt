@@ -1,18 +1,11 @@
 -- Keys that differ on each side differ in an outer join.
-use Rattle.std.proofs.Common.{◌≡◌, ◌≢◌, ◌∙◌, ◌<◌, ◌≤◌, ◌+◌, ap, refl, subst, sym, ℕ, suc, Bool, true, false, not, cond, List, [], ◌∷◌, ◌++◌, map, filter, length, All, AllPairs, Result, Ok, Err, nat_lt, arith}
-use Rattle.std.specs.Bool.{Decides}
-use Rattle.std.specs.List.{flat_map}
-use Rattle.std.proofs.lemmas.Bool.{false≢true}
-use Rattle.std.proofs.lemmas.List.{map-append}
-use Rattle.std.proofs.lemmas.List.Elements.{All-nil, All-head, All-tail, All-weaker, filter_passes}
-use Rattle.std.proofs.lemmas.List.Kept.{AllPairs-cons, AllPairs-filter}
-use Rattle.meaning.specs.Reduce.{distinct}
-use Rattle.sorting.specs.Sorting.{put_in, in_order}
-use Rattle.pick_meaning.specs.Rows.{rows_where}
-use Rattle.pick_meaning.proofs.InsideLaws.{ok_same}
-use Rattle.align_meaning.proofs.OrderLaws.{all_put_in, all_in_order}
-use Rattle.align_meaning.specs.Faults.{AlignRefusal, too_large}
-use Rattle.align_meaning.specs.Joins.{Entry, Lists, entries_of, keys_in_order, outer_entries, most_rows, lists_of, outer}
+use Rattle.{
+  std.{proofs.{Common.{◌≡◌, ◌≢◌, ◌∙◌, ◌<◌, ◌≤◌, ◌+◌, ap, refl, subst, sym, ℕ, suc, Bool, true, false, not, cond, List, [], ◌∷◌, ◌++◌, map, filter, length, All, AllPairs, Result, Ok, Err, nat_lt, arith}, lemmas.{Bool.{false≢true}, List.{map-append, Elements.{All-nil, All-head, All-tail, All-weaker, filter_passes}, Kept.{AllPairs-cons, AllPairs-filter}}}}, specs.{Bool.{Decides}, List.{flat_map}}},
+  meaning.specs.Reduce.{distinct},
+  sorting.specs.Sorting.{put_in, in_order},
+  pick_meaning.{specs.Rows.{rows_where}, proofs.InsideLaws.{ok_same}},
+  align_meaning.{proofs.OrderLaws.{all_put_in, all_in_order}, specs.{Faults.{AlignRefusal, too_large}, Joins.{Entry, Lists, entries_of, keys_in_order, outer_entries, most_rows, lists_of, outer}}},
+}
 
 module _ {K : Type 0} (same less : K → K → Bool) (decides : (a b : K) → Decides (same a b) (a ≡ b)) where
   abbrev pub AreApart : List K → Type 0

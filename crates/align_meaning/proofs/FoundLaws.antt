@@ -1,15 +1,9 @@
 -- What is found for targets: a row or a gap for each, rows that are there, and a repeated key that is one of the keys.
-use Rattle.std.proofs.Common.{◌≡◌, ◌∙◌, ap, refl, subst, arith, ℕ, ◌<◌, Bool, true, false, if◌then◌else◌, List, [], ◌∷◌, map, length, All, Option, Some, None, Result, Ok, Err}
-use Rattle.std.specs.Prelude.{IfOk, IfSome}
-use Rattle.std.specs.List.{range_with_len}
-use Rattle.std.specs.Cmp.Lexicographic.{pointwise, as_long}
-use Rattle.std.proofs.lemmas.List.{length-map}
-use Rattle.std.proofs.lemmas.List.FromFn.{length-map-range_with_len, length-range_with_len, get_or-range_with_len}
-use Rattle.std.proofs.lemmas.List.Elements.{All-head, All-tail, All-map, All-from_get_or}
-use Rattle.pick_meaning.specs.Rows.{rows_where, only_row}
-use Rattle.pick_meaning.proofs.InsideLaws.{rows_inside}
-use Rattle.align_meaning.specs.Faults.{AlignRefusal, duplicate_labels}
-use Rattle.align_meaning.specs.Targets.{first_where, first_repeated, unless_repeated, rows_of_targets, reindexed}
+use Rattle.{
+  std.{proofs.{Common.{◌≡◌, ◌∙◌, ap, refl, subst, arith, ℕ, ◌<◌, Bool, true, false, if◌then◌else◌, List, [], ◌∷◌, map, length, All, Option, Some, None, Result, Ok, Err}, lemmas.List.{length-map, FromFn.{length-map-range_with_len, length-range_with_len, get_or-range_with_len}, Elements.{All-head, All-tail, All-map, All-from_get_or}}}, specs.{Prelude.{IfOk, IfSome}, List.{range_with_len}, Cmp.Lexicographic.{pointwise, as_long}}},
+  pick_meaning.{specs.Rows.{rows_where, only_row}, proofs.InsideLaws.{rows_inside}},
+  align_meaning.specs.{Faults.{AlignRefusal, duplicate_labels}, Targets.{first_where, first_repeated, unless_repeated, rows_of_targets, reindexed}},
+}
 
 unless_keeps : {K A : Type 0} (P : A → Type 0) (repeated : Option K) (answer : A) → P answer → IfOk (unless_repeated repeated answer) P
 unless_keeps P None answer holds = holds

@@ -1,15 +1,10 @@
 -- The rows of an outer join lie within their sides, and its keys are those of either side.
-use Rattle.std.proofs.Common.{◌≡◌, ◌∙◌, ◌<◌, ◌≤◌, refl, subst, sym, ℕ, Bool, true, false, cond, List, [], ◌∷◌, ◌++◌, map, length, All, Option, Some, None, Result, Ok, Err, nat_lt}
-use Rattle.std.specs.Prelude.{IfSome}
-use Rattle.std.proofs.lemmas.Bool.{ltb-false}
-use Rattle.std.proofs.lemmas.List.{length-map}
-use Rattle.std.proofs.lemmas.List.Elements.{All-nil, All-cons, All-head, All-tail, All-map}
-use Rattle.meaning.specs.Reduce.{distinct}
-use Rattle.pick_meaning.specs.Rows.{rows_where}
-use Rattle.pick_meaning.proofs.InsideLaws.{rows_inside, ok_same}
-use Rattle.align_meaning.proofs.OrderLaws.{all_append, all_flat, all_distinct, all_in_order}
-use Rattle.align_meaning.specs.Faults.{AlignRefusal, too_large}
-use Rattle.align_meaning.specs.Joins.{Entry, Lists, or_gap, entry, entries_with, entries_of, keys_in_order, outer_entries, most_rows, lists_of, outer}
+use Rattle.{
+  std.{proofs.{Common.{◌≡◌, ◌∙◌, ◌<◌, ◌≤◌, refl, subst, sym, ℕ, Bool, true, false, cond, List, [], ◌∷◌, ◌++◌, map, length, All, Option, Some, None, Result, Ok, Err, nat_lt}, lemmas.{Bool.{ltb-false}, List.{length-map, Elements.{All-nil, All-cons, All-head, All-tail, All-map}}}}, specs.Prelude.{IfSome}},
+  meaning.specs.Reduce.{distinct},
+  pick_meaning.{specs.Rows.{rows_where}, proofs.InsideLaws.{rows_inside, ok_same}},
+  align_meaning.{proofs.OrderLaws.{all_append, all_flat, all_distinct, all_in_order}, specs.{Faults.{AlignRefusal, too_large}, Joins.{Entry, Lists, or_gap, entry, entries_with, entries_of, keys_in_order, outer_entries, most_rows, lists_of, outer}}},
+}
 
 -- a row of so many, or none
 abbrev pub IsRowOf : ℕ → Option ℕ → Type 0

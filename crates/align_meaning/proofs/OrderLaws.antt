@@ -1,9 +1,9 @@
 -- Lists in order, and what is made of them.
-use Rattle.std.proofs.Common.{◌≡◌, ◌∙◌, ap, refl, Bool, true, false, not, cond, List, [], ◌∷◌, ◌++◌, map, filter, All}
-use Rattle.std.specs.List.{flat_map}
-use Rattle.std.proofs.lemmas.List.Elements.{All-nil, All-cons, All-head, All-tail, All-filter}
-use Rattle.meaning.specs.Reduce.{distinct}
-use Rattle.sorting.specs.Sorting.{put_in, in_order}
+use Rattle.{
+  std.{proofs.{Common.{◌≡◌, ◌∙◌, ap, refl, Bool, true, false, not, cond, List, [], ◌∷◌, ◌++◌, map, filter, All}, lemmas.List.Elements.{All-nil, All-cons, All-head, All-tail, All-filter}}, specs.List.{flat_map}},
+  meaning.specs.Reduce.{distinct},
+  sorting.specs.Sorting.{put_in, in_order},
+}
 
 pub all_append : {X : Type 0} (P : X → Type 0) (xs ys : List X) → All P xs → All P ys → All P (xs ++ ys)
 all_append P [] ys px py = py

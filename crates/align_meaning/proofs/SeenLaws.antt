@@ -1,18 +1,11 @@
 -- The same rows meet where keys are seen otherwise, as tuples with their texts.
-use Rattle.std.proofs.Common.{◌≡◌, ◌∙◌, ap, refl, sym, ℕ, Bool, true, false, not, ◌&&◌, cond, List, [], ◌∷◌, ◌++◌, map, filter, length, All, Option, Some, None, Result, Ok, Err, nat_lt}
-use Rattle.std.specs.List.{flat_map, range_with_len}
-use Rattle.std.specs.Option.{option_map}
-use Rattle.std.specs.Cmp.Lexicographic.{pointwise}
-use Rattle.std.proofs.lemmas.List.{length-map, map-append}
-use Rattle.std.proofs.lemmas.List.Elements.{All-head, All-tail}
-use Rattle.meaning.specs.Reduce.{distinct}
-use Rattle.sorting.specs.Sorting.{in_order}
-use Rattle.pick_meaning.specs.Rows.{rows_where, only_row}
-use Rattle.pick_meaning.proofs.RowLaws.{rows_where-map}
-use Rattle.align_meaning.proofs.OrderLaws.{all_append, all_distinct, all_in_order, in_order_map}
-use Rattle.align_meaning.specs.Faults.{AlignRefusal, duplicate_labels, too_large}
-use Rattle.align_meaning.specs.Targets.{first_where, first_repeated, unless_repeated, rows_of_targets, reindexed}
-use Rattle.align_meaning.specs.Joins.{Entry, Lists, or_gap, entry, entries_with, entries_of, keys_in_order, outer_entries, most_rows, lists_of, within_limit, outer}
+use Rattle.{
+  std.{proofs.{Common.{◌≡◌, ◌∙◌, ap, refl, sym, ℕ, Bool, true, false, not, ◌&&◌, cond, List, [], ◌∷◌, ◌++◌, map, filter, length, All, Option, Some, None, Result, Ok, Err, nat_lt}, lemmas.List.{length-map, map-append, Elements.{All-head, All-tail}}}, specs.{List.{flat_map, range_with_len}, Option.{option_map}, Cmp.Lexicographic.{pointwise}}},
+  meaning.specs.Reduce.{distinct},
+  sorting.specs.Sorting.{in_order},
+  pick_meaning.{specs.Rows.{rows_where, only_row}, proofs.RowLaws.{rows_where-map}},
+  align_meaning.{proofs.OrderLaws.{all_append, all_distinct, all_in_order, in_order_map}, specs.{Faults.{AlignRefusal, duplicate_labels, too_large}, Targets.{first_where, first_repeated, unless_repeated, rows_of_targets, reindexed}, Joins.{Entry, Lists, or_gap, entry, entries_with, entries_of, keys_in_order, outer_entries, most_rows, lists_of, within_limit, outer}}},
+}
 
 map_map : {A B C D : Type 0} (f : B → C) (g : A → B) (h : D → C) (k : A → D) → ((x : A) → f (g x) ≡ h (k x)) → (xs : List A) → map f (map g xs) ≡ map h (map k xs)
 map_map f g h k same [] = refl

@@ -1,10 +1,9 @@
 -- The number of so many cells, and of one more.
-use Rattle.std.proofs.Common.{◌≡◌, ℕ, zero, suc, ◌+◌, ℤ, pos, List, fold, slice_get, ap, ◌∙◌, arith}
-use Rattle.std.specs.Prelude.{unwrap_or, Some}
-use Rattle.std.specs.List.{range_with_len}
-use Rattle.cell_core.specs.declared.cell.Cell.{Cell}
-use Rattle.cell_core.specs.declared.cell.Cell.TheVariants.{Na}
-use Rattle.column_bench.specs.Checks.{check_more, check_below}
+use Rattle.{
+  std.{proofs.Common.{◌≡◌, ℕ, zero, suc, ◌+◌, ℤ, pos, List, fold, slice_get, ap, ◌∙◌, arith}, specs.{Prelude.{unwrap_or, Some}, List.{range_with_len}}},
+  cell_core.specs.declared.cell.Cell.{Cell, TheVariants.{Na}},
+  column_bench.specs.Checks.{check_more, check_below},
+}
 
 fold-range : {S : Type 0} (f : S → ℕ → S) (s : S) (a n : ℕ) → fold f s (range_with_len a (suc n)) ≡ f (fold f s (range_with_len a n)) (a + n)
 fold-range f s a zero = ap (f s) (omega arith)

@@ -1,7 +1,8 @@
 -- Laws of what the columns are made of.
-use Rattle.std.proofs.Common.{◌≡◌, ℕ, ◌+◌, ◌∷◌, ◌++◌, [], arith}
-use Rattle.std.proofs.lemmas.List.FromFn.{map-range_with_len_more}
-use Rattle.meaning.specs.Column.{tabulate}
+use Rattle.{
+  std.proofs.{Common.{◌≡◌, ℕ, ◌+◌, ◌∷◌, ◌++◌, [], arith}, lemmas.List.FromFn.{map-range_with_len_more}},
+  meaning.specs.Column.{tabulate},
+}
 
 -- one row more
 pub tabulate_more : {C : Type 0} (f : ℕ → C) (n : ℕ) → tabulate (n + 1) f ≡ tabulate n f ++ f n ∷ []

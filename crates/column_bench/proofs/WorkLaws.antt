@@ -1,20 +1,11 @@
 -- What the operations are made on is such that they take it.
-use Rattle.std.proofs.Common.{◌≡◌, ℕ, ◌-◌, ◌<◌, nat_lt, Bool, true, false, cond, List, length, sym, subst, ◌∙◌, arith, Option, Some, None, slice_index_or}
-use Rattle.std.specs.List.{range_with_len}
-use Rattle.std.proofs.lemmas.List.Elements.{All-map}
-use Rattle.std.proofs.lemmas.List.FromFn.{length-map-range_with_len, get_or-map-range_with_len}
-use Rattle.cell_core.specs.declared.cell.Cell.TheVariants.{Na}
-use Rattle.meaning.specs.Cell.{IsGiven}
-use Rattle.meaning.specs.Column.{tabulate}
-use Rattle.column_core.specs.Moves.{IsPlaceOf}
-use Rattle.column_bench.specs.declared.data.Data.{Data}
-use Rattle.column_bench.specs.declared.data.Data.TheVariants.{Numbers, Divisors, Truths, OtherTruths, Bits}
-use Rattle.column_bench.specs.declared.operation.Operation.{Operation}
-use Rattle.column_bench.specs.declared.operation.Operation.TheVariants.{Add, FloorDiv, Lt, And, Sum, Cumsum, Shift, Take, Cast}
-use Rattle.column_bench.specs.declared.work.Work.{Work}
-use Rattle.column_bench.specs.Data.{jump_of, other_jump_of, data_cell, data_column, place_at, number_cell, divisor_cell, truth_cell, bit_cell}
-use Rattle.column_bench.specs.Operation.{work_of}
-use Rattle.column_bench.specs.Work.{NeedNoTexts, ArePaired, IsReady}
+use Rattle.{
+  std.{proofs.{Common.{◌≡◌, ℕ, ◌-◌, ◌<◌, nat_lt, Bool, true, false, cond, List, length, sym, subst, ◌∙◌, arith, Option, Some, None, slice_index_or}, lemmas.List.{Elements.{All-map}, FromFn.{length-map-range_with_len, get_or-map-range_with_len}}}, specs.List.{range_with_len}},
+  cell_core.specs.declared.cell.Cell.TheVariants.{Na},
+  meaning.specs.{Cell.{IsGiven}, Column.{tabulate}},
+  column_core.specs.Moves.{IsPlaceOf},
+  column_bench.specs.{declared.{data.Data.{Data, TheVariants.{Numbers, Divisors, Truths, OtherTruths, Bits}}, operation.Operation.{Operation, TheVariants.{Add, FloorDiv, Lt, And, Sum, Cumsum, Shift, Take, Cast}}, work.Work.{Work}}, Data.{jump_of, other_jump_of, data_cell, data_column, place_at, number_cell, divisor_cell, truth_cell, bit_cell}, Operation.{work_of}, Work.{NeedNoTexts, ArePaired, IsReady}},
+}
 
 -- a property of what is missing and of a value
 either : {T : Type 0} (P : T → Type 0) (is_missing : Bool) (missing value : T) → P missing → P value → P (cond is_missing missing value)

@@ -1,22 +1,10 @@
 -- Columns that are kept one after another.
-use Rattle.std.proofs.Common.{◌≡◌, ◌≢◌, ℕ, zero, suc, ◌+◌, ◌-◌, ◌*◌, ◌<◌, ◌≤◌, pos, Bool, true, false, List, [], ◌∷◌, length, map, replicate, nat_lt, slice_set, slice_get, slice_index_or, refl, sym, ap, subst, ◌∙◌, arith, Option, Some, None, is_some, unwrap_or}
-use Rattle.std.specs.List.{range_with_len}
-use Rattle.std.proofs.lemmas.Bool.{ltb-true, ltb-false}
-use Rattle.std.proofs.lemmas.List.{get_or-set_same, get_or-set_other, length-set}
-use Rattle.std.proofs.lemmas.List.FromFn.{fill_by_all}
-use Rattle.cell_core.specs.declared.cell.Cell.{Cell}
-use Rattle.cell_core.specs.declared.cell.Cell.TheVariants.{Na}
-use Rattle.cell_core.specs.declared.cell.Kind.{Kind}
-use Rattle.cell_core.specs.Grids.{AreRowsBelow}
-use Rattle.meaning.specs.Column.{tabulate}
-use Rattle.meaning.specs.Block.{in_columns, filled_with, with_cell, strided}
-use Rattle.column_core.specs.Lanes.{option_at}
-use Rattle.column_core.specs.Columns.{CellColumn, column_with}
-use Rattle.column_core.specs.Blocks.{CellBlock, block_with}
-use Rattle.column_core.proofs.ColumnLaws.{length-tabulate, get-tabulate}
-use Rattle.column_core.proofs.MoveLaws.{get_or-tabulate}
-use Rattle.column_core.proofs.CellRows.{range-same}
-use Rattle.column_core.proofs.RowsMade.{option-set_same, option-set_other}
+use Rattle.{
+  std.{proofs.{Common.{◌≡◌, ◌≢◌, ℕ, zero, suc, ◌+◌, ◌-◌, ◌*◌, ◌<◌, ◌≤◌, pos, Bool, true, false, List, [], ◌∷◌, length, map, replicate, nat_lt, slice_set, slice_get, slice_index_or, refl, sym, ap, subst, ◌∙◌, arith, Option, Some, None, is_some, unwrap_or}, lemmas.{Bool.{ltb-true, ltb-false}, List.{get_or-set_same, get_or-set_other, length-set, FromFn.{fill_by_all}}}}, specs.List.{range_with_len}},
+  cell_core.specs.{declared.cell.{Cell.{Cell, TheVariants.{Na}}, Kind.{Kind}}, Grids.{AreRowsBelow}},
+  meaning.specs.{Column.{tabulate}, Block.{in_columns, filled_with, with_cell, strided}},
+  column_core.{specs.{Lanes.{option_at}, Columns.{CellColumn, column_with}, Blocks.{CellBlock, block_with}}, proofs.{ColumnLaws.{length-tabulate, get-tabulate}, MoveLaws.{get_or-tabulate}, CellRows.{range-same}, RowsMade.{option-set_same, option-set_other}}},
+}
 
 set-range : {C : Type 0} (f g : ℕ → C) (a n i : ℕ) (x : C) → i < n → g (a + i) ≡ x → ((k : ℕ) → a ≤ k → k < a + n → k ≢ a + i → g k ≡ f k) → slice_set (map f (range_with_len a n)) i x ≡ map g (range_with_len a n)
 set-range f g a zero i x lt here other = absurd (omega arith)

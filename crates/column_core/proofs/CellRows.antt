@@ -1,14 +1,10 @@
 -- From rows of values to columns of cells.
-use Rattle.std.proofs.Common.{◌≡◌, ℕ, zero, suc, ◌+◌, ◌<◌, ◌≤◌, arith, Bool, List, [], ◌∷◌, ◌++◌, length, map, refl, sym, ap, ◌∙◌, Option, Some, None, option_map, Result, Ok, Err, OnOk}
-use Rattle.std.specs.List.{range_with_len}
-use Rattle.cell_core.specs.declared.cell.Cell.{Cell}
-use Rattle.cell_core.specs.declared.cell.Kind.{Kind}
-use Rattle.meaning.specs.Cell.{CellValue, datum}
-use Rattle.meaning.specs.Column.{ColumnFault, zero_division, tabulate, try_each, try_pairs, then_rows, before_rows, column_of}
-use Rattle.std.proofs.lemmas.List.FromFn.{map-range_with_len_more}
-use Rattle.column_core.specs.Lanes.{option_at, IsPushed}
-use Rattle.column_core.specs.Columns.{CellColumn, column_value, column_with}
-use Rattle.column_core.specs.Rows.{try_rows, made_rows, map_rows}
+use Rattle.{
+  std.{proofs.{Common.{◌≡◌, ℕ, zero, suc, ◌+◌, ◌<◌, ◌≤◌, arith, Bool, List, [], ◌∷◌, ◌++◌, length, map, refl, sym, ap, ◌∙◌, Option, Some, None, option_map, Result, Ok, Err, OnOk}, lemmas.List.FromFn.{map-range_with_len_more}}, specs.List.{range_with_len}},
+  cell_core.specs.declared.cell.{Cell.{Cell}, Kind.{Kind}},
+  meaning.specs.{Cell.{CellValue, datum}, Column.{ColumnFault, zero_division, tabulate, try_each, try_pairs, then_rows, before_rows, column_of}},
+  column_core.specs.{Lanes.{option_at, IsPushed}, Columns.{CellColumn, column_value, column_with}, Rows.{try_rows, made_rows, map_rows}},
+}
 
 -- the same cells, one function after the other
 cells_same : {A B C D : Type 0} (f : A → B) (g : B → C) (h : C → D) (xs : List A) → map (λ x. h (g x)) (map f xs) ≡ map h (map (λ x. g (f x)) xs)

@@ -1,12 +1,10 @@
 -- Laws of the cells of a column, row by row.
-use Rattle.std.proofs.Common.{◌≡◌, ℕ, zero, suc, ◌+◌, ◌<◌, List, length, map, slice_get, sym, ap, subst, ◌∙◌, arith, Option, Some}
-use Rattle.std.proofs.lemmas.List.FromFn.{length-map-range_with_len, get_or-map-range_with_len}
-use Rattle.std.specs.List.{range_with_len}
-use Rattle.cell_core.specs.declared.cell.Cell.{Cell}
-use Rattle.cell_core.specs.declared.cell.Kind.{Kind}
-use Rattle.meaning.specs.Column.{tabulate}
-use Rattle.meaning.specs.Cell.{IsGiven, AreGiven}
-use Rattle.column_core.specs.Columns.{CellColumn, column_with}
+use Rattle.{
+  std.{proofs.{Common.{◌≡◌, ℕ, zero, suc, ◌+◌, ◌<◌, List, length, map, slice_get, sym, ap, subst, ◌∙◌, arith, Option, Some}, lemmas.List.FromFn.{length-map-range_with_len, get_or-map-range_with_len}}, specs.List.{range_with_len}},
+  cell_core.specs.declared.cell.{Cell.{Cell}, Kind.{Kind}},
+  meaning.specs.{Column.{tabulate}, Cell.{IsGiven, AreGiven}},
+  column_core.specs.Columns.{CellColumn, column_with},
+}
 
 -- how many values a function of the row has
 pub length-tabulate : {C : Type 0} (n : ℕ) (f : ℕ → C) → length (tabulate n f) ≡ n

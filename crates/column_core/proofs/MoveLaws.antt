@@ -1,15 +1,10 @@
 -- Rows that are taken from others, as cells.
-use Rattle.std.proofs.Common.{◌≡◌, ℕ, suc, ◌+◌, ◌-◌, ◌<◌, ◌≤◌, ℤ, pos, negsuc, Bool, true, false, cond, List, length, map, nat_lt, slice_index_or, refl, sym, ap, ◌∙◌, arith, Option, Some, None, Result, Ok, Err, IfOk, All}
-use Rattle.std.proofs.lemmas.Bool.{ltb-true, ltb-false}
-use Rattle.std.proofs.lemmas.List.{get_or_past, get_or-map, length-map}
-use Rattle.std.proofs.lemmas.List.FromFn.{get_or-map-range_with_len, fill_by_all}
-use Rattle.cell_core.specs.declared.cell.Cell.{Cell}
-use Rattle.cell_core.specs.declared.cell.Cell.TheVariants.{Na}
-use Rattle.meaning.specs.Column.{tabulate, shifted_row, shifted, gap_cell, taken}
-use Rattle.column_core.specs.Columns.{CellColumn}
-use Rattle.column_core.specs.Moves.{moved_row, is_ahead, distance_of, gap_at, picked_row, IsPlaceOf}
-use Rattle.column_core.proofs.ColumnLaws.{length-tabulate}
-use Rattle.column_core.proofs.CellRows.{range-same}
+use Rattle.{
+  std.proofs.{Common.{◌≡◌, ℕ, suc, ◌+◌, ◌-◌, ◌<◌, ◌≤◌, ℤ, pos, negsuc, Bool, true, false, cond, List, length, map, nat_lt, slice_index_or, refl, sym, ap, ◌∙◌, arith, Option, Some, None, Result, Ok, Err, IfOk, All}, lemmas.{Bool.{ltb-true, ltb-false}, List.{get_or_past, get_or-map, length-map, FromFn.{get_or-map-range_with_len, fill_by_all}}}},
+  cell_core.specs.declared.cell.Cell.{Cell, TheVariants.{Na}},
+  meaning.specs.Column.{tabulate, shifted_row, shifted, gap_cell, taken},
+  column_core.{specs.{Columns.{CellColumn}, Moves.{moved_row, is_ahead, distance_of, gap_at, picked_row, IsPlaceOf}}, proofs.{ColumnLaws.{length-tabulate}, CellRows.{range-same}}},
+}
 
 pub get_or-tabulate : {C : Type 0} (n : ℕ) (f : ℕ → C) (k : ℕ) (d : C) → k < n → slice_index_or (tabulate n f) k d ≡ f k
 get_or-tabulate n f k d h = get_or-map-range_with_len f 0 n k k d h (omega arith)

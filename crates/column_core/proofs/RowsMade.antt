@@ -1,11 +1,9 @@
 -- Laws of rows that are made one after another.
-use Rattle.std.proofs.Common.{◌≡◌, ◌≢◌, ℕ, zero, suc, ◌+◌, ◌<◌, ◌≤◌, Bool, true, false, cond, List, [], ◌∷◌, ◌++◌, length, map, take, slice_get, slice_set, slice_index_or, refl, sym, ap, ◌∙◌, arith, Option, Some, None, is_some, unwrap_or, IsSome, Result, Ok, Err, inl, inr}
-use Rattle.std.specs.List.{range_with_len}
-use Rattle.std.proofs.lemmas.Bool.{cases_eq}
-use Rattle.std.proofs.lemmas.List.{get_or-set_same, get_or-set_other, take_at}
-use Rattle.meaning.specs.Column.{try_each, then_rows, before_rows}
-use Rattle.column_core.specs.Lanes.{option_at}
-use Rattle.column_core.specs.Rows.{try_rows, made_rows, AreWritten, IsFirstRefused}
+use Rattle.{
+  std.{proofs.{Common.{◌≡◌, ◌≢◌, ℕ, zero, suc, ◌+◌, ◌<◌, ◌≤◌, Bool, true, false, cond, List, [], ◌∷◌, ◌++◌, length, map, take, slice_get, slice_set, slice_index_or, refl, sym, ap, ◌∙◌, arith, Option, Some, None, is_some, unwrap_or, IsSome, Result, Ok, Err, inl, inr}, lemmas.{Bool.{cases_eq}, List.{get_or-set_same, get_or-set_other, take_at}}}, specs.List.{range_with_len}},
+  meaning.specs.Column.{try_each, then_rows, before_rows},
+  column_core.specs.{Lanes.{option_at}, Rows.{try_rows, made_rows, AreWritten, IsFirstRefused}},
+}
 
 -- what was put in a place
 pub get-set_same : {X : Type 0} (xs : List X) (i : ℕ) (x : X) → i < length xs → slice_get (slice_set xs i x) i ≡ Some x

@@ -1,15 +1,10 @@
 -- A step over rows that have a step.
-use Rattle.std.proofs.Common.{◌≡◌, ℕ, suc, ◌+◌, ◌-◌, ◌*◌, ◌<◌, ◌≤◌, ℤ, pos, negsuc, Bool, true, false, not, cond, refl, sym, ap, subst, ◌∙◌, arith, Option}
-use Rattle.cell_core.specs.declared.cell.Cell.{Cell}
-use Rattle.cell_core.specs.declared.cell.Cell.TheVariants.{Na}
-use Rattle.cell_core.specs.declared.grid.Rows.{Rows}
-use Rattle.cell_core.specs.Grids.{place_from, IsPlace, AreRowsBelow}
-use Rattle.meaning.specs.Column.{tabulate}
-use Rattle.meaning.specs.Block.{strided}
-use Rattle.column_core.specs.Lanes.{LaneFits, lane_place}
-use Rattle.column_core.specs.Moves.{is_ahead, distance_of}
-use Rattle.column_core.proofs.MoveLaws.{get_or-tabulate}
-use Rattle.column_core.proofs.CellRows.{range-same}
+use Rattle.{
+  std.proofs.Common.{◌≡◌, ℕ, suc, ◌+◌, ◌-◌, ◌*◌, ◌<◌, ◌≤◌, ℤ, pos, negsuc, Bool, true, false, not, cond, refl, sym, ap, subst, ◌∙◌, arith, Option},
+  cell_core.specs.{declared.{cell.Cell.{Cell, TheVariants.{Na}}, grid.Rows.{Rows}}, Grids.{place_from, IsPlace, AreRowsBelow}},
+  meaning.specs.{Column.{tabulate}, Block.{strided}},
+  column_core.{specs.{Lanes.{LaneFits, lane_place}, Moves.{is_ahead, distance_of}}, proofs.{MoveLaws.{get_or-tabulate}, CellRows.{range-same}}},
+}
 
 -- the first place
 pub first_place : (start : ℕ) (step : ℤ) → place_from start step 0 ≡ start

@@ -14,8 +14,9 @@ use cell_core::{Cell, Kind, NoMemory, TextId};
 use std::alloc::Global;
 use std::marker::Model;
 
-/// Values that are borrowed, by the kind of their cells: whole numbers, truth values, or numbers of texts.
-#[derive(Drop)]
+/// Values that are borrowed, by the kind of their cells: whole numbers, truth values, or numbers of texts. A copy
+/// borrows the same values, so `ColRef { lanes: a.lanes }` has the cells of `a` once more.
+#[derive(Clone, Copy)]
 pub enum Borrowed<'a> {
     /// Whole numbers.
     Ints(Lane<'a, i64>),

@@ -1,17 +1,11 @@
 -- What an operation makes of values is what the operator makes of their cells.
-use Rattle.std.proofs.Common.{◌≡◌, ℕ, Bool, true, false, not, cond, List, ◌++◌, refl, ℤ, pos, ◌+ℤ◌, ◌-ℤ◌, ◌*ℤ◌, Option, Some, None, option_map}
-use Rattle.std.specs.Int.{int_wrap, w64}
-use Rattle.std.specs.Ordering.{int_cmp, bool_cmp, nat_cmp, int_eq}
-use Rattle.std.specs.Cmp.Lexicographic.{slice_cmp}
-use Rattle.cell_core.specs.Values.{text_of}
-use Rattle.cell_core.specs.declared.cell.TextId.{TextId}
-use Rattle.meaning.specs.Cell.{datum, int_cell}
-use Rattle.meaning.specs.Operator.{division_cells, invert_cell, floor_quotient, floor_rest}
-use Rattle.column_operators.specs.declared.ops.Relation.{Relation}
-use Rattle.column_operators.specs.declared.ops.Task.TheVariants.{Sum, Difference, Product, Quotient, Rest, Compare, Both, Either, OneOf}
-use Rattle.column_core.specs.Columns.{number_cell, truth_cell, text_cell, text_value}
-use Rattle.column_operators.specs.Tasks.{task_cell}
-use Rattle.column_operators.specs.Operations.{number_row, division_row, compare_row, and_row, or_row, xor_row, not_row, both}
+use Rattle.{
+  std.{proofs.Common.{◌≡◌, ℕ, Bool, true, false, not, cond, List, ◌++◌, refl, ℤ, pos, ◌+ℤ◌, ◌-ℤ◌, ◌*ℤ◌, Option, Some, None, option_map}, specs.{Int.{int_wrap, w64}, Ordering.{int_cmp, bool_cmp, nat_cmp, int_eq}, Cmp.Lexicographic.{slice_cmp}}},
+  cell_core.specs.{Values.{text_of}, declared.cell.TextId.{TextId}},
+  meaning.specs.{Cell.{datum, int_cell}, Operator.{division_cells, invert_cell, floor_quotient, floor_rest}},
+  column_operators.specs.{declared.ops.{Relation.{Relation}, Task.TheVariants.{Sum, Difference, Product, Quotient, Rest, Compare, Both, Either, OneOf}}, Tasks.{task_cell}, Operations.{number_row, division_row, compare_row, and_row, or_row, xor_row, not_row, both}},
+  column_core.specs.Columns.{number_cell, truth_cell, text_cell, text_value},
+}
 
 module _ (texts : List (List ℕ)) where
   pub sum_law : (x y : Option ℤ) → task_cell Sum (datum texts (number_cell x)) (datum texts (number_cell y)) ≡ option_map (λ z. datum texts (number_cell z)) (number_row (λ a b. a +ℤ b) x y)

@@ -2,3 +2,5 @@ pub mod TaskAnswers
 pub mod Laws
 pub mod Scalars
 pub mod QuotientLaws
+pub mod MarkLaws
+pub mod RowLaws

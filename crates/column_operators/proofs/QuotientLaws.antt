@@ -1,14 +1,9 @@
 -- Quotients by a product with the inverse of a divisor.
-use Rattle.std.proofs.Common.{◌≡◌, ℕ, ◌+◌, ◌-◌, ◌*◌, ◌/◌, ◌%◌, ◌<◌, ◌≤◌, ◌^◌, inl, inr, ℤ, pos, negsuc, sym, ap, subst, arith}
-use Rattle.std.specs.Prelude.{◌⊎◌}
-use Rattle.std.specs.Int.{int_wrap, w64}
-use Rattle.std.specs.Int.Count.{count_leading_zeros}
-use Rattle.std.proofs.Math.Nat.{div-le_self, pow-le-pow_right}
-use Rattle.std.proofs.lemmas.Bool.{cases_lt}
-use Rattle.std.proofs.lemmas.Nat.{mul-lt, mul-le, div-mul-add, div-add-mod', mod_below, le-div, div_below, pow_pos, pow-add, leading_length}
-use Rattle.std.proofs.lemmas.Int.{int_wrap_fits}
-use Rattle.meaning.specs.Operator.{floor_quotient}
-use Rattle.column_operators.specs.Quotients.{magnitude, signed_as, IsInverse}
+use Rattle.{
+  std.{proofs.{Common.{◌≡◌, ℕ, ◌+◌, ◌-◌, ◌*◌, ◌/◌, ◌%◌, ◌<◌, ◌≤◌, ◌^◌, inl, inr, ℤ, pos, negsuc, sym, ap, subst, arith}, Math.Nat.{div-le_self, pow-le-pow_right}, lemmas.{Bool.{cases_lt}, Nat.{mul-lt, mul-le, div-mul-add, div-add-mod', mod_below, le-div, div_below, pow_pos, pow-add, leading_length}, Int.{int_wrap_fits}}}, specs.{Prelude.{◌⊎◌}, Int.{int_wrap, w64, Count.{count_leading_zeros}}}},
+  meaning.specs.Operator.{floor_quotient},
+  column_operators.specs.Quotients.{magnitude, signed_as, IsInverse},
+}
 
 -- a product of numbers of 64 bits has 128, and its upper half 64
 pub product_fits : (x y : ℕ) → x < 2 ^ 64 → y < 2 ^ 64 → x * y < 2 ^ 128

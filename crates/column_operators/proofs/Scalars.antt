@@ -1,20 +1,12 @@
 -- A scalar beside each cell of a column.
-use Rattle.std.proofs.Common.{◌≡◌, ℕ, zero, suc, ◌+◌, Bool, true, false, List, ◌∷◌, length, map, replicate, refl, sym, ap, subst, ◌∙◌, ℤ, Option, Some, None, Result}
-use Rattle.std.specs.List.{range_with_len}
-use Rattle.std.proofs.lemmas.List.{length-map}
-use Rattle.cell_core.specs.declared.cell.Cell.{Cell}
-use Rattle.cell_core.specs.declared.cell.Kind.{Kind}
-use Rattle.cell_core.specs.declared.cell.Kind.TheVariants.{Int64, Boolean, Text as string}
-use Rattle.cell_core.specs.declared.cell.TextId.{TextId}
-use Rattle.meaning.specs.Cell.{CellValue, datum}
-use Rattle.meaning.specs.Column.{ColumnValue, tabulate}
-use Rattle.meaning.specs.Operator.{scalar_kind, scalar_column}
-use Rattle.nullable_array.specs.declared.ops.ArrayFault.{ArrayFault}
-use Rattle.column_operators.specs.declared.ops.Task.{Task}
-use Rattle.nullable_array.specs.Answers.{Answers}
-use Rattle.column_core.specs.Columns.{CellColumn, column_value, column_with, number_cell, truth_cell, text_cell}
-use Rattle.column_operators.specs.Tasks.{task_column, scalar_task}
-use Rattle.column_core.proofs.ColumnLaws.{length-tabulate}
+use Rattle.{
+  std.{proofs.{Common.{◌≡◌, ℕ, zero, suc, ◌+◌, Bool, true, false, List, ◌∷◌, length, map, replicate, refl, sym, ap, subst, ◌∙◌, ℤ, Option, Some, None, Result}, lemmas.List.{length-map}}, specs.List.{range_with_len}},
+  cell_core.specs.declared.cell.{Cell.{Cell}, Kind.{Kind, TheVariants.{Int64, Boolean, Text as string}}, TextId.{TextId}},
+  meaning.specs.{Cell.{CellValue, datum}, Column.{ColumnValue, tabulate}, Operator.{scalar_kind, scalar_column}},
+  nullable_array.specs.{declared.ops.ArrayFault.{ArrayFault}, Answers.{Answers}},
+  column_operators.specs.{declared.ops.Task.{Task}, Tasks.{task_column, scalar_task}},
+  column_core.{specs.Columns.{CellColumn, column_value, column_with, number_cell, truth_cell, text_cell}, proofs.ColumnLaws.{length-tabulate}},
+}
 
 -- a present scalar and a missing one have the column's kind here
 pub number_kept : (texts : List (List ℕ)) (x : Option ℤ) → scalar_kind Int64 (datum texts (number_cell x)) ≡ Int64

@@ -1,17 +1,12 @@
 -- What operators answer, from rows of values to columns of cells.
-use Rattle.std.proofs.Common.{◌≡◌, ℕ, List, map, sym, ap, subst, ◌∙◌, Option, Some, option_map, Result}
-use Rattle.std.specs.List.{range_with_len}
-use Rattle.cell_core.specs.declared.cell.Cell.{Cell}
-use Rattle.cell_core.specs.declared.cell.Kind.{Kind}
-use Rattle.meaning.specs.Cell.{CellValue, datum}
-use Rattle.meaning.specs.Column.{ColumnValue, ColumnFault, zero_division, tabulate, try_pairs, column_of, column_if}
-use Rattle.column_core.specs.Columns.{CellColumn, column_value, column_with}
-use Rattle.column_core.specs.Rows.{try_rows, map_rows}
-use Rattle.column_core.proofs.CellRows.{map-map, pairs-rows}
-use Rattle.nullable_array.specs.declared.ops.ArrayFault.{ArrayFault}
-use Rattle.nullable_array.specs.Answers.{Answers}
-use Rattle.column_operators.specs.declared.ops.Task.{Task}
-use Rattle.column_operators.specs.Tasks.{task_cell, task_kind, task_column}
+use Rattle.{
+  std.{proofs.Common.{◌≡◌, ℕ, List, map, sym, ap, subst, ◌∙◌, Option, Some, option_map, Result}, specs.List.{range_with_len}},
+  cell_core.specs.declared.cell.{Cell.{Cell}, Kind.{Kind}},
+  meaning.specs.{Cell.{CellValue, datum}, Column.{ColumnValue, ColumnFault, zero_division, tabulate, try_pairs, column_of, column_if}},
+  column_core.{specs.{Columns.{CellColumn, column_value, column_with}, Rows.{try_rows, map_rows}}, proofs.CellRows.{map-map, pairs-rows}},
+  nullable_array.specs.{declared.ops.ArrayFault.{ArrayFault}, Answers.{Answers}},
+  column_operators.specs.{declared.ops.Task.{Task}, Tasks.{task_cell, task_kind, task_column}},
+}
 
 -- what is made of the cells of two columns, where it is known what is made of the values of a row
 pair_column : {U : Type 0} (texts : List (List ℕ)) (kind : Kind) (F : CellValue → CellValue → Option CellValue) (cell : Option U → Cell) (n m : ℕ) (p q : ℕ → Cell) (at : ℕ → Option (Option U)) → n ≡ m

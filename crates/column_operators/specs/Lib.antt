@@ -3,3 +3,4 @@ pub mod Operations
 pub mod Joins
 pub mod Pairs
 pub mod Quotients
+pub mod Marks

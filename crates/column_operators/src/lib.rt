@@ -1,7 +1,9 @@
-//! The operators on columns of nullable cells.
+//! The operators on columns of nullable cells, marks of cells, and a cell in place of missing ones.
 //!
-//! [`binary`] has a column on either side, [`with_scalar`] one cell beside each cell of a column, and [`invert`] turns
-//! truth values. Each makes a new column of the cells that it is given, and its answer is a definition on these cells.
+//! [`binary`] has a column on either side, [`with_scalar`] one cell beside each cell of a column, and [`invert`]
+//! turns truth values; [`isna`], [`notna`] and [`isin`] mark cells, and [`fillna`] puts one in the place of each
+//! missing one (`missing` and `membership`, over the loop of `maps`). Each makes a new column of the cells that it is
+//! given, and its answer is a definition on these cells.
 //! An operator is what it does (`Task`) on the values of a row (`operators`); where these lie side by side with their
 //! flags, flags and values are made each by itself (`pairs`), and quotients by one divisor by its inverse (`divisors`).
 //!
@@ -17,9 +19,14 @@ mod divisors;
 mod floor;
 mod joins;
 mod kernels;
+mod maps;
+mod membership;
+mod missing;
 mod operators;
 mod ops;
 mod pairs;
 
 pub use kernels::{binary, invert, with_scalar};
+pub use membership::isin;
+pub use missing::{fillna, isna, notna};
 pub use ops::Binary;

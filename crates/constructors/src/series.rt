@@ -15,7 +15,7 @@ use crate::axes::index_axis;
 use crate::scalars::list_column;
 use cell_core::{Kind, Label, NoMemory, Shape, TextDict};
 use column_core::Column;
-use form_parts::refusal_of;
+use form_parts::column_of;
 use frame_store::{Blocks, Headings, Item, OpFault, Table};
 use multi_index::Axis;
 use nullable_array::cast;
@@ -34,10 +34,7 @@ fn cast_column(
     ensures answer { MakesBy column_seen dict.new result
         (make.cast_to (Some kind) (column_seen dict.old column.now)) }
 {
-    match cast(alloc, dict, column.as_ref(), kind) {
-        Ok(column) => Ok(column),
-        Err(fault) => Err(refusal_of(fault)),
-    }
+    column_of(cast(alloc, dict, column.as_ref(), kind))
 }
 
 // The column with its cells cast to the kind; where there is none, as it is.

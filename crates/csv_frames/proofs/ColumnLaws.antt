@@ -1,21 +1,13 @@
 -- Laws of the columns that all records have.
-use Rattle.std.proofs.Common.{◌≡◌, ◌∙◌, ◌+◌, ◌<◌, ℕ, suc, refl, ap, sym, subst, Bool, true, false, ◌||◌, List, [], ◌∷◌, ◌++◌, length, map, get_or, Option, Some, None, unwrap_or, arith}
-use Rattle.std.specs.List.{list_all, list_any}
-use Rattle.std.proofs.lemmas.List.{length-map, get_or-map}
-use Rattle.meaning.specs.Text.{Text}
-use Rattle.meaning.specs.Cell.{CellValue, Kind, Int64}
-use Rattle.column_core.specs.Columns.{CellColumn}
-use Rattle.table_meaning.specs.Settled.{IsSettled}
-use Rattle.table_meaning.specs.Table.{ColumnOf}
-use Rattle.table_meaning.specs.Valid.{within_limits}
-use Rattle.csv_meaning.specs.CsvRead.{is_missing, kind_of_fields, cell_of_field, column_of_fields, columns_from}
-use Rattle.csv_frames.specs.Views.{column_fields, column_seen, columns_seen}
-use Rattle.csv_frames.specs.Growing.{is_mixed, kind_so_far, column_so_far, Grown, AreGrown, GrownTo}
-use Rattle.csv_frames.specs.declared.growing.Growing.{Growing}
+use Rattle.{
+  std.{proofs.{Common.{◌≡◌, ◌∙◌, ◌+◌, ◌<◌, ℕ, suc, refl, ap, sym, subst, Bool, true, false, ◌||◌, List, [], ◌∷◌, ◌++◌, length, map, get_or, Option, Some, None, unwrap_or, arith}, lemmas.List.{length-map, get_or-map}}, specs.List.{list_all, list_any}},
+  meaning.specs.{Text.{Text}, Cell.{CellValue, Kind, Int64}},
+  column_core.specs.Columns.{CellColumn},
+  table_meaning.specs.{Settled.{IsSettled}, Table.{ColumnOf}, Valid.{within_limits}},
+  csv_meaning.specs.CsvRead.{is_missing, kind_of_fields, cell_of_field, column_of_fields, columns_from},
+  csv_frames.{specs.{Views.{column_fields, column_seen, columns_seen}, Growing.{is_mixed, kind_so_far, column_so_far, Grown, AreGrown, GrownTo}, declared.{growing.Growing.{Growing}, growth.Growth.{Growth}}}, proofs.{KindsLaws.{all_na, kind_missing}, GrowingLaws.{na_seen, mixed_up}}},
+}
 use Rattle.csv_frames.specs.declared.growing.Growing.TheVariants as growing
-use Rattle.csv_frames.specs.declared.growth.Growth.{Growth}
-use Rattle.csv_frames.proofs.KindsLaws.{all_na, kind_missing}
-use Rattle.csv_frames.proofs.GrowingLaws.{na_seen, mixed_up}
 
 missing_column : (named : Option Kind) (fields : List Text) → named ≡ None → list_all is_missing fields ≡ true → record { kind = Int64; cells = map (cell_of_field Int64) fields } ≡ column_of_fields named fields
 missing_column named fields unnamed missing =

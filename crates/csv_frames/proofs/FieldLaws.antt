@@ -1,8 +1,10 @@
 -- Laws of the fields of a record.
-use Rattle.std.proofs.Common.{◌≡◌, ◌≤◌, ℕ, zero, suc, refl, List, [], ◌∷◌, length, unwrap_or, arith}
-use Rattle.csv.specs.Records.{field_at}
-use Rattle.meaning.specs.Text.{Text}
-use Rattle.csv_meaning.specs.CsvRead.{field_in}
+use Rattle.{
+  std.proofs.Common.{◌≡◌, ◌≤◌, ℕ, zero, suc, refl, List, [], ◌∷◌, length, unwrap_or, arith},
+  csv.specs.Records.{field_at},
+  meaning.specs.Text.{Text},
+  csv_meaning.specs.CsvRead.{field_in},
+}
 
 -- the field at a place of all fields
 pub field_unwrapped : (fields : List Text) (place : ℕ) → unwrap_or (field_at fields place) [] ≡ field_in place fields

@@ -1,18 +1,13 @@
 -- Columns that have a label of their own, and a cell for each row.
-use Rattle.std.proofs.Common.{◌≡◌, ◌∙◌, ℕ, suc, refl, ap, sym, List, [], ◌∷◌, length, All, AllPairs, slice_index_or, Option, Bool, true, false, ◌<◌, ◌≢◌, arith}
-use Rattle.std.specs.List.{IsDistinct}
-use Rattle.std.proofs.lemmas.List.{length-map, get_or-map}
-use Rattle.std.proofs.lemmas.Map.Keys.{apart_from_distinct}
-use Rattle.std.proofs.lemmas.Slice.Eq.{bytes_eq-Decides}
-use Rattle.std.proofs.lemmas.List.Elements.{All-cons, All-nil}
-use Rattle.cell_core.specs.declared.cell.Kind.{Kind}
-use Rattle.cell_core.specs.declared.cell.Label.{Label}
-use Rattle.meaning.specs.Text.{Text, same_text}
-use Rattle.meaning.specs.Cell.{CellValue, LabelValue, text}
-use Rattle.column_core.specs.Columns.{CellColumn}
-use Rattle.table_meaning.specs.Table.{ColumnOf, column_at, tuple_value}
-use Rattle.csv_meaning.specs.CsvRead.{column_of_fields, columns_from}
-use Rattle.csv_frames.specs.Views.{column_fields, column_seen, columns_seen, tuples_seen, label_tuples}
+use Rattle.{
+  std.{proofs.{Common.{◌≡◌, ◌∙◌, ℕ, suc, refl, ap, sym, List, [], ◌∷◌, length, All, AllPairs, slice_index_or, Option, Bool, true, false, ◌<◌, ◌≢◌, arith}, lemmas.{List.{length-map, get_or-map, Elements.{All-cons, All-nil}}, Map.Keys.{apart_from_distinct}, Slice.Eq.{bytes_eq-Decides}}}, specs.List.{IsDistinct}},
+  cell_core.specs.declared.cell.{Kind.{Kind}, Label.{Label}},
+  meaning.specs.{Text.{Text, same_text}, Cell.{CellValue, LabelValue, text}},
+  column_core.specs.Columns.{CellColumn},
+  table_meaning.specs.Table.{ColumnOf, column_at, tuple_value},
+  csv_meaning.specs.CsvRead.{column_of_fields, columns_from},
+  csv_frames.specs.Views.{column_fields, column_seen, columns_seen, tuples_seen, label_tuples},
+}
 
 abbrev others : {X : Type 0} → List X → List X
 others [] = []

@@ -1,28 +1,15 @@
 -- Laws of columns that grow field by field.
-use Rattle.std.proofs.Common.{◌≡◌, ◌∙◌, ℕ, ℤ, zero, suc, refl, ap, sym, subst, Bool, true, false, List, [], ◌∷◌, ◌++◌, length, map, replicate, Option, Some, None, unwrap_or}
-use Rattle.std.specs.Prelude.{option_map, OnOk, Result, Ok, Err, if◌then◌else◌}
-use Rattle.std.specs.List.{list_all}
-use Rattle.std.proofs.lemmas.List.{map-append}
-use Rattle.cell_core.specs.Texts.{IsLonger}
-use Rattle.cell_core.specs.declared.cell.Cell.{Cell}
+use Rattle.{
+  std.{proofs.{Common.{◌≡◌, ◌∙◌, ℕ, ℤ, zero, suc, refl, ap, sym, subst, Bool, true, false, List, [], ◌∷◌, ◌++◌, length, map, replicate, Option, Some, None, unwrap_or}, lemmas.List.{map-append}}, specs.{Prelude.{option_map, OnOk, Result, Ok, Err, if◌then◌else◌}, List.{list_all}}},
+  cell_core.specs.{Texts.{IsLonger}, declared.cell.{Cell.{Cell}, TextId.{TextId}}},
+  meaning.specs.{Text.{Text}, Cell.{CellValue, datum, na_cell, int_cell, truth_cell as truth_value_cell, Kind, Int64, Boolean, string}, Cast.{whole_number, truth_value}},
+  column_core.{specs.{Columns.{CellColumn, number_cell, truth_cell, text_cell, column_with}, Lanes.{option_at}, declared.lanes.Owned.{Owned}}, proofs.CellRows.{pushed_column}},
+  table_meaning.specs.{Settled.{IsSettled}, Table.{ColumnOf}},
+  csv_meaning.specs.CsvRead.{is_missing, is_of_kind, kind_of_fields, cell_of_field},
+  csv_frames.{specs.{Views.{column_seen, cells_seen}, Growing.{IsGrownBy, IsFirst, IsPut, IsTextPut, Grown, number_in, truth_in}, declared.growing.Growing.{Growing}}, proofs.{SettledLaws.{settled_more, seen_later}, KindsLaws.{all_na, missing_pushed, value_pushed, value_stays, kind_first, kind_stays, kind_mixed, kind_texts}}},
+}
 use Rattle.cell_core.specs.declared.cell.Cell.TheVariants as cell
-use Rattle.cell_core.specs.declared.cell.TextId.{TextId}
-use Rattle.meaning.specs.Text.{Text}
-use Rattle.meaning.specs.Cell.{CellValue, datum, na_cell, int_cell, truth_cell as truth_value_cell, Kind, Int64, Boolean, string}
-use Rattle.meaning.specs.Cast.{whole_number, truth_value}
-use Rattle.column_core.specs.Columns.{CellColumn, number_cell, truth_cell, text_cell, column_with}
-use Rattle.column_core.specs.Lanes.{option_at}
-use Rattle.column_core.specs.declared.lanes.Owned.{Owned}
-use Rattle.column_core.proofs.CellRows.{pushed_column}
-use Rattle.table_meaning.specs.Settled.{IsSettled}
-use Rattle.table_meaning.specs.Table.{ColumnOf}
-use Rattle.csv_meaning.specs.CsvRead.{is_missing, is_of_kind, kind_of_fields, cell_of_field}
-use Rattle.csv_frames.specs.Views.{column_seen, cells_seen}
-use Rattle.csv_frames.specs.Growing.{IsGrownBy, IsFirst, IsPut, IsTextPut, Grown, number_in, truth_in}
-use Rattle.csv_frames.specs.declared.growing.Growing.{Growing}
 use Rattle.csv_frames.specs.declared.growing.Growing.TheVariants as growing
-use Rattle.csv_frames.proofs.SettledLaws.{settled_more, seen_later}
-use Rattle.csv_frames.proofs.KindsLaws.{all_na, missing_pushed, value_pushed, value_stays, kind_first, kind_stays, kind_mixed, kind_texts}
 
 pub mixed_up : {P : Type 0} → true ≡ false → P
 mixed_up e = Prim.cc

@@ -1,23 +1,13 @@
 -- Laws of columns that grow record by record.
-use Rattle.std.proofs.Common.{nat_lt, if◌then◌else◌, append_assoc, ◌≡◌, ◌∙◌, ◌+◌, ◌*◌, ◌<◌, ◌≤◌, ◌^◌, ℕ, suc, refl, ap, sym, subst, subst₂, Bool, true, false, not, ◌&&◌, ◌||◌, nat_le, List, [], ◌∷◌, ◌++◌, length, map, get_or, set, Option, Some, None, arith, inl, inr}
-use Rattle.std.specs.List.{list_any}
-use Rattle.std.proofs.lemmas.Bool.{cases_order}
-use Rattle.std.proofs.lemmas.Bool.Decides.{nat_tests}
-use Rattle.std.proofs.lemmas.List.{map-append, length-map, length-append, length-set, get_or-map, get_or-set_other}
-use Rattle.std.proofs.lemmas.List.Folds.{list_any-append}
-use Rattle.std.proofs.lemmas.Grind.{get_or-set_at}
-use Rattle.std.proofs.lemmas.Nat.{mul-le}
-use Rattle.cell_core.specs.Texts.{IsLonger}
-use Rattle.meaning.specs.Text.{Text}
-use Rattle.meaning.specs.Cell.{Kind}
-use Rattle.table_meaning.specs.Valid.{within_limits}
-use Rattle.csv_meaning.specs.CsvRead.{field_in, has_misfit, long_record, first_long}
-use Rattle.csv_frames.specs.Views.{column_fields, column_seen}
-use Rattle.csv_frames.specs.Growing.{Grown, AreGrown, GrownTo, without_fields}
-use Rattle.csv_frames.specs.declared.growing.Growing.{Growing}
+use Rattle.{
+  std.{proofs.{Common.{nat_lt, if◌then◌else◌, append_assoc, ◌≡◌, ◌∙◌, ◌+◌, ◌*◌, ◌<◌, ◌≤◌, ◌^◌, ℕ, suc, refl, ap, sym, subst, subst₂, Bool, true, false, not, ◌&&◌, ◌||◌, nat_le, List, [], ◌∷◌, ◌++◌, length, map, get_or, set, Option, Some, None, arith, inl, inr}, lemmas.{Bool.{cases_order, Decides.{nat_tests}}, List.{map-append, length-map, length-append, length-set, get_or-map, get_or-set_other, Folds.{list_any-append}}, Grind.{get_or-set_at}, Nat.{mul-le}}}, specs.List.{list_any}},
+  cell_core.specs.Texts.{IsLonger},
+  meaning.specs.{Text.{Text}, Cell.{Kind}},
+  table_meaning.specs.Valid.{within_limits},
+  csv_meaning.specs.CsvRead.{field_in, has_misfit, long_record, first_long},
+  csv_frames.{specs.{Views.{column_fields, column_seen}, Growing.{Grown, AreGrown, GrownTo, without_fields}, declared.{growing.Growing.{Growing}, growth.Growth.{Growth}}}, proofs.SettledLaws.{settled_later, seen_later}},
+}
 use Rattle.csv_frames.specs.declared.growing.Growing.TheVariants as growing
-use Rattle.csv_frames.specs.declared.growth.Growth.{Growth}
-use Rattle.csv_frames.proofs.SettledLaws.{settled_later, seen_later}
 
 both_true : (a b : Bool) → a && b ≡ true → (a ≡ true) × (b ≡ true)
 both_true true b e = (refl, e)

@@ -1,18 +1,12 @@
 -- Laws of kinds that are named for labels.
-use Rattle.std.proofs.Common.{◌≡◌, ◌∙◌, ◌+◌, ◌<◌, ℕ, refl, ap, sym, List, [], ◌∷◌, length, drop, get_or, slice_get, Option, Some, None, Bool, true, false, if◌then◌else◌, string_bytes, unwrap_or}
-use Rattle.std.specs.declared.string.String.{String}
-use Rattle.std.specs.String.{string_eq}
-use Rattle.std.specs.Map.{lookup}
-use Rattle.std.specs.Cmp.Lexicographic.{nat_list_eq_equiv}
-use Rattle.std.proofs.lemmas.List.{drop_more}
-use Rattle.std.proofs.lemmas.Option.{slice_get-get_or}
-use Rattle.indexmap.specs.IndexMap.{insert_entry}
-use Rattle.cell_core.specs.declared.cell.Kind.{Kind}
-use Rattle.meaning.specs.Text.{Text, same_text}
-use Rattle.meaning.specs.Cell.{text_of}
-use Rattle.csv_meaning.specs.CsvRead.{kind_listed}
-use Rattle.csv_frames.specs.Views.{entries_seen, kinds_seen, kind_at}
-use Rattle.csv_frames.specs.declared.table.NamedKind.{NamedKind}
+use Rattle.{
+  std.{proofs.{Common.{◌≡◌, ◌∙◌, ◌+◌, ◌<◌, ℕ, refl, ap, sym, List, [], ◌∷◌, length, drop, get_or, slice_get, Option, Some, None, Bool, true, false, if◌then◌else◌, string_bytes, unwrap_or}, lemmas.{List.{drop_more}, Option.{slice_get-get_or}}}, specs.{declared.string.String.{String}, String.{string_eq}, Map.{lookup}, Cmp.Lexicographic.{nat_list_eq_equiv}}},
+  indexmap.specs.IndexMap.{insert_entry},
+  cell_core.specs.declared.cell.Kind.{Kind},
+  meaning.specs.{Text.{Text, same_text}, Cell.{text_of}},
+  csv_meaning.specs.CsvRead.{kind_listed},
+  csv_frames.specs.{Views.{entries_seen, kinds_seen, kind_at}, declared.table.NamedKind.{NamedKind}},
+}
 
 -- the kind of a label in a map
 pub kind_found : {Y : Type 0} (es : List (String Y × Kind)) (label : Text) → kind_at (kinds_seen es) label ≡ lookup (λ k. same_text label (string_bytes k)) es

@@ -1,13 +1,9 @@
 -- Laws of the kinds that fields have, one field after the other.
-use Rattle.std.proofs.Common.{◌≡◌, ◌∙◌, refl, ap, sym, Bool, true, false, ◌&&◌, ◌||◌, if◌then◌else◌, List, [], ◌∷◌, ◌++◌, length, map, replicate, Some, None, is_some, unwrap_or}
-use Rattle.std.specs.Prelude.{option_map}
-use Rattle.std.specs.List.{list_all, list_any}
-use Rattle.std.proofs.lemmas.List.Folds.{list_all-append}
-use Rattle.std.proofs.lemmas.Slice.Eq.{bytes_eq-Decides}
-use Rattle.meaning.specs.Text.{Text, same_text}
-use Rattle.meaning.specs.Cell.{na_cell, text_cell, int_cell, truth_cell, Kind, Int64, Boolean, string}
-use Rattle.meaning.specs.Cast.{cast_cell, whole_number, true_texts, false_texts}
-use Rattle.csv_meaning.specs.CsvRead.{is_missing, field_cell, is_of_kind, kind_of_fields, cell_of_field}
+use Rattle.{
+  std.{proofs.{Common.{◌≡◌, ◌∙◌, refl, ap, sym, Bool, true, false, ◌&&◌, ◌||◌, if◌then◌else◌, List, [], ◌∷◌, ◌++◌, length, map, replicate, Some, None, is_some, unwrap_or}, lemmas.{List.Folds.{list_all-append}, Slice.Eq.{bytes_eq-Decides}}}, specs.{Prelude.{option_map}, List.{list_all, list_any}}},
+  meaning.specs.{Text.{Text, same_text}, Cell.{na_cell, text_cell, int_cell, truth_cell, Kind, Int64, Boolean, string}, Cast.{cast_cell, whole_number, true_texts, false_texts}},
+  csv_meaning.specs.CsvRead.{is_missing, field_cell, is_of_kind, kind_of_fields, cell_of_field},
+}
 
 no : {P : Type 0} → false ≡ true → P
 no e = Prim.cc

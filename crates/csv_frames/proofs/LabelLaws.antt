@@ -1,10 +1,10 @@
 -- Laws of the labels of columns.
-use Rattle.std.proofs.Common.{◌≡◌, ℕ, suc, ◌+◌, ◌-◌, ◌<◌, Bool, true, false, not, ◌||◌, cond, List, [], ◌∷◌, length, nat_eq, refl, sym, ap, ◌∙◌, arith}
-use Rattle.std.specs.List.{list_any, position_or_len, range_with_len}
-use Rattle.std.proofs.lemmas.Bool.Decides.{nat_tests}
-use Rattle.cell_core.specs.Texts.{number_of}
-use Rattle.meaning.specs.Text.{Text, same_text}
-use Rattle.csv_meaning.specs.CsvRead.{with_number, is_free, free_label}
+use Rattle.{
+  std.{proofs.{Common.{◌≡◌, ℕ, suc, ◌+◌, ◌-◌, ◌<◌, Bool, true, false, not, ◌||◌, cond, List, [], ◌∷◌, length, nat_eq, refl, sym, ap, ◌∙◌, arith}, lemmas.Bool.Decides.{nat_tests}}, specs.List.{list_any, position_or_len, range_with_len}},
+  cell_core.specs.Texts.{number_of},
+  meaning.specs.Text.{Text, same_text},
+  csv_meaning.specs.CsvRead.{with_number, is_free, free_label},
+}
 
 next_number : (n m : ℕ) → nat_eq n m ≡ nat_eq (1 + n) (suc m)
 next_number n m = grind (arith, nat_tests)

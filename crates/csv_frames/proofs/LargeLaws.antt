@@ -1,13 +1,11 @@
 -- Files whose tables are too large.
-use Rattle.std.proofs.Common.{◌≡◌, ◌∙◌, ℕ, suc, ap, refl, List, [], ◌∷◌, length, map, Bool, false, ◌||◌, ◌&&◌, ◌<◌, ◌^◌, true, nat_le, if◌then◌else◌, arith}
-use Rattle.std.specs.Prelude.{Result, Ok, Err}
-use Rattle.std.specs.List.{list_any}
-use Rattle.std.proofs.lemmas.Bool.Decides.{nat_tests}
-use Rattle.cell_core.specs.Texts.{with_text}
-use Rattle.cell_core.specs.declared.cell.Kind.{Kind}
-use Rattle.meaning.specs.Text.{Text}
-use Rattle.table_meaning.specs.Valid.{within_limits}
-use Rattle.csv_meaning.specs.CsvRead.{CsvValue, CsvRefusal, not_of_kind, beyond_limits, has_misfit, named_kind, labels_named, labels_after, labels_of, next_label, labelled_columns, columns_under}
+use Rattle.{
+  std.{proofs.{Common.{◌≡◌, ◌∙◌, ℕ, suc, ap, refl, List, [], ◌∷◌, length, map, Bool, false, ◌||◌, ◌&&◌, ◌<◌, ◌^◌, true, nat_le, if◌then◌else◌, arith}, lemmas.Bool.Decides.{nat_tests}}, specs.{Prelude.{Result, Ok, Err}, List.{list_any}}},
+  cell_core.specs.{Texts.{with_text}, declared.cell.Kind.{Kind}},
+  meaning.specs.Text.{Text},
+  table_meaning.specs.Valid.{within_limits},
+  csv_meaning.specs.CsvRead.{CsvValue, CsvRefusal, not_of_kind, beyond_limits, has_misfit, named_kind, labels_named, labels_after, labels_of, next_label, labelled_columns, columns_under},
+}
 
 -- where no kind is named, no field is of another one
 no_misfit : (labels fields : List Text) → has_misfit (map (named_kind []) labels) fields ≡ false

@@ -1,11 +1,10 @@
 -- Laws of records with a field of another kind than the one that is named.
-use Rattle.std.proofs.Common.{◌≡◌, ◌∙◌, ◌+◌, ◌<◌, ◌≤◌, ℕ, refl, ap, sym, List, [], ◌∷◌, length, drop, get_or, arith, Option, None, Some, Bool, true, false, ◌||◌, min, inl, inr}
-use Rattle.std.proofs.lemmas.List.{drop_more, drop_all, get_or_past}
-use Rattle.std.proofs.Math.Bool.{or_assoc, or-false}
-use Rattle.std.proofs.lemmas.Bool.{cases_order}
-use Rattle.cell_core.specs.declared.cell.Kind.{Kind}
-use Rattle.meaning.specs.Text.{Text}
-use Rattle.csv_meaning.specs.CsvRead.{field_in, is_misfit, has_misfit}
+use Rattle.{
+  std.proofs.{Common.{◌≡◌, ◌∙◌, ◌+◌, ◌<◌, ◌≤◌, ℕ, refl, ap, sym, List, [], ◌∷◌, length, drop, get_or, arith, Option, None, Some, Bool, true, false, ◌||◌, min, inl, inr}, lemmas.{List.{drop_more, drop_all, get_or_past}, Bool.{cases_order}}, Math.Bool.{or_assoc, or-false}},
+  cell_core.specs.declared.cell.Kind.{Kind},
+  meaning.specs.Text.{Text},
+  csv_meaning.specs.CsvRead.{field_in, is_misfit, has_misfit},
+}
 
 no_fields : (kinds : List (Option Kind)) → has_misfit kinds [] ≡ false
 no_fields [] = refl

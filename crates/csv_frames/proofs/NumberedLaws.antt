@@ -1,15 +1,11 @@
 -- The labels of a header, said as a whole.
-use Rattle.std.proofs.Common.{◌≡◌, ℕ, zero, suc, ◌+◌, ◌-◌, ◌<◌, ◌≤◌, ◌^◌, Bool, true, false, not, ◌||◌, if◌then◌else◌, List, [], ◌∷◌, ◌++◌, length, take, refl, sym, ap, subst, ◌∙◌, arith, append_assoc, append-nil}
-use Rattle.std.specs.Prelude.{slice_get, Option, Some, None}
-use Rattle.std.specs.List.{position_or_len, range_with_len}
-use Rattle.std.proofs.lemmas.List.Folds.{list_any-append}
-use Rattle.std.proofs.lemmas.List.FromFn.{get_or-range_with_len, length-range_with_len}
-use Rattle.std.proofs.lemmas.List.Sums.{prefix_len_passes, prefix_len-le-length}
-use Rattle.cell_core.specs.Texts.{with_text}
-use Rattle.meaning.specs.Text.{Text, same_text}
-use Rattle.csv_meaning.specs.CsvRead.{with_number, is_free, free_label, next_label, labels_after, with_texts, different_labels}
-use Rattle.csv_frames.specs.Numbered.{has_text, AreNumbered}
-use Rattle.csv_meaning.proofs.DifferentLaws.{IsFair, numbered-free, fair-after, count-texts, header-had, labels_differ, same, not-true, true-not}
+use Rattle.{
+  std.{proofs.{Common.{◌≡◌, ℕ, zero, suc, ◌+◌, ◌-◌, ◌<◌, ◌≤◌, ◌^◌, Bool, true, false, not, ◌||◌, if◌then◌else◌, List, [], ◌∷◌, ◌++◌, length, take, refl, sym, ap, subst, ◌∙◌, arith, append_assoc, append-nil}, lemmas.List.{Folds.{list_any-append}, FromFn.{get_or-range_with_len, length-range_with_len}, Sums.{prefix_len_passes, prefix_len-le-length}}}, specs.{Prelude.{slice_get, Option, Some, None}, List.{position_or_len, range_with_len}}},
+  cell_core.specs.Texts.{with_text},
+  meaning.specs.Text.{Text, same_text},
+  csv_meaning.{specs.CsvRead.{with_number, is_free, free_label, next_label, labels_after, with_texts, different_labels}, proofs.DifferentLaws.{IsFair, numbered-free, fair-after, count-texts, header-had, labels_differ, same, not-true, true-not}},
+  csv_frames.specs.Numbered.{has_text, AreNumbered},
+}
 
 some_is : (x y : Text) → Some x ≡ Some y → x ≡ y
 some_is x y h = ap (λ o. elim o as (λ v. Text) [ None ↦ [] | Some v ↦ v ]) h

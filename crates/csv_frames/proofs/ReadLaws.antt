@@ -1,21 +1,12 @@
 -- Laws of reading a file.
-use Rattle.std.proofs.Common.{◌≡◌, ◌∙◌, ◌≤◌, ◌<◌, ◌^◌, ℕ, ap, sym, subst, List, ◌∷◌, length, map, take, Option, Some, None, true, false, nat_lt, if◌then◌else◌, arith}
-use Rattle.std.specs.Prelude.{Result, Ok, Err, IfSome, IsUtf8, is_err}
-use Rattle.std.specs.Str.Lossy.{utf8_valid_len}
-use Rattle.std.proofs.lemmas.Str.{utf8_valid_len-IsUtf8}
-use Rattle.std.proofs.lemmas.Bool.Decides.{nat_tests}
-use Rattle.std.proofs.lemmas.List.{length-map}
-use Rattle.std.proofs.Math.Seq.{take-append_seam}
-use Rattle.csv.specs.Reading.{records, default_config, strip_bom}
-use Rattle.cell_core.specs.Texts.{IsLonger}
-use Rattle.cell_core.specs.declared.cell.Kind.{Kind}
-use Rattle.meaning.specs.Text.{Text}
-use Rattle.csv_meaning.specs.CsvRead.{CsvValue, CsvRefusal, not_utf8, beyond_limits, first_long, unless_refused, labels_of, named_kind, columns_of_rows, columns_under, columns_of_records, columns_of_file}
-use Rattle.csv_frames.specs.Rows.{file_records}
-use Rattle.csv_frames.specs.Views.{refusal_of, ReadsAs, ReadAnswers}
-use Rattle.csv_frames.specs.declared.table.CsvTable.{CsvTable}
-use Rattle.csv_frames.specs.declared.table.CsvFault.{CsvFault}
-use Rattle.csv_frames.proofs.LargeLaws.{count_labels, wide}
+use Rattle.{
+  std.{proofs.{Common.{◌≡◌, ◌∙◌, ◌≤◌, ◌<◌, ◌^◌, ℕ, ap, sym, subst, List, ◌∷◌, length, map, take, Option, Some, None, true, false, nat_lt, if◌then◌else◌, arith}, lemmas.{Str.{utf8_valid_len-IsUtf8}, Bool.Decides.{nat_tests}, List.{length-map}}, Math.Seq.{take-append_seam}}, specs.{Prelude.{Result, Ok, Err, IfSome, IsUtf8, is_err}, Str.Lossy.{utf8_valid_len}}},
+  csv.specs.Reading.{records, default_config, strip_bom},
+  cell_core.specs.{Texts.{IsLonger}, declared.cell.Kind.{Kind}},
+  meaning.specs.Text.{Text},
+  csv_meaning.specs.CsvRead.{CsvValue, CsvRefusal, not_utf8, beyond_limits, first_long, unless_refused, labels_of, named_kind, columns_of_rows, columns_under, columns_of_records, columns_of_file},
+  csv_frames.{specs.{Rows.{file_records}, Views.{refusal_of, ReadsAs, ReadAnswers}, declared.table.{CsvTable.{CsvTable}, CsvFault.{CsvFault}}}, proofs.LargeLaws.{count_labels, wide}},
+}
 
 -- a reading that was refused leaves no text
 kept_too : {A : Type 0} (P : A → Type 0) {Q : Type 0} (o : Option A) → IfSome o P → Q → IfSome o (λ x. P x × Q)

@@ -1,19 +1,11 @@
 -- Laws of records that are read one after the other.
-use Rattle.std.proofs.Common.{◌++◌, length-append, length-drop, ◌≡◌, ◌∷◌, [], refl, sym, ap, List, ℕ, Option, Some, None, Bool, true, false, length, zero, suc, ◌<◌, ◌≤◌, ◌+◌, arith, ◌∙◌, subst, inl, inr}
-use Rattle.csv.specs.Machine.{Read, next_record, ends_at_end, step, is_end, fields_after, in_field, start_field, start_record, after_end, ends_with, is_byte}
-use Rattle.csv.specs.declared.parser.Action.{Action}
-use Rattle.csv.specs.declared.parser.Terminator.{Terminator}
+use Rattle.{
+  std.{proofs.{Common.{◌++◌, length-append, length-drop, ◌≡◌, ◌∷◌, [], refl, sym, ap, List, ℕ, Option, Some, None, Bool, true, false, length, zero, suc, ◌<◌, ◌≤◌, ◌+◌, arith, ◌∙◌, subst, inl, inr}, lemmas.Option.{cond_some}}, specs.{Prelude.{if◌then◌else◌, ◌==◌, ◌&&◌, ◌⊎◌, ◌-◌, unwrap_or}, Borrow.{Bor}}},
+  csv.{specs.{Machine.{Read, next_record, ends_at_end, step, is_end, fields_after, in_field, start_field, start_record, after_end, ends_with, is_byte}, declared.{parser.{Action.{Action}, Terminator.{Terminator}, Config.{Config}, State.{State}}, reader.Reader.{Reader}}, Reading.{Reached, Ready, ReadRecord, records_from, records_next, strip_bom, is_bom, default_config}}, proofs.ReadFacts.{rows-end, rows-more}},
+  csv_frames.specs.Rows.{Reads, IsNext, known, records_after, rows_left, rows_under, file_records, file_rows},
+}
 use Rattle.csv.specs.declared.parser.Terminator.TheVariants as term
-use Rattle.std.specs.Prelude.{if◌then◌else◌, ◌==◌, ◌&&◌, ◌⊎◌, ◌-◌, unwrap_or}
-use Rattle.std.specs.Borrow.{Bor}
 use Rattle.csv.specs.declared.reader.Trim.TheVariants as trim
-use Rattle.csv.specs.Reading.{Reached, Ready, ReadRecord, records_from, records_next, strip_bom, is_bom, default_config}
-use Rattle.csv.specs.declared.reader.Reader.{Reader}
-use Rattle.csv.proofs.ReadFacts.{rows-end, rows-more}
-use Rattle.csv_frames.specs.Rows.{Reads, IsNext, known, records_after, rows_left, rows_under, file_records, file_rows}
-use Rattle.std.proofs.lemmas.Option.{cond_some}
-use Rattle.csv.specs.declared.parser.Config.{Config}
-use Rattle.csv.specs.declared.parser.State.{State}
 use Rattle.csv.specs.declared.parser.State.TheVariants as st
 
 abbrev Quiet : State × Action → Type 0

@@ -1,14 +1,11 @@
 -- Laws of what is settled.
-use Rattle.std.proofs.Common.{◌≡◌, ◌∙◌, ◌≤◌, ℕ, zero, suc, refl, ap, sym, subst, List, [], ◌∷◌, ◌++◌, length, map, append_assoc, append-nil, slice_index_or, slice_get, take, drop, get_or, ◌-◌, Some, unwrap_or, arith, Bool, true, false, if◌then◌else◌}
-use Rattle.std.proofs.lemmas.List.{map-append, take_rest}
-use Rattle.std.specs.List.{list_any}
-use Rattle.cell_core.specs.Texts.{IsLonger, with_text}
-use Rattle.cell_core.specs.declared.cell.TextId.{TextId}
+use Rattle.{
+  std.{proofs.{Common.{◌≡◌, ◌∙◌, ◌≤◌, ℕ, zero, suc, refl, ap, sym, subst, List, [], ◌∷◌, ◌++◌, length, map, append_assoc, append-nil, slice_index_or, slice_get, take, drop, get_or, ◌-◌, Some, unwrap_or, arith, Bool, true, false, if◌then◌else◌}, lemmas.List.{map-append, take_rest}}, specs.List.{list_any}},
+  cell_core.specs.{Texts.{IsLonger, with_text}, declared.cell.TextId.{TextId}},
+  meaning.specs.{Text.{Text, same_text}, Cell.{text}},
+  table_meaning.specs.{Settled.{IsSettled}, Table.{tuple_value}},
+}
 use Rattle.cell_core.specs.declared.cell.Label.TheVariants as label
-use Rattle.meaning.specs.Text.{Text, same_text}
-use Rattle.meaning.specs.Cell.{text}
-use Rattle.table_meaning.specs.Settled.{IsSettled}
-use Rattle.table_meaning.specs.Table.{tuple_value}
 
 pub longer_self : (texts : List Text) → IsLonger texts texts
 longer_self texts = ([], sym (append-nil texts))

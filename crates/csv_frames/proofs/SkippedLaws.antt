@@ -1,18 +1,11 @@
 -- Laws of the numbers that were tried for labels.
-use Rattle.std.proofs.Common.{◌≡◌, ◌≢◌, ℕ, zero, suc, ◌+◌, ◌-◌, ◌<◌, ◌≤◌, Bool, true, false, not, ◌||◌, if◌then◌else◌, List, [], ◌∷◌, ◌++◌, length, nat_eq, slice_get, slice_index_or, slice_set, Some, unwrap_or, refl, sym, ap, subst, ◌∙◌, arith, inl, inr, get_or-set_same, get_or-set_other, length-set}
-use Rattle.std.specs.List.{list_any, position_or_len, range_with_len}
-use Rattle.std.proofs.lemmas.Bool.{cases_eq}
-use Rattle.std.proofs.lemmas.Bool.Decides.{nat_tests}
-use Rattle.std.proofs.lemmas.List.Sums.{prefix_len-le-length}
-use Rattle.std.proofs.lemmas.Option.{slice_get-get_or}
-use Rattle.std.proofs.lemmas.List.{length-append}
-use Rattle.std.proofs.Math.ListN.{get_or-append}
-use Rattle.std.proofs.Math.Seq.{get_or-append_seam}
-use Rattle.cell_core.specs.Texts.{with_text, number_of}
-use Rattle.meaning.specs.Text.{Text, same_text}
-use Rattle.csv_meaning.specs.CsvRead.{with_number, is_free, free_label, next_label}
-use Rattle.csv_frames.specs.Labels.{IsSkipped, AreSkipped}
-use Rattle.csv_frames.proofs.LabelLaws.{first_free, number_found, number_passed, new_number}
+use Rattle.{
+  std.{proofs.{Common.{◌≡◌, ◌≢◌, ℕ, zero, suc, ◌+◌, ◌-◌, ◌<◌, ◌≤◌, Bool, true, false, not, ◌||◌, if◌then◌else◌, List, [], ◌∷◌, ◌++◌, length, nat_eq, slice_get, slice_index_or, slice_set, Some, unwrap_or, refl, sym, ap, subst, ◌∙◌, arith, inl, inr, get_or-set_same, get_or-set_other, length-set}, lemmas.{Bool.{cases_eq, Decides.{nat_tests}}, List.{length-append, Sums.{prefix_len-le-length}}, Option.{slice_get-get_or}}, Math.{ListN.{get_or-append}, Seq.{get_or-append_seam}}}, specs.List.{list_any, position_or_len, range_with_len}},
+  cell_core.specs.Texts.{with_text, number_of},
+  meaning.specs.Text.{Text, same_text},
+  csv_meaning.specs.CsvRead.{with_number, is_free, free_label, next_label},
+  csv_frames.{specs.Labels.{IsSkipped, AreSkipped}, proofs.LabelLaws.{first_free, number_found, number_passed, new_number}},
+}
 
 -- numbers that were passed over
 passed_from : (taken : List Text) (label : Text) (columns k : ℕ) → k + 1 ≤ columns → IsSkipped taken label (k + 1) → k + 1 + first_free taken label columns (k + 1) ≡ 1 + first_free taken label columns 1

@@ -1,19 +1,10 @@
 -- The labels of a header all differ.
-use Rattle.std.proofs.Common.{◌≡◌, ℕ, zero, suc, ◌+◌, ◌-◌, ◌<◌, ◌≤◌, ◌^◌, Bool, true, false, not, ◌||◌, if◌then◌else◌, List, [], ◌∷◌, ◌++◌, length, map, drop, refl, sym, ap, ◌∙◌, arith, inl, inr, length-append}
-use Rattle.std.specs.Prelude.{◌⊎◌, decimal, codes, slice_index_or}
-use Rattle.std.specs.List.{list_any, position_or_len, range_with_len, IsDistinct, AllByRecursion}
-use Rattle.std.specs.Cmp.Lexicographic.{nat_list_eq_equiv}
-use Rattle.std.proofs.lemmas.Bool.{cases_eq, false_from_ne_true}
-use Rattle.std.proofs.lemmas.Fmt.{decimal_injective}
-use Rattle.std.proofs.lemmas.List.{length-map}
-use Rattle.std.proofs.lemmas.List.FromFn.{get_or-range_with_len, length-range_with_len}
-use Rattle.std.proofs.lemmas.List.Sums.{prefix_len_stops, prefix_len_passes, prefix_len-le-length}
-use Rattle.std.proofs.lemmas.Map.Made.{length-le_from_is_member}
-use Rattle.std.proofs.lemmas.Slice.Eq.{bytes_eq-Decides}
-use Rattle.std.proofs.Math.Seq.{drop-append_seam}
-use Rattle.cell_core.specs.Texts.{with_text}
-use Rattle.meaning.specs.Text.{Text, same_text}
-use Rattle.csv_meaning.specs.CsvRead.{with_number, is_free, free_label, next_label, labels_after, with_texts, different_labels}
+use Rattle.{
+  std.{proofs.{Common.{◌≡◌, ℕ, zero, suc, ◌+◌, ◌-◌, ◌<◌, ◌≤◌, ◌^◌, Bool, true, false, not, ◌||◌, if◌then◌else◌, List, [], ◌∷◌, ◌++◌, length, map, drop, refl, sym, ap, ◌∙◌, arith, inl, inr, length-append}, lemmas.{Bool.{cases_eq, false_from_ne_true}, Fmt.{decimal_injective}, List.{length-map, FromFn.{get_or-range_with_len, length-range_with_len}, Sums.{prefix_len_stops, prefix_len_passes, prefix_len-le-length}}, Map.Made.{length-le_from_is_member}, Slice.Eq.{bytes_eq-Decides}}, Math.Seq.{drop-append_seam}}, specs.{Prelude.{◌⊎◌, decimal, codes, slice_index_or}, List.{list_any, position_or_len, range_with_len, IsDistinct, AllByRecursion}, Cmp.Lexicographic.{nat_list_eq_equiv}}},
+  cell_core.specs.Texts.{with_text},
+  meaning.specs.Text.{Text, same_text},
+  csv_meaning.specs.CsvRead.{with_number, is_free, free_label, next_label, labels_after, with_texts, different_labels},
+}
 
 abbrev pub has : List Text → Text → Bool
 has texts t = list_any (same_text t) texts

@@ -1,29 +1,14 @@
 -- The groups of rows whose keys are tuples of labels.
-use Rattle.std.proofs.Common.{◌≡◌, ◌∙◌, ◌<◌, ap, sym, subst, arith, ℕ, Bool, List, [], map, length, slice_index_or, All, Option}
-use Rattle.std.specs.List.{list_any}
-use Rattle.std.specs.Cmp.Lexicographic.{lists_total}
-use Rattle.std.proofs.lemmas.List.{length-map, get_or-map, map-id}
-use Rattle.std.proofs.lemmas.List.Sums.{passes_at_first}
-use Rattle.std.proofs.lemmas.List.Sorted.{ranks_by}
-use Rattle.std.proofs.lemmas.List.Elements.{All-map}
-use Rattle.meaning.specs.Text.{Text}
-use Rattle.meaning.specs.Reduce.{distinct}
-use Rattle.cell_core.specs.declared.cell.Label.{Label}
-use Rattle.multi_index.specs.Axes.{HaveLevels, tuples_at}
-use Rattle.row_keys.specs.Keys.{same_tuple, place_among, codes_of, first_rows}
-use Rattle.row_keys.proofs.KeyLaws.{position_in, all_known}
-use Rattle.row_keys.proofs.RecodeLaws.{firsts_inside, first_keys}
-use Rattle.label_align.specs.Tuples.{tuple_seen, tuple_less}
-use Rattle.label_align.proofs.OrderLaws.{row_agrees}
-use Rattle.label_align.proofs.SameLaws.{tuple_decides, tuple_laws}
-use Rattle.group_meaning.specs.Keys.{is_na, group_keys, group_codes}
-use Rattle.factorize.specs.Keys.{seen_rules}
-use Rattle.factorize.specs.Numbers.{first_row, number_less, row_holds_na, kept_numbers, places_of, recoded}
-use Rattle.group_meaning.specs.Grouping.{AreGroups}
-use Rattle.group_meaning.proofs.ListLaws.{map_map, map_on}
-use Rattle.cell_core.proofs.LabelLaws.{label_total}
-use Rattle.factorize.proofs.LawOfGroups.{IsThere, keys_there, are_groups}
-use Rattle.factorize.proofs.LabelLaws.{labels_there}
+use Rattle.{
+  std.{proofs.{Common.{◌≡◌, ◌∙◌, ◌<◌, ap, sym, subst, arith, ℕ, Bool, List, [], map, length, slice_index_or, All, Option}, lemmas.List.{length-map, get_or-map, map-id, Sums.{passes_at_first}, Sorted.{ranks_by}, Elements.{All-map}}}, specs.{List.{list_any}, Cmp.Lexicographic.{lists_total}}},
+  meaning.specs.{Text.{Text}, Reduce.{distinct}},
+  cell_core.{specs.declared.cell.Label.{Label}, proofs.LabelLaws.{label_total}},
+  multi_index.specs.Axes.{HaveLevels, tuples_at},
+  row_keys.{specs.Keys.{same_tuple, place_among, codes_of, first_rows}, proofs.{KeyLaws.{position_in, all_known}, RecodeLaws.{firsts_inside, first_keys}}},
+  label_align.{specs.Tuples.{tuple_seen, tuple_less}, proofs.{OrderLaws.{row_agrees}, SameLaws.{tuple_decides, tuple_laws}}},
+  group_meaning.{specs.{Keys.{is_na, group_keys, group_codes}, Grouping.{AreGroups}}, proofs.ListLaws.{map_map, map_on}},
+  factorize.{specs.{Keys.{seen_rules}, Numbers.{first_row, number_less, row_holds_na, kept_numbers, places_of, recoded}}, proofs.{LawOfGroups.{IsThere, keys_there, are_groups}, LabelLaws.{labels_there}}},
+}
 use Rattle.factorize.proofs.NumberLaws as law
 
 module _ (texts : List Text) (keys : List (List Label)) (levels : ℕ) (alike : HaveLevels levels keys) (sorted dropna : Bool) where

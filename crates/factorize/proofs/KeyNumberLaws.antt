@@ -1,24 +1,15 @@
 -- The numbers of keys, where each row has one.
-use Rattle.std.proofs.Common.{◌≡◌, ◌∙◌, ◌<◌, ap, sym, ℕ, Bool, true, false, cond, List, map, length, All, slice_index_or, Some}
-use Rattle.std.specs.List.{list_any, range_with_len}
-use Rattle.std.proofs.lemmas.List.{map-id, length-map}
-use Rattle.meaning.specs.Text.{Text}
-use Rattle.meaning.specs.Reduce.{distinct}
-use Rattle.cell_core.specs.declared.cell.Label.{Label}
-use Rattle.sorting.specs.Sorting.{in_order}
-use Rattle.multi_index.specs.Axes.{HaveLevels}
-use Rattle.row_keys.specs.Keys.{same_tuple, place_among, codes_of, first_rows}
-use Rattle.row_keys.proofs.KeyLaws.{position_in, all_known}
-use Rattle.label_align.specs.Tuples.{tuple_less}
-use Rattle.label_align.proofs.SameLaws.{tuple_laws}
-use Rattle.group_meaning.specs.Keys.{ordered_if, group_keys, group_of, group_codes}
-use Rattle.group_meaning.proofs.ListLaws.{map_map, map_on}
-use Rattle.factorize.specs.Keys.{seen_rules}
-use Rattle.factorize.specs.Numbers.{number_less, row_holds_na, first_row, kept_numbers, places_of, recoded, number_in}
-use Rattle.factorize.proofs.LawOfGroups.{any_in_order}
-use Rattle.factorize.proofs.NumberLaws.{filter_all}
-use Rattle.factorize.proofs.PlaceLaws.{there}
-use Rattle.factorize.proofs.GroupLaws.{below_count, groups_counted, codes_are}
+use Rattle.{
+  std.{proofs.{Common.{◌≡◌, ◌∙◌, ◌<◌, ap, sym, ℕ, Bool, true, false, cond, List, map, length, All, slice_index_or, Some}, lemmas.List.{map-id, length-map}}, specs.List.{list_any, range_with_len}},
+  meaning.specs.{Text.{Text}, Reduce.{distinct}},
+  cell_core.specs.declared.cell.Label.{Label},
+  sorting.specs.Sorting.{in_order},
+  multi_index.specs.Axes.{HaveLevels},
+  row_keys.{specs.Keys.{same_tuple, place_among, codes_of, first_rows}, proofs.KeyLaws.{position_in, all_known}},
+  label_align.{specs.Tuples.{tuple_less}, proofs.SameLaws.{tuple_laws}},
+  group_meaning.{specs.Keys.{ordered_if, group_keys, group_of, group_codes}, proofs.ListLaws.{map_map, map_on}},
+  factorize.{specs.{Keys.{seen_rules}, Numbers.{number_less, row_holds_na, first_row, kept_numbers, places_of, recoded, number_in}}, proofs.{LawOfGroups.{any_in_order}, NumberLaws.{filter_all}, PlaceLaws.{there}, GroupLaws.{below_count, groups_counted, codes_are}}},
+}
 
 module _ (texts : List Text) (sorted : Bool) (rows : List (List Label)) where
   abbrev pub keys : List (List Label)

@@ -1,27 +1,19 @@
 -- The labels of a row are those of its key.
-use Rattle.std.proofs.Common.{◌≡◌, ◌∙◌, ◌<◌, ◌≤◌, ap, refl, sym, arith, ℕ, List, [], length, slice_get, slice_index_or, Some}
-use Rattle.std.specs.List.{range_with_len}
-use Rattle.std.proofs.Math.ListN.{get_or-map}
-use Rattle.std.proofs.lemmas.List.{length-map, same_lists, get_or_default, get_or_past}
-use Rattle.std.proofs.lemmas.List.{get_or-map as get_or-map-at}
-use Rattle.std.proofs.lemmas.List.Elements.{All-map}
-use Rattle.std.proofs.lemmas.List.FromFn.{length-map-range_with_len, get_or-map-range_with_len}
-use Rattle.std.proofs.lemmas.Option.{get_or_from_slice_get}
-use Rattle.cell_core.specs.declared.cell.Cell.{Cell}
+use Rattle.{
+  std.{proofs.{Common.{◌≡◌, ◌∙◌, ◌<◌, ◌≤◌, ap, refl, sym, arith, ℕ, List, [], length, slice_get, slice_index_or, Some}, Math.ListN.{get_or-map}, lemmas.{List.{length-map, same_lists, get_or_default, get_or_past, get_or-map as get_or-map-at, Elements.{All-map}, FromFn.{length-map-range_with_len, get_or-map-range_with_len}}, Option.{get_or_from_slice_get}}}, specs.List.{range_with_len}},
+  cell_core.specs.{declared.cell.{Cell.{Cell}, Label.{Label}}, Values.{label_datum}},
+  column_core.specs.Columns.{CellColumn},
+  row_groups.specs.Labels.{label_of_cell},
+  row_keys.specs.Keys.{label_in},
+  factorize.specs.Keys.{row_key, column_keys},
+  meaning.specs.Text.{Text},
+  index_core.specs.Labels.{same_number},
+  multi_index.specs.Axes.{HaveLevels},
+  label_align.{specs.Tuples.{tuple_seen, labels_of}, proofs.OrderLaws.{label_there, labels_counted}},
+  group_meaning.specs.Keys.{is_na},
+}
 use Rattle.cell_core.specs.declared.cell.Cell.TheVariants as cell
-use Rattle.column_core.specs.Columns.{CellColumn}
-use Rattle.row_groups.specs.Labels.{label_of_cell}
-use Rattle.row_keys.specs.Keys.{label_in}
-use Rattle.factorize.specs.Keys.{row_key, column_keys}
-use Rattle.meaning.specs.Text.{Text}
-use Rattle.cell_core.specs.declared.cell.Label.{Label}
 use Rattle.cell_core.specs.declared.cell.Label.TheVariants as label
-use Rattle.cell_core.specs.Values.{label_datum}
-use Rattle.index_core.specs.Labels.{same_number}
-use Rattle.multi_index.specs.Axes.{HaveLevels}
-use Rattle.label_align.specs.Tuples.{tuple_seen, labels_of}
-use Rattle.label_align.proofs.OrderLaws.{label_there, labels_counted}
-use Rattle.group_meaning.specs.Keys.{is_na}
 
 pub labels_there : (texts : List Text) (keys : List (List Label)) (levels row : ℕ) → HaveLevels levels keys → row < length keys → labels_of texts keys levels row ≡ tuple_seen texts (slice_index_or keys row [])
 labels_there texts keys levels row alike lt =

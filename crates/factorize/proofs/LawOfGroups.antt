@@ -1,22 +1,14 @@
 -- What factorize answers are groups.
-use Rattle.std.proofs.Common.{◌≡◌, ◌∙◌, ◌+◌, ◌<◌, ◌≤◌, ◌==◌, ◌||◌, ap, refl, sym, arith, ℕ, zero, suc, Bool, true, false, not, cond, List, [], ◌∷◌, filter, length, All, slice_index_or, nat_lt, Option, Some, None, inl, inr}
-use Rattle.std.specs.List.{list_any, position_or_len}
-use Rattle.std.specs.Cmp.{IsEquivalence, IsStrictWeakOrder}
-use Rattle.std.proofs.lemmas.Bool.{false≢true, true≢false, not-true, not-false, ltb-true, lt-ltb, eqb-true, eq-eqb, cases_lt}
-use Rattle.std.proofs.lemmas.List.{length-map, get_or-map}
-use Rattle.std.proofs.lemmas.List.Elements.{All-nil, All-cons, All-head, All-tail, All-filter, filter_passes}
-use Rattle.std.proofs.lemmas.List.Sums.{passes_at_first, position_or_len_is}
-use Rattle.meaning.specs.Reduce.{distinct}
-use Rattle.sorting.specs.Sorting.{put_in, in_order}
-use Rattle.align_meaning.proofs.OrderLaws.{all_put_in, all_in_order}
-use Rattle.pick_meaning.specs.Rows.{rows_where}
-use Rattle.pick_meaning.proofs.RowLaws.{rows_where-map}
-use Rattle.row_keys.proofs.KeyLaws.{position_in, all_known, any_at}
-use Rattle.row_keys.proofs.RecodeLaws.{Apart, All-distinct, apart_distinct, apart_at}
-use Rattle.group_meaning.specs.Keys.{KeyRules, is_kept, ordered_if, group_keys, group_of, group_codes}
-use Rattle.group_meaning.specs.Rows.{is_in, rows_of_group}
-use Rattle.group_meaning.specs.Grouping.{HasGroup, AreGroups}
-use Rattle.factorize.proofs.PlaceLaws.{there, nowhere}
+use Rattle.{
+  std.{proofs.{Common.{◌≡◌, ◌∙◌, ◌+◌, ◌<◌, ◌≤◌, ◌==◌, ◌||◌, ap, refl, sym, arith, ℕ, zero, suc, Bool, true, false, not, cond, List, [], ◌∷◌, filter, length, All, slice_index_or, nat_lt, Option, Some, None, inl, inr}, lemmas.{Bool.{false≢true, true≢false, not-true, not-false, ltb-true, lt-ltb, eqb-true, eq-eqb, cases_lt}, List.{length-map, get_or-map, Elements.{All-nil, All-cons, All-head, All-tail, All-filter, filter_passes}, Sums.{passes_at_first, position_or_len_is}}}}, specs.{List.{list_any, position_or_len}, Cmp.{IsEquivalence, IsStrictWeakOrder}}},
+  meaning.specs.Reduce.{distinct},
+  sorting.specs.Sorting.{put_in, in_order},
+  align_meaning.proofs.OrderLaws.{all_put_in, all_in_order},
+  pick_meaning.{specs.Rows.{rows_where}, proofs.RowLaws.{rows_where-map}},
+  row_keys.proofs.{KeyLaws.{position_in, all_known, any_at}, RecodeLaws.{Apart, All-distinct, apart_distinct, apart_at}},
+  group_meaning.specs.{Keys.{KeyRules, is_kept, ordered_if, group_keys, group_of, group_codes}, Rows.{is_in, rows_of_group}, Grouping.{HasGroup, AreGroups}},
+  factorize.proofs.PlaceLaws.{there, nowhere},
+}
 
 -- none passes, so that the first place is behind the end
 none_at : {X : Type 0} (p : X → Bool) (xs : List X) → All (λ x. p x ≡ false) xs → length xs ≤ position_or_len p xs

@@ -1,20 +1,14 @@
 -- What is made of the numbers of keys is what is made of the keys.
-use Rattle.std.proofs.Common.{◌≡◌, ◌∙◌, ◌==◌, ◌<◌, ap, refl, sym, ℕ, Bool, true, false, not, cond, List, [], ◌∷◌, map, filter, length, All, slice_index_or, None, arith}
-use Rattle.std.specs.List.{list_any, position, range_with_len}
-use Rattle.std.specs.Cmp.{IsEquivalence}
-use Rattle.std.proofs.lemmas.List.{length-map, get_or-map}
-use Rattle.std.proofs.lemmas.List.FromFn.{fill_by_all, get_or-map-range_with_len}
-use Rattle.std.proofs.lemmas.List.Elements.{All-filter}
-use Rattle.meaning.specs.Reduce.{distinct}
-use Rattle.sorting.specs.Sorting.{in_order}
-use Rattle.align_meaning.proofs.OrderLaws.{all_in_order, in_order_map}
-use Rattle.row_keys.specs.Keys.{place_among, codes_of, first_rows}
-use Rattle.row_keys.proofs.KeyLaws.{place_tells, all_known, position_in, any_at}
-use Rattle.row_keys.proofs.RecodeLaws.{place_there}
-use Rattle.label_align.proofs.OrderLaws.{below_range}
-use Rattle.group_meaning.specs.Keys.{KeyRules, is_kept, ordered_if, group_keys, group_of, group_codes}
-use Rattle.group_meaning.proofs.ListLaws.{map_map, map_on, filter_seen, position_seen}
-use Rattle.factorize.specs.Numbers.{first_row, kept_numbers, places_of, recoded}
+use Rattle.{
+  std.{proofs.{Common.{◌≡◌, ◌∙◌, ◌==◌, ◌<◌, ap, refl, sym, ℕ, Bool, true, false, not, cond, List, [], ◌∷◌, map, filter, length, All, slice_index_or, None, arith}, lemmas.List.{length-map, get_or-map, FromFn.{fill_by_all, get_or-map-range_with_len}, Elements.{All-filter}}}, specs.{List.{list_any, position, range_with_len}, Cmp.{IsEquivalence}}},
+  meaning.specs.Reduce.{distinct},
+  sorting.specs.Sorting.{in_order},
+  align_meaning.proofs.OrderLaws.{all_in_order, in_order_map},
+  row_keys.{specs.Keys.{place_among, codes_of, first_rows}, proofs.{KeyLaws.{place_tells, all_known, position_in, any_at}, RecodeLaws.{place_there}}},
+  label_align.proofs.OrderLaws.{below_range},
+  group_meaning.{specs.Keys.{KeyRules, is_kept, ordered_if, group_keys, group_of, group_codes}, proofs.ListLaws.{map_map, map_on, filter_seen, position_seen}},
+  factorize.specs.Numbers.{first_row, kept_numbers, places_of, recoded},
+}
 
 pub filter_all : {X : Type 0} (xs : List X) → filter (λ x. true) xs ≡ xs
 filter_all [] = refl

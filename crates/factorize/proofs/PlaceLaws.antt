@@ -1,16 +1,11 @@
 -- The first place that passes a test, with one element more.
-use Rattle.std.proofs.Common.{◌≡◌, ◌∙◌, ◌+◌, ◌<◌, ◌≤◌, ap, refl, sym, subst, arith, ℕ, Bool, true, false, not, cond, List, [], ◌∷◌, ◌++◌, ◌==◌, length, slice_index_or, set, Option, Some, None, inl, inr, length-append, map, All}
-use Rattle.std.specs.List.{position, position_or_len}
-use Rattle.std.specs.Prelude.{is_none}
-use Rattle.std.proofs.lemmas.Bool.{lt-ltb, le-ltb, ne_eqb, eq-eqb, eqb-true, eqb-false, cases_lt}
-use Rattle.std.proofs.lemmas.List.{length-set, length-map, get_or-map, get_or-set_same, get_or-set_other, get_or_default, same_lists}
-use Rattle.std.proofs.lemmas.List.Folds.{position_or_len_push}
-use Rattle.std.proofs.lemmas.List.Elements.{All-map}
-use Rattle.std.proofs.lemmas.List.FromFn.{length-map-range_with_len, get_or-map-range_with_len}
-use Rattle.column_core.specs.Moves.{IsPlaceOf}
-use Rattle.row_keys.proofs.DistinctLaws.{prefix-le}
-use Rattle.group_meaning.proofs.ListLaws.{map_map}
-use Rattle.factorize.specs.Numbers.{placed, places_of, recoded, number_in}
+use Rattle.{
+  std.{proofs.{Common.{◌≡◌, ◌∙◌, ◌+◌, ◌<◌, ◌≤◌, ap, refl, sym, subst, arith, ℕ, Bool, true, false, not, cond, List, [], ◌∷◌, ◌++◌, ◌==◌, length, slice_index_or, set, Option, Some, None, inl, inr, length-append, map, All}, lemmas.{Bool.{lt-ltb, le-ltb, ne_eqb, eq-eqb, eqb-true, eqb-false, cases_lt}, List.{length-set, length-map, get_or-map, get_or-set_same, get_or-set_other, get_or_default, same_lists, Folds.{position_or_len_push}, Elements.{All-map}, FromFn.{length-map-range_with_len, get_or-map-range_with_len}}}}, specs.{List.{position, position_or_len}, Prelude.{is_none}}},
+  column_core.specs.Moves.{IsPlaceOf},
+  row_keys.proofs.DistinctLaws.{prefix-le},
+  group_meaning.proofs.ListLaws.{map_map},
+  factorize.specs.Numbers.{placed, places_of, recoded, number_in},
+}
 
 module _ {X : Type 0} (p : X → Bool) where
   pub there : (xs : List X) → position_or_len p xs < length xs → position p xs ≡ Some (position_or_len p xs)

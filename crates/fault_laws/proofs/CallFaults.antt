@@ -1,29 +1,19 @@
 -- No call of a method or a function has the fault that a file isn't there.
-use Rattle.std.proofs.Common.{refl, sym, ap, ◌∙◌}
-use Rattle.std.specs.Prelude.{◌≡◌, ℕ, true, false, List, Option, Some, None, if◌then◌else◌}
-use Rattle.meaning.specs.Text.{Text}
-use Rattle.table_meaning.specs.Table.{Table}
-use Rattle.table_meaning.specs.Value.{Entry, cell, table, NamedGiven}
+use Rattle.{
+  std.{proofs.Common.{refl, sym, ap, ◌∙◌}, specs.Prelude.{◌≡◌, ℕ, true, false, List, Option, Some, None, if◌then◌else◌}},
+  meaning.specs.Text.{Text},
+  table_meaning.specs.{Table.{Table}, Value.{Entry, cell, table, NamedGiven}},
+  form_meaning.specs.{declared.Function.{Function}, Functions.{make_result}, Signature.{parameters_of, method_named, function_named}, Binding.{bound_of}},
+  method_meaning.specs.{Calls.{ChainValue, method_result, is_merge, merge_call, plain_result, call_result}, Functions.{is_concat, function_result}, Concat.{concat_call}, Merge.{merge_result}, Readers.{reads_file, read_result, make_with}},
+  fault_laws.{specs.FormFault.{HasFormFault}, proofs.{FormFaults.{if_fault, on_bound_fault, make_with_fault}, MethodFaults.{method_result_fault, chain_result_fault}, MergeFaults.{merge_result_fault}, ConcatFaults.{concat_call_fault}}},
+}
 use Rattle.form_meaning.specs.declared.Method.TheVariants as method
-use Rattle.form_meaning.specs.declared.Function.{Function}
+use Rattle.form_meaning.specs.declared.OtherMethod.TheVariants as other_method
 use Rattle.form_meaning.specs.declared.Function.TheVariants as function
-use Rattle.form_meaning.specs.Functions.{make_result}
-use Rattle.form_meaning.specs.Signature.{parameters_of, method_named, function_named}
-use Rattle.form_meaning.specs.Binding.{bound_of}
 use Rattle.method_meaning.specs.Calls as call
-use Rattle.method_meaning.specs.Calls.{ChainValue, method_result, is_merge, merge_call, plain_result, call_result}
-use Rattle.method_meaning.specs.Functions.{is_concat, function_result}
-use Rattle.method_meaning.specs.Concat.{concat_call}
-use Rattle.method_meaning.specs.Merge.{merge_result}
-use Rattle.method_meaning.specs.Readers.{reads_file, read_result, make_with}
-use Rattle.fault_laws.specs.FormFault.{HasFormFault}
-use Rattle.fault_laws.proofs.FormFaults.{if_fault, on_bound_fault, make_with_fault}
-use Rattle.fault_laws.proofs.MethodFaults.{method_result_fault, chain_result_fault}
-use Rattle.fault_laws.proofs.MergeFaults.{merge_result_fault}
-use Rattle.fault_laws.proofs.ConcatFaults.{concat_call_fault}
 
 merge_call_fault : (t : Table) (gs : List NamedGiven) → HasFormFault (merge_call t gs)
-merge_call_fault t gs = on_bound_fault (bound_of (parameters_of method.Merge) gs) (merge_result t) (merge_result_fault t)
+merge_call_fault t gs = on_bound_fault (bound_of (parameters_of (method.Other other_method.Merge)) gs) (merge_result t) (merge_result_fault t)
 
 plain_result_fault : (v : Entry) (name : Text) (gs : List NamedGiven) → HasFormFault (plain_result v name gs)
 plain_result_fault (cell c) name gs = method_result_fault (cell c) name gs

@@ -1,18 +1,14 @@
 -- No concatenation has the fault that a file isn't there.
-use Rattle.std.specs.Prelude.{ℕ, map, nat_le, ◌&&◌, Bool, true, false, List, [], ◌∷◌, length, Option, Some, None, Result, Ok, Err}
-use Rattle.meaning.specs.Cell.{CellValue, LabelValue}
-use Rattle.meaning.specs.Fault.{FaultValue, bad_value, levels, limit}
-use Rattle.table_meaning.specs.Table.{ColumnOf, Table}
-use Rattle.table_meaning.specs.Value.{Entry, Given, NamedGiven, list_in}
-use Rattle.join_meaning.specs.Concat.{column_below, united, are_equal, repeated_on_any, first_axis}
+use Rattle.{
+  std.specs.Prelude.{ℕ, map, nat_le, ◌&&◌, Bool, true, false, List, [], ◌∷◌, length, Option, Some, None, Result, Ok, Err},
+  meaning.specs.{Cell.{CellValue, LabelValue}, Fault.{FaultValue, bad_value, levels, limit}},
+  table_meaning.specs.{Table.{ColumnOf, Table}, Value.{Entry, Given, NamedGiven, list_in}},
+  join_meaning.specs.Concat.{column_below, united, are_equal, repeated_on_any, first_axis},
+  form_meaning.specs.{Signature.{function_parameters}, Binding.{bound_of, truth_in}, Finish.{finished, value_of_column, column_of_value}, Infix.{same_tuple}},
+  method_meaning.specs.Concat.{Concatenation, tables_of, labels_of_tables, kind_under, column_or_missing, have_same_levels, columns_below, frame_column_below, finished_below, series_below, frames_below, same_levels, below, table_beside, unless_label_twice, beside, with_keys, along, concatenated, is_across, concat_result, concat_call},
+  fault_laws.{specs.FormFault.{HasFormFault}, proofs.FormFaults.{if_fault, then_value_fault, limited_fault, finished_fault, try_all_fault, on_fault, of_length_fault, on_bound_fault}},
+}
 use Rattle.form_meaning.specs.declared.Function.TheVariants as function
-use Rattle.form_meaning.specs.Signature.{function_parameters}
-use Rattle.form_meaning.specs.Binding.{bound_of, truth_in}
-use Rattle.form_meaning.specs.Finish.{finished, value_of_column, column_of_value}
-use Rattle.form_meaning.specs.Infix.{same_tuple}
-use Rattle.method_meaning.specs.Concat.{Concatenation, tables_of, labels_of_tables, kind_under, column_or_missing, have_same_levels, columns_below, frame_column_below, finished_below, series_below, frames_below, same_levels, below, table_beside, unless_label_twice, beside, with_keys, along, concatenated, is_across, concat_result, concat_call}
-use Rattle.fault_laws.specs.FormFault.{HasFormFault}
-use Rattle.fault_laws.proofs.FormFaults.{if_fault, then_value_fault, limited_fault, finished_fault, try_all_fault, on_fault, of_length_fault, on_bound_fault}
 
 finished_below_fault : (t : Table) → HasFormFault (finished_below t)
 finished_below_fault t = if_fault (nat_le 1 (length t.level_names) && nat_le (length t.level_names) 4) _ (Err limit) (limited_fault t) tt

@@ -1,31 +1,17 @@
 -- No form on values has the fault that a file isn't there.
-use Rattle.std.specs.Prelude.{ℕ, pos, Bool, true, false, List, [], ◌∷◌, Option, Some, None, Result, Ok, Err, if◌then◌else◌}
-use Rattle.std.specs.List.{list_all}
-use Rattle.cell_core.specs.declared.cell.Kind.{Kind}
-use Rattle.cell_core.specs.declared.grid.Shape.{Shape}
-use Rattle.cell_core.specs.declared.grid.Shape.TheVariants.{Series, Frame}
-use Rattle.meaning.specs.Text.{Text}
-use Rattle.meaning.specs.Cell.{CellValue, int_cell, LabelValue}
-use Rattle.meaning.specs.Column.{ColumnValue, ColumnFault, kind_mismatch, zero_division, not_cast}
-use Rattle.language_meaning.specs.Tree.{Binary, sub}
-use Rattle.meaning.specs.Fault.{FaultValue, wrong_kind, bad_value, not_aligned, then_value}
-use Rattle.align_meaning.specs.Faults.{AlignRefusal, duplicate_labels, too_large, met_rows}
-use Rattle.align_meaning.specs.Joins.{outer}
-use Rattle.table_meaning.specs.Table.{ColumnOf, Table, column_at}
-use Rattle.table_meaning.specs.Value.{Entry, cell, table, Given, GivenList, NamedGiven}
-use Rattle.form_meaning.specs.declared.Function.{Function}
+use Rattle.{
+  std.specs.{Prelude.{ℕ, pos, Bool, true, false, List, [], ◌∷◌, Option, Some, None, Result, Ok, Err, if◌then◌else◌}, List.{list_all}},
+  cell_core.specs.declared.{cell.Kind.{Kind}, grid.Shape.{Shape, TheVariants.{Series, Frame}}},
+  meaning.specs.{Text.{Text}, Cell.{CellValue, int_cell, LabelValue}, Column.{ColumnValue, ColumnFault, kind_mismatch, zero_division, not_cast}, Fault.{FaultValue, wrong_kind, bad_value, not_aligned, then_value}},
+  language_meaning.specs.Tree.{Binary, sub},
+  align_meaning.specs.{Faults.{AlignRefusal, duplicate_labels, too_large, met_rows}, Joins.{outer}},
+  table_meaning.specs.{Table.{ColumnOf, Table, column_at}, Value.{Entry, cell, table, Given, GivenList, NamedGiven}},
+  form_meaning.specs.{declared.Function.{Function}, Binding.{Bound, not_taken, not_listed, bound, on_bound}, Finish.{first_repeated, column_labels, limited_table, limited, unless_repeated, finished, fault_of_column, made_column, try_all}, Select.{found, column_place, column_places, length_result}, Infix.{Meeting, meets, has_one, same_tuple, same_tuples, tuple_before, beside, compares, joined_rows, joined_columns, with_joined, joined_infix, unequal_infix, infix_table, scalar_infix, on_levels, same_headings, are_headings, rows_infix, series_infix, on_columns, common_infix, unequal_columns, wide_infix, joined_frames, frame_infix, takes_each, labels_fit, spread_series, spread_frame, joined_turned, across_series, across_unequal, across_infix, table_infix, infix_result, negated, inverted, sign_result}, Set.{list_column, of_length}, Make.{cast_to, few_levels, with_index, on, series_of, series_result, all_of_length, frame_with, frame_of, frame_result}, Functions.{constructed, made_by, made_named, make_result}, Signature.{function_named}},
+  csv_meaning.specs.CsvRead.{CsvValue, CsvRefusal, not_utf8, no_record, long_record, not_of_kind, beyond_limits},
+  method_meaning.specs.Readers.{name_in, name_of_bound, file_name_of, fault_of_refusal, frame_or_fault, csv_result, reads_file, read_result, make_with},
+  fault_laws.specs.FormFault.{IsOfForm, HasFormFault},
+}
 use Rattle.form_meaning.specs.declared.Function.TheVariants as function
-use Rattle.form_meaning.specs.Binding.{Bound, not_taken, not_listed, bound, on_bound}
-use Rattle.form_meaning.specs.Finish.{first_repeated, column_labels, limited_table, limited, unless_repeated, finished, fault_of_column, made_column, try_all}
-use Rattle.form_meaning.specs.Select.{found, column_place, column_places, length_result}
-use Rattle.form_meaning.specs.Infix.{Meeting, meets, has_one, same_tuple, same_tuples, tuple_before, beside, compares, joined_rows, joined_columns, with_joined, joined_infix, unequal_infix, infix_table, scalar_infix, on_levels, same_headings, are_headings, rows_infix, series_infix, on_columns, common_infix, unequal_columns, wide_infix, joined_frames, frame_infix, takes_each, labels_fit, spread_series, spread_frame, joined_turned, across_series, across_unequal, across_infix, table_infix, infix_result, negated, inverted, sign_result}
-use Rattle.form_meaning.specs.Set.{list_column, of_length}
-use Rattle.form_meaning.specs.Make.{cast_to, few_levels, with_index, on, series_of, series_result, all_of_length, frame_with, frame_of, frame_result}
-use Rattle.form_meaning.specs.Functions.{constructed, made_by, made_named, make_result}
-use Rattle.form_meaning.specs.Signature.{function_named}
-use Rattle.csv_meaning.specs.CsvRead.{CsvValue, CsvRefusal, not_utf8, no_record, long_record, not_of_kind, beyond_limits}
-use Rattle.method_meaning.specs.Readers.{name_in, name_of_bound, file_name_of, fault_of_refusal, frame_or_fault, csv_result, reads_file, read_result, make_with}
-use Rattle.fault_laws.specs.FormFault.{IsOfForm, HasFormFault}
 
 -- what forms share
 pub if_fault : {A : Type 0} (b : Bool) (x y : Result A FaultValue) → HasFormFault x → HasFormFault y → HasFormFault (if b then x else y)

@@ -1,26 +1,16 @@
 -- No call behind `groupby` has the fault that a file isn't there.
-use Rattle.std.specs.Prelude.{ℕ, ◌&&◌, nat_eq, nat_lt, Bool, true, false, List, [], ◌∷◌, length, codes, Option, Some, None, Result, Ok, Err}
-use Rattle.cell_core.specs.declared.grid.Shape.{Shape}
-use Rattle.cell_core.specs.declared.grid.Shape.TheVariants.{Series, Frame}
-use Rattle.meaning.specs.Text.{Text, same_text}
-use Rattle.meaning.specs.Cell.{CellValue, LabelValue}
-use Rattle.meaning.specs.Column.{ColumnValue, ColumnFault}
-use Rattle.meaning.specs.Operator.{cell_label}
-use Rattle.meaning.specs.Fault.{FaultValue, wrong_kind, limit}
-use Rattle.table_meaning.specs.Table.{ColumnOf, Table, column_at}
-use Rattle.table_meaning.specs.Value.{Entry, cell, table, Given, GivenList, NamedGiven, scalar_in, list_in}
-use Rattle.form_meaning.specs.declared.Method.TheVariants.{Groupby}
-use Rattle.form_meaning.specs.Signature.{parameters_of}
-use Rattle.form_meaning.specs.Binding.{Bound, not_taken, not_listed, bound, bound_of, each, is_scalar, truth_in, text_in}
-use Rattle.form_meaning.specs.Finish.{value_of_column, column_of_value, made_column}
-use Rattle.form_meaning.specs.Select.{labels_of}
-use Rattle.select_meaning.specs.Select.{as_series, shown_as}
-use Rattle.group_meaning.specs.Reductions.{GroupReduction, reduce_groups, transform_groups, cumsum_groups, group_sizes, group_places}
-use Rattle.method_meaning.specs.Rows.{labels_in}
+use Rattle.{
+  std.specs.Prelude.{ℕ, ◌&&◌, nat_eq, nat_lt, Bool, true, false, List, [], ◌∷◌, length, codes, Option, Some, None, Result, Ok, Err},
+  cell_core.specs.declared.grid.Shape.{Shape, TheVariants.{Series, Frame}},
+  meaning.specs.{Text.{Text, same_text}, Cell.{CellValue, LabelValue}, Column.{ColumnValue, ColumnFault}, Operator.{cell_label}, Fault.{FaultValue, wrong_kind, limit}},
+  table_meaning.specs.{Table.{ColumnOf, Table, column_at}, Value.{Entry, cell, table, Given, GivenList, NamedGiven, scalar_in, list_in}},
+  form_meaning.specs.{declared.{Method.TheVariants.{Other}, OtherMethod.TheVariants.{Groupby}}, Signature.{parameters_of}, Binding.{Bound, not_taken, not_listed, bound, bound_of, each, is_scalar, truth_in, text_in}, Finish.{value_of_column, column_of_value, made_column}, Select.{labels_of}},
+  select_meaning.specs.Select.{as_series, shown_as},
+  group_meaning.specs.Reductions.{GroupReduction, reduce_groups, transform_groups, cumsum_groups, group_sizes, group_places},
+  method_meaning.specs.{Rows.{labels_in}, Groups.{Grouping, Values, GroupCall, each_of, grouped_rows, group_answer, of_bound, as_keys, keys_in, grouping_in, values_named, values_in, transform_of, transform_in, reduction_named, plain_call, without_arguments, group_call_of, grouped_frame, grouped_of, grouped_result}},
+  fault_laws.{specs.FormFault.{HasFormFault}, proofs.FormFaults.{if_fault, then_value_fault, limited_fault, finished_fault, made_column_fault, try_all_fault, column_place_fault, column_places_fault, on_fault}},
+}
 use Rattle.method_meaning.specs.Groups as groups
-use Rattle.method_meaning.specs.Groups.{Grouping, Values, GroupCall, each_of, grouped_rows, group_answer, of_bound, as_keys, keys_in, grouping_in, values_named, values_in, transform_of, transform_in, reduction_named, plain_call, without_arguments, group_call_of, grouped_frame, grouped_of, grouped_result}
-use Rattle.fault_laws.specs.FormFault.{HasFormFault}
-use Rattle.fault_laws.proofs.FormFaults.{if_fault, then_value_fault, limited_fault, finished_fault, made_column_fault, try_all_fault, column_place_fault, column_places_fault, on_fault}
 
 -- what is made
 each_of_fault : (t : Table) (f : ColumnValue → Result ColumnValue ColumnFault) (places : List ℕ) → HasFormFault (each_of t f places)
@@ -95,7 +85,7 @@ call_fault name gs = if_fault (same_text name (codes "transform")) _ _ (of_bound
 
 frame_fault : (t : Table) (by : List NamedGiven) (brackets : Option Given) (name : Text) (gs : List NamedGiven) → HasFormFault (grouped_frame t by brackets name gs)
 frame_fault t by brackets name gs =
-    then_value_fault _ _ (of_bound_fault (grouping_in t) (bound_of (parameters_of Groupby) by) (grouping_in_fault t)) (λ g. then_value_fault _ _ (values_fault t g.keys brackets) (λ v. then_value_fault _ _ (call_fault name gs) (answer_fault t g v)))
+    then_value_fault _ _ (of_bound_fault (grouping_in t) (bound_of (parameters_of (Other Groupby)) by) (grouping_in_fault t)) (λ g. then_value_fault _ _ (values_fault t g.keys brackets) (λ v. then_value_fault _ _ (call_fault name gs) (answer_fault t g v)))
 
 grouped_of_fault : (shape : Shape) (t : Table) (by : List NamedGiven) (brackets : Option Given) (name : Text) (gs : List NamedGiven) → HasFormFault (grouped_of shape t by brackets name gs)
 grouped_of_fault Series t by brackets name gs = tt

@@ -1,18 +1,13 @@
 -- No merge has the fault that a file isn't there.
-use Rattle.std.specs.Prelude.{ℕ, List, [], ◌∷◌, length, nat_lt, Option, Some, None, Result, Ok, Err}
-use Rattle.meaning.specs.Cell.{LabelValue}
-use Rattle.meaning.specs.Fault.{FaultValue, limit, bad_value, key_kinds, then_value}
-use Rattle.join_meaning.specs.declared.How.{How}
-use Rattle.join_meaning.specs.declared.Validate.{Validate}
-use Rattle.join_meaning.specs.Pairs.{RepeatedKey}
-use Rattle.table_meaning.specs.Table.{Table}
-use Rattle.table_meaning.specs.Value.{Given, nothing, one, row, many, entries, object_in}
-use Rattle.form_meaning.specs.Binding.{text_in}
-use Rattle.form_meaning.specs.Select.{column_places}
-use Rattle.method_meaning.specs.Rows.{labels_in}
-use Rattle.method_meaning.specs.Merge.{MergeKeys, common_labels, keys_named, keys_under, keys_on, kinds_at, are_same_kinds, checked_keys, keys_of_merge, merged, unless_twice, merged_rows, how_named, validate_in, merge_result}
-use Rattle.fault_laws.specs.FormFault.{HasFormFault}
-use Rattle.fault_laws.proofs.FormFaults.{if_fault, then_value_fault, finished_fault, column_places_fault, on_fault}
+use Rattle.{
+  std.specs.Prelude.{ℕ, List, [], ◌∷◌, length, nat_lt, Option, Some, None, Result, Ok, Err},
+  meaning.specs.{Cell.{LabelValue}, Fault.{FaultValue, limit, bad_value, key_kinds, then_value}},
+  join_meaning.specs.{declared.{How.{How}, Validate.{Validate}}, Pairs.{RepeatedKey}},
+  table_meaning.specs.{Table.{Table}, Value.{Given, nothing, one, row, many, entries, object_in}},
+  form_meaning.specs.{Binding.{text_in}, Select.{column_places}},
+  method_meaning.specs.{Rows.{labels_in}, Merge.{MergeKeys, common_labels, keys_named, keys_under, keys_on, kinds_at, are_same_kinds, checked_keys, keys_of_merge, merged, unless_twice, merged_rows, how_named, validate_in, merge_result}},
+  fault_laws.{specs.FormFault.{HasFormFault}, proofs.FormFaults.{if_fault, then_value_fault, finished_fault, column_places_fault, on_fault}},
+}
 
 named_fault : (l r : Table) (ls : List LabelValue) → HasFormFault (keys_named l r ls)
 named_fault l r ls =

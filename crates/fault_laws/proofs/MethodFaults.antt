@@ -1,27 +1,20 @@
 -- No method has the fault that a file isn't there.
-use Rattle.std.specs.Prelude.{ℕ, ℤ, Bool, true, false, List, [], ◌∷◌, Option, Some, None, Result, Ok, Err}
-use Rattle.cell_core.specs.declared.cell.Kind.{Kind}
-use Rattle.cell_core.specs.declared.grid.Shape.{Shape}
-use Rattle.cell_core.specs.declared.grid.Shape.TheVariants.{Series, Frame}
-use Rattle.meaning.specs.Text.{Text}
-use Rattle.meaning.specs.Cell.{CellValue, int_cell, text_cell, LabelValue}
-use Rattle.meaning.specs.Column.{ColumnFault}
-use Rattle.meaning.specs.Fault.{FaultValue}
-use Rattle.table_meaning.specs.Table.{ColumnOf, Table}
-use Rattle.table_meaning.specs.Value.{Entry, cell, table, Given, GivenList, NamedGiven, nothing}
-use Rattle.form_meaning.specs.declared.Method.{Method}
+use Rattle.{
+  std.specs.Prelude.{ℕ, ℤ, Bool, true, false, List, [], ◌∷◌, Option, Some, None, Result, Ok, Err},
+  cell_core.specs.declared.{cell.Kind.{Kind}, grid.Shape.{Shape, TheVariants.{Series, Frame}}},
+  meaning.specs.{Text.{Text}, Cell.{CellValue, int_cell, text_cell, LabelValue}, Column.{ColumnFault}, Fault.{FaultValue}},
+  table_meaning.specs.{Table.{ColumnOf, Table}, Value.{Entry, cell, table, Given, GivenList, NamedGiven, nothing}},
+  form_meaning.specs.declared.Method.{Method},
+  method_meaning.specs.{Rows.{head_result, tail_result, labels_in, subset_places, duplicated_result, sort_by_result, drop_result}, Methods.{each_column, filled_column, Summary, reduced, distinct, made_cell, summary_cell, summary_as, summary_of, renamed_frame, as_frame, reset_index_result, csv_answer, answer_for}, Levels.{rename_axis_result, index_set, set_index_result, renumbered, levels_reset, level_of, level_gone, droplevel_result, swaplevel_result}, Reindex.{reindex_rows, reindex_columns, reindex_result}, Section.{xs_result}, Calls.{ChainValue, called, method_result, not_built_if, chain_result}},
+  fault_laws.{specs.FormFault.{HasFormFault}, proofs.{GroupFaults.{grouped_result_fault}, FormFaults.{if_fault, then_value_fault, of_length_fault, unless_repeated_fault, met_rows_fault, list_column_fault, on_bound_fault, limited_fault, finished_fault, column_fault, made_column_fault, try_all_fault, found_fault, column_places_fault, on_fault}, SelectFaults.{found_pick_fault, whole_items_fault}}},
+}
 use Rattle.form_meaning.specs.declared.Method.TheVariants as method
-use Rattle.method_meaning.specs.Rows.{head_result, tail_result, labels_in, subset_places, duplicated_result, sort_by_result, drop_result}
-use Rattle.method_meaning.specs.Methods.{each_column, filled_column, Summary, reduced, distinct, made_cell, summary_cell, summary_as, summary_of, renamed_frame, as_frame, reset_index_result, csv_answer, answer_for}
-use Rattle.method_meaning.specs.Levels.{rename_axis_result, index_set, set_index_result, renumbered, levels_reset, level_of, level_gone, droplevel_result, swaplevel_result}
-use Rattle.method_meaning.specs.Reindex.{reindex_rows, reindex_columns, reindex_result}
-use Rattle.method_meaning.specs.Section.{xs_result}
+use Rattle.form_meaning.specs.declared.ColumnMethod.TheVariants as column_method
+use Rattle.form_meaning.specs.declared.RowMethod.TheVariants as row_method
+use Rattle.form_meaning.specs.declared.LevelMethod.TheVariants as level_method
+use Rattle.form_meaning.specs.declared.LabelMethod.TheVariants as label_method
+use Rattle.form_meaning.specs.declared.TableMethod.TheVariants as table_method
 use Rattle.method_meaning.specs.Calls as call
-use Rattle.method_meaning.specs.Calls.{ChainValue, called, method_result, not_built_if, chain_result}
-use Rattle.fault_laws.specs.FormFault.{HasFormFault}
-use Rattle.fault_laws.proofs.GroupFaults.{grouped_result_fault}
-use Rattle.fault_laws.proofs.FormFaults.{if_fault, then_value_fault, of_length_fault, unless_repeated_fault, met_rows_fault, list_column_fault, on_bound_fault, limited_fault, finished_fault, column_fault, made_column_fault, try_all_fault, found_fault, column_places_fault, on_fault}
-use Rattle.fault_laws.proofs.SelectFaults.{found_pick_fault, whole_items_fault}
 
 -- cells, column by column
 each_column_fault : (f : ColumnOf CellValue → Result (ColumnOf CellValue) FaultValue) (t : Table) → ((c : ColumnOf CellValue) → HasFormFault (f c)) → HasFormFault (each_column f t)
@@ -139,12 +132,16 @@ ruleset answers = (
   xs_fault,
 )
 
--- by the method, and by how many arguments it has
+-- by the method, and by how many arguments it has; the first lines have the methods of a family told apart
 answer_for_fault : (m : Method) (gs : List Given) (t : Table) → HasFormFault (answer_for m gs t)
-answer_for_fault method.Copy gs t = search answers
-answer_for_fault m [] t = search answers
-answer_for_fault m (a ∷ []) t = search answers
-answer_for_fault m (a ∷ b ∷ []) t = search answers
+answer_for_fault (method.Columns column_method.Isna) gs t = search answers
+answer_for_fault (method.Rows row_method.Dropna) gs t = search answers
+answer_for_fault (method.Levels level_method.SetIndex) [] t = tt
+answer_for_fault (method.Labels label_method.Xs) [] t = tt
+answer_for_fault (method.Table table_method.Copy) gs t = search answers
+answer_for_fault m [] t = search answers depth 9
+answer_for_fault m (a ∷ []) t = search answers depth 9
+answer_for_fault m (a ∷ b ∷ []) t = search answers depth 9
 answer_for_fault m gs t = search answers
 
 -- calls of methods

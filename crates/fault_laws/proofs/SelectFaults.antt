@@ -1,20 +1,14 @@
 -- No selection has the fault that a file isn't there.
-use Rattle.std.specs.Prelude.{ℕ, Bool, true, false, List, length, Option, Some, None, Result, Ok, Err}
-use Rattle.cell_core.specs.declared.grid.Shape.{Shape}
-use Rattle.cell_core.specs.declared.grid.Shape.TheVariants.{Series, Frame}
-use Rattle.meaning.specs.Cell.{CellValue, int_cell, LabelValue}
-use Rattle.meaning.specs.Symbol.{Accessor, loc, iloc, at, iat}
-use Rattle.meaning.specs.Operator.{cell_label}
-use Rattle.meaning.specs.Fault.{FaultValue}
-use Rattle.table_meaning.specs.Table.{ColumnOf, Table}
-use Rattle.table_meaning.specs.Value.{Entry, cell, table, Given, GivenList, GivenSub, no_given, more_given, nothing, one, row, many, key_given, span_given}
-use Rattle.form_meaning.specs.Finish.{column_labels}
-use Rattle.pick_meaning.specs.Faults.{PickFault, not_there, bound_not_unique, out_of_range, no_mask_label, step_zero}
-use Rattle.pick_meaning.specs.Keys.{Pick}
-use Rattle.select_meaning.specs.Keys.{tuple_label, label_bound, whole_item, whole_items, label_span, label_key, place_bound, whole_cell, positions_in, place_key, fault_of_pick, found_pick, label_pick, place_pick, mask_pick, loc_rows, loc_columns, whole_key, once, at_rows, iat_pick, rows_by, columns_by, pair_key, joined_key, rows_by_two, Reach, reach_of, reach_by}
-use Rattle.select_meaning.specs.Select.{Way, plain, through, cut, as_series, one_kind, row_result, shown_as, picked_result, without_leading, column_reach, columns_reach, list_reach, mask_reach, frame_reach, item_reach, way_reach, select_result}
-use Rattle.fault_laws.specs.FormFault.{IsOfForm, HasFormFault}
-use Rattle.fault_laws.proofs.FormFaults.{if_fault, then_value_fault, limited_fault, finished_fault, try_all_fault, column_place_fault, column_places_fault}
+use Rattle.{
+  std.specs.Prelude.{ℕ, Bool, true, false, List, length, Option, Some, None, Result, Ok, Err},
+  cell_core.specs.declared.grid.Shape.{Shape, TheVariants.{Series, Frame}},
+  meaning.specs.{Cell.{CellValue, int_cell, LabelValue}, Symbol.{Accessor, loc, iloc, at, iat}, Operator.{cell_label}, Fault.{FaultValue}},
+  table_meaning.specs.{Table.{ColumnOf, Table}, Value.{Entry, cell, table, Given, GivenList, GivenSub, no_given, more_given, nothing, one, row, many, key_given, span_given}},
+  form_meaning.specs.Finish.{column_labels},
+  pick_meaning.specs.{Faults.{PickFault, not_there, bound_not_unique, out_of_range, no_mask_label, step_zero}, Keys.{Pick}},
+  select_meaning.specs.{Keys.{tuple_label, label_bound, whole_item, whole_items, label_span, label_key, place_bound, whole_cell, positions_in, place_key, fault_of_pick, found_pick, label_pick, place_pick, mask_pick, loc_rows, loc_columns, whole_key, once, at_rows, iat_pick, rows_by, columns_by, pair_key, joined_key, rows_by_two, Reach, reach_of, reach_by}, Select.{Way, plain, through, cut, as_series, one_kind, row_result, shown_as, picked_result, without_leading, column_reach, columns_reach, list_reach, mask_reach, frame_reach, item_reach, way_reach, select_result}},
+  fault_laws.{specs.FormFault.{IsOfForm, HasFormFault}, proofs.FormFaults.{if_fault, then_value_fault, limited_fault, finished_fault, try_all_fault, column_place_fault, column_places_fault}},
+}
 
 -- keys by label
 tuple_label_fault : (levels : ℕ) (parts : GivenList) → HasFormFault (tuple_label levels parts)

@@ -1,21 +1,14 @@
 -- No setting and no removal has the fault that a file isn't there.
-use Rattle.std.specs.Prelude.{ℕ, List, length, Option, Some, None, Result}
-use Rattle.cell_core.specs.declared.grid.Shape.{Shape}
-use Rattle.cell_core.specs.declared.grid.Shape.TheVariants.{Series, Frame}
-use Rattle.meaning.specs.Cell.{CellValue, LabelValue}
-use Rattle.meaning.specs.Symbol.{Accessor, loc, iloc, iat}
-use Rattle.meaning.specs.Operator.{cell_label}
-use Rattle.meaning.specs.Fault.{FaultValue}
-use Rattle.table_meaning.specs.Table.{ColumnOf, Table}
-use Rattle.table_meaning.specs.Value.{Entry, cell, table, Given, GivenSub, one, many, key_given}
-use Rattle.form_meaning.specs.Finish.{column_labels}
-use Rattle.pick_meaning.specs.Keys.{Pick}
-use Rattle.select_meaning.specs.Keys.{rows_by, columns_by}
-use Rattle.select_meaning.specs.Select.{Way, plain, through}
-use Rattle.select_meaning.specs.Set.{SetValue, same, listed, aligned, set_value, list_set, aligned_rows, aligned_column, series_set, column_set, frame_set, Reached, added_label, or_added, row_to_add, rows_set, columns_set, Target, target_of, target_by, listed_values, reached_labels, placed_values, aligned_values, series_values, values_for, kind_of_value, with_new_column, filled_table, target_set, access_set, item_set, assign_result, removal_result}
-use Rattle.fault_laws.specs.FormFault.{HasFormFault}
-use Rattle.fault_laws.proofs.FormFaults.{if_fault, then_value_fault, met_rows_fault, limited_table_fault, list_column_fault, of_length_fault, column_place_fault}
-use Rattle.fault_laws.proofs.SelectFaults.{joined_key_fault, rows_by_fault, columns_by_fault}
+use Rattle.{
+  std.specs.Prelude.{ℕ, List, length, Option, Some, None, Result},
+  cell_core.specs.declared.grid.Shape.{Shape, TheVariants.{Series, Frame}},
+  meaning.specs.{Cell.{CellValue, LabelValue}, Symbol.{Accessor, loc, iloc, iat}, Operator.{cell_label}, Fault.{FaultValue}},
+  table_meaning.specs.{Table.{ColumnOf, Table}, Value.{Entry, cell, table, Given, GivenSub, one, many, key_given}},
+  form_meaning.specs.Finish.{column_labels},
+  pick_meaning.specs.Keys.{Pick},
+  select_meaning.specs.{Keys.{rows_by, columns_by}, Select.{Way, plain, through}, Set.{SetValue, same, listed, aligned, set_value, list_set, aligned_rows, aligned_column, series_set, column_set, frame_set, Reached, added_label, or_added, row_to_add, rows_set, columns_set, Target, target_of, target_by, listed_values, reached_labels, placed_values, aligned_values, series_values, values_for, kind_of_value, with_new_column, filled_table, target_set, access_set, item_set, assign_result, removal_result}},
+  fault_laws.{specs.FormFault.{HasFormFault}, proofs.{FormFaults.{if_fault, then_value_fault, met_rows_fault, limited_table_fault, list_column_fault, of_length_fault, column_place_fault}, SelectFaults.{joined_key_fault, rows_by_fault, columns_by_fault}}},
+}
 
 -- values
 object_value_fault : (s : Table) → HasFormFault (set_value (one (table s)))

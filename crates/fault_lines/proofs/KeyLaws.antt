@@ -1,10 +1,9 @@
 -- The texts of keys, label by label.
-use Rattle.std.proofs.Common.{◌≡◌, ℕ, suc, ◌+◌, List, [], ◌∷◌, ◌++◌, length, drop, map, slice_get, Some, codes, ap, sym, ◌∙◌, append_assoc, arith}
-use Rattle.std.proofs.Math.Seq.{drop-cons}
-use Rattle.std.proofs.lemmas.Option.{slice_get_within, get_or_from_slice_get}
-use Rattle.cell_core.specs.declared.cell.Label.{Label}
-use Rattle.meaning.specs.Cell.{LabelValue}
-use Rattle.meaning.specs.FaultText.{label_text, more_labels, key_text}
+use Rattle.{
+  std.proofs.{Common.{◌≡◌, ℕ, suc, ◌+◌, List, [], ◌∷◌, ◌++◌, length, drop, map, slice_get, Some, codes, ap, sym, ◌∙◌, append_assoc, arith}, Math.Seq.{drop-cons}, lemmas.Option.{slice_get_within, get_or_from_slice_get}},
+  cell_core.specs.declared.cell.Label.{Label},
+  meaning.specs.{Cell.{LabelValue}, FaultText.{label_text, more_labels, key_text}},
+}
 
 module _ (f : Label → LabelValue) where
   pub key_text-one : (key : List Label) (l : Label) → length key ≡ 1 → slice_get key 0 ≡ Some l → key_text (map f key) ≡ label_text (f l)

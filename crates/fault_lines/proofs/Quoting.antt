@@ -1,8 +1,8 @@
 -- The bytes of texts in quotes.
-use Rattle.std.proofs.Common.{◌≡◌, ◌≢◌, ℕ, suc, ◌<◌, List, [], ◌∷◌, ◌++◌, length, get_or, encode_utf8, refl, ap, sym, ◌∙◌, append_assoc, append-nil, arith}
-use Rattle.std.proofs.lemmas.Str.{inside_one}
-use Rattle.std.proofs.lemmas.Bool.Decides.{nat_tests}
-use Rattle.meaning.specs.FaultText.{quoted_byte, quoted_bytes}
+use Rattle.{
+  std.proofs.{Common.{◌≡◌, ◌≢◌, ℕ, suc, ◌<◌, List, [], ◌∷◌, ◌++◌, length, get_or, encode_utf8, refl, ap, sym, ◌∙◌, append_assoc, append-nil, arith}, lemmas.{Str.{inside_one}, Bool.Decides.{nat_tests}}},
+  meaning.specs.FaultText.{quoted_byte, quoted_bytes},
+}
 
 -- none of the four that are escaped
 pub record IsPlain (b : ℕ) : Type 0 where

@@ -1,31 +1,19 @@
 -- Frames of columns that were read.
-use Rattle.std.proofs.Common.{◌≡◌, ◌≢◌, ◌∙◌, ◌+◌, ◌<◌, refl, ap, sym, subst, ℕ, List, [], ◌∷◌, ◌++◌, map, length, drop, get_or, slice_get, append_assoc, append-nil, unwrap_or, Option, Some, None, Ok, All, arith}
-use Rattle.std.specs.Prelude.{IsSome, Result, reverse}
-use Rattle.std.specs.List.{AllPairs, range_with_len}
-use Rattle.std.proofs.lemmas.List.{drop_more, get_or-map, length-map, map-append, reverse-append}
-use Rattle.std.proofs.lemmas.List.FromFn.{length-map-range_with_len}
-use Rattle.std.proofs.lemmas.List.Elements.{All-map, All-weaker}
-use Rattle.std.proofs.lemmas.Option.{slice_get-get_or}
-use Rattle.cell_core.specs.declared.cell.Label.{Label}
-use Rattle.cell_core.specs.declared.grid.Shape.TheVariants.{Series, Frame}
-use Rattle.meaning.specs.Text.{Text}
-use Rattle.index_core.specs.Ranges.{number_label, range_labels}
-use Rattle.multi_index.specs.Axes.{AxisValue, HaveLevels, range_axis}
-use Rattle.column_core.specs.Blocks.{CellBlock}
-use Rattle.column_core.specs.Columns.{CellColumn}
-use Rattle.table_meaning.specs.Settled.{IsSettled}
-use Rattle.table_meaning.specs.Table.{ColumnOf, NumberedTable, Table, table_value, tuple_value, heading_value}
-use Rattle.table_meaning.specs.Valid.{AreHeadings, IsWhole}
-use Rattle.table_meaning.specs.Value.{table}
-use Rattle.method_meaning.specs.Readers.{frame_of_columns, frame_or_fault}
-use Rattle.csv_meaning.specs.CsvRead.{CsvValue, CsvRefusal}
-use Rattle.csv_frames.specs.Views.{tuples_seen, column_seen, columns_seen, csv_seen, PartsFit}
-use Rattle.csv_frames.specs.declared.table.CsvTable.{CsvTable}
-use Rattle.form_parts.proofs.LabelLaws.{default_seen}
-use Rattle.frame_store.specs.Parts.{HeadingList, IsSingle, block_column, table_column, table_with}
-use Rattle.frame_store.specs.Shown.{headings_value, columns_value}
-use Rattle.frame_store.proofs.Settling.{settled_by}
-use Rattle.file_readers.specs.Frames.{headings_of, column_block, frame_of}
+use Rattle.{
+  std.{proofs.{Common.{◌≡◌, ◌≢◌, ◌∙◌, ◌+◌, ◌<◌, refl, ap, sym, subst, ℕ, List, [], ◌∷◌, ◌++◌, map, length, drop, get_or, slice_get, append_assoc, append-nil, unwrap_or, Option, Some, None, Ok, All, arith}, lemmas.{List.{drop_more, get_or-map, length-map, map-append, reverse-append, FromFn.{length-map-range_with_len}, Elements.{All-map, All-weaker}}, Option.{slice_get-get_or}}}, specs.{Prelude.{IsSome, Result, reverse}, List.{AllPairs}}},
+  cell_core.specs.declared.{cell.Label.{Label}, grid.Shape.TheVariants.{Series, Frame}},
+  meaning.specs.Text.{Text},
+  index_core.specs.Ranges.{number_label, range_labels},
+  multi_index.specs.Axes.{AxisValue, HaveLevels, range_axis},
+  column_core.specs.{Blocks.{CellBlock}, Columns.{CellColumn}},
+  table_meaning.specs.{Settled.{IsSettled}, Table.{ColumnOf, NumberedTable, Table, table_value, tuple_value, heading_value}, Valid.{AreHeadings, IsWhole}, Value.{table}},
+  method_meaning.specs.Readers.{frame_of_columns, frame_or_fault},
+  csv_meaning.specs.CsvRead.{CsvValue, CsvRefusal},
+  csv_frames.specs.{Views.{tuples_seen, column_seen, columns_seen, csv_seen, PartsFit}, declared.table.CsvTable.{CsvTable}},
+  form_parts.proofs.LabelLaws.{default_seen},
+  frame_store.{specs.{Parts.{HeadingList, IsSingle, block_column, table_column, table_with}, Shown.{headings_value, columns_value}}, proofs.Settling.{settled_by}},
+  file_readers.specs.Frames.{headings_of, column_block, frame_of},
+}
 
 abbrev pub first_label : List Label → Option Label
 first_label tuple = slice_get tuple 0

@@ -1,23 +1,17 @@
 -- The first argument of a call as a name.
-use Rattle.std.proofs.Common.{◌≡◌, ◌∙◌, refl, ap, sym, List, [], Option, Some, None, Ok}
-use Rattle.std.specs.Option.{option_map}
+use Rattle.{
+  std.{proofs.Common.{◌≡◌, ◌∙◌, refl, ap, sym, List, [], Option, Some, None, Ok}, specs.Option.{option_map}},
+  cell_core.specs.declared.cell.TextId.{TextId},
+  meaning.specs.{Text.{Text}, Cell.{text_cell, datum}},
+  table_meaning.specs.{Settled.{IsSettled}, Value.{NamedGiven, scalar_in}},
+  form_meaning.specs.{declared.Function.{Function}, Signature.{function_parameters}, Binding.{bound, bound_of, argument_at, arguments_from, text_of, text_in}},
+  method_meaning.specs.Readers.{name_in, name_of_bound, file_name_of},
+  frame_store.specs.{Arguments.{arguments_of}, World.{World, arguments_in}},
+  signatures.{specs.{Bound.{given_in, stands_at, Tells}, declared.bound.Bound.{Bound}}, proofs.ToldLaws.{told_settled}},
+  file_readers.specs.Names.{Names},
+}
 use Rattle.cell_core.specs.declared.cell.Cell.TheVariants as cell
-use Rattle.cell_core.specs.declared.cell.TextId.{TextId}
-use Rattle.meaning.specs.Text.{Text}
-use Rattle.meaning.specs.Cell.{text_cell, datum}
-use Rattle.table_meaning.specs.Settled.{IsSettled}
-use Rattle.table_meaning.specs.Value.{NamedGiven, scalar_in}
-use Rattle.form_meaning.specs.declared.Function.{Function}
 use Rattle.form_meaning.specs.declared.Function.TheVariants as function
-use Rattle.form_meaning.specs.Signature.{function_parameters}
-use Rattle.form_meaning.specs.Binding.{bound, bound_of, argument_at, arguments_from, text_of, text_in}
-use Rattle.method_meaning.specs.Readers.{name_in, name_of_bound, file_name_of}
-use Rattle.frame_store.specs.Arguments.{arguments_of}
-use Rattle.frame_store.specs.World.{World, arguments_in}
-use Rattle.signatures.specs.Bound.{given_in, stands_at, Tells}
-use Rattle.signatures.specs.declared.bound.Bound.{Bound}
-use Rattle.signatures.proofs.ToldLaws.{told_settled}
-use Rattle.file_readers.specs.Names.{Names}
 
 -- where arguments are bound, the name is the first
 first_of : (f : Function) (gs : List NamedGiven)

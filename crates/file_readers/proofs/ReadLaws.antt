@@ -1,28 +1,19 @@
 -- Files that are read.
-use Rattle.std.proofs.Common.{◌≡◌, ◌∙◌, ◌≤◌, ◌*◌, ◌^◌, refl, ap, sym, subst, ℕ, Bool, true, false, List, [], ◌∷◌, map, length, nat_lt, nat_le, ◌&&◌, if◌then◌else◌, Option, Some, None, Result, Ok, Err, arith}
-use Rattle.std.specs.Str.Lossy.{utf8_valid_len}
-use Rattle.std.specs.List.{list_any}
-use Rattle.std.proofs.lemmas.Bool.Decides.{nat_tests}
-use Rattle.std.proofs.lemmas.List.{length-map}
-use Rattle.std.proofs.lemmas.List.Elements.{All-cons, All-nil}
-use Rattle.csv.specs.Reading.{records, default_config, strip_bom}
-use Rattle.cell_core.specs.declared.cell.Kind.{Kind}
-use Rattle.cell_core.specs.declared.cell.Label.{Label}
-use Rattle.meaning.specs.Text.{Text}
-use Rattle.meaning.specs.Cell.{LabelValue, label_datum}
-use Rattle.multi_index.specs.Axes.{HaveLevels}
-use Rattle.table_meaning.specs.Valid.{within_limits}
-use Rattle.table_meaning.specs.Value.{NamedGiven, dict_in}
+use Rattle.{
+  std.{proofs.{Common.{◌≡◌, ◌∙◌, ◌≤◌, ◌*◌, ◌^◌, refl, ap, sym, subst, ℕ, Bool, true, false, List, [], ◌∷◌, map, length, nat_lt, nat_le, ◌&&◌, if◌then◌else◌, Option, Some, None, Result, Ok, Err, arith}, lemmas.{Bool.Decides.{nat_tests}, List.{length-map, Elements.{All-cons, All-nil}}}}, specs.{Str.Lossy.{utf8_valid_len}, List.{list_any}}},
+  csv.specs.Reading.{records, default_config, strip_bom},
+  cell_core.specs.declared.cell.{Kind.{Kind}, Label.{Label}},
+  meaning.specs.{Text.{Text}, Cell.{LabelValue, label_datum}},
+  multi_index.specs.Axes.{HaveLevels},
+  table_meaning.specs.{Valid.{within_limits}, Value.{NamedGiven, dict_in}},
+  form_meaning.specs.{Signature.{function_parameters}, Binding.{bound, bound_of, argument_at, arguments_from, on_bound}},
+  frame_store.specs.World.{World, arguments_in},
+  signatures.specs.{Bound.{given_in, stands_at}, declared.bound.Bound.{Bound}},
+  method_meaning.specs.Readers.{kinds_given, frame_or_fault, csv_result, read_result},
+  csv_meaning.specs.CsvRead.{CsvValue, CsvRefusal, not_utf8, beyond_limits, not_of_kind, has_misfit, first_long, unless_refused, labelled_columns, columns_under, columns_of_records, columns_of_file, labels_of, named_kind},
+  csv_frames.specs.{Views.{label_tuples, tuples_seen, csv_seen}, declared.table.CsvTable.{CsvTable}},
+}
 use Rattle.form_meaning.specs.declared.Function.TheVariants as function
-use Rattle.form_meaning.specs.Signature.{function_parameters}
-use Rattle.form_meaning.specs.Binding.{bound, bound_of, argument_at, arguments_from, on_bound}
-use Rattle.frame_store.specs.World.{World, arguments_in}
-use Rattle.signatures.specs.Bound.{given_in, stands_at}
-use Rattle.signatures.specs.declared.bound.Bound.{Bound}
-use Rattle.method_meaning.specs.Readers.{kinds_given, frame_or_fault, csv_result, read_result}
-use Rattle.csv_meaning.specs.CsvRead.{CsvValue, CsvRefusal, not_utf8, beyond_limits, not_of_kind, has_misfit, first_long, unless_refused, labelled_columns, columns_under, columns_of_records, columns_of_file, labels_of, named_kind}
-use Rattle.csv_frames.specs.Views.{label_tuples, tuples_seen, csv_seen}
-use Rattle.csv_frames.specs.declared.table.CsvTable.{CsvTable}
 
 -- what reading a file answers
 abbrev Read : Type 0

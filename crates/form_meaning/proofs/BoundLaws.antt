@@ -1,12 +1,10 @@
 -- What stands at a place of bound arguments is taken by its parameter.
-use Rattle.std.proofs.Common.{◌≡◌, ◌∙◌, refl, ap, sym, ℕ, Bool, true, false, cond, List, [], ◌∷◌, Option, Some, None, if◌then◌else◌}
-use Rattle.std.specs.Prelude.{slice_get, nat_eq}
-use Rattle.std.proofs.lemmas.Bool.{eqb-true}
-use Rattle.table_meaning.specs.Value.{cell, table, Given, GivenList, NamedGiven, nothing, one, row, many, entries, list_in}
-use Rattle.form_meaning.specs.declared.Omitted.{Omitted}
+use Rattle.{
+  std.{proofs.{Common.{◌≡◌, ◌∙◌, refl, ap, sym, ℕ, Bool, true, false, cond, List, [], ◌∷◌, Option, Some, None, if◌then◌else◌}, lemmas.Bool.{eqb-true}}, specs.Prelude.{slice_get, nat_eq}},
+  table_meaning.specs.Value.{cell, table, Given, GivenList, NamedGiven, nothing, one, row, many, entries, list_in},
+  form_meaning.specs.{declared.{Omitted.{Omitted}, Parameter.{Parameter}}, Binding.{takes, list_has, stands_for, or_stand_in, goes_to, counted, given_at, taken_by, fit, none_missing, are_listed, argument_at, arguments_from, not_taken, not_listed, bound, bound_of}},
+}
 use Rattle.form_meaning.specs.declared.Omitted.TheVariants as omitted
-use Rattle.form_meaning.specs.declared.Parameter.{Parameter}
-use Rattle.form_meaning.specs.Binding.{takes, list_has, stands_for, or_stand_in, goes_to, counted, given_at, taken_by, fit, none_missing, are_listed, argument_at, arguments_from, not_taken, not_listed, bound, bound_of}
 
 if_both : (a b : Bool) → (if a then b else false) ≡ true → (a ≡ true) × (b ≡ true)
 if_both true b h = (refl, h)

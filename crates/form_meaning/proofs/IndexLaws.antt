@@ -1,15 +1,11 @@
 -- Labels of an index that has a right form.
-use Rattle.std.proofs.Common.{◌≡◌, ◌∙◌, ◌<◌, ◌≤◌, ◌+◌, refl, ap, sym, subst, ℕ, suc, nat_eq, nat_lt, ◌&&◌, Bool, true, false, List, length, slice_get, Option, Some, None, All, arith}
-use Rattle.std.proofs.lemmas.Bool.Decides.{nat_tests}
-use Rattle.std.proofs.lemmas.List.Elements.{All-cons, All-nil}
-use Rattle.meaning.specs.Cell.{LabelValue}
-use Rattle.table_meaning.specs.Value.{cell, table, Given, GivenList, NamedGiven, no_given, more_given, nothing, one, row, many, entries, list_in}
+use Rattle.{
+  std.proofs.{Common.{◌≡◌, ◌∙◌, ◌<◌, ◌≤◌, ◌+◌, refl, ap, sym, subst, ℕ, suc, nat_eq, nat_lt, ◌&&◌, Bool, true, false, List, length, slice_get, Option, Some, None, All, arith}, lemmas.{Bool.Decides.{nat_tests}, List.Elements.{All-cons, All-nil}}},
+  meaning.specs.Cell.{LabelValue},
+  table_meaning.specs.Value.{cell, table, Given, GivenList, NamedGiven, no_given, more_given, nothing, one, row, many, entries, list_in},
+  form_meaning.{specs.{declared.Parameter.{Parameter}, Binding.{is_scalar, each, count_of, is_tuple_of, are_row_labels, list_has, argument_at, bound, bound_of}, Select.{labels_of}, Make.{row_labels, index_labels, AreAlike}}, proofs.BoundLaws.{list_taken}},
+}
 use Rattle.form_meaning.specs.declared.Form.TheVariants as form
-use Rattle.form_meaning.specs.declared.Parameter.{Parameter}
-use Rattle.form_meaning.specs.Binding.{is_scalar, each, count_of, is_tuple_of, are_row_labels, list_has, argument_at, bound, bound_of}
-use Rattle.form_meaning.specs.Select.{labels_of}
-use Rattle.form_meaning.proofs.BoundLaws.{list_taken}
-use Rattle.form_meaning.specs.Make.{row_labels, index_labels, AreAlike}
 
 both : (a b : Bool) → (a && b) ≡ true → (a ≡ true) × (b ≡ true)
 both true b h = (refl, h)

@@ -1,15 +1,19 @@
 -- A method that a name means is one of the shape.
 use denote.Enum.Bare.{true_same}
-use Rattle.std.proofs.Common.{◌≡◌, refl, Bool, true, false, ◌||◌, List, [], ◌∷◌, Option, Some, find, cond}
-use Rattle.std.specs.Prelude.{option_and_then}
-use Rattle.std.specs.List.{list_any}
-use Rattle.std.specs.Option.{option_map_or}
-use Rattle.cell_core.specs.declared.grid.Shape.{Shape}
-use Rattle.cell_core.specs.declared.grid.Shape.TheVariants.{Series, Frame}
-use Rattle.meaning.specs.Text.{Text, same_text}
-use Rattle.form_meaning.specs.contracts.Method.{the_type}
-use Rattle.form_meaning.specs.declared.Method.{Method}
-use Rattle.form_meaning.specs.Signature.{MethodName, method_names, method_at, method_named, same_method, fits_shape}
+use Rattle.{
+  std.{proofs.Common.{◌≡◌, refl, Bool, true, false, ◌||◌, List, [], ◌∷◌, Option, Some, find, cond}, specs.{Prelude.{option_and_then}, List.{list_any}, Option.{option_map_or}}},
+  cell_core.specs.declared.grid.Shape.{Shape, TheVariants.{Series, Frame}},
+  meaning.specs.Text.{Text, same_text},
+  form_meaning.specs.{declared.Method.{Method}, Signature.{MethodName, method_names, method_at, method_named, same_method, fits_shape}},
+}
+use Rattle.form_meaning.specs.contracts.ColumnMethod as column_method_type
+use Rattle.form_meaning.specs.contracts.SummaryMethod as summary_method_type
+use Rattle.form_meaning.specs.contracts.RowMethod as row_method_type
+use Rattle.form_meaning.specs.contracts.LevelMethod as level_method_type
+use Rattle.form_meaning.specs.contracts.LabelMethod as label_method_type
+use Rattle.form_meaning.specs.contracts.TableMethod as table_method_type
+use Rattle.form_meaning.specs.contracts.OtherMethod as other_method_type
+use Rattle.form_meaning.specs.declared.Method.TheVariants as method
 
 -- the method that the first of the names means, and the methods that they mean
 abbrev first_named : Shape → Text → List MethodName → Option Method
@@ -17,6 +21,15 @@ first_named s t ns = option_and_then (method_at s) (find (λ n. same_text n.name
 
 abbrev is_among : Shape → List MethodName → Method → Bool
 is_among s ns m = list_any (λ n. option_map_or (same_method m) (method_at s n) false) ns
+
+same_self : (m : Method) → same_method m m ≡ true
+same_self (method.Columns m) = true_same column_method_type.the_type m m refl
+same_self (method.Summary m) = true_same summary_method_type.the_type m m refl
+same_self (method.Rows m) = true_same row_method_type.the_type m m refl
+same_self (method.Levels m) = true_same level_method_type.the_type m m refl
+same_self (method.Labels m) = true_same label_method_type.the_type m m refl
+same_self (method.Table m) = true_same table_method_type.the_type m m refl
+same_self (method.Other m) = true_same other_method_type.the_type m m refl
 
 or_true : (a : Bool) {b : Bool} → b ≡ true → (a || b) ≡ true
 or_true true h = refl
@@ -27,7 +40,7 @@ found_fits s t [] m found = cc
 found_fits s t (n ∷ ns) m found = by (same_text n.name t) found (found_fits s t ns m)
   where
     by : (b : Bool) → option_and_then (method_at s) (cond b (Some n) (find (λ n. same_text n.name t) ns)) ≡ Some m → (first_named s t ns ≡ Some m → is_among s ns m ≡ true) → is_among s (n ∷ ns) m ≡ true
-    by true is later = rw (is, true_same the_type m m refl) refl
+    by true is later = rw (is, same_self m) refl
     by false is later = or_true _ (later is)
 
 pub named_fits : (s : Shape) (t : Text) (m : Method) → method_named s t ≡ Some m → fits_shape m s ≡ true

@@ -6,9 +6,22 @@ use denote.Enum.Bare.{sameb}
 use Rattle.cell_core.specs.declared.grid.Shape.{Shape}
 use Rattle.cell_core.specs.declared.grid.Shape.TheVariants.{Series, Frame}
 use Rattle.meaning.specs.Text.{Text, same_text}
-use Rattle.form_meaning.specs.contracts.Method.{the_type}
+use Rattle.form_meaning.specs.contracts.ColumnMethod as column_method_type
+use Rattle.form_meaning.specs.contracts.SummaryMethod as summary_method_type
+use Rattle.form_meaning.specs.contracts.RowMethod as row_method_type
+use Rattle.form_meaning.specs.contracts.LevelMethod as level_method_type
+use Rattle.form_meaning.specs.contracts.LabelMethod as label_method_type
+use Rattle.form_meaning.specs.contracts.TableMethod as table_method_type
+use Rattle.form_meaning.specs.contracts.OtherMethod as other_method_type
 use Rattle.form_meaning.specs.declared.Method.{Method}
 use Rattle.form_meaning.specs.declared.Method.TheVariants as method
+use Rattle.form_meaning.specs.declared.ColumnMethod.TheVariants as column_method
+use Rattle.form_meaning.specs.declared.SummaryMethod.TheVariants as summary_method
+use Rattle.form_meaning.specs.declared.RowMethod.TheVariants as row_method
+use Rattle.form_meaning.specs.declared.LevelMethod.TheVariants as level_method
+use Rattle.form_meaning.specs.declared.LabelMethod.TheVariants as label_method
+use Rattle.form_meaning.specs.declared.TableMethod.TheVariants as table_method
+use Rattle.form_meaning.specs.declared.OtherMethod.TheVariants as other_method
 use Rattle.form_meaning.specs.declared.Function.{Function}
 use Rattle.form_meaning.specs.declared.Function.TheVariants as function
 use Rattle.form_meaning.specs.declared.ParameterName.{ParameterName}
@@ -35,59 +48,59 @@ abbrev pub among : Listed → Parameter → Parameter
 among l p = record { name = p.name; form = p.form; omitted = p.omitted; listed = l }
 
 abbrev pub parameters_of : Method → List Parameter
-parameters_of method.Copy = optional name.Deep form.Truth (omitted.Truth true) ∷ []
-parameters_of method.Head = optional name.N form.Whole (omitted.Number (pos 5)) ∷ []
-parameters_of method.Tail = optional name.N form.Whole (omitted.Number (pos 5)) ∷ []
-parameters_of method.Isna = []
-parameters_of method.Notna = []
-parameters_of method.Fillna = needed name.Value form.Scalar ∷ []
-parameters_of method.Dropna = []
-parameters_of method.Isin = needed name.Values form.Scalars ∷ []
-parameters_of method.Astype = among listed.KindNames (needed name.Dtype form.Text) ∷ []
-parameters_of method.DuplicatedSeries = []
-parameters_of method.DuplicatedFrame = optional name.Subset form.Labels omitted.None ∷ []
-parameters_of method.Shift = optional name.Periods form.Whole (omitted.Number (pos 1)) ∷ []
-parameters_of method.Cumsum = []
-parameters_of method.Cummin = []
-parameters_of method.Cummax = []
-parameters_of method.Sum = []
-parameters_of method.Min = []
-parameters_of method.Max = []
-parameters_of method.Any = []
-parameters_of method.All = []
-parameters_of method.Count = []
-parameters_of method.Nunique = []
-parameters_of method.SortValuesSeries = optional name.Ascending form.Truth (omitted.Truth true) ∷ []
-parameters_of method.SortValuesFrame = needed name.By form.Labels ∷ optional name.Ascending form.Truth (omitted.Truth true) ∷ []
-parameters_of method.SortIndex = optional name.Ascending form.Truth (omitted.Truth true) ∷ []
-parameters_of method.ReindexSeries = needed name.Index form.Keys ∷ []
-parameters_of method.ReindexFrame = optional name.Index form.Keys omitted.None ∷ optional name.Columns form.Scalars omitted.None ∷ []
-parameters_of method.RenameSeries = needed name.Name form.ScalarOrNone ∷ []
-parameters_of method.RenameFrame = needed name.Columns form.Dict ∷ []
-parameters_of method.RenameAxis = needed name.Names form.Names ∷ []
-parameters_of method.SetIndex = needed name.Keys form.SomeLabels ∷ []
-parameters_of method.ResetIndex = optional name.DropLabels form.Truth (omitted.Truth false) ∷ []
-parameters_of method.DropColumns = needed name.Columns form.Labels ∷ []
-parameters_of method.Droplevel = needed name.Level form.Level ∷ []
-parameters_of method.Swaplevel = optional name.I form.Level (omitted.Number (negsuc 1)) ∷ optional name.J form.Level (omitted.Number (negsuc 0)) ∷ []
-parameters_of method.Xs = needed name.Key form.Scalar ∷ optional name.Level form.Level (omitted.Number (pos 0)) ∷ []
-parameters_of method.ToFrame = []
-parameters_of method.ToCsv = optional name.Index form.Truth (omitted.Truth true) ∷ []
-parameters_of method.Groupby =
+parameters_of (method.Table table_method.Copy) = optional name.Deep form.Truth (omitted.Truth true) ∷ []
+parameters_of (method.Table table_method.Head) = optional name.N form.Whole (omitted.Number (pos 5)) ∷ []
+parameters_of (method.Table table_method.Tail) = optional name.N form.Whole (omitted.Number (pos 5)) ∷ []
+parameters_of (method.Columns column_method.Isna) = []
+parameters_of (method.Columns column_method.Notna) = []
+parameters_of (method.Columns column_method.Fillna) = needed name.Value form.Scalar ∷ []
+parameters_of (method.Rows row_method.Dropna) = []
+parameters_of (method.Columns column_method.Isin) = needed name.Values form.Scalars ∷ []
+parameters_of (method.Columns column_method.Astype) = among listed.KindNames (needed name.Dtype form.Text) ∷ []
+parameters_of (method.Rows row_method.DuplicatedSeries) = []
+parameters_of (method.Rows row_method.DuplicatedFrame) = optional name.Subset form.Labels omitted.None ∷ []
+parameters_of (method.Columns column_method.Shift) = optional name.Periods form.Whole (omitted.Number (pos 1)) ∷ []
+parameters_of (method.Columns column_method.Cumsum) = []
+parameters_of (method.Columns column_method.Cummin) = []
+parameters_of (method.Columns column_method.Cummax) = []
+parameters_of (method.Summary summary_method.Sum) = []
+parameters_of (method.Summary summary_method.Min) = []
+parameters_of (method.Summary summary_method.Max) = []
+parameters_of (method.Summary summary_method.Any) = []
+parameters_of (method.Summary summary_method.All) = []
+parameters_of (method.Summary summary_method.Count) = []
+parameters_of (method.Summary summary_method.Nunique) = []
+parameters_of (method.Rows row_method.SortValuesSeries) = optional name.Ascending form.Truth (omitted.Truth true) ∷ []
+parameters_of (method.Rows row_method.SortValuesFrame) = needed name.By form.Labels ∷ optional name.Ascending form.Truth (omitted.Truth true) ∷ []
+parameters_of (method.Rows row_method.SortIndex) = optional name.Ascending form.Truth (omitted.Truth true) ∷ []
+parameters_of (method.Labels label_method.ReindexSeries) = needed name.Index form.Keys ∷ []
+parameters_of (method.Labels label_method.ReindexFrame) = optional name.Index form.Keys omitted.None ∷ optional name.Columns form.Scalars omitted.None ∷ []
+parameters_of (method.Table table_method.RenameSeries) = needed name.Name form.ScalarOrNone ∷ []
+parameters_of (method.Table table_method.RenameFrame) = needed name.Columns form.Dict ∷ []
+parameters_of (method.Levels level_method.RenameAxis) = needed name.Names form.Names ∷ []
+parameters_of (method.Levels level_method.SetIndex) = needed name.Keys form.SomeLabels ∷ []
+parameters_of (method.Levels level_method.ResetIndex) = optional name.DropLabels form.Truth (omitted.Truth false) ∷ []
+parameters_of (method.Table table_method.DropColumns) = needed name.Columns form.Labels ∷ []
+parameters_of (method.Levels level_method.Droplevel) = needed name.Level form.Level ∷ []
+parameters_of (method.Levels level_method.Swaplevel) = optional name.I form.Level (omitted.Number (negsuc 1)) ∷ optional name.J form.Level (omitted.Number (negsuc 0)) ∷ []
+parameters_of (method.Labels label_method.Xs) = needed name.Key form.Scalar ∷ optional name.Level form.Level (omitted.Number (pos 0)) ∷ []
+parameters_of (method.Table table_method.ToFrame) = []
+parameters_of (method.Table table_method.ToCsv) = optional name.Index form.Truth (omitted.Truth true) ∷ []
+parameters_of (method.Other other_method.Groupby) =
     needed name.By form.SomeLabels ∷ optional name.Sort form.Truth (omitted.Truth true) ∷ optional name.Dropna form.Truth (omitted.Truth true)
     ∷ optional name.AsIndex form.Truth (omitted.Truth true) ∷ []
-parameters_of method.Rolling = needed name.Window form.Whole ∷ optional name.MinPeriods form.Whole omitted.None ∷ []
-parameters_of method.Expanding = optional name.MinPeriods form.Whole (omitted.Number (pos 1)) ∷ []
-parameters_of method.Merge =
+parameters_of (method.Other other_method.Rolling) = needed name.Window form.Whole ∷ optional name.MinPeriods form.Whole omitted.None ∷ []
+parameters_of (method.Other other_method.Expanding) = optional name.MinPeriods form.Whole (omitted.Number (pos 1)) ∷ []
+parameters_of (method.Other other_method.Merge) =
     needed name.Right form.Frame ∷ among listed.Hows (optional name.How form.Text (omitted.Text default.Inner)) ∷ optional name.On form.SomeLabels omitted.None
     ∷ among listed.Validations (optional name.Validate form.Text omitted.None) ∷ []
-parameters_of method.Stack = []
-parameters_of method.Unstack = optional name.Level form.Level (omitted.Number (negsuc 0)) ∷ []
-parameters_of method.Pivot = needed name.Columns form.Scalar ∷ needed name.Index form.SomeLabels ∷ needed name.Values form.Scalar ∷ []
-parameters_of method.PivotTable =
+parameters_of (method.Other other_method.Stack) = []
+parameters_of (method.Other other_method.Unstack) = optional name.Level form.Level (omitted.Number (negsuc 0)) ∷ []
+parameters_of (method.Other other_method.Pivot) = needed name.Columns form.Scalar ∷ needed name.Index form.SomeLabels ∷ needed name.Values form.Scalar ∷ []
+parameters_of (method.Other other_method.PivotTable) =
     needed name.Values form.Scalar ∷ needed name.Index form.SomeLabels ∷ needed name.Columns form.Scalar
     ∷ among listed.Aggregations (needed name.Aggfunc form.Text) ∷ []
-parameters_of method.Melt = optional name.IdVars form.Labels omitted.None ∷ optional name.ValueVars form.Labels omitted.None ∷ []
+parameters_of (method.Other other_method.Melt) = optional name.IdVars form.Labels omitted.None ∷ optional name.ValueVars form.Labels omitted.None ∷ []
 
 abbrev pub function_parameters : Function → List Parameter
 function_parameters function.Series =
@@ -167,49 +180,49 @@ frame_alone t m = record { name = t; series = None; frame = Some m }
 -- all names of methods; the forms of groups and windows among them
 unfoldable pub method_names : List MethodName
 method_names =
-    both (codes "copy") method.Copy
-    ∷ both (codes "head") method.Head
-    ∷ both (codes "tail") method.Tail
-    ∷ both (codes "isna") method.Isna
-    ∷ both (codes "notna") method.Notna
-    ∷ both (codes "fillna") method.Fillna
-    ∷ both (codes "dropna") method.Dropna
-    ∷ both (codes "isin") method.Isin
-    ∷ both (codes "astype") method.Astype
-    ∷ either (codes "duplicated") method.DuplicatedSeries method.DuplicatedFrame
-    ∷ both (codes "shift") method.Shift
-    ∷ both (codes "cumsum") method.Cumsum
-    ∷ both (codes "cummin") method.Cummin
-    ∷ both (codes "cummax") method.Cummax
-    ∷ both (codes "sum") method.Sum
-    ∷ both (codes "min") method.Min
-    ∷ both (codes "max") method.Max
-    ∷ both (codes "any") method.Any
-    ∷ both (codes "all") method.All
-    ∷ both (codes "count") method.Count
-    ∷ both (codes "nunique") method.Nunique
-    ∷ either (codes "sort_values") method.SortValuesSeries method.SortValuesFrame
-    ∷ both (codes "sort_index") method.SortIndex
-    ∷ either (codes "reindex") method.ReindexSeries method.ReindexFrame
-    ∷ either (codes "rename") method.RenameSeries method.RenameFrame
-    ∷ both (codes "rename_axis") method.RenameAxis
-    ∷ frame_alone (codes "set_index") method.SetIndex
-    ∷ both (codes "reset_index") method.ResetIndex
-    ∷ frame_alone (codes "drop") method.DropColumns
-    ∷ both (codes "droplevel") method.Droplevel
-    ∷ both (codes "swaplevel") method.Swaplevel
-    ∷ both (codes "xs") method.Xs
-    ∷ series_alone (codes "to_frame") method.ToFrame
-    ∷ both (codes "to_csv") method.ToCsv
-    ∷ frame_alone (codes "groupby") method.Groupby
-    ∷ both (codes "rolling") method.Rolling
-    ∷ both (codes "expanding") method.Expanding
-    ∷ frame_alone (codes "merge") method.Merge
-    ∷ frame_alone (codes "stack") method.Stack
-    ∷ series_alone (codes "unstack") method.Unstack
-    ∷ frame_alone (codes "pivot") method.Pivot
-    ∷ frame_alone (codes "pivot_table") method.PivotTable
-    ∷ frame_alone (codes "melt") method.Melt
+    both (codes "copy") (method.Table table_method.Copy)
+    ∷ both (codes "head") (method.Table table_method.Head)
+    ∷ both (codes "tail") (method.Table table_method.Tail)
+    ∷ both (codes "isna") (method.Columns column_method.Isna)
+    ∷ both (codes "notna") (method.Columns column_method.Notna)
+    ∷ both (codes "fillna") (method.Columns column_method.Fillna)
+    ∷ both (codes "dropna") (method.Rows row_method.Dropna)
+    ∷ both (codes "isin") (method.Columns column_method.Isin)
+    ∷ both (codes "astype") (method.Columns column_method.Astype)
+    ∷ either (codes "duplicated") (method.Rows row_method.DuplicatedSeries) (method.Rows row_method.DuplicatedFrame)
+    ∷ both (codes "shift") (method.Columns column_method.Shift)
+    ∷ both (codes "cumsum") (method.Columns column_method.Cumsum)
+    ∷ both (codes "cummin") (method.Columns column_method.Cummin)
+    ∷ both (codes "cummax") (method.Columns column_method.Cummax)
+    ∷ both (codes "sum") (method.Summary summary_method.Sum)
+    ∷ both (codes "min") (method.Summary summary_method.Min)
+    ∷ both (codes "max") (method.Summary summary_method.Max)
+    ∷ both (codes "any") (method.Summary summary_method.Any)
+    ∷ both (codes "all") (method.Summary summary_method.All)
+    ∷ both (codes "count") (method.Summary summary_method.Count)
+    ∷ both (codes "nunique") (method.Summary summary_method.Nunique)
+    ∷ either (codes "sort_values") (method.Rows row_method.SortValuesSeries) (method.Rows row_method.SortValuesFrame)
+    ∷ both (codes "sort_index") (method.Rows row_method.SortIndex)
+    ∷ either (codes "reindex") (method.Labels label_method.ReindexSeries) (method.Labels label_method.ReindexFrame)
+    ∷ either (codes "rename") (method.Table table_method.RenameSeries) (method.Table table_method.RenameFrame)
+    ∷ both (codes "rename_axis") (method.Levels level_method.RenameAxis)
+    ∷ frame_alone (codes "set_index") (method.Levels level_method.SetIndex)
+    ∷ both (codes "reset_index") (method.Levels level_method.ResetIndex)
+    ∷ frame_alone (codes "drop") (method.Table table_method.DropColumns)
+    ∷ both (codes "droplevel") (method.Levels level_method.Droplevel)
+    ∷ both (codes "swaplevel") (method.Levels level_method.Swaplevel)
+    ∷ both (codes "xs") (method.Labels label_method.Xs)
+    ∷ series_alone (codes "to_frame") (method.Table table_method.ToFrame)
+    ∷ both (codes "to_csv") (method.Table table_method.ToCsv)
+    ∷ frame_alone (codes "groupby") (method.Other other_method.Groupby)
+    ∷ both (codes "rolling") (method.Other other_method.Rolling)
+    ∷ both (codes "expanding") (method.Other other_method.Expanding)
+    ∷ frame_alone (codes "merge") (method.Other other_method.Merge)
+    ∷ frame_alone (codes "stack") (method.Other other_method.Stack)
+    ∷ series_alone (codes "unstack") (method.Other other_method.Unstack)
+    ∷ frame_alone (codes "pivot") (method.Other other_method.Pivot)
+    ∷ frame_alone (codes "pivot_table") (method.Other other_method.PivotTable)
+    ∷ frame_alone (codes "melt") (method.Other other_method.Melt)
     ∷ []
 
 abbrev pub method_at : Shape → MethodName → Option Method
@@ -221,7 +234,14 @@ abbrev pub method_named : Shape → Text → Option Method
 method_named s t = option_and_then (method_at s) (find (λ n. same_text n.name t) method_names)
 
 abbrev pub same_method : Method → Method → Bool
-same_method = sameb the_type
+same_method (method.Columns m) (method.Columns n) = sameb column_method_type.the_type m n
+same_method (method.Summary m) (method.Summary n) = sameb summary_method_type.the_type m n
+same_method (method.Rows m) (method.Rows n) = sameb row_method_type.the_type m n
+same_method (method.Levels m) (method.Levels n) = sameb level_method_type.the_type m n
+same_method (method.Labels m) (method.Labels n) = sameb label_method_type.the_type m n
+same_method (method.Table m) (method.Table n) = sameb table_method_type.the_type m n
+same_method (method.Other m) (method.Other n) = sameb other_method_type.the_type m n
+same_method m n = false
 
 -- whether a method is one of the shape: some name means it there
 abbrev pub fits_shape : Method → Shape → Bool

@@ -15,36 +15,42 @@
 //! ```
 #![tactic(auto)]
 
-/// A method of a Series or a frame. Where the two have a method of one name with different
-/// arguments, it is two methods here.
+/// A method of a Series or a frame, by what it makes. Where the two have a method of one name with
+/// different arguments, it is two methods here.
 ///
 /// What is said of each is the rule of the pandas user guide, "Essential basic functionality" and "Working
-/// with missing data", or of the section that stands with it. Of a method that isn't built
-/// only the signature is defined.
+/// with missing data", or of the section that stands with it.
 #[derive(Clone, Copy, PartialEq, Eq)]
 pub enum Method {
-    /// `copy`: the table again, as an object of its own.
-    Copy,
-    /// `head`: the first `n` rows.
-    Head,
-    /// `tail`: the last `n` rows.
-    Tail,
+    /// Of each column by itself: another of as many cells.
+    Columns(ColumnMethod),
+    /// One cell of each column.
+    Summary(SummaryMethod),
+    /// Some rows, all in an order, or marks of them.
+    Rows(RowMethod),
+    /// Other levels of the rows' labels, or other names of levels.
+    Levels(LevelMethod),
+    /// The rows or the columns that labels name.
+    Labels(LabelMethod),
+    /// Of the whole table: a copy, its ends, other headings, fewer columns, or text.
+    Table(TableMethod),
+    /// Of groups, of windows, of two frames, or of another shape.
+    Other(OtherMethod),
+}
+
+/// A method that makes of each column another, of as many cells.
+#[derive(Clone, Copy, PartialEq, Eq)]
+pub enum ColumnMethod {
     /// `isna`: whether each cell is missing.
     Isna,
     /// `notna`: whether each cell is present.
     Notna,
     /// `fillna`: a scalar in place of each missing cell.
     Fillna,
-    /// `dropna`: the rows without a missing cell.
-    Dropna,
     /// `isin`: whether each cell is in a list.
     Isin,
     /// `astype`: the cells as cells of a kind.
     Astype,
-    /// `duplicated` of a Series: whether an equal cell stands in an earlier row.
-    DuplicatedSeries,
-    /// `duplicated` of a frame: whether an earlier row has equal cells.
-    DuplicatedFrame,
     /// `shift`: the cells moved by a number of rows.
     Shift,
     /// `cumsum`: at each row the sum of the present cells up to it, and NA where its own cell is missing.
@@ -53,6 +59,11 @@ pub enum Method {
     Cummin,
     /// `cummax`: at each row the greatest of the present cells up to it, and NA where its own cell is missing.
     Cummax,
+}
+
+/// A method that makes one cell of each column.
+#[derive(Clone, Copy, PartialEq, Eq)]
+pub enum SummaryMethod {
     /// `sum`: the sum of the present cells.
     Sum,
     /// `min`: the least of the present cells.
@@ -67,38 +78,77 @@ pub enum Method {
     Count,
     /// `nunique`: how many different cells are present.
     Nunique,
+}
+
+/// A method that takes some rows, puts all in an order, or marks those that stand twice.
+#[derive(Clone, Copy, PartialEq, Eq)]
+pub enum RowMethod {
+    /// `dropna`: the rows without a missing cell.
+    Dropna,
+    /// `duplicated` of a Series: whether an equal cell stands in an earlier row.
+    DuplicatedSeries,
+    /// `duplicated` of a frame: whether an earlier row has equal cells.
+    DuplicatedFrame,
     /// `sort_values` of a Series: the rows in the order of their cells.
     SortValuesSeries,
     /// `sort_values` of a frame: the rows in the order of the cells of columns.
     SortValuesFrame,
     /// `sort_index`: the rows in the order of their labels.
     SortIndex,
-    /// `reindex` of a Series: the rows of given labels, missing where there is none.
-    ReindexSeries,
-    /// `reindex` of a frame: the rows and the columns of given labels, missing where there is none.
-    ReindexFrame,
-    /// `rename` of a Series: another name, or none.
-    RenameSeries,
-    /// `rename` of a frame: other labels of its columns.
-    RenameFrame,
+}
+
+/// A method that makes other levels of the labels of the rows, or other names of levels.
+#[derive(Clone, Copy, PartialEq, Eq)]
+pub enum LevelMethod {
     /// `rename_axis`: other names of the levels of the rows' labels.
     RenameAxis,
     /// `set_index` of a frame: columns as the labels of its rows.
     SetIndex,
     /// `reset_index`: 0, 1 and so on as the labels of the rows; the old labels become columns or are dropped.
     ResetIndex,
-    /// `drop` of a frame: the frame without some columns.
-    DropColumns,
     /// `droplevel`: the rows' labels without a level.
     Droplevel,
     /// `swaplevel`: two levels of the rows' labels, each in the place of the other.
     Swaplevel,
+}
+
+/// A method that takes the rows, or the columns, that labels name.
+#[derive(Clone, Copy, PartialEq, Eq)]
+pub enum LabelMethod {
+    /// `reindex` of a Series: the rows of given labels, missing where there is none.
+    ReindexSeries,
+    /// `reindex` of a frame: the rows and the columns of given labels, missing where there is none.
+    ReindexFrame,
     /// `xs`: the rows that have a label on a level.
     Xs,
+}
+
+/// A method that makes of a whole table a copy, its first or last rows, other headings, fewer columns,
+/// or text.
+#[derive(Clone, Copy, PartialEq, Eq)]
+pub enum TableMethod {
+    /// `copy`: the table again, as an object of its own.
+    Copy,
+    /// `head`: the first `n` rows.
+    Head,
+    /// `tail`: the last `n` rows.
+    Tail,
+    /// `rename` of a Series: another name, or none.
+    RenameSeries,
+    /// `rename` of a frame: other labels of its columns.
+    RenameFrame,
+    /// `drop` of a frame: the frame without some columns.
+    DropColumns,
     /// `to_frame` of a Series: the frame of the one column.
     ToFrame,
     /// `to_csv`: the table as CSV text.
     ToCsv,
+}
+
+/// A method of groups, of windows, of two frames or of another shape. Of one that isn't built only the
+/// signature is defined.
+#[derive(Clone, Copy, PartialEq, Eq)]
+pub enum OtherMethod {
     /// `groupby` of a frame: groups of rows ("Group by: split-apply-combine").
     Groupby,
     /// `rolling`: at each row a window of so many rows ("Windowing operations").

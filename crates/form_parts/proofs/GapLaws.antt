@@ -1,36 +1,17 @@
 -- The rows that labels take, by their numbers as by their texts, and the columns on such rows.
-use Rattle.std.proofs.Common.{◌≡◌, ◌∙◌, ap, refl, sym, subst, ℕ, ◌+◌, ◌<◌, false, List, [], ◌∷◌, ◌++◌, map, length, take, slice_index_or, All, Option, Some, None, Result, Ok, Err}
-use Rattle.std.specs.Prelude.{IfOk}
-use Rattle.std.proofs.Math.ListN.{get_or-map}
-use Rattle.std.proofs.lemmas.List.{map-append, take_more}
-use Rattle.std.proofs.lemmas.List.Elements.{All-map, All-push}
-use Rattle.cell_core.specs.declared.cell.Cell.{Cell}
-use Rattle.cell_core.specs.declared.cell.Cell.TheVariants.{Na}
-use Rattle.cell_core.specs.declared.cell.Label.{Label}
-use Rattle.cell_core.specs.Texts.{AreDistinct, AreGiven, IsGiven}
-use Rattle.meaning.specs.Text.{Text}
-use Rattle.meaning.specs.Cell.{na_cell, datum}
-use Rattle.meaning.specs.Column.{gap_cell, taken}
-use Rattle.meaning.specs.Fault.{FaultValue, bad_value, repeated}
-use Rattle.column_core.specs.Blocks.{CellBlock}
-use Rattle.column_core.specs.Columns.{CellColumn}
-use Rattle.column_core.specs.Moves.{IsPlaceOf}
-use Rattle.table_meaning.specs.Settled.{IsSettled}
-use Rattle.table_meaning.specs.Table.{ColumnOf, tuple_value, no_column}
-use Rattle.form_meaning.specs.Infix.{same_tuple, on_rows}
-use Rattle.align_meaning.specs.Faults.{AlignRefusal, met_rows}
-use Rattle.align_meaning.specs.Targets.{reindexed}
-use Rattle.align_meaning.proofs.SeenLaws.{gaps_seen, reindexed_seen}
-use Rattle.align_meaning.proofs.FoundLaws.{reindexed_count, reindexed_below, repeat_given}
+use Rattle.{
+  std.{proofs.{Common.{◌≡◌, ◌∙◌, ap, refl, sym, subst, ℕ, ◌+◌, ◌<◌, false, List, [], ◌∷◌, ◌++◌, map, length, take, slice_index_or, All, Option, Some, None, Result, Ok, Err}, Math.ListN.{get_or-map}, lemmas.List.{map-append, take_more, Elements.{All-map, All-push}}}, specs.Prelude.{IfOk}},
+  cell_core.specs.{declared.cell.{Cell.{Cell, TheVariants.{Na}}, Label.{Label}}, Texts.{AreDistinct, AreGiven, IsGiven}},
+  meaning.specs.{Text.{Text}, Cell.{na_cell, datum}, Column.{gap_cell, taken}, Fault.{FaultValue, bad_value, repeated}},
+  column_core.specs.{Blocks.{CellBlock}, Columns.{CellColumn}, Moves.{IsPlaceOf}},
+  table_meaning.specs.{Settled.{IsSettled}, Table.{ColumnOf, tuple_value, no_column}},
+  form_meaning.specs.Infix.{same_tuple, on_rows},
+  align_meaning.{specs.{Faults.{AlignRefusal, met_rows}, Targets.{reindexed}}, proofs.{SeenLaws.{gaps_seen, reindexed_seen}, FoundLaws.{reindexed_count, reindexed_below, repeat_given}}},
+  label_align.specs.{Answers.{AlignsBy, as_it_is}, declared.fault.AlignFault.{AlignFault, TheVariants.{DuplicateLabels, TooLarge, NoMemory}}},
+  frame_store.specs.{Parts.{HaveRows, IsSingle, block_column, table_column}, Shown.{labels_value, columns_value}},
+  form_parts.{specs.{Makes.{MakesBy}, Faults.{align_refusal}}, proofs.RowLaws.{tuple_by_number, tuples_settled}},
+}
 use Rattle.row_keys.specs.Keys as numbers
-use Rattle.label_align.specs.Answers.{AlignsBy, as_it_is}
-use Rattle.label_align.specs.declared.fault.AlignFault.{AlignFault}
-use Rattle.label_align.specs.declared.fault.AlignFault.TheVariants.{DuplicateLabels, TooLarge, NoMemory}
-use Rattle.frame_store.specs.Parts.{HaveRows, IsSingle, block_column, table_column}
-use Rattle.frame_store.specs.Shown.{labels_value, columns_value}
-use Rattle.form_parts.specs.Makes.{MakesBy}
-use Rattle.form_parts.specs.Faults.{align_refusal}
-use Rattle.form_parts.proofs.RowLaws.{tuple_by_number, tuples_settled}
 
 module _ (texts : List Text) (distinct : AreDistinct texts) (keys targets : List (List Label)) (given : IsSettled labels_value texts keys) (asked : IsSettled labels_value texts targets) where
   -- rows that are found by numbers are those by texts

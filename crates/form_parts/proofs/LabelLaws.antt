@@ -1,27 +1,17 @@
 -- Labels are equal exactly where their numbers are.
-use Rattle.std.proofs.Common.{◌≡◌, ◌∙◌, ◌++◌, ℕ, Bool, List, [], ◌∷◌, map, refl, ap, sym, Option, Some, None}
-use Rattle.std.specs.Prelude.{pos}
-use Rattle.std.specs.Bool.{Decides}
-use Rattle.std.specs.List.{range_with_len}
-use Rattle.std.specs.Ordering.{is_eq}
-use Rattle.std.proofs.lemmas.Bool.Decides.{same_from_decides}
-use Rattle.std.proofs.lemmas.Cmp.{tied_itself}
-use Rattle.cell_core.specs.declared.cell.Label.{Label}
+use Rattle.{
+  std.{proofs.{Common.{◌≡◌, ◌∙◌, ◌++◌, ℕ, Bool, List, [], ◌∷◌, map, refl, ap, sym, Option, Some, None}, lemmas.{Bool.Decides.{same_from_decides}, Cmp.{tied_itself}}}, specs.{Prelude.{pos}, Bool.{Decides}, List.{range_with_len}, Ordering.{is_eq}}},
+  cell_core.{specs.{declared.cell.Label.{Label}, Texts.{AreDistinct, IsGivenLabel}, Values.{text_cell, LabelValue, int, text, na, label_cmp, label_datum}}, proofs.LabelLaws.{label_total}},
+  meaning.specs.Text.{Text},
+  table_meaning.specs.{Settled.{IsSettled}, Table.{heading_value}},
+  index_core.specs.Ranges.{number_label},
+  multi_index.specs.Axes.{range_axis, single_tuples},
+  form_meaning.specs.{Binding.{same_label}, Finish.{default_labels}},
+  frame_store.{specs.Shown.{labels_value}, proofs.Settling.{cell_given}},
+  label_align.proofs.SameLaws.{value_same, is_equal},
+}
 use Rattle.cell_core.specs.declared.cell.Label.TheVariants as label
 use Rattle.cell_core.specs.declared.cell.Cell.TheVariants as cell
-use Rattle.cell_core.specs.Texts.{AreDistinct, IsGivenLabel}
-use Rattle.cell_core.specs.Values.{text_cell, LabelValue, int, text, na, label_cmp, label_datum}
-use Rattle.cell_core.proofs.LabelLaws.{label_total}
-use Rattle.meaning.specs.Text.{Text}
-use Rattle.table_meaning.specs.Settled.{IsSettled}
-use Rattle.table_meaning.specs.Table.{heading_value}
-use Rattle.index_core.specs.Ranges.{number_label}
-use Rattle.multi_index.specs.Axes.{range_axis, single_tuples}
-use Rattle.form_meaning.specs.Binding.{same_label}
-use Rattle.form_meaning.specs.Finish.{default_labels}
-use Rattle.frame_store.specs.Shown.{labels_value}
-use Rattle.frame_store.proofs.Settling.{cell_given}
-use Rattle.label_align.proofs.SameLaws.{value_same, is_equal}
 pub use Rattle.label_align.proofs.SameLaws.{label_one}
 
 abbrev text_in : LabelValue → Text

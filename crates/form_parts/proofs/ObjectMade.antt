@@ -1,22 +1,12 @@
 -- The object that is made of a table.
-use Rattle.std.proofs.Common.{◌≡◌, ◌∙◌, ℕ, true, List, ◌++◌, ap, sym, subst, arith, nat_eq, if◌then◌else◌, Some, None, option_map, Result, Ok, Err}
-use Rattle.std.specs.Prelude.{is_some}
-use Rattle.std.proofs.lemmas.Bool.Decides.{nat_tests}
-use Rattle.cell_core.specs.Texts.{IsLonger}
-use Rattle.meaning.specs.Text.{Text}
-use Rattle.meaning.specs.Fault.{FaultValue}
-use Rattle.table_meaning.specs.Settled.{IsSettled}
-use Rattle.table_meaning.specs.Table.{NumberedTable, table_value}
+use Rattle.{
+  std.{proofs.{Common.{◌≡◌, ◌∙◌, ℕ, true, List, ◌++◌, ap, sym, subst, arith, nat_eq, if◌then◌else◌, Some, None, option_map, Result, Ok, Err}, lemmas.Bool.Decides.{nat_tests}}, specs.Prelude.{is_some}},
+  cell_core.specs.Texts.{IsLonger},
+  meaning.specs.{Text.{Text}, Fault.{FaultValue}},
+  table_meaning.specs.{Settled.{IsSettled}, Table.{NumberedTable, table_value}, Value.{Entry}},
+  frame_store.{specs.{declared.{arguments.Value.{Value, TheVariants.{Object}}, object.ObjId.{ObjId}, fault.OpFault.{OpFault, TheVariants.{Refused, NoMemory}}}, Objects.{Tables, with_object}, Shown.{Shown, shown, with_shown, table_in, Makes, FormAnswers}}, proofs.Settling.{settled_later, seen_later, shown_with, settled_with}},
+}
 use Rattle.table_meaning.specs.Value as value
-use Rattle.table_meaning.specs.Value.{Entry}
-use Rattle.frame_store.specs.declared.arguments.Value.{Value}
-use Rattle.frame_store.specs.declared.arguments.Value.TheVariants.{Object}
-use Rattle.frame_store.specs.declared.object.ObjId.{ObjId}
-use Rattle.frame_store.specs.declared.fault.OpFault.{OpFault}
-use Rattle.frame_store.specs.declared.fault.OpFault.TheVariants.{Refused, NoMemory}
-use Rattle.frame_store.specs.Objects.{Tables, with_object}
-use Rattle.frame_store.specs.Shown.{Shown, shown, with_shown, table_in, Makes, FormAnswers}
-use Rattle.frame_store.proofs.Settling.{settled_later, seen_later, shown_with, settled_with}
 
 nat_eq_self : (n : ℕ) → nat_eq n n ≡ true
 nat_eq_self n = grind (arith, nat_tests)

@@ -1,21 +1,15 @@
 -- Rows and headings are equal exactly where their labels' numbers are.
-use Rattle.std.proofs.Common.{◌≡◌, Bool, List, [], ◌∷◌, refl, ap, All}
-use Rattle.std.specs.Bool.{Decides}
-use Rattle.std.specs.Cmp.Lexicographic.{pointwise_decides}
-use Rattle.std.proofs.lemmas.Bool.Decides.{same_from_decides}
-use Rattle.std.proofs.lemmas.List.Elements.{All-nil, All-cons, All-head, All-tail}
-use Rattle.cell_core.specs.declared.cell.Label.{Label}
-use Rattle.cell_core.specs.Texts.{AreDistinct, IsGivenLabel}
-use Rattle.cell_core.specs.Values.{LabelValue, label_datum}
-use Rattle.meaning.specs.Text.{Text}
-use Rattle.table_meaning.specs.Settled.{IsSettled}
-use Rattle.table_meaning.specs.Table.{tuple_value}
-use Rattle.form_meaning.specs.Infix.{same_tuple, same_tuples}
-use Rattle.frame_store.specs.Shown.{labels_value}
-use Rattle.row_keys.specs.Keys.{same_tuple as same_numbers}
-use Rattle.label_align.specs.Runs.{AreGivenTuples}
-use Rattle.label_align.proofs.SameLaws.{tuple_decides as numbers_decide}
-use Rattle.form_parts.proofs.LabelLaws.{label_given, label_one, value_decides}
+use Rattle.{
+  std.{proofs.{Common.{◌≡◌, Bool, List, [], ◌∷◌, refl, ap, All}, lemmas.{Bool.Decides.{same_from_decides}, List.Elements.{All-nil, All-cons, All-head, All-tail}}}, specs.{Bool.{Decides}, Cmp.Lexicographic.{pointwise_decides}}},
+  cell_core.specs.{declared.cell.Label.{Label}, Texts.{AreDistinct, IsGivenLabel}, Values.{LabelValue, label_datum}},
+  meaning.specs.Text.{Text},
+  table_meaning.specs.{Settled.{IsSettled}, Table.{tuple_value}},
+  form_meaning.specs.Infix.{same_tuple, same_tuples},
+  frame_store.specs.Shown.{labels_value},
+  row_keys.specs.Keys.{same_tuple as same_numbers},
+  label_align.{specs.Runs.{AreGivenTuples}, proofs.SameLaws.{tuple_decides as numbers_decide}},
+  form_parts.proofs.LabelLaws.{label_given, label_one, value_decides},
+}
 
 module _ {X : Type 0} where
   abbrev head_or : X → List X → X

@@ -1,24 +1,15 @@
 -- A table of other columns under other headings.
-use Rattle.std.proofs.Common.{◌≡◌, ◌∙◌, ℕ, List, length, map, ap, sym, subst, Result, Ok, Err}
-use Rattle.std.proofs.lemmas.List.{length-map}
-use Rattle.cell_core.specs.Texts.{IsLonger}
-use Rattle.meaning.specs.Text.{Text}
-use Rattle.meaning.specs.Cell.{CellValue}
-use Rattle.meaning.specs.Fault.{FaultValue, then_value}
-use Rattle.cell_core.specs.declared.cell.Cell.{Cell}
-use Rattle.column_core.specs.Blocks.{CellBlock}
-use Rattle.table_meaning.specs.Settled.{IsSettled}
-use Rattle.table_meaning.specs.Table.{ColumnOf, NumberedTable, Table, table_value, heading_value}
-use Rattle.table_meaning.specs.Valid.{AreHeadings, IsWhole}
+use Rattle.{
+  std.proofs.{Common.{◌≡◌, ◌∙◌, ℕ, List, length, map, ap, sym, subst, Result, Ok, Err}, lemmas.List.{length-map}},
+  cell_core.specs.{Texts.{IsLonger}, declared.cell.Cell.{Cell}},
+  meaning.specs.{Text.{Text}, Cell.{CellValue}, Fault.{FaultValue, then_value}},
+  column_core.specs.Blocks.{CellBlock},
+  table_meaning.specs.{Settled.{IsSettled}, Table.{ColumnOf, NumberedTable, Table, table_value, heading_value}, Valid.{AreHeadings, IsWhole}, Value.{Entry}},
+  form_meaning.specs.Finish.{with_columns},
+  frame_store.{specs.{declared.fault.OpFault.{OpFault, TheVariants.{Refused, NoMemory}}, Parts.{HeadingList, block_column, table_with, axis_of}, Shown.{headings_value, columns_value, Makes}}, proofs.Settling.{settled_later, seen_later, table_settled, with_columns_settled, level_names_part, labels_part, columns_part}},
+  form_parts.specs.Makes.{MakesBy, blocks_value, AreColumns},
+}
 use Rattle.table_meaning.specs.Value as value
-use Rattle.table_meaning.specs.Value.{Entry}
-use Rattle.form_meaning.specs.Finish.{with_columns}
-use Rattle.frame_store.specs.declared.fault.OpFault.{OpFault}
-use Rattle.frame_store.specs.declared.fault.OpFault.TheVariants.{Refused, NoMemory}
-use Rattle.frame_store.specs.Parts.{HeadingList, block_column, table_with, axis_of}
-use Rattle.frame_store.specs.Shown.{headings_value, columns_value, Makes}
-use Rattle.frame_store.proofs.Settling.{settled_later, seen_later, table_settled, with_columns_settled, level_names_part, labels_part, columns_part}
-use Rattle.form_parts.specs.Makes.{MakesBy, blocks_value, AreColumns}
 
 -- the table under other headings
 abbrev pub under : NumberedTable → HeadingList → NumberedTable

@@ -25,6 +25,11 @@ align_refusal (align.DuplicateLabels tuple) = op.Refused (code.BadValue (reason.
 align_refusal align.TooLarge = op.Refused code.Limit
 align_refusal align.NoMemory = op.NoMemory
 
+-- the column, or the refusal
+abbrev pub column_result : Result CellColumn ArrayFault → Result CellColumn OpFault
+column_result (Ok c) = Ok c
+column_result (Err fault) = Err (refusal_of fault)
+
 -- the column as a block, or the refusal
 abbrev pub block_result : Result CellColumn ArrayFault → Result CellBlock OpFault
 block_result (Ok c) = Ok (single_block record { kind = c.kind; cells = c.cells })

@@ -1,6 +1,6 @@
 // What a kernel or a join answers, as a part of a form.
 ghost use Rattle.std.specs.Prelude.{◌≡◌};
-ghost use Rattle.form_parts.specs.Faults.{refusal_of, align_refusal, block_result};
+ghost use Rattle.form_parts.specs.Faults.{refusal_of, align_refusal, column_result, block_result};
 
 use cell_core::{Code, Reason};
 use column_core::{Block, Column};
@@ -30,6 +30,16 @@ pub fn align_refusal(fault: AlignFault) -> OpFault
         }
         AlignFault::TooLarge => OpFault::Refused(Code::Limit),
         AlignFault::NoMemory => OpFault::NoMemory,
+    }
+}
+
+/// The column that a kernel made, or its refusal as that of a form. Takes no memory.
+pub fn column_of(made: Result<Column, ArrayFault>) -> Result<Column, OpFault>
+    ensures { result ≡ column_result made }
+{
+    match made {
+        Ok(column) => Ok(column),
+        Err(fault) => Err(refusal_of(fault)),
     }
 }
 

@@ -1,6 +1,6 @@
 //! What the forms on objects have in common: the limits of new tables, the parts that a new table
-//! takes over from another, equality of labels, the rows that labels take with the columns on them, and the new
-//! object itself.
+//! takes over from another, equality of labels, the rows that labels take with the columns on them, what a kernel
+//! answers as a part of a form, and the new object itself.
 //!
 //! A form makes a [`Table`](frame_store::Table) and hands it to [`placed`], which gives it an object.
 //!
@@ -20,7 +20,7 @@ mod labels;
 mod objects;
 mod parts;
 
-pub use faults::{align_refusal, block_of, refusal_of};
+pub use faults::{align_refusal, block_of, column_of, refusal_of};
 pub use gaps::{columns_on, rows_of_labels};
 pub use labels::{common_name, label_of, name_of, same_heading, same_label, same_rows};
 pub use objects::placed;

@@ -1,8 +1,8 @@
 -- The escapes of printed texts.
-use Rattle.std.proofs.Common.{◌≡◌, ◌≢◌, ℕ, suc, ◌<◌, List, [], ◌∷◌, ◌++◌, length, get_or, encode_utf8, refl, ap, sym, ◌∙◌, append_assoc, append-nil, arith}
-use Rattle.std.proofs.lemmas.Str.{inside_one}
-use Rattle.std.proofs.lemmas.Bool.Decides.{nat_tests}
-use Rattle.format_meaning.specs.Print.{shown_byte, shown_text}
+use Rattle.{
+  std.proofs.{Common.{◌≡◌, ◌≢◌, ℕ, suc, ◌<◌, List, [], ◌∷◌, ◌++◌, length, get_or, encode_utf8, refl, ap, sym, ◌∙◌, append_assoc, append-nil, arith}, lemmas.{Str.{inside_one}, Bool.Decides.{nat_tests}}},
+  format_meaning.specs.Print.{shown_byte, shown_text},
+}
 
 -- none of the three that are escaped
 pub record IsPlain (b : ℕ) : Type 0 where

@@ -1,15 +1,11 @@
 -- Texts one after the other, and the widest of them.
-use Rattle.std.proofs.Common.{◌-◌, Bool, true, false, ◌&&◌, subst, OnOk, Result, ◌≡◌, ◌≢◌, ℕ, zero, suc, ◌+◌, ◌<◌, max, List, [], ◌∷◌, ◌++◌, length, map, sum, get_or, refl, ap, sym, ◌∙◌, append_assoc, append-nil, arith}
-use Rattle.std.specs.Prelude.{if◌then◌else◌, ◌==◌}
-use Rattle.std.proofs.lemmas.Bool.Decides.{nat_tests}
-use Rattle.std.specs.List.{range_with_len, flat_map, join_by}
-use Rattle.std.proofs.lemmas.Grind.{flat_map-append}
-use Rattle.std.proofs.lemmas.List.Folds.{flat_map-map}
-use Rattle.std.proofs.lemmas.List.FromFn.{length-map-range_with_len, get_or-map-range_with_len, map-range_with_len_more, fill_by_all}
-use Rattle.meaning.specs.Text.{Text}
-use Rattle.table_meaning.specs.Table.{Table}
-use Rattle.format_meaning.specs.Print.{labels_width, level_width, level_title, series_width, series_levels, series_names, repeats, same_above, width, widest, left_set, right_set, spaces, side_by_side, places}
-use Rattle.frame_format.specs.Layouts.{set_columns, gap_before}
+use Rattle.{
+  std.{proofs.{Common.{◌-◌, Bool, true, false, ◌&&◌, subst, OnOk, Result, ◌≡◌, ◌≢◌, ℕ, zero, suc, ◌+◌, ◌<◌, max, List, [], ◌∷◌, ◌++◌, length, map, sum, get_or, refl, ap, sym, ◌∙◌, append_assoc, append-nil, arith}, lemmas.{Bool.Decides.{nat_tests}, Grind.{flat_map-append}, List.{Folds.{flat_map-map}, FromFn.{length-map-range_with_len, get_or-map-range_with_len, map-range_with_len_more, fill_by_all}}}}, specs.{Prelude.{if◌then◌else◌, ◌==◌}, List.{range_with_len, flat_map, join_by}}},
+  meaning.specs.Text.{Text},
+  table_meaning.specs.Table.{Table},
+  format_meaning.specs.Print.{labels_width, level_width, level_title, series_width, series_levels, series_names, repeats, same_above, width, widest, left_set, right_set, spaces, side_by_side, places},
+  frame_format.specs.Layouts.{set_columns, gap_before},
+}
 
 range_more : (a n : ℕ) → range_with_len a (n + 1) ≡ range_with_len a n ++ (a + n) ∷ []
 range_more a zero = ap (λ m. m ∷ []) (omega arith)

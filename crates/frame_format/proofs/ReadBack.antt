@@ -1,16 +1,13 @@
 -- What was written as CSV reads back as its records.
-use Rattle.std.proofs.Common.{◌≡◌, ◌≤◌, ◌+◌, ◌-◌, ◌∙◌, ℕ, zero, suc, List, [], ◌∷◌, ◌++◌, length, map, Bool, refl, ap, arith, length-append, if◌then◌else◌}
-use Rattle.std.specs.List.{flat_map}
-use Rattle.csv.specs.Machine.{next_record}
-use Rattle.csv.specs.Reading.{records_from, default_config}
-use Rattle.csv.specs.Writing.{row_body, is_blank, default_writer, read_back}
+use Rattle.{
+  std.{proofs.Common.{◌≡◌, ◌≤◌, ◌+◌, ◌-◌, ◌∙◌, ℕ, zero, suc, List, [], ◌∷◌, ◌++◌, length, map, Bool, refl, ap, arith, length-append, if◌then◌else◌}, specs.List.{flat_map}},
+  csv.{specs.{Machine.{next_record}, Reading.{records_from, default_config}, Writing.{row_body, is_blank, default_writer, read_back}}, proofs.RoundTrip.{rows_text, read-write}},
+  meaning.specs.{Text.{Text}, Cell.{na_cell}},
+  table_meaning.specs.Table.{Table, rows_of},
+  format_meaning.specs.CsvWrite.{record_text, header_fields, row_fields, csv_text_of},
+  frame_format.specs.ReadBack.{table_fields, ReadsBack},
+}
 use Rattle.csv.specs.declared.parser.State.TheVariants as st
-use Rattle.csv.proofs.RoundTrip.{rows_text, read-write}
-use Rattle.meaning.specs.Text.{Text}
-use Rattle.meaning.specs.Cell.{na_cell}
-use Rattle.table_meaning.specs.Table.{Table, rows_of}
-use Rattle.format_meaning.specs.CsvWrite.{record_text, header_fields, row_fields, csv_text_of}
-use Rattle.frame_format.specs.ReadBack.{table_fields, ReadsBack}
 
 each_record : {X : Type 0} (f : X → List Text) (xs : List X) → flat_map (λ x. record_text (f x)) xs ≡ rows_text (map f xs)
 unfolding rows_text

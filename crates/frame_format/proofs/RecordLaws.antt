@@ -1,26 +1,14 @@
 -- The fields of records.
-use Rattle.std.proofs.Common.{◌≢◌, Option, None, ap₂, subst, append-nil, Vec, false, ◌≡◌, ℕ, ◌+◌, ◌<◌, List, [], ◌∷◌, ◌++◌, length, map, get_or, sym, ap, ◌∙◌, append_assoc, Some, refl, arith}
-use Rattle.std.specs.List.{flat_map}
-use Rattle.std.proofs.lemmas.List.{length-map, get_or-map}
-use Rattle.std.proofs.lemmas.List.Folds.{flat_map-map}
-use Rattle.std.proofs.lemmas.List.FromFn.{fill_by_all}
-use Rattle.cell_core.specs.Values.{CellValue, LabelValue, na_cell}
-use Rattle.meaning.specs.Text.{Text}
-use Rattle.table_meaning.specs.Table.{Table, ColumnOf, RowOf, no_column, row_of, rows_of}
-use Rattle.std.specs.Str.{IsUtf8}
-use Rattle.std.proofs.lemmas.Str.{IsUtf8-nil, IsUtf8-append}
-use Rattle.csv.specs.Records.{Row, fields_of, partial_of, AllText}
-use Rattle.csv.specs.declared.writer.Writer.{Writer}
-use Rattle.csv.specs.declared.writer.WriterBuilder.{WriterBuilder}
+use Rattle.{
+  std.{proofs.{Common.{◌≢◌, Option, None, ap₂, subst, append-nil, Vec, false, ◌≡◌, ℕ, ◌+◌, ◌<◌, List, [], ◌∷◌, ◌++◌, length, map, get_or, sym, ap, ◌∙◌, append_assoc, Some, refl, arith}, lemmas.{List.{length-map, get_or-map, Folds.{flat_map-map}, FromFn.{fill_by_all}}, Str.{IsUtf8-nil, IsUtf8-append}}}, specs.{List.{flat_map}, Str.{IsUtf8}, Io.KnownBytes.{Appends}, Option.{unwrap_or}}},
+  cell_core.specs.Values.{CellValue, LabelValue, na_cell},
+  meaning.specs.Text.{Text},
+  table_meaning.specs.Table.{Table, ColumnOf, RowOf, no_column, row_of, rows_of},
+  csv.specs.{Records.{Row, fields_of, partial_of, AllText}, declared.writer.{Writer.{Writer}, WriterBuilder.{WriterBuilder}}, Writing.{row_text, text_written, writer_under, writer_pending, writer_setup, fields_written, has_written, default_writer}},
+  format_meaning.specs.{CsvWrite.{cell_field, record_text}, Print.{places}},
+  frame_format.{specs.Written.{HasWritten, IsFilled}, proofs.{FieldLaws.{map_more, flat_more}, TextOfRecords.{texts_more, no_texts, record_utf8}}},
+}
 use Rattle.csv.specs.declared.writer.QuoteStyle.TheVariants as style
-use Rattle.std.specs.Io.KnownBytes.{Appends}
-use Rattle.std.specs.Option.{unwrap_or}
-use Rattle.csv.specs.Writing.{row_text, text_written, writer_under, writer_pending, writer_setup, fields_written, has_written, default_writer}
-use Rattle.format_meaning.specs.CsvWrite.{cell_field, record_text}
-use Rattle.frame_format.specs.Written.{HasWritten, IsFilled}
-use Rattle.format_meaning.specs.Print.{places}
-use Rattle.frame_format.proofs.FieldLaws.{map_more, flat_more}
-use Rattle.frame_format.proofs.TextOfRecords.{texts_more, no_texts, record_utf8}
 
 -- a field more
 pub field_pushed : (f : ℕ → Text) (n : ℕ) (first fields fields' : List Text) (partial t : Text) → fields ≡ first ++ map f (places n) → partial ≡ [] → fields' ≡ fields ++ (partial ++ t) ∷ [] → t ≡ f n → fields' ≡ first ++ map f (places (n + 1))

@@ -1,15 +1,11 @@
 -- The record of fields that are texts is a text.
-use Rattle.std.proofs.Common.{◌&&◌, ◌≡◌, ◌≢◌, ◌==◌, ℕ, suc, ◌<◌, Bool, true, false, inl, inr, List, [], ◌∷◌, ◌++◌, length, get_or, encode_utf8, refl, ap, sym, subst, ◌∙◌, append_assoc, append-nil, arith}
-use Rattle.std.specs.Prelude.{if◌then◌else◌}
-use Rattle.std.specs.Str.{IsUtf8, encode_utf8_all}
-use Rattle.std.proofs.lemmas.Bool.{cases_Bool}
-use Rattle.std.proofs.lemmas.Bool.Decides.{nat_tests}
-use Rattle.std.proofs.lemmas.Str.{inside_one, IsUtf8-nil, IsUtf8-append, IsUtf8-encode}
-use Rattle.csv.specs.Records.{AllText}
-use Rattle.csv.specs.Writing.{escaped, quoted, needs_quotes, field_text, fields_text, row_body, is_blank, default_writer}
-use Rattle.meaning.specs.Text.{Text}
-use Rattle.format_meaning.specs.CsvWrite.{record_text}
 use lib.Utf8.{scalar, scalars, encode}
+use Rattle.{
+  std.{proofs.{Common.{◌&&◌, ◌≡◌, ◌≢◌, ◌==◌, ℕ, suc, ◌<◌, Bool, true, false, inl, inr, List, [], ◌∷◌, ◌++◌, length, get_or, encode_utf8, refl, ap, sym, subst, ◌∙◌, append_assoc, append-nil, arith}, lemmas.{Bool.{cases_Bool, Decides.{nat_tests}}, Str.{inside_one, IsUtf8-nil, IsUtf8-append, IsUtf8-encode}}}, specs.{Prelude.{if◌then◌else◌}, Str.{IsUtf8, encode_utf8_all}}},
+  csv.specs.{Records.{AllText}, Writing.{escaped, quoted, needs_quotes, field_text, fields_text, row_body, is_blank, default_writer}},
+  meaning.specs.Text.{Text},
+  format_meaning.specs.CsvWrite.{record_text},
+}
 
 -- a field more
 pub texts_more : (fields : List Text) (t : Text) → AllText fields → IsUtf8 t → AllText (fields ++ t ∷ [])

@@ -1,19 +1,11 @@
 -- The parts of the table that a grid tells.
-use Rattle.std.proofs.Common.{◌≡◌, ℕ, zero, suc, ◌-◌, ◌<◌, List, [], length, map, get_or, refl, ap, sym, ◌∙◌, arith, Option, None, Some}
-use Rattle.std.specs.Option.{is_some}
-use Rattle.std.specs.Ordering.{is_eq}
-use Rattle.std.proofs.lemmas.List.{length-map, get_or-map}
-use Rattle.std.proofs.lemmas.List.FromFn.{length-map-range_with_len, get_or-map-range_with_len}
-use Rattle.cell_core.specs.Grids.{GridValue}
-use Rattle.cell_core.specs.Values.{LabelValue, label_datum, label_cmp, CellValue, datum, na, na_cell}
-use Rattle.cell_core.specs.declared.cell.Label.{Label}
-use Rattle.cell_core.specs.declared.cell.Cell.{Cell}
-use Rattle.cell_core.specs.declared.cell.Kind.{Kind}
-use Rattle.meaning.specs.Text.{Text}
-use Rattle.meaning.specs.Column.{tabulate}
-use Rattle.table_meaning.specs.Table.{Table, ColumnOf, no_column, column_at, column_value, heading_value, tuple_value}
-use Rattle.format_meaning.specs.Told.{numbered, told, label_at, level_name, cell_at, heading_at}
-use Rattle.format_meaning.specs.Print.{same_above}
+use Rattle.{
+  std.{proofs.{Common.{◌≡◌, ℕ, zero, suc, ◌-◌, ◌<◌, List, [], length, map, get_or, refl, ap, sym, ◌∙◌, arith, Option, None, Some}, lemmas.List.{length-map, get_or-map, FromFn.{length-map-range_with_len, get_or-map-range_with_len}}}, specs.{Option.{is_some}, Ordering.{is_eq}}},
+  cell_core.specs.{Grids.{GridValue}, Values.{LabelValue, label_datum, label_cmp, CellValue, datum, na, na_cell}, declared.cell.{Label.{Label}, Cell.{Cell}, Kind.{Kind}}},
+  meaning.specs.{Text.{Text}, Column.{tabulate}},
+  table_meaning.specs.Table.{Table, ColumnOf, no_column, column_at, column_value, heading_value, tuple_value},
+  format_meaning.specs.{Told.{numbered, told, label_at, level_name, cell_at, heading_at}, Print.{same_above}},
+}
 
 pub shape_told : (texts : List Text) (g : GridValue) → (told texts g).shape ≡ g.shape
 unfolding told

@@ -1,16 +1,13 @@
 -- A whole table is what a grid that is read off it tells.
-use Rattle.std.proofs.Common.{◌≡◌, ℕ, ◌<◌, List, [], length, get_or, refl, ap, sym, arith, None}
-use Rattle.std.specs.Prelude.{All, slice_index_or}
-use Rattle.std.proofs.lemmas.List.FromFn.{fill_by_all}
-use Rattle.cell_core.specs.Grids.{GridValue}
-use Rattle.cell_core.specs.declared.cell.Label.{Label}
+use Rattle.{
+  std.{proofs.{Common.{◌≡◌, ℕ, ◌<◌, List, [], length, get_or, refl, ap, sym, arith, None}, lemmas.List.FromFn.{fill_by_all}}, specs.Prelude.{All, slice_index_or}},
+  cell_core.specs.{Grids.{GridValue}, declared.cell.{Label.{Label}, Cell.{Cell}}},
+  meaning.specs.{Text.{Text}, Column.{tabulate}},
+  table_meaning.specs.Table.{ColumnOf, NumberedTable, no_column, column_at, table_value},
+  format_meaning.specs.Told.{numbered, told},
+}
 use Rattle.cell_core.specs.declared.cell.Label.TheVariants as label
-use Rattle.cell_core.specs.declared.cell.Cell.{Cell}
 use Rattle.cell_core.specs.declared.cell.Cell.TheVariants as cell
-use Rattle.meaning.specs.Text.{Text}
-use Rattle.meaning.specs.Column.{tabulate}
-use Rattle.table_meaning.specs.Table.{ColumnOf, NumberedTable, no_column, column_at, table_value}
-use Rattle.format_meaning.specs.Told.{numbered, told}
 
 -- a list, place by place
 placed : {X : Type 0} (xs : List X) (n : ℕ) (d : X) → length xs ≡ n → tabulate n (λ k. get_or xs k d) ≡ xs

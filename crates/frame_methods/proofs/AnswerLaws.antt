@@ -1,66 +1,31 @@
 -- The answer of a call, by its method.
-use Rattle.std.proofs.Common.{◌≡◌, ◌∙◌, ℕ, ap, sym, subst, refl, Bool, true, false, List, Some, None, Result, Err, if◌then◌else◌}
-use Rattle.nullable_array.specs.declared.ops.Cumulation.{Cumulation}
-use Rattle.nullable_array.specs.declared.ops.Cumulation.TheVariants as cumulation
-use Rattle.nullable_array.specs.declared.ops.Reduction.TheVariants as reduction
-use Rattle.nullable_array.specs.Folds.{cumulation_of}
-use Rattle.meaning.specs.Text.{Text}
-use Rattle.meaning.specs.Fault.{FaultValue, not_built, then_value}
-use Rattle.table_meaning.specs.Table.{NumberedTable, Table, table_value}
-use Rattle.table_meaning.specs.Value.{Entry, Given, NamedGiven}
-use Rattle.form_meaning.specs.declared.Method.{Method}
-use Rattle.form_meaning.specs.declared.Parameter.{Parameter}
-use Rattle.form_meaning.specs.Signature.{parameters_of}
-use Rattle.form_meaning.specs.Binding.{bound, bound_of, on_bound, argument_at, arguments_from}
-use Rattle.method_meaning.specs.Methods.{each_column, cumulated, summary, answer_for, is_built}
-use Rattle.method_meaning.specs.Calls.{called}
-use Rattle.frame_store.specs.Shown.{Refuses, Makes}
-use Rattle.frame_store.specs.declared.arguments.Named.{Named}
-use Rattle.frame_store.specs.declared.fault.OpFault.{OpFault}
-use Rattle.frame_store.specs.World.{World, arguments_in, IsSettledWorld, Forms}
-use Rattle.frame_store.specs.declared.fault.OpFault.TheVariants.{Refused, NoMemory}
-use Rattle.frame_store.proofs.Settling.{longer_self}
-use Rattle.signatures.specs.Bound.{given_in, stands_at, IsBound, code_of}
-use Rattle.signatures.specs.declared.binding.Unbound.{Unbound}
-use Rattle.signatures.specs.declared.binding.Unbound.TheVariants.{NotTaken, NotListed}
-use Rattle.signatures.specs.declared.bound.Bound.{Bound}
-use Rattle.signatures.proofs.ToldLaws.{some_same}
-use Rattle.frame_methods.specs.Built.{column_method, method_of}
-use Rattle.frame_methods.specs.declared.built.ColumnMethod.TheVariants as columns
-use Rattle.frame_methods.specs.Calls.{answer_in}
-use Rattle.label_methods.specs.Named.{FindsPlaces}
-use Rattle.frame_methods.specs.Summaries.{summary_value}
-use Rattle.frame_methods.specs.declared.summaries.Summary.{Summary}
-use Rattle.frame_methods.specs.declared.summaries.Summary.TheVariants.{Reduced, Distinct}
-use Rattle.frame_methods.specs.declared.built.Built.{Built}
-use Rattle.frame_methods.specs.declared.built.Built.TheVariants as built
+use Rattle.{
+  std.proofs.Common.{◌≡◌, ◌∙◌, ℕ, ap, sym, subst, refl, true, List, Some, Result, Err, if◌then◌else◌},
+  meaning.specs.{Text.{Text}, Fault.{FaultValue, not_built, then_value}},
+  table_meaning.specs.{Table.{NumberedTable, Table, table_value}, Value.{Entry, Given, NamedGiven}},
+  form_meaning.specs.{declared.{Method.{Method}, Parameter.{Parameter}}, Signature.{parameters_of}, Binding.{bound, bound_of, on_bound, argument_at, arguments_from}},
+  method_meaning.specs.{Methods.{answer_for, is_built}, Calls.{called}},
+  frame_store.{specs.{Shown.{Refuses, Makes}, declared.{arguments.Named.{Named}, fault.OpFault.{OpFault, TheVariants.{Refused, NoMemory}}}, World.{World, arguments_in, IsSettledWorld, Forms}}, proofs.Settling.{longer_self}},
+  signatures.specs.{Bound.{given_in, stands_at, IsBound, code_of}, declared.{binding.Unbound.{Unbound, TheVariants.{NotTaken, NotListed}}, bound.Bound.{Bound}}},
+  frame_methods.specs.Calls.{answer_in},
+  label_methods.specs.Named.{FindsPlaces},
+}
 
--- a method that is built
-pub built_is : (yes : Bool) (m x : Method) → Some x ≡ (if yes then Some m else None) → (yes ≡ true) × (x ≡ m)
-built_is true m x is = (refl, some_same x m is)
-built_is false m x is = cc
+-- a method that is built answers by its bound arguments
+called_by : (m : Method) (ps : List Parameter) (gs : List NamedGiven) (name : Text) (t : Table) → is_built m ≡ true → ps ≡ parameters_of m → called (Some m) name gs t ≡ on_bound (bound_of ps gs) (λ given. answer_for m given t)
+called_by m ps gs name t built is =
+    ap (λ yes. if yes then on_bound (bound_of (parameters_of m) gs) (λ given. answer_for m given t) else Err not_built) built
+    ∙ ap (λ p. on_bound (bound_of p gs) (λ given. answer_for m given t)) (sym is)
 
-pub call_meant : (m : Method) (b : Built) (ps : List Parameter) (given : Bound) (w : World) (gs : List NamedGiven) (name : Text) (t : Table) → Some (method_of b) ≡ (if is_built m then Some m else None)
-    → ps ≡ parameters_of m → bound_of ps gs ≡ bound (given_in w given) → called (Some m) name gs t ≡ answer_for (method_of b) (given_in w given) t
-call_meant m b ps given w gs name t some is same =
-    let h = built_is (is_built m) m (method_of b) some in
-    ap (λ yes. if yes then on_bound (bound_of (parameters_of m) gs) (λ given. answer_for m given t) else Err not_built) h.0
-    ∙ ap (λ o. on_bound o (λ given. answer_for m given t)) (ap (λ p. bound_of p gs) (sym is) ∙ same)
-    ∙ ap (λ x. answer_for x (given_in w given) t) (sym h.1)
+pub call_meant : (m : Method) (ps : List Parameter) (given : Bound) (w : World) (gs : List NamedGiven) (name : Text) (t : Table) → is_built m ≡ true → ps ≡ parameters_of m → bound_of ps gs ≡ bound (given_in w given)
+    → called (Some m) name gs t ≡ answer_for m (given_in w given) t
+call_meant m ps given w gs name t built is same = called_by m ps gs name t built is ∙ ap (λ o. on_bound o (λ given. answer_for m given t)) same
 
 -- or whose arguments aren't bound
-pub call_unbound : (w : World) (m : Method) (b : Built) (ps : List Parameter) (args : List Named) (unbound : Unbound) (name : Text) (t : Table) → Some (method_of b) ≡ (if is_built m then Some m else None)
-    → ps ≡ parameters_of m → IsBound w ps args (Err unbound) → Refuses w.texts (code_of unbound) (called (Some m) name (arguments_in w args) t)
-call_unbound w m b ps args NotTaken name t some is same = (
-  ap (λ yes. if yes then on_bound (bound_of (parameters_of m) (arguments_in w args)) (λ given. answer_for m given t) else Err not_built) (built_is (is_built m) m (method_of b) some).0
-      ∙ ap (λ o. on_bound o (λ given. answer_for m given t)) (ap (λ p. bound_of p (arguments_in w args)) (sym is) ∙ same),
-  λ more. refl,
-)
-call_unbound w m b ps args NotListed name t some is same = (
-  ap (λ yes. if yes then on_bound (bound_of (parameters_of m) (arguments_in w args)) (λ given. answer_for m given t) else Err not_built) (built_is (is_built m) m (method_of b) some).0
-      ∙ ap (λ o. on_bound o (λ given. answer_for m given t)) (ap (λ p. bound_of p (arguments_in w args)) (sym is) ∙ same),
-  λ more. refl,
-)
+pub call_unbound : (w : World) (m : Method) (ps : List Parameter) (args : List Named) (unbound : Unbound) (name : Text) (t : Table) → is_built m ≡ true → ps ≡ parameters_of m → IsBound w ps args (Err unbound)
+    → Refuses w.texts (code_of unbound) (called (Some m) name (arguments_in w args) t)
+call_unbound w m ps args NotTaken name t built is same = (called_by m ps _ name t built is ∙ ap (λ o. on_bound o (λ given. answer_for m given t)) same, λ more. refl)
+call_unbound w m ps args NotListed name t built is same = (called_by m ps _ name t built is ∙ ap (λ o. on_bound o (λ given. answer_for m given t)) same, λ more. refl)
 
 -- the answer of a method that is known, by its own parameters
 abbrev pub answer_of : World → Method → Bound → Table → Result Entry FaultValue
@@ -93,19 +58,3 @@ lost_forms w t fault lost meant go was finds settled = at fault (subst (λ (r : 
     at : (f : OpFault) → FindsPlaces w.texts t (Err f) meant → Forms (Err f) (then_value meant go) w w
     at (Refused code) m = (((ap (λ (r : Result (List ℕ) FaultValue). then_value r go) m.0.0, m.0.1), refl), longer_self w.texts, settled)
     at NoMemory m = (refl, longer_self w.texts, settled)
-
--- the summaries
-pub summary_meant : (op : Summary) (gs : List Given) (t : Table) → summary (summary_value op) t ≡ answer_for (method_of (built.Summary op)) gs t
-summary_meant (Reduced reduction.Sum) gs t = refl
-summary_meant (Reduced reduction.Min) gs t = refl
-summary_meant (Reduced reduction.Max) gs t = refl
-summary_meant (Reduced reduction.Any) gs t = refl
-summary_meant (Reduced reduction.All) gs t = refl
-summary_meant (Reduced reduction.Count) gs t = refl
-summary_meant Distinct gs t = refl
-
--- the running sums, least and greatest cells
-pub cumulated_meant : (op : Cumulation) (gs : List Given) (t : Table) → each_column (cumulated (cumulation_of op)) t ≡ answer_for (column_method (columns.Cumulated op)) gs t
-cumulated_meant cumulation.Sum gs t = refl
-cumulated_meant cumulation.Min gs t = refl
-cumulated_meant cumulation.Max gs t = refl

@@ -1,25 +1,15 @@
 -- What is made, as an answer.
-use Rattle.std.proofs.Common.{◌≡◌, ◌∙◌, List, ap, sym, subst, Result, Ok, Err}
-use Rattle.std.specs.Prelude.{IfOk}
-use Rattle.cell_core.specs.Texts.{IsLonger}
-use Rattle.cell_core.specs.declared.cell.Cell.{Cell}
-use Rattle.meaning.specs.Text.{Text}
-use Rattle.meaning.specs.Cell.{CellValue, na_cell, datum}
-use Rattle.meaning.specs.Fault.{FaultValue}
-use Rattle.table_meaning.specs.Settled.{IsSettled}
-use Rattle.table_meaning.specs.Table.{NumberedTable, Table, table_value, no_table}
+use Rattle.{
+  std.{proofs.Common.{◌≡◌, ◌∙◌, List, ap, sym, subst, Result, Ok, Err}, specs.Prelude.{IfOk}},
+  cell_core.specs.{Texts.{IsLonger}, declared.cell.Cell.{Cell}},
+  meaning.specs.{Text.{Text}, Cell.{CellValue, na_cell, datum}, Fault.{FaultValue}},
+  table_meaning.specs.{Settled.{IsSettled}, Table.{NumberedTable, Table, table_value, no_table}, Value.{Entry}},
+  form_parts.specs.Makes.{MakesBy},
+  frame_store.{specs.{declared.{arguments.Value.{Value}, fault.OpFault.{OpFault, TheVariants.{Refused, NoMemory}}}, Objects.{Tables}, Shown.{shown, Makes, FormAnswers}}, proofs.Settling.{seen_later}},
+  frame_methods.specs.{declared.made.Made.{Made}, Made.{made_value}},
+}
 use Rattle.table_meaning.specs.Value as value
-use Rattle.table_meaning.specs.Value.{Entry}
-use Rattle.form_parts.specs.Makes.{MakesBy}
-use Rattle.frame_store.specs.declared.arguments.Value.{Value}
-use Rattle.frame_store.specs.declared.fault.OpFault.{OpFault}
-use Rattle.frame_store.specs.declared.fault.OpFault.TheVariants.{Refused, NoMemory}
-use Rattle.frame_store.specs.Objects.{Tables}
-use Rattle.frame_store.specs.Shown.{shown, Makes, FormAnswers}
-use Rattle.frame_store.proofs.Settling.{seen_later}
-use Rattle.frame_methods.specs.declared.made.Made.{Made}
 use Rattle.frame_methods.specs.declared.made.Made.TheVariants as made
-use Rattle.frame_methods.specs.Made.{made_value}
 
 -- a refusal
 pub refused_made : (earlier texts : List Text) (tables : Tables) (m : Result Made OpFault) (result : Result Value OpFault) (fault : OpFault) (meant : Result Entry FaultValue)

@@ -1,27 +1,15 @@
 -- Columns that are made one by one.
-use Rattle.std.proofs.Common.{◌≡◌, ◌∙◌, refl, ap, sym, subst, ℕ, suc, ◌+◌, ◌<◌, List, [], ◌∷◌, ◌++◌, map, drop, length, append-nil, length-append, All, Result, Ok, Err, slice_index_or, slice_get, Some, arith}
-use Rattle.std.proofs.lemmas.List.{map-append}
-use Rattle.std.proofs.lemmas.List.Elements.{All-append, All-cons, All-nil}
-use Rattle.std.proofs.lemmas.Option.{slice_get-get_or}
-use Rattle.cell_core.specs.declared.cell.Cell.{Cell}
-use Rattle.meaning.specs.Text.{Text}
-use Rattle.meaning.specs.Cell.{CellValue, IsLonger, AreGiven}
-use Rattle.meaning.specs.Fault.{FaultValue}
-use Rattle.column_core.specs.Columns.{CellColumn}
-use Rattle.column_core.specs.Blocks.{CellBlock}
-use Rattle.table_meaning.specs.Settled.{IsSettled}
-use Rattle.table_meaning.specs.Table.{ColumnOf, NumberedTable, column_value, column_at, no_column, table_value}
-use Rattle.form_meaning.specs.Finish.{try_all}
-use Rattle.frame_store.specs.Parts.{block_column, single_block, IsSingle, table_column}
-use Rattle.frame_store.specs.Shown.{columns_value, cells_value}
-use Rattle.frame_store.proofs.Settling.{settled_later, seen_later, cells_settled, cells_given, column_settled, columns_settled, columns_given, columns_part, longer_self, longer_twice}
-use Rattle.label_methods.specs.Columns.{with_front}
-use Rattle.label_methods.proofs.FrontLaws.{front_next, front_fails}
-use Rattle.frame_methods.specs.Columns.{IsFront, MakesColumn, MakesColumns}
-use Rattle.meaning.specs.FaultOf.{fault_of}
-use Rattle.frame_store.specs.declared.fault.OpFault.{OpFault}
-use Rattle.frame_store.specs.declared.fault.OpFault.TheVariants.{Refused, NoMemory}
-use Rattle.label_methods.proofs.Lists.{drop_next, drop_all}
+use Rattle.{
+  std.proofs.{Common.{◌≡◌, ◌∙◌, refl, ap, sym, subst, ℕ, suc, ◌+◌, ◌<◌, List, [], ◌∷◌, ◌++◌, map, drop, length, append-nil, length-append, All, Result, Ok, Err, slice_index_or, slice_get, Some, arith}, lemmas.{List.{map-append, Elements.{All-append, All-cons, All-nil}}, Option.{slice_get-get_or}}},
+  cell_core.specs.declared.cell.Cell.{Cell},
+  meaning.specs.{Text.{Text}, Cell.{CellValue, IsLonger, AreGiven}, Fault.{FaultValue}, FaultOf.{fault_of}},
+  column_core.specs.{Columns.{CellColumn}, Blocks.{CellBlock}},
+  table_meaning.specs.{Settled.{IsSettled}, Table.{ColumnOf, NumberedTable, column_value, column_at, no_column, table_value}},
+  form_meaning.specs.Finish.{try_all},
+  frame_store.{specs.{Parts.{block_column, single_block, IsSingle, table_column}, Shown.{columns_value, cells_value}, declared.fault.OpFault.{OpFault, TheVariants.{Refused, NoMemory}}}, proofs.Settling.{settled_later, seen_later, cells_settled, cells_given, column_settled, columns_settled, columns_given, columns_part, longer_self, longer_twice}},
+  label_methods.{specs.Columns.{with_front}, proofs.{FrontLaws.{front_next, front_fails}, Lists.{drop_next, drop_all}}},
+  frame_methods.specs.Columns.{IsFront, MakesColumn, MakesColumns},
+}
 
 -- what was given stays so
 pub given_later : (old new : List Text) (cells : List Cell) → IsLonger old new → AreGiven old cells → AreGiven new cells

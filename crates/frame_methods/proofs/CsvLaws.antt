@@ -1,22 +1,16 @@
 -- The CSV text of an object is that of its table.
-use Rattle.std.proofs.Common.{◌≡◌, ◌∙◌, ◌<◌, refl, ap, sym, nat_lt, Bool, true, false, List, [], map, length, slice_get, Some, Ok, Err, arith, if◌then◌else◌}
-use Rattle.std.proofs.lemmas.Bool.Decides.{nat_tests}
-use Rattle.std.proofs.lemmas.List.{length-map}
-use Rattle.std.proofs.lemmas.Option.{get_or_from_slice_get}
-use Rattle.cell_core.specs.declared.cell.TextId.{TextId}
+use Rattle.{
+  std.proofs.{Common.{◌≡◌, ◌∙◌, ◌<◌, refl, ap, sym, nat_lt, Bool, true, false, List, [], map, length, slice_get, Some, Ok, Err, arith, if◌then◌else◌}, lemmas.{Bool.Decides.{nat_tests}, List.{length-map}, Option.{get_or_from_slice_get}}},
+  cell_core.specs.declared.cell.TextId.{TextId},
+  meaning.specs.{Text.{Text}, Cell.{CellValue, datum, text_cell}, Fault.{bad_value, no_columns}},
+  table_meaning.specs.{Table.{NumberedTable, column_value, table_value}, Valid.{IsWhole}, Value.{cell as one_cell}},
+  method_meaning.specs.Methods.{csv_answer},
+  multi_index.specs.Axes.{HaveLevels},
+  format_meaning.specs.{Told.{told}, CsvWrite.{csv_text_of}},
+  frame_format.proofs.WholeLaws.{told_whole},
+  frame_store.specs.Grids.{grid_of},
+}
 use Rattle.cell_core.specs.declared.cell.Cell.TheVariants as cell
-use Rattle.meaning.specs.Text.{Text}
-use Rattle.meaning.specs.Cell.{CellValue, datum, text_cell}
-use Rattle.meaning.specs.Fault.{bad_value, no_columns}
-use Rattle.table_meaning.specs.Table.{NumberedTable, column_value, table_value}
-use Rattle.table_meaning.specs.Valid.{IsWhole}
-use Rattle.table_meaning.specs.Value.{cell as one_cell}
-use Rattle.method_meaning.specs.Methods.{csv_answer}
-use Rattle.multi_index.specs.Axes.{HaveLevels}
-use Rattle.format_meaning.specs.Told.{told}
-use Rattle.format_meaning.specs.CsvWrite.{csv_text_of}
-use Rattle.frame_format.proofs.WholeLaws.{told_whole}
-use Rattle.frame_store.specs.Grids.{grid_of}
 
 pub csv_seen : (texts later : List Text) (index : Bool) (t : NumberedTable) (id : TextId) (words : Text) → IsWhole t → HaveLevels (length t.level_names) t.labels → words ≡ csv_text_of index (told texts (grid_of t))
     → slice_get later id.0 ≡ Some words → datum later (cell.Text id) ≡ text_cell (csv_text_of index (table_value texts t))

@@ -1,46 +1,21 @@
 -- Numbers that tell rows apart, and marks of the rows that an earlier row equals.
-use Rattle.std.proofs.Common.{◌≡◌, ◌∙◌, append_assoc, true≢false, refl, ap, sym, subst, arith, rules, ℕ, zero, suc, ◌+◌, ◌<◌, ◌≤◌, Bool, true, false, ◌&&◌, ◌||◌, nat_eq, List, [], ◌∷◌, ◌++◌, map, length, drop, set, slice_index_or, slice_get, All, Some, None, Ok, if◌then◌else◌}
-use Rattle.std.specs.Prelude.{slice_index, not}
-use Rattle.std.specs.Bool.{Decides}
-use Rattle.std.specs.Cmp.Lexicographic.{pointwise}
-use Rattle.std.specs.List.{list_any, range_with_len, IsDistinct}
-use Rattle.indexmap.specs.IndexSet.{insert_key}
-use Rattle.cell_core.specs.Texts.{AreDistinct}
-use Rattle.cell_core.specs.declared.cell.Cell.{Cell}
+use Rattle.{
+  std.{proofs.{Common.{◌≡◌, ◌∙◌, append_assoc, true≢false, refl, ap, sym, subst, arith, rules, ℕ, zero, suc, ◌+◌, ◌<◌, ◌≤◌, Bool, true, false, ◌&&◌, ◌||◌, nat_eq, List, [], ◌∷◌, ◌++◌, map, length, drop, set, slice_index_or, slice_get, All, Some, None, Ok, if◌then◌else◌}, Math.ListN.{get_or-map}, lemmas.{Bool.Decides.{nat_tests, same_from_decides, Decides-eqb, Decides-like}, List.{length-map, length-set, drop_more, get_or-set_same, get_or-set_other, Elements.{All-cons, All-nil, All-map, All-get_or}, Folds.{list_any-append}}, Map.Keys.{apart_from_distinct}, Option.{slice_get_within, get_or_from_slice_get}}}, specs.{Prelude.{slice_index, not}, Bool.{Decides}, Cmp.Lexicographic.{pointwise}, List.{list_any, range_with_len, IsDistinct}}},
+  indexmap.specs.IndexSet.{insert_key},
+  cell_core.specs.{Texts.{AreDistinct}, declared.{cell.{Cell.{Cell}, Kind.TheVariants.{Boolean}}, grid.Shape.TheVariants.{Series}}},
+  column_core.specs.Columns.{CellColumn},
+  meaning.specs.{Cell.{CellValue, na_cell, truth_cell, datum, IsGiven, AreGiven}, Column.{tabulate}, Reduce.{same_cell}, Text.{Text}},
+  multi_index.specs.Axes.{AxisValue},
+  table_meaning.specs.{Settled.{IsSettled}, Table.{ColumnOf, NumberedTable, Table, column_at, no_column, table_value, tuple_value}, Value.{table}},
+  form_meaning.specs.Finish.{within_limits},
+  method_meaning.specs.Rows.{cells_by_row, marks_series, repeats},
+  column_operators.specs.Marks.{same_number},
+  frame_store.{specs.{Parts.{table_with, axis_of, table_column}, Shown.{Makes}, World.{IsKnownTable}}, proofs.Settling.{columns_part, columns_given, level_names_part, labels_part, columns_settled, table_settled}},
+  selections.{specs.Across.{cell_across}, proofs.{AnswerLaws.{column_seen}, PickedLaws.{list_is}}},
+  label_methods.{specs.Rows.{row_cells}, proofs.{RowLaws.{cells_in, by_rows}, TableLaws.{limited_within}}},
+  frame_methods.{specs.Rows.{AreNumbers, duplicated_among}, proofs.ListedLaws.{cell_by_number}},
+}
 use Rattle.cell_core.specs.declared.cell.Cell.TheVariants as cell
-use Rattle.cell_core.specs.declared.cell.Kind.TheVariants.{Boolean}
-use Rattle.cell_core.specs.declared.grid.Shape.TheVariants.{Series}
-use Rattle.column_core.specs.Columns.{CellColumn}
-use Rattle.meaning.specs.Cell.{CellValue, na_cell, truth_cell, datum, IsGiven, AreGiven}
-use Rattle.meaning.specs.Column.{tabulate}
-use Rattle.meaning.specs.Reduce.{same_cell}
-use Rattle.meaning.specs.Text.{Text}
-use Rattle.multi_index.specs.Axes.{AxisValue}
-use Rattle.table_meaning.specs.Settled.{IsSettled}
-use Rattle.table_meaning.specs.Table.{ColumnOf, NumberedTable, Table, column_at, no_column, table_value, tuple_value}
-use Rattle.table_meaning.specs.Value.{table}
-use Rattle.form_meaning.specs.Finish.{within_limits}
-use Rattle.method_meaning.specs.Rows.{cells_by_row, marks_series, repeats}
-use Rattle.nullable_array.specs.Marks.{same_number}
-use Rattle.frame_store.specs.Parts.{table_with, axis_of, table_column}
-use Rattle.frame_store.specs.Shown.{Makes}
-use Rattle.frame_store.specs.World.{IsKnownTable}
-use Rattle.frame_store.proofs.Settling.{columns_part, columns_given, level_names_part, labels_part, columns_settled, table_settled}
-use Rattle.selections.specs.Across.{cell_across}
-use Rattle.selections.proofs.AnswerLaws.{column_seen}
-use Rattle.selections.proofs.PickedLaws.{list_is}
-use Rattle.std.proofs.Math.ListN.{get_or-map}
-use Rattle.std.proofs.lemmas.Bool.Decides.{nat_tests, same_from_decides, Decides-eqb, Decides-like}
-use Rattle.std.proofs.lemmas.List.{length-map, length-set, drop_more, get_or-set_same, get_or-set_other}
-use Rattle.std.proofs.lemmas.List.Elements.{All-cons, All-nil, All-map, All-get_or}
-use Rattle.std.proofs.lemmas.List.Folds.{list_any-append}
-use Rattle.std.proofs.lemmas.Map.Keys.{apart_from_distinct}
-use Rattle.std.proofs.lemmas.Option.{slice_get_within, get_or_from_slice_get}
-use Rattle.label_methods.specs.Rows.{row_cells}
-use Rattle.frame_methods.specs.Rows.{AreNumbers, duplicated_among}
-use Rattle.frame_methods.proofs.ListedLaws.{cell_by_number}
-use Rattle.label_methods.proofs.RowLaws.{cells_in, by_rows}
-use Rattle.label_methods.proofs.TableLaws.{limited_within}
 
 -- a number and a cell as a key
 abbrev pub Key : Type 0

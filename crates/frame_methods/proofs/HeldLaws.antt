@@ -1,16 +1,12 @@
 -- The cells that an operation holds were given.
-use Rattle.std.proofs.Common.{ℕ, List, [], ◌∷◌, Some}
-use Rattle.std.proofs.lemmas.List.Elements.{All-cons, All-nil}
-use Rattle.cell_core.specs.declared.cell.Cell.{Cell}
-use Rattle.meaning.specs.Text.{Text}
-use Rattle.meaning.specs.Cell.{datum, IsGiven, AreGiven}
-use Rattle.table_meaning.specs.Settled.{IsSettled}
-use Rattle.table_meaning.specs.Value.{scalar_in}
-use Rattle.frame_store.specs.Arguments.{arguments_of}
-use Rattle.frame_store.specs.Objects.{Tables}
-use Rattle.signatures.specs.Bound.{Tells}
-use Rattle.signatures.specs.declared.bound.Bound.{Bound}
-use Rattle.signatures.proofs.ToldLaws.{scalar_given}
+use Rattle.{
+  std.proofs.{Common.{ℕ, List, [], ◌∷◌, Some}, lemmas.List.Elements.{All-cons, All-nil}},
+  cell_core.specs.declared.cell.Cell.{Cell},
+  meaning.specs.{Text.{Text}, Cell.{datum, IsGiven, AreGiven}},
+  table_meaning.specs.{Settled.{IsSettled}, Value.{scalar_in}},
+  frame_store.specs.{Arguments.{arguments_of}, Objects.{Tables}},
+  signatures.{specs.{Bound.{Tells}, declared.bound.Bound.{Bound}}, proofs.ToldLaws.{scalar_given}},
+}
 
 pub none_held : (texts : List Text) → AreGiven texts []
 none_held texts = All-nil (IsGiven texts)

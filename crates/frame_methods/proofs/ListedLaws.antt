@@ -1,43 +1,21 @@
 -- Cells that are in a list, by number and with texts.
-use Rattle.std.proofs.Common.{◌≡◌, ◌∙◌, ◌<◌, ◌+◌, refl, ap, sym, subst, ℕ, suc, Bool, true, false, ◌||◌, cond, List, [], ◌∷◌, ◌++◌, map, length, drop, get_or, Option, Some, None, IfSome, Result, Ok, arith, rules}
-use Rattle.std.specs.Option.{option_map}
-use Rattle.std.specs.Bool.{Decides}
-use Rattle.std.specs.List.{list_any}
-use Rattle.std.proofs.lemmas.List.{map-append}
-use Rattle.std.proofs.lemmas.List.Folds.{list_any-append}
-use Rattle.std.proofs.lemmas.List.Elements.{All-append, All-cons, All-nil, All-map}
-use Rattle.cell_core.specs.declared.cell.Cell.{Cell}
+use Rattle.{
+  std.{proofs.{Common.{◌≡◌, ◌∙◌, ◌<◌, ◌+◌, refl, ap, sym, subst, ℕ, suc, Bool, true, false, ◌||◌, cond, List, [], ◌∷◌, ◌++◌, map, length, drop, get_or, Option, Some, None, IfSome, Result, Ok, arith, rules}, lemmas.List.{map-append, Folds.{list_any-append}, Elements.{All-append, All-cons, All-nil, All-map}}}, specs.{Option.{option_map}, Bool.{Decides}, List.{list_any}}},
+  cell_core.specs.{declared.cell.{Cell.{Cell}, Kind.TheVariants.{Boolean}, Label.{Label}}, Texts.{AreDistinct}},
+  form_parts.{specs.Labels.{label_of}, proofs.LabelLaws.{same_by_number}},
+  meaning.specs.{Text.{Text}, Cell.{CellValue, na_cell, truth_cell, datum, label_datum, IsGiven, AreGiven}, Operator.{cell_label}, Reduce.{same_cell}, Fault.{FaultValue}},
+  column_core.specs.Columns.{CellColumn},
+  table_meaning.specs.{Settled.{IsSettled}, Table.{Table, column_value}, Value.{Entry, GivenList}},
+  form_meaning.specs.{Binding.{same_label}, Make.{on}, Select.{cells_of}},
+  method_meaning.specs.Methods.{is_in, mapped, each_column},
+  frame_store.{specs.{Objects.{Tables}, Arguments.{items_of}, Shown.{cells_value}, declared.arguments.Item.{Item}, Parts.{table_column}}, proofs.Settling.{cell_settled, cell_given}},
+  signatures.{proofs.ScalarLaws.{scalars_are}, specs.Scalars.{scalars, with_cell}},
+  label_methods.proofs.ScalarLaws.{IsScalarOf, scalars_from},
+  frame_methods.specs.Listed.{noted, listed_column},
+  column_operators.specs.Marks.{same_number, listed_mark},
+}
 use Rattle.cell_core.specs.declared.cell.Cell.TheVariants as cell
-use Rattle.cell_core.specs.declared.cell.Kind.TheVariants.{Boolean}
-use Rattle.cell_core.specs.declared.cell.Label.{Label}
 use Rattle.cell_core.specs.declared.cell.Label.TheVariants as label
-use Rattle.cell_core.specs.Texts.{AreDistinct}
-use Rattle.form_parts.specs.Labels.{label_of}
-use Rattle.form_parts.proofs.LabelLaws.{same_by_number}
-use Rattle.meaning.specs.Text.{Text}
-use Rattle.meaning.specs.Cell.{CellValue, na_cell, truth_cell, datum, label_datum, IsGiven, AreGiven}
-use Rattle.meaning.specs.Operator.{cell_label}
-use Rattle.meaning.specs.Reduce.{same_cell}
-use Rattle.meaning.specs.Fault.{FaultValue}
-use Rattle.column_core.specs.Columns.{CellColumn}
-use Rattle.table_meaning.specs.Settled.{IsSettled}
-use Rattle.table_meaning.specs.Table.{Table, column_value}
-use Rattle.table_meaning.specs.Value.{Entry, GivenList}
-use Rattle.form_meaning.specs.Binding.{same_label}
-use Rattle.form_meaning.specs.Make.{on}
-use Rattle.form_meaning.specs.Select.{cells_of}
-use Rattle.method_meaning.specs.Methods.{is_in, mapped, each_column}
-use Rattle.frame_store.specs.Objects.{Tables}
-use Rattle.frame_store.specs.Arguments.{items_of}
-use Rattle.frame_store.specs.Shown.{cells_value}
-use Rattle.frame_store.specs.declared.arguments.Item.{Item}
-use Rattle.frame_store.proofs.Settling.{cell_settled, cell_given}
-use Rattle.signatures.proofs.ScalarLaws.{scalars_are}
-use Rattle.frame_store.specs.Parts.{table_column}
-use Rattle.signatures.specs.Scalars.{scalars, with_cell}
-use Rattle.label_methods.proofs.ScalarLaws.{IsScalarOf, scalars_from}
-use Rattle.frame_methods.specs.Listed.{noted, listed_column}
-use Rattle.nullable_array.specs.Marks.{same_number, listed_mark}
 
 pub same_decides : (a b : Cell) → Decides (same_number a b) (a ≡ b)
 same_decides a b = search rules

@@ -1,23 +1,17 @@
 -- Objects under other headings.
-use Rattle.std.proofs.Common.{◌≡◌, ◌∙◌, refl, ap, sym, subst, pos, List, [], ◌∷◌, ◌++◌, length, map, Option, Some, None, slice_index_or, unwrap_or, Result}
-use Rattle.cell_core.specs.declared.cell.Label.{Label}
+use Rattle.{
+  std.proofs.Common.{◌≡◌, ◌∙◌, refl, ap, sym, subst, pos, List, [], ◌∷◌, ◌++◌, length, map, Option, Some, None, slice_index_or, unwrap_or, Result},
+  cell_core.specs.declared.{cell.Label.{Label}, grid.Shape.TheVariants.{Frame}},
+  meaning.specs.{Text.{Text}, Cell.{LabelValue, int, label_datum}, Fault.{FaultValue}},
+  table_meaning.specs.{Settled.{IsSettled}, Table.{NumberedTable, Table, table_value, heading_value}, Value.{Entry}},
+  form_meaning.specs.Finish.{limited},
+  method_meaning.specs.Methods.{renamed_series},
+  frame_store.specs.{declared.{arguments.Value.{Value}, fault.OpFault.{OpFault}}, Parts.{HeadingList}, Shown.{Shown, headings_value, FormAnswers}},
+  selections.specs.Picked.{headed_by},
+  label_methods.specs.Labels.{column_tuple},
+}
 use Rattle.cell_core.specs.declared.cell.Label.TheVariants as label
-use Rattle.cell_core.specs.declared.grid.Shape.TheVariants.{Frame}
-use Rattle.meaning.specs.Text.{Text}
-use Rattle.meaning.specs.Cell.{LabelValue, int, label_datum}
-use Rattle.meaning.specs.Fault.{FaultValue}
-use Rattle.table_meaning.specs.Settled.{IsSettled}
-use Rattle.table_meaning.specs.Table.{NumberedTable, Table, table_value, heading_value}
-use Rattle.table_meaning.specs.Value.{Entry}
-use Rattle.form_meaning.specs.Finish.{limited}
 use Rattle.method_meaning.specs.Methods as meant
-use Rattle.method_meaning.specs.Methods.{renamed_series}
-use Rattle.frame_store.specs.declared.arguments.Value.{Value}
-use Rattle.frame_store.specs.declared.fault.OpFault.{OpFault}
-use Rattle.frame_store.specs.Parts.{HeadingList}
-use Rattle.frame_store.specs.Shown.{Shown, headings_value, FormAnswers}
-use Rattle.selections.specs.Picked.{headed_by}
-use Rattle.label_methods.specs.Labels.{column_tuple}
 
 -- a heading that is read of what is settled is settled
 pub named_settled : {A : Type 0} (view : List Text → A) (read : A → Option LabelValue) (texts : List Text) (name : Option Label) (labels : List (Option Label))

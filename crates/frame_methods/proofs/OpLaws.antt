@@ -1,37 +1,20 @@
 -- What is made of a column, with texts.
-use Rattle.std.proofs.Common.{◌≡◌, ◌∙◌, refl, ap, sym, subst, ℕ, suc, ◌+◌, ◌-◌, ℤ, pos, negsuc, nat_lt, Bool, true, false, List, [], ◌∷◌, ◌++◌, map, length, Result, Ok, Err, Option, Some, None, slice_index_or, if◌then◌else◌}
-use Rattle.std.specs.List.{range_with_len}
-use Rattle.std.proofs.lemmas.List.{length-map}
-use Rattle.std.proofs.lemmas.List.FromFn.{length-map-range_with_len}
-use Rattle.std.proofs.lemmas.List.Elements.{All-map}
-use Rattle.std.proofs.lemmas.Simd.{map-map}
-use Rattle.std.proofs.Math.ListN.{get_or-map}
-use Rattle.cell_core.specs.declared.cell.Cell.{Cell}
+use Rattle.{
+  std.{proofs.{Common.{◌≡◌, ◌∙◌, refl, ap, sym, subst, ℕ, suc, ◌+◌, ◌-◌, ℤ, pos, negsuc, nat_lt, Bool, true, false, List, [], ◌∷◌, ◌++◌, map, length, Result, Ok, Err, IfOk, Option, Some, None, slice_index_or, if◌then◌else◌}, lemmas.{List.{length-map, FromFn.{length-map-range_with_len}, Elements.{All-map}}, Simd.{map-map}}, Math.ListN.{get_or-map}}, specs.List.{range_with_len}},
+  cell_core.specs.declared.cell.{Cell.{Cell}, Kind.{Kind, TheVariants.{Int64, Boolean}}},
+  form_parts.specs.Faults.{column_result},
+  meaning.specs.{Text.{Text}, Cell.{CellValue, na_cell, datum, holds, IsGiven, AreGiven}, Column.{ColumnValue, ColumnFault, kind_mismatch, not_cast, before_rows, then_rows, try_each, column_of, tabulate, shifted, shifted_row}, Cast.{cast_cell, cast_column}, Cumulate.{Cumulation, running, cumulation_cell, cumulation_takes, cumulate_column}, Fault.{wrong_kind}},
+  column_core.specs.Columns.{CellColumn},
+  nullable_array.specs.{Answers.{Answers}, declared.ops.ArrayFault.{ArrayFault, TheVariants.{KindMismatch, ZeroDivision, NotCast, NoMemory as OutOfMemory}}},
+  column_operators.specs.Marks.{missing_mark, filled_cell},
+  table_meaning.specs.Table.{column_value},
+  form_meaning.specs.Finish.{made_column},
+  method_meaning.specs.Methods.{filled, filled_column, mapped, shifted_column},
+  frame_store.{specs.{declared.fault.OpFault.{OpFault}, Shown.{cells_value}, Parts.{table_column}}, proofs.Settling.{settled_by, cells_settled, cells_given}},
+  frame_methods.specs.{Columns.{MakesColumn}, Marks.{mark_of, marked_column}},
+}
 use Rattle.cell_core.specs.declared.cell.Cell.TheVariants as cell
-use Rattle.cell_core.specs.declared.cell.Kind.{Kind}
-use Rattle.cell_core.specs.declared.cell.Kind.TheVariants.{Int64, Boolean}
-use Rattle.form_parts.specs.Faults.{refusal_of}
-use Rattle.meaning.specs.Text.{Text}
-use Rattle.meaning.specs.Cell.{CellValue, na_cell, datum, holds, IsGiven, AreGiven}
-use Rattle.meaning.specs.Column.{ColumnValue, ColumnFault, kind_mismatch, not_cast, before_rows, then_rows, try_each, column_of, tabulate, shifted, shifted_row}
-use Rattle.meaning.specs.Cast.{cast_cell, cast_column}
-use Rattle.meaning.specs.Cumulate.{Cumulation, running, cumulation_cell, cumulation_takes, cumulate_column}
-use Rattle.meaning.specs.Fault.{wrong_kind}
-use Rattle.column_core.specs.Columns.{CellColumn}
 use Rattle.column_core.specs.Columns as kernel
-use Rattle.nullable_array.specs.Answers.{IsRefusal}
-use Rattle.nullable_array.specs.declared.ops.ArrayFault.{ArrayFault}
-use Rattle.nullable_array.specs.declared.ops.ArrayFault.TheVariants.{KindMismatch, ZeroDivision, NotCast, NoMemory as OutOfMemory}
-use Rattle.table_meaning.specs.Table.{column_value}
-use Rattle.form_meaning.specs.Finish.{made_column}
-use Rattle.method_meaning.specs.Methods.{filled, filled_column, mapped, shifted_column}
-use Rattle.frame_store.specs.declared.fault.OpFault.{OpFault}
-use Rattle.frame_store.specs.Shown.{cells_value}
-use Rattle.frame_store.proofs.Settling.{settled_by, cells_settled, cells_given}
-use Rattle.nullable_array.specs.Marks.{missing_mark, filled_cell}
-use Rattle.frame_methods.specs.Columns.{MakesColumn}
-use Rattle.frame_store.specs.Parts.{table_column}
-use Rattle.frame_methods.specs.Marks.{mark_of, marked_column}
 
 -- cells by themselves
 map_values : (f : CellValue → CellValue) (made : Cell → Cell) (texts : List Text) → ((c : Cell) → f (datum texts c) ≡ datum texts (made c)) → (cs : List Cell) → map f (map (datum texts) cs) ≡ map (datum texts) (map made cs)
@@ -138,11 +121,15 @@ column_cells : (kind : Kind) (refuse : ℕ → ColumnFault) (made : Result (List
 column_cells kind refuse (Ok cells) col is = let same : record { kind = kind; cells = cells } ≡ col = cc in ap (λ (v : ColumnValue). Ok v.cells) same
 column_cells kind refuse (Err row) col is = cc
 
-pub cast_rows : (kind : Kind) (old new : List Text) (a made : CellColumn) → cast_column kind (kernel.column_value old a) ≡ Ok (kernel.column_value new made) → length made.cells ≡ length a.cells
+cast_rows : (kind : Kind) (old new : List Text) (a made : CellColumn) → cast_column kind (kernel.column_value old a) ≡ Ok (kernel.column_value new made) → length made.cells ≡ length a.cells
 cast_rows kind old new a made is =
     sym (length-map made.cells (datum new))
     ∙ each_length (cast_cell kind) 0 (map (datum old) a.cells) (map (datum new) made.cells) (column_cells kind not_cast (try_each (cast_cell kind) 0 (map (datum old) a.cells)) (kernel.column_value new made) is)
     ∙ length-map a.cells (datum old)
+
+pub cast_count : (kind : Kind) (old new : List Text) (a : CellColumn) (made : Result CellColumn ArrayFault) → Answers new made (cast_column kind (kernel.column_value old a)) → IfOk made (λ c. length c.cells ≡ length a.cells)
+cast_count kind old new a (Ok c) is = cast_rows kind old new a c is
+cast_count kind old new a (Err fault) is = tt
 
 -- a cumulation
 running_length : (f : List CellValue → CellValue) (before cs : List CellValue) → length (running f before cs) ≡ length cs
@@ -153,19 +140,28 @@ cumulated_cells : (op : Cumulation) (takes : Bool) (cells : List CellValue) (col
 cumulated_cells op true cells col is = let same : record { kind = Int64; cells = running (cumulation_cell op) [] cells } ≡ col = cc in ap (λ (v : ColumnValue). v.cells) (sym same)
 cumulated_cells op false cells col is = cc
 
-pub cumulated_rows : (op : Cumulation) (texts : List Text) (a made : CellColumn) → cumulate_column op (kernel.column_value texts a) ≡ Ok (kernel.column_value texts made) → length made.cells ≡ length a.cells
+cumulated_rows : (op : Cumulation) (texts : List Text) (a made : CellColumn) → cumulate_column op (kernel.column_value texts a) ≡ Ok (kernel.column_value texts made) → length made.cells ≡ length a.cells
 cumulated_rows op texts a made is =
     sym (length-map made.cells (datum texts))
     ∙ ap length (cumulated_cells op (cumulation_takes op a.kind) (map (datum texts) a.cells) (kernel.column_value texts made) is)
     ∙ running_length (cumulation_cell op) [] (map (datum texts) a.cells)
     ∙ length-map a.cells (datum texts)
 
--- a kernel that makes no column
-pub op_refused : (texts : List Text) (fault : OpFault) (array : ArrayFault) (whole : Result ColumnValue ColumnFault) → fault ≡ refusal_of array → IsRefusal array whole → MakesColumn texts (Err fault) (made_column whole)
-op_refused texts fault array whole is refused = subst (λ f. MakesColumn texts (Err f) (made_column whole)) (sym is) (by_fault array refused)
+pub cumulated_count : (op : Cumulation) (texts : List Text) (a : CellColumn) (made : Result CellColumn ArrayFault) → Answers texts made (cumulate_column op (kernel.column_value texts a)) → IfOk made (λ c. length c.cells ≡ length a.cells)
+cumulated_count op texts a (Ok c) is = cumulated_rows op texts a c is
+cumulated_count op texts a (Err fault) is = tt
+
+-- a kernel's column or refusal, as that of a form
+pub kept_by : (P : CellColumn → Type 0) (made : Result CellColumn ArrayFault) (r : Result CellColumn OpFault) → r ≡ column_result made → IfOk made P → IfOk r P
+kept_by P (Ok c) r is h = subst (λ r. IfOk r P) (sym is) h
+kept_by P (Err fault) r is h = subst (λ r. IfOk r P) (sym is) tt
+
+pub column_made : (texts : List Text) (made : Result CellColumn ArrayFault) (r : Result CellColumn OpFault) (whole : Result ColumnValue ColumnFault) → r ≡ column_result made → Answers texts made whole → MakesColumn texts r (made_column whole)
+column_made texts made r whole is answers = subst (λ r. MakesColumn texts r (made_column whole)) (sym is) (by made answers)
   where
-    by_fault : (array : ArrayFault) → IsRefusal array whole → MakesColumn texts (Err (refusal_of array)) (made_column whole)
-    by_fault KindMismatch refused = (ap made_column refused, λ more. refl)
-    by_fault (ZeroDivision row) refused = (ap made_column refused, λ more. refl)
-    by_fault (NotCast row) refused = (ap made_column refused, λ more. refl)
-    by_fault OutOfMemory refused = tt
+    by : (made : Result CellColumn ArrayFault) → Answers texts made whole → MakesColumn texts (column_result made) (made_column whole)
+    by (Ok c) answers = ap made_column answers
+    by (Err KindMismatch) refused = (ap made_column refused, λ more. refl)
+    by (Err (ZeroDivision row)) refused = (ap made_column refused, λ more. refl)
+    by (Err (NotCast row)) refused = (ap made_column refused, λ more. refl)
+    by (Err OutOfMemory) refused = tt

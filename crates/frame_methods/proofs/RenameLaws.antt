@@ -1,48 +1,18 @@
 -- Columns under new labels, by number and with texts.
-use Rattle.std.proofs.Common.{◌≡◌, ◌∙◌, ◌<◌, ◌+◌, refl, ap, sym, subst, ℕ, suc, Bool, true, false, ◌&&◌, cond, List, [], ◌∷◌, ◌++◌, map, length, drop, get_or, slice_index_or, Option, Some, None, Result, Ok, Err, All, if◌then◌else◌, arith}
-use Rattle.std.specs.Prelude.{IsSome, IfOk, IfErr, is_some, unwrap_or}
-use Rattle.std.specs.Option.{option_map}
-use Rattle.std.specs.List.{list_all}
-use Rattle.std.proofs.Math.Seq.{drop-cons}
-use Rattle.std.proofs.lemmas.List.{get_or-map}
-use Rattle.std.proofs.lemmas.List.Elements.{All-cons, All-nil}
-use Rattle.std.specs.Map.{lookup}
-use Rattle.indexmap.specs.IndexMap.{insert_entry, insert_all}
-use Rattle.cell_core.specs.declared.cell.Cell.{Cell}
-use Rattle.cell_core.specs.declared.cell.Label.{Label}
-use Rattle.cell_core.specs.Texts.{AreDistinct}
-use Rattle.form_parts.proofs.LabelLaws.{same_by_number, heading_label}
-use Rattle.meaning.specs.Text.{Text}
-use Rattle.meaning.specs.Cell.{LabelValue, na, datum, label_datum}
-use Rattle.meaning.specs.Operator.{cell_label}
-use Rattle.cell_core.specs.declared.grid.Shape.TheVariants.{Frame}
-use Rattle.meaning.specs.Fault.{FaultValue, wrong_kind, then_value}
-use Rattle.meaning.specs.FaultOf.{fault_of}
-use Rattle.table_meaning.specs.Settled.{IsSettled}
-use Rattle.table_meaning.specs.Table.{NumberedTable, Table, table_value, heading_value}
-use Rattle.table_meaning.specs.Valid.{AreHeadings}
-use Rattle.table_meaning.specs.Value.{Entry, Given, GivenPairs, no_entries, more_entries, dict_in, cell as one_cell, table, nothing, one, row, many, entries, scalar_in}
-use Rattle.form_meaning.specs.Binding.{same_label, is_scalar}
-use Rattle.form_meaning.specs.Finish.{first_repeated, unless_repeated, limited}
-use Rattle.form_meaning.specs.Make.{with_pair, pairs_onto, pairs_in}
-use Rattle.form_parts.specs.Makes.{MakesBy}
-use Rattle.method_meaning.specs.Methods.{is_scalar_pair, new_label, renamed_heading, renamed_frame}
-use Rattle.frame_store.specs.Objects.{Tables}
-use Rattle.frame_store.specs.Arguments.{argument_of, entries_of, arguments_of}
-use Rattle.frame_store.specs.Parts.{HeadingList}
-use Rattle.frame_store.specs.declared.fault.OpFault.{OpFault}
-use Rattle.frame_store.specs.declared.fault.OpFault.TheVariants.{Refused, NoMemory}
-use Rattle.frame_store.specs.Shown.{Shown, headings_value, FormAnswers}
-use Rattle.signatures.specs.Bound.{Tells}
-use Rattle.signatures.specs.declared.bound.Bound.{Bound}
-use Rattle.signatures.proofs.ToldLaws.{told_settled}
-use Rattle.selections.specs.Picked.{headed_by}
-use Rattle.selections.specs.Headings.{NamesRepeated, same_number, repeated_heading}
-use Rattle.selections.proofs.HeadingLaws.{label_decides, some_same, head_settled, rest_settled, repeated_seen, different}
-use Rattle.selections.proofs.RefusalLaws.{repeated_settled}
-use Rattle.frame_store.specs.declared.arguments.Value.TheVariants.{Object, Scalar}
-use Rattle.frame_store.specs.declared.arguments.Argument.{Argument, Nothing, One, Row, Many, Table'}
-use Rattle.frame_methods.specs.Renames.{label_pair, given_label, given_labels, pair_seen, pairs_seen, have_labels, found_label, heading_by, label_from, heading_from, relabelled, labels_seen}
+use Rattle.{
+  std.{proofs.{Common.{◌≡◌, ◌∙◌, ◌<◌, ◌+◌, refl, ap, sym, subst, ℕ, suc, Bool, true, false, ◌&&◌, cond, List, [], ◌∷◌, ◌++◌, map, length, drop, get_or, slice_index_or, Option, Some, None, Result, Ok, Err, All, if◌then◌else◌, arith}, Math.Seq.{drop-cons}, lemmas.List.{get_or-map, Elements.{All-cons, All-nil}}}, specs.{Prelude.{IsSome, IfOk, IfErr, is_some, unwrap_or}, Option.{option_map}, List.{list_all}, Map.{lookup}}},
+  indexmap.specs.IndexMap.{insert_entry, insert_all},
+  cell_core.specs.{declared.{cell.{Cell.{Cell}, Label.{Label}}, grid.Shape.TheVariants.{Frame}}, Texts.{AreDistinct}},
+  form_parts.{proofs.LabelLaws.{same_by_number, heading_label}, specs.Makes.{MakesBy}},
+  meaning.specs.{Text.{Text}, Cell.{LabelValue, na, datum, label_datum}, Operator.{cell_label}, Fault.{FaultValue, wrong_kind, then_value}, FaultOf.{fault_of}},
+  table_meaning.specs.{Settled.{IsSettled}, Table.{NumberedTable, Table, table_value, heading_value}, Valid.{AreHeadings}, Value.{Entry, Given, GivenPairs, no_entries, more_entries, dict_in, cell as one_cell, table, nothing, one, row, many, entries, scalar_in}},
+  form_meaning.specs.{Binding.{same_label, is_scalar}, Finish.{first_repeated, unless_repeated, limited}, Make.{with_pair, pairs_onto, pairs_in}},
+  method_meaning.specs.Methods.{is_scalar_pair, new_label, renamed_heading, renamed_frame},
+  frame_store.specs.{Objects.{Tables}, Arguments.{argument_of, entries_of, arguments_of}, Parts.{HeadingList}, declared.{fault.OpFault.{OpFault, TheVariants.{Refused, NoMemory}}, arguments.{Value.TheVariants.{Object, Scalar}, Argument.{Argument, Nothing, One, Row, Many, Table'}}}, Shown.{Shown, headings_value, FormAnswers}},
+  signatures.{specs.{Bound.{Tells}, declared.bound.Bound.{Bound}}, proofs.ToldLaws.{told_settled}},
+  selections.{specs.{Picked.{headed_by}, Headings.{NamesRepeated, same_number, repeated_heading}}, proofs.{HeadingLaws.{label_decides, some_same, head_settled, rest_settled, repeated_seen, different}, RefusalLaws.{repeated_settled}}},
+  frame_methods.specs.Renames.{label_pair, given_label, given_labels, pair_seen, pairs_seen, have_labels, found_label, heading_by, label_from, heading_from, relabelled, labels_seen},
+}
 
 key_settled : (texts : List Text) (e : Label × Option Label) (es : List (Label × Option Label)) → IsSettled pairs_seen texts (e ∷ es) → IsSettled label_datum texts e.0
 key_settled texts e es settled = λ more. ap (λ p. p.0) (head_settled pair_seen texts e es settled more)

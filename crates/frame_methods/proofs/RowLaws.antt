@@ -1,42 +1,19 @@
 -- Tables of some rows of another one.
-use Rattle.std.proofs.Common.{◌≡◌, ◌∙◌, refl, ap, sym, subst, arith, rules, ℕ, zero, suc, ◌+◌, ◌-◌, ◌<◌, ◌≤◌, min, ℤ, pos, negsuc, Bool, true, false, List, [], ◌∷◌, ◌++◌, map, length, take, slice_index_or, All, Option, Some, None, Result, Ok, if◌then◌else◌}
-use Rattle.std.specs.Prelude.{neg_ℤ}
-use Rattle.std.specs.Bool.{Decides}
-use Rattle.std.specs.Int.{div_ceil}
-use Rattle.std.specs.Ordering.{int_eq}
-use Rattle.std.specs.List.{list_all, range_with_len}
-use Rattle.std.proofs.lemmas.List.{length-map, take_all}
-use Rattle.std.proofs.lemmas.List.FromFn.{length-range_with_len}
-use Rattle.cell_core.specs.Grids.{AreRowsBelow}
-use Rattle.cell_core.specs.declared.cell.Cell.{Cell}
-use Rattle.cell_core.specs.declared.grid.Rows.{Rows}
-use Rattle.column_core.proofs.MoveLaws.{get_or-tabulate}
-use Rattle.meaning.specs.Cell.{CellValue, na_cell}
-use Rattle.meaning.specs.Fault.{FaultValue}
-use Rattle.meaning.specs.Reduce.{is_present}
-use Rattle.meaning.specs.Text.{Text}
-use Rattle.table_meaning.specs.Settled.{IsSettled}
-use Rattle.table_meaning.specs.Table.{ColumnOf, NumberedTable, Table, row_of, column_at, no_column, table_value, tuple_value, column_value}
-use Rattle.table_meaning.specs.Value.{Entry, table}
-use Rattle.form_meaning.specs.Finish.{limited, within_limits}
-use Rattle.pick_meaning.specs.Keys.{place_slice}
-use Rattle.pick_meaning.specs.Positions.{rows_before}
-use Rattle.pick_meaning.specs.Rows.{rows_of, rows_where}
-use Rattle.pick_meaning.proofs.InsideLaws.{rows_inside}
-use Rattle.pick_meaning.proofs.RowLaws.{rows_more_yes, rows_more_no}
-use Rattle.select_meaning.specs.Select.{rows_taken, column_rows}
-use Rattle.method_meaning.specs.Rows.{placed_rows, head_result, tail_result, cells_by_row, all_places}
-use Rattle.frame_store.specs.Objects.{table_or}
-use Rattle.frame_store.specs.Parts.{HeadingList}
-use Rattle.frame_store.specs.Shown.{columns_value, Makes}
-use Rattle.frame_store.specs.declared.fault.OpFault.{OpFault}
-use Rattle.selections.specs.Chosen.{chosen}
-use Rattle.selections.proofs.PickedLaws.{list_is, read_is}
-use Rattle.selections.proofs.TakenLaws.{chosen_rows, chosen_settled}
-use Rattle.selections.proofs.AnswerLaws.{own_name, own_labels}
-use Rattle.label_methods.proofs.RowLaws.{cells_in, by_rows}
-use Rattle.frame_methods.specs.Rows.{complete}
-use Rattle.label_methods.proofs.TableLaws.{limited_within}
+use Rattle.{
+  std.{proofs.{Common.{◌≡◌, ◌∙◌, refl, ap, sym, subst, arith, rules, ℕ, zero, suc, ◌+◌, ◌-◌, ◌<◌, ◌≤◌, min, ℤ, pos, negsuc, Bool, true, false, List, [], ◌∷◌, ◌++◌, map, length, take, slice_index_or, All, Option, Some, None, Result, Ok, if◌then◌else◌}, lemmas.List.{length-map, take_all, FromFn.{length-range_with_len}}}, specs.{Prelude.{neg_ℤ}, Bool.{Decides}, Int.{div_ceil}, Ordering.{int_eq}, List.{list_all, range_with_len}}},
+  cell_core.specs.{Grids.{AreRowsBelow}, declared.{cell.Cell.{Cell}, grid.Rows.{Rows}}},
+  column_core.proofs.MoveLaws.{get_or-tabulate},
+  meaning.specs.{Cell.{CellValue, na_cell}, Fault.{FaultValue}, Reduce.{is_present}, Text.{Text}},
+  table_meaning.specs.{Settled.{IsSettled}, Table.{ColumnOf, NumberedTable, Table, row_of, column_at, no_column, table_value, tuple_value, column_value}, Value.{Entry, table}},
+  form_meaning.specs.Finish.{limited, within_limits},
+  pick_meaning.{specs.{Keys.{place_slice}, Positions.{rows_before}, Rows.{rows_of, rows_where}}, proofs.{InsideLaws.{rows_inside}, RowLaws.{rows_more_yes, rows_more_no}}},
+  select_meaning.specs.Select.{rows_taken, column_rows},
+  method_meaning.specs.Rows.{placed_rows, head_result, tail_result, cells_by_row, all_places},
+  frame_store.specs.{Objects.{table_or}, Parts.{HeadingList}, Shown.{columns_value, Makes}, declared.fault.OpFault.{OpFault}},
+  selections.{specs.Chosen.{chosen}, proofs.{PickedLaws.{list_is, read_is}, TakenLaws.{chosen_rows, chosen_settled}, AnswerLaws.{own_name, own_labels}}},
+  label_methods.proofs.{RowLaws.{cells_in, by_rows}, TableLaws.{limited_within}},
+  frame_methods.specs.Rows.{complete},
+}
 
 -- rows side by side, from one on
 abbrev pub run : ℕ → ℕ → Rows

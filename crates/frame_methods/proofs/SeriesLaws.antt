@@ -1,26 +1,16 @@
 -- Series over the labels of columns.
-use Rattle.std.proofs.Common.{◌≡◌, ◌∙◌, refl, ap, sym, subst, true, List, [], ◌∷◌, map, length, None, Result, Ok, Err}
-use Rattle.std.proofs.lemmas.List.{length-map}
-use Rattle.std.proofs.lemmas.List.Elements.{All-cons, All-nil}
-use Rattle.cell_core.specs.declared.cell.Cell.{Cell}
-use Rattle.cell_core.specs.declared.cell.Kind.{Kind}
-use Rattle.cell_core.specs.declared.grid.Shape.TheVariants.{Series, Frame}
-use Rattle.meaning.specs.Text.{Text}
-use Rattle.meaning.specs.Cell.{CellValue, datum, AreGiven}
-use Rattle.meaning.specs.Fault.{FaultValue, then_value}
-use Rattle.column_core.specs.Columns.{CellColumn}
-use Rattle.multi_index.specs.Axes.{AxisValue}
-use Rattle.table_meaning.specs.Table.{ColumnOf, NumberedTable, table_value, heading_value}
-use Rattle.table_meaning.specs.Value.{Entry, table}
-use Rattle.table_meaning.specs.Settled.{IsSettled}
-use Rattle.form_meaning.specs.Finish.{within_limits, limited, try_all, across_columns}
-use Rattle.method_meaning.specs.Methods.{Summary, kind_for, summary_as, summary_of}
-use Rattle.frame_store.specs.Parts.{table_with, table_column}
-use Rattle.frame_store.specs.Shown.{labels_value, headings_value, columns_value}
-use Rattle.frame_store.proofs.Settling.{settled_by, columns_name_part, headings_part, columns_settled, table_settled}
-use Rattle.label_methods.specs.Labels.{column_tuple}
-use Rattle.label_methods.proofs.TableLaws.{limited_within}
-use Rattle.label_methods.proofs.ColumnLabelLaws.{label_tuple, tuples_seen}
+use Rattle.{
+  std.proofs.{Common.{◌≡◌, ◌∙◌, refl, ap, sym, subst, true, List, [], ◌∷◌, map, length, None, Result, Ok, Err}, lemmas.List.{length-map, Elements.{All-cons, All-nil}}},
+  cell_core.specs.declared.{cell.{Cell.{Cell}, Kind.{Kind}}, grid.Shape.TheVariants.{Series, Frame}},
+  meaning.specs.{Text.{Text}, Cell.{CellValue, datum, AreGiven}, Fault.{FaultValue, then_value}},
+  column_core.specs.Columns.{CellColumn},
+  multi_index.specs.Axes.{AxisValue},
+  table_meaning.specs.{Table.{ColumnOf, NumberedTable, table_value, heading_value}, Value.{Entry, table}, Settled.{IsSettled}},
+  form_meaning.specs.Finish.{within_limits, limited, try_all, across_columns},
+  method_meaning.specs.Methods.{Summary, kind_for, summary_as, summary_of},
+  frame_store.{specs.{Parts.{table_with, table_column}, Shown.{labels_value, headings_value, columns_value}}, proofs.Settling.{settled_by, columns_name_part, headings_part, columns_settled, table_settled}},
+  label_methods.{specs.Labels.{column_tuple}, proofs.{TableLaws.{limited_within}, ColumnLabelLaws.{label_tuple, tuples_seen}}},
+}
 
 abbrev summaries_axis : NumberedTable → AxisValue
 summaries_axis t = record { tuples = map column_tuple t.headings; names = t.columns_name ∷ [] }

@@ -1,30 +1,18 @@
 -- Summaries of columns.
-use Rattle.std.proofs.Common.{◌≡◌, ◌∙◌, ◌<◌, ◌+◌, ◌^◌, refl, ap, sym, subst, ℕ, pos, mod-eq_of_lt, List, [], ◌∷◌, ◌++◌, map, drop, length, length-append, append-nil, Result, Ok, Err}
-use Rattle.std.specs.Int.{int_wrap, cast_signed, w64}
-use Rattle.std.proofs.lemmas.List.{map-append}
-use Rattle.std.proofs.lemmas.List.Elements.{All-append, All-cons, All-nil}
-use Rattle.cell_core.specs.declared.cell.Cell.{Cell}
-use Rattle.cell_core.specs.declared.cell.Kind.{Kind}
-use Rattle.meaning.specs.Text.{Text}
-use Rattle.meaning.specs.Cell.{CellValue, int_cell, datum, IsGiven}
-use Rattle.meaning.specs.Fault.{FaultValue}
-use Rattle.meaning.specs.FaultOf.{fault_of}
-use Rattle.meaning.specs.Reduce.{distinct_count}
-use Rattle.column_core.specs.Columns.{CellColumn}
+use Rattle.{
+  std.{proofs.{Common.{◌≡◌, ◌∙◌, ◌<◌, ◌+◌, ◌^◌, refl, ap, sym, subst, ℕ, pos, mod-eq_of_lt, List, [], ◌∷◌, ◌++◌, map, drop, length, length-append, append-nil, Result, Ok, Err}, lemmas.List.{map-append, Elements.{All-append, All-cons, All-nil}}}, specs.Int.{int_wrap, cast_signed, w64}},
+  cell_core.specs.declared.cell.{Cell.{Cell}, Kind.{Kind}},
+  meaning.specs.{Text.{Text}, Cell.{CellValue, int_cell, datum, IsGiven}, Fault.{FaultValue}, FaultOf.{fault_of}, Reduce.{distinct_count}},
+  column_core.specs.Columns.{CellColumn},
+  table_meaning.specs.Table.{ColumnOf, column_value, column_at},
+  form_meaning.specs.Finish.{try_all},
+  form_parts.specs.Makes.{MakesBy},
+  frame_store.specs.{Shown.{columns_value}, declared.fault.OpFault.{OpFault, TheVariants.{Refused, NoMemory}}, Parts.{table_column}},
+  label_methods.{specs.Columns.{with_front}, proofs.{FrontLaws.{front_next, front_fails}, Lists.{drop_all}}},
+  frame_methods.{specs.Summaries.{AreCells, counted_cell}, proofs.ColumnLaws.{at_place}},
+}
 use Rattle.column_core.specs.Columns as kernel
-use Rattle.table_meaning.specs.Table.{ColumnOf, column_value, column_at}
-use Rattle.form_meaning.specs.Finish.{try_all}
 use Rattle.method_meaning.specs.Methods as meant
-use Rattle.form_parts.specs.Makes.{MakesBy}
-use Rattle.frame_store.specs.Shown.{columns_value}
-use Rattle.frame_store.specs.declared.fault.OpFault.{OpFault}
-use Rattle.frame_store.specs.declared.fault.OpFault.TheVariants.{Refused, NoMemory}
-use Rattle.label_methods.specs.Columns.{with_front}
-use Rattle.frame_store.specs.Parts.{table_column}
-use Rattle.frame_methods.specs.Summaries.{AreCells, counted_cell}
-use Rattle.label_methods.proofs.FrontLaws.{front_next, front_fails}
-use Rattle.frame_methods.proofs.ColumnLaws.{at_place}
-use Rattle.label_methods.proofs.Lists.{drop_all}
 
 -- a number below 2^64 as what is left of it in 64 bits
 count_wraps : (n : ℕ) → n < 2 ^ 64 → int_wrap w64 (pos n) ≡ cast_signed w64 n

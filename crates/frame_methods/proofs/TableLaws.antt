@@ -1,20 +1,15 @@
 -- Tables that are made of others.
-use Rattle.std.proofs.Common.{◌≡◌, ◌∙◌, ap, sym, subst, true, List, map, length, All, Result, Ok}
-use Rattle.std.proofs.lemmas.List.{length-map}
-use Rattle.cell_core.specs.declared.cell.Cell.{Cell}
-use Rattle.meaning.specs.Text.{Text}
-use Rattle.meaning.specs.Cell.{CellValue, AreGiven, IsLonger}
-use Rattle.meaning.specs.Fault.{FaultValue, then_value}
-use Rattle.column_core.specs.Blocks.{CellBlock}
-use Rattle.table_meaning.specs.Table.{ColumnOf, NumberedTable, Table, table_value, heading_value, tuple_value, column_value}
-use Rattle.table_meaning.specs.Value.{Entry, table}
-use Rattle.table_meaning.specs.Settled.{IsSettled}
-use Rattle.form_meaning.specs.Finish.{within_limits, limited, with_columns, try_all}
+use Rattle.{
+  std.proofs.{Common.{◌≡◌, ◌∙◌, ap, sym, subst, true, List, map, length, All, Result, Ok}, lemmas.List.{length-map}},
+  cell_core.specs.declared.cell.Cell.{Cell},
+  meaning.specs.{Text.{Text}, Cell.{CellValue, AreGiven, IsLonger}, Fault.{FaultValue, then_value}},
+  column_core.specs.Blocks.{CellBlock},
+  table_meaning.specs.{Table.{ColumnOf, NumberedTable, Table, table_value, heading_value, tuple_value, column_value}, Value.{Entry, table}, Settled.{IsSettled}},
+  form_meaning.specs.Finish.{within_limits, limited, with_columns, try_all},
+  frame_store.{specs.{Parts.{block_column, table_with, axis_of, HeadingList}, Shown.{labels_value, headings_value, columns_value}}, proofs.Settling.{settled_later, seen_later, columns_name_part, level_names_part, labels_part, headings_part, with_columns_settled}},
+  label_methods.proofs.TableLaws.{limited_within},
+}
 use Rattle.method_meaning.specs.Methods as meant
-use Rattle.frame_store.specs.Parts.{block_column, table_with, axis_of, HeadingList}
-use Rattle.frame_store.specs.Shown.{labels_value, headings_value, columns_value}
-use Rattle.frame_store.proofs.Settling.{settled_later, seen_later, columns_name_part, level_names_part, labels_part, headings_part, with_columns_settled}
-use Rattle.label_methods.proofs.TableLaws.{limited_within}
 
 -- the same table under other columns, at a later dictionary
 pub columns_later : (old new : List Text) (t : NumberedTable) (cs : List (ColumnOf Cell)) → IsLonger old new → IsSettled table_value old t

@@ -7,7 +7,7 @@ use Rattle.table_meaning.specs.Table.{Table}
 use Rattle.table_meaning.specs.Value.{Entry}
 use Rattle.form_meaning.specs.declared.Method.{Method}
 use Rattle.form_meaning.specs.Signature.{parameters_of, fits_shape}
-use Rattle.method_meaning.specs.Methods.{answer_for}
+use Rattle.method_meaning.specs.Methods.{answer_for, is_built}
 use Rattle.frame_store.specs.declared.fault.OpFault.{OpFault}
 use Rattle.frame_store.specs.declared.fault.OpFault.TheVariants.{Refused, NoMemory}
 use Rattle.frame_store.specs.Shown.{Refuses}
@@ -15,11 +15,11 @@ use Rattle.frame_store.specs.Arguments.{arguments_of}
 use Rattle.frame_store.specs.World.{World}
 use Rattle.signatures.specs.Bound.{given_in}
 use Rattle.signatures.specs.declared.bound.Bound.{Bound}
-use Rattle.frame_methods.specs.Built.{method_of}
 use Rattle.frame_methods.specs.declared.binding.BoundCall.{BoundCall}
 
--- the arguments are those of the method, which the shape has, and their texts were given
+-- the method is built, the arguments are its own, the shape has it, and their texts were given
 pub record IsCall (w : World) (m : Method) (b : Bound) (shape : Shape) : Type 0 where
+  pub built : is_built m ≡ true
   pub parameters : b.parameters.now ≡ parameters_of m
   pub shaped : fits_shape m shape ≡ true
   pub given : IsSettled (arguments_of w.tables) w.texts b.args.now
@@ -30,6 +30,6 @@ answer_in w m b t = answer_for m (given_in w b) t
 
 -- the call's answer is what is meant, or the first fault is
 abbrev pub Binds : World → Result BoundCall OpFault → Table → Result Entry FaultValue → Type 0
-Binds w (Ok call) t meant = (meant ≡ answer_in w (method_of call.built) call.bound t) × IsCall w (method_of call.built) call.bound t.shape
+Binds w (Ok call) t meant = (meant ≡ answer_in w call.method call.bound t) × IsCall w call.method call.bound t.shape
 Binds w (Err (Refused code)) t meant = Refuses w.texts code meant
 Binds w (Err NoMemory) t meant = Unit {0}

@@ -2,7 +2,6 @@ pub mod Columns
 pub mod Marks
 pub mod Summaries
 pub mod Made
-pub mod Built
 pub mod Calls
 pub mod Faults
 pub mod Listed

@@ -6,7 +6,7 @@ use Rattle.cell_core.specs.declared.cell.Kind.TheVariants.{Boolean}
 use Rattle.meaning.specs.Cell.{CellValue}
 use Rattle.meaning.specs.Fault.{FaultValue}
 use Rattle.table_meaning.specs.Table.{ColumnOf}
-use Rattle.nullable_array.specs.Marks.{same_number}
+use Rattle.column_operators.specs.Marks.{same_number}
 use Rattle.method_meaning.specs.Methods.{mapped, is_in}
 
 -- the different cells with one more, if there is one

@@ -9,7 +9,7 @@ use Rattle.table_meaning.specs.Value.{Entry}
 use Rattle.form_meaning.specs.Finish.{limited}
 use Rattle.pick_meaning.specs.Rows.{rows_where}
 use Rattle.method_meaning.specs.Rows.{all_places, cells_by_row, marks_series, repeats}
-use Rattle.nullable_array.specs.Marks.{same_number}
+use Rattle.column_operators.specs.Marks.{same_number}
 use Rattle.label_methods.specs.Rows.{row_cells}
 
 -- the rows in which no cell is missing

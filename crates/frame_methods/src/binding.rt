@@ -3,14 +3,15 @@ ghost use Rattle.std.specs.Prelude.{◌≡◌, List, IsSome};
 ghost use Rattle.meaning.specs.Text.{Text as OneText};
 ghost use Rattle.table_meaning.specs.Table.{table_value};
 ghost use Rattle.method_meaning.specs.Calls.{called, has_method};
+ghost use Rattle.method_meaning.specs.Methods as meant;
 ghost use Rattle.form_meaning.specs.Signature.{method_named as named_method};
 ghost use Rattle.frame_store.specs.Arguments.{entry_of, IsLive};
 ghost use Rattle.frame_store.specs.Objects.{tables, table_at};
 ghost use Rattle.frame_store.specs.World.{world, arguments_in, AreKnownArguments};
 ghost use Rattle.frame_methods.specs.Calls.{Binds};
 
-use crate::built::Built;
 use cell_core::{Code, Grid, TextDict};
+use form_meaning::Method;
 use frame_store::{Named, ObjId, OpFault, Store, Value};
 use label_methods::no_attribute;
 use signatures::{Bound, bind, method_named, parameters};
@@ -19,7 +20,7 @@ use std::alloc::Global;
 // A call whose method is built and takes the arguments.
 #[derive(Clone, Copy)]
 pub(crate) struct BoundCall<'a> {
-    pub(crate) built: Built,
+    pub(crate) method: Method,
     pub(crate) bound: Bound<'a>,
 }
 
@@ -34,6 +35,13 @@ pub fn exists(store: &Store, on: Value, name: &str) -> bool
         Value::Scalar(_) => false,
         Value::Object(id) => method_named(store.read(id).shape(), name).is_some(),
     }
+}
+
+// Whether a method is built here: all are but those of `OtherMethod`.
+fn is_built(method: Method) -> bool
+    ensures { result ≡ meant.is_built method }
+{
+    !matches!(method, Method::Other(_))
 }
 
 // The call of the method of the name that an object has, if it is built and takes the arguments.
@@ -55,9 +63,9 @@ pub(crate) fn bound_call<'a>(
     let Some(method) = method_named(store.read(on).shape(), name) else {
         return Err(no_attribute(alloc, name));
     };
-    let Some(built) = Built::of(method) else {
+    if !is_built(method) {
         return Err(OpFault::Refused(Code::NotBuilt));
-    };
+    }
     let bound = bind(store, dict, parameters(method), args)?;
-    Ok(BoundCall { built, bound })
+    Ok(BoundCall { method, bound })
 }

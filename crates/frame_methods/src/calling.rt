@@ -6,19 +6,18 @@ ghost use Rattle.meaning.specs.Fault.{FaultValue};
 ghost use Rattle.table_meaning.specs.Settled.{IsSettled};
 ghost use Rattle.table_meaning.specs.Value.{Entry};
 ghost use Rattle.method_meaning.specs.Calls.{chain_result, method_result};
+ghost use Rattle.form_meaning.specs.declared.Method.TheVariants.{Rows, Levels, Labels, Table as Whole};
 ghost use Rattle.form_parts.specs.Makes.{MakesBy};
 ghost use Rattle.frame_store.specs.Arguments.{entry_of, object_value, shape_at, IsLive};
 ghost use Rattle.frame_store.specs.Objects.{tables};
 ghost use Rattle.frame_store.specs.Shown.{Makes};
 ghost use Rattle.frame_store.specs.World.{world, entry_in, arguments_in, IsSettledWorld, AreKnownArguments, Forms};
-ghost use Rattle.frame_methods.specs.Built.{method_of, row_method, level_method, label_method, table_method};
 ghost use Rattle.label_methods.specs.Chains.{chain_in, is_grouped};
 ghost use Rattle.frame_methods.specs.Calls.{answer_in, IsCall};
 ghost use Rattle.frame_methods.specs.Made.{made_value};
 ghost use Rattle.frame_methods.specs.Faults.{IsChained};
 
 use crate::binding::{BoundCall, bound_call, exists};
-use crate::built::{Built, LabelMethod, LevelMethod, RowMethod, TableMethod};
 use crate::column_ops::columns_answer;
 use crate::csv::to_csv;
 use crate::duplicates::duplicated;
@@ -26,8 +25,9 @@ use crate::made::Made;
 use crate::renaming::{rename_frame, rename_series, to_frame};
 use crate::rows::{dropna, head, tail};
 use crate::sorts::{sort_index, sort_values};
-use crate::summaries::summarize;
+use crate::summaries::{summarize, summary_of};
 use cell_core::{Code, Grid, TextDict};
+use form_meaning::{LabelMethod, LevelMethod, Method, RowMethod, TableMethod};
 use form_parts::{name_of, placed};
 use frame_store::{Chain, Named, NamedList, ObjId, OpFault, Store, Table, Value};
 use label_methods::{
@@ -78,9 +78,9 @@ fn rows_made(
 ) -> Result<Table, OpFault>
     requires live { IsSome (tables store.now on.0) }
     requires settled { IsSettledWorld (world store.now dict.now) }
-    requires call { IsCall (world store.now dict.now) (row_method method) bound.now
+    requires call { IsCall (world store.now dict.now) (Rows method) bound.now
         (shape_at (tables store.now) on) }
-    ensures { Makes dict.now result (answer_in (world store.now dict.now) (row_method method)
+    ensures { Makes dict.now result (answer_in (world store.now dict.now) (Rows method)
         bound.now (object_value (tables store.now) dict.now on)) }
 {
     let source = store.read(on);
@@ -119,11 +119,11 @@ fn levels_made(
 ) -> Result<Table, OpFault>
     requires live { IsSome (tables store.now on.0) }
     requires settled { IsSettledWorld (world store.now dict.old) }
-    requires call { IsCall (world store.now dict.old) (level_method method) bound.now
+    requires call { IsCall (world store.now dict.old) (Levels method) bound.now
         (shape_at (tables store.now) on) }
     ensures longer { IsLonger dict.old dict.new }
     ensures answer { Makes dict.new result (answer_in (world store.now dict.old)
-        (level_method method) bound.now (object_value (tables store.now) dict.old on)) }
+        (Levels method) bound.now (object_value (tables store.now) dict.old on)) }
 {
     let source = store.read(on);
     match method {
@@ -161,9 +161,9 @@ fn labels_made(
 ) -> Result<Table, OpFault>
     requires live { IsSome (tables store.now on.0) }
     requires settled { IsSettledWorld (world store.now dict.now) }
-    requires call { IsCall (world store.now dict.now) (label_method method) bound.now
+    requires call { IsCall (world store.now dict.now) (Labels method) bound.now
         (shape_at (tables store.now) on) }
-    ensures { Makes dict.now result (answer_in (world store.now dict.now) (label_method method)
+    ensures { Makes dict.now result (answer_in (world store.now dict.now) (Labels method)
         bound.now (object_value (tables store.now) dict.now on)) }
 {
     match method {
@@ -183,28 +183,41 @@ fn labels_made(
     }
 }
 
-// The table that a method makes.
-#[tactic(auto, using(frame_store::proofs::Settling::longer_self))]
-fn table_made(
+// The answer of a method of the whole table.
+fn table_answer(
     alloc: Global,
-    store: &Store,
+    store: &mut Store,
     dict: &mut TextDict,
     method: TableMethod,
     bound: &Bound<'_>,
     on: ObjId,
-) -> Result<Table, OpFault>
-    requires live { IsSome (tables store.now on.0) }
-    requires settled { IsSettledWorld (world store.now dict.old) }
-    requires call { IsCall (world store.now dict.old) (table_method method) bound.now
-        (shape_at (tables store.now) on) }
-    ensures longer { IsLonger dict.old dict.new }
-    ensures answer { Makes dict.new result (answer_in (world store.now dict.old)
-        (table_method method) bound.now (object_value (tables store.now) dict.old on)) }
+) -> Result<Value, OpFault>
+    requires live { IsSome (tables store.old on.0) }
+    requires settled { IsSettledWorld (world store.old dict.old) }
+    requires call { IsCall (world store.old dict.old) (Whole method) bound.now
+        (shape_at (tables store.old) on) }
+    ensures { Forms result (answer_in (world store.old dict.old) (Whole method) bound.now
+        (object_value (tables store.old) dict.old on))
+        (world store.old dict.old) (world store.new dict.new) }
 {
     match method {
-        TableMethod::Rows(method) => rows_made(alloc, store, dict, method, bound, on),
-        TableMethod::Levels(method) => levels_made(alloc, store, dict, method, bound, on),
-        TableMethod::Labels(method) => labels_made(alloc, store, dict, method, bound, on),
+        TableMethod::Copy => copied(alloc, store, dict, on),
+        TableMethod::Head => head(alloc, store, on, bound.whole(0)),
+        TableMethod::Tail => tail(alloc, store, on, bound.whole(0)),
+        TableMethod::RenameSeries => {
+            let name = name_of(bound.scalar_or_none(0));
+            rename_series(alloc, store, dict, name, on)
+        }
+        TableMethod::RenameFrame => rename_frame(alloc, store, dict, bound.dict(0), on),
+        TableMethod::ToFrame => to_frame(alloc, store, dict, on),
+        TableMethod::DropColumns => {
+            let places = named_places(alloc, store, dict, bound, on)?;
+            drop_columns(alloc, store, dict, &places, on)
+        }
+        TableMethod::ToCsv => {
+            let text = to_csv(alloc, store, dict, bound.truth(0), on);
+            answer_made(store, dict, text)
+        }
     }
 }
 
@@ -218,40 +231,33 @@ fn answer(
 ) -> Result<Value, OpFault>
     requires live { IsSome (tables store.old on.0) }
     requires settled { IsSettledWorld (world store.old dict.old) }
-    requires call { IsCall (world store.old dict.old) (method_of call.now.built) call.now.bound
+    requires call { IsCall (world store.old dict.old) call.now.method call.now.bound
         (shape_at (tables store.old) on) }
-    ensures { Forms result (answer_in (world store.old dict.old) (method_of call.now.built)
-        call.now.bound (object_value (tables store.old) dict.old on))
+    ensures { Forms result (answer_in (world store.old dict.old) call.now.method call.now.bound
+        (object_value (tables store.old) dict.old on))
         (world store.old dict.old) (world store.new dict.new) }
 {
     let bound = &call.bound;
-    match call.built {
-        Built::Copy => copied(alloc, store, dict, on),
-        Built::Columns(method) => columns_answer(alloc, store, dict, method, bound, on),
-        Built::Summary(op) => {
-            let made = summarize(alloc, dict, op, &store.read(on));
+    match call.method {
+        Method::Columns(method) => columns_answer(alloc, store, dict, method, bound, on),
+        Method::Summary(method) => {
+            let made = summarize(alloc, dict, summary_of(method), &store.read(on));
             answer_made(store, dict, made)
         }
-        Built::Head => head(alloc, store, on, bound.whole(0)),
-        Built::Tail => tail(alloc, store, on, bound.whole(0)),
-        Built::Table(method) => {
-            let table = table_made(alloc, store, dict, method, bound, on);
+        Method::Rows(method) => {
+            let table = rows_made(alloc, store, dict, method, bound, on);
             placed(store, dict, table)
         }
-        Built::RenameSeries => {
-            let name = name_of(bound.scalar_or_none(0));
-            rename_series(alloc, store, dict, name, on)
+        Method::Levels(method) => {
+            let table = levels_made(alloc, store, dict, method, bound, on);
+            placed(store, dict, table)
         }
-        Built::RenameFrame => rename_frame(alloc, store, dict, bound.dict(0), on),
-        Built::ToFrame => to_frame(alloc, store, dict, on),
-        Built::DropColumns => {
-            let places = named_places(alloc, store, dict, bound, on)?;
-            drop_columns(alloc, store, dict, &places, on)
+        Method::Labels(method) => {
+            let table = labels_made(alloc, store, dict, method, bound, on);
+            placed(store, dict, table)
         }
-        Built::ToCsv => {
-            let text = to_csv(alloc, store, dict, bound.truth(0), on);
-            answer_made(store, dict, text)
-        }
+        Method::Table(method) => table_answer(alloc, store, dict, method, bound, on),
+        Method::Other(_) => unreachable!(),
     }
 }
 

@@ -2,26 +2,27 @@
 ghost use Rattle.std.specs.Prelude.{◌≡◌, [], ◌∷◌, map, slice_index_or, IfOk, IsSome};
 ghost use Rattle.cell_core.specs.declared.cell.Kind.TheVariants.{Boolean};
 ghost use Rattle.meaning.specs.Cell.{na_cell};
+ghost use Rattle.form_meaning.specs.declared.Method.TheVariants.{Columns};
 ghost use Rattle.method_meaning.specs.Methods.{filled_column, shifted_column, cast_as, cumulated};
 ghost use Rattle.nullable_array.specs.Folds.{cumulation_of};
-ghost use Rattle.nullable_array.specs.Marks.{missing_mark};
+ghost use Rattle.column_operators.specs.Marks.{missing_mark};
 ghost use Rattle.frame_store.specs.Arguments.{object_value, shape_at};
 ghost use Rattle.frame_store.specs.Objects.{tables};
 ghost use Rattle.frame_store.specs.World.{world, IsSettledWorld, Forms};
-ghost use Rattle.frame_methods.specs.Built.{column_method};
 ghost use Rattle.frame_methods.specs.Calls.{answer_in, IsCall};
 ghost use Rattle.frame_methods.specs.Marks.{marked_column};
 ghost use Rattle.frame_methods.specs.Listed.{listed_column};
 
-use crate::built::ColumnMethod;
 use crate::columns::ColumnOp;
 use crate::listed::{Listed, listed_cells};
 use crate::tables::columns_placed;
 use cell_core::{Cell, Code, Kind, NoMemory, TextDict};
 use column_core::{ColRef, Column, shift};
-use form_parts::refusal_of;
+use column_operators::{fillna, isin, isna, notna};
+use form_meaning::ColumnMethod;
+use form_parts::column_of;
 use frame_store::{ObjId, OpFault, Store, Value};
-use nullable_array::{Cumulation, cast, cumulate, fillna, isin, isna, notna};
+use nullable_array::{Cumulation, cast, cumulate};
 use signatures::Bound;
 use std::alloc::Global;
 
@@ -107,10 +108,7 @@ impl ColumnOp for Cast {
     ghost answer = { λ s _. cast_as s.kind };
 
     fn column(&self, alloc: Global, dict: &mut TextDict, a: ColRef<'_>) -> Result<Column, OpFault> {
-        match cast(alloc, dict, a, self.kind) {
-            Ok(column) => Ok(column),
-            Err(fault) => Err(refusal_of(fault)),
-        }
+        column_of(cast(alloc, dict, a, self.kind))
     }
 }
 
@@ -124,10 +122,7 @@ impl ColumnOp for Cumulated {
     ghost answer = { λ s _. cumulated (cumulation_of s.op) };
 
     fn column(&self, alloc: Global, dict: &mut TextDict, a: ColRef<'_>) -> Result<Column, OpFault> {
-        match cumulate(alloc, self.op, a) {
-            Ok(column) => Ok(column),
-            Err(fault) => Err(refusal_of(fault)),
-        }
+        column_of(cumulate(alloc, self.op, a))
     }
 }
 
@@ -142,9 +137,9 @@ pub(crate) fn columns_answer(
 ) -> Result<Value, OpFault>
     requires live { IsSome (tables store.old on.0) }
     requires settled { IsSettledWorld (world store.old dict.old) }
-    requires call { IsCall (world store.old dict.old) (column_method method) bound.now
+    requires call { IsCall (world store.old dict.old) (Columns method) bound.now
         (shape_at (tables store.old) on) }
-    ensures { Forms result (answer_in (world store.old dict.old) (column_method method) bound.now
+    ensures { Forms result (answer_in (world store.old dict.old) (Columns method) bound.now
         (object_value (tables store.old) dict.old on))
         (world store.old dict.old) (world store.new dict.new) }
 {
@@ -167,6 +162,17 @@ pub(crate) fn columns_answer(
             let periods = bound.whole(0);
             columns_placed(alloc, store, dict, &Shifted { periods }, on)
         }
-        ColumnMethod::Cumulated(op) => columns_placed(alloc, store, dict, &Cumulated { op }, on),
+        ColumnMethod::Cumsum => {
+            let op = Cumulation::Sum;
+            columns_placed(alloc, store, dict, &Cumulated { op }, on)
+        }
+        ColumnMethod::Cummin => {
+            let op = Cumulation::Min;
+            columns_placed(alloc, store, dict, &Cumulated { op }, on)
+        }
+        ColumnMethod::Cummax => {
+            let op = Cumulation::Max;
+            columns_placed(alloc, store, dict, &Cumulated { op }, on)
+        }
     }
 }

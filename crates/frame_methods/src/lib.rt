@@ -4,7 +4,7 @@
 //! scalar or a new object. [`exists`] says whether a value has a method of a name. What a method
 //! answers for its arguments is its definition on whole tables (`method_meaning/specs/Methods.antt`);
 //! the refusals that all methods share come from the table of signatures (the crate `signatures`).
-//! Which methods are built, and what each makes, is one table (`built`).
+//! What a call makes is told by the family of its method (`calling`).
 //!
 //! A method that makes new cells makes them column by column (`columns`), each by an operation of its
 //! own (`column_ops`); one that gives an object's rows again under other headings does so by
@@ -27,7 +27,6 @@
 #![tactic(auto)]
 
 mod binding;
-mod built;
 mod calling;
 mod column_ops;
 mod columns;

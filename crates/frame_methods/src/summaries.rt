@@ -18,6 +18,7 @@ use crate::made::Made;
 use crate::series::series_table;
 use cell_core::{Cell, Code, Grid, Kind, Shape, TextDict};
 use column_core::{ColRef, Column};
+use form_meaning::SummaryMethod;
 use form_parts::{refusal_of, within_limits};
 use frame_store::{ObjRef, OpFault, Table};
 use label_methods::columns_axis;
@@ -29,6 +30,21 @@ use std::alloc::Global;
 pub(crate) enum Summary {
     Reduced(Reduction),
     Distinct,
+}
+
+// The summary that a method makes.
+pub(crate) fn summary_of(method: SummaryMethod) -> Summary
+    ensures { summary_value result ≡ meant.summary_of_method method }
+{
+    match method {
+        SummaryMethod::Sum => Summary::Reduced(Reduction::Sum),
+        SummaryMethod::Min => Summary::Reduced(Reduction::Min),
+        SummaryMethod::Max => Summary::Reduced(Reduction::Max),
+        SummaryMethod::Any => Summary::Reduced(Reduction::Any),
+        SummaryMethod::All => Summary::Reduced(Reduction::All),
+        SummaryMethod::Count => Summary::Reduced(Reduction::Count),
+        SummaryMethod::Nunique => Summary::Distinct,
+    }
 }
 
 // The kind of a summary of a column of the kind.

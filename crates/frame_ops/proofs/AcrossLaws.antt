@@ -1,33 +1,16 @@
 -- A frame and a Series of other labels than its columns.
-use Rattle.std.proofs.Common.{◌≡◌, ◌≢◌, ◌∙◌, ◌<◌, ◌+◌, ◌&&◌, ◌||◌, ℕ, suc, nat_eq, Bool, true, false, List, [], ◌∷◌, length, map, drop, refl, ap, sym, arith, add-one, All, Result, Err, slice_index_or, if◌then◌else◌}
-use Rattle.std.specs.List.{list_any}
-use Rattle.std.proofs.Math.Seq.{drop-cons}
-use Rattle.std.proofs.lemmas.List.{get_or-map}
-use Rattle.std.proofs.lemmas.List.Elements.{All-head, All-tail}
-use Rattle.std.proofs.lemmas.List.Folds.{list_all-map}
-use Rattle.std.proofs.lemmas.Bool.Decides.{nat_tests}
-use Rattle.cell_core.specs.declared.cell.Cell.{Cell}
-use Rattle.cell_core.specs.declared.cell.Kind.{Kind}
-use Rattle.cell_core.specs.declared.cell.Label.{Label}
-use Rattle.cell_core.specs.Texts.{AreDistinct}
-use Rattle.meaning.specs.Text.{Text}
-use Rattle.meaning.specs.Cell.{CellValue}
-use Rattle.meaning.specs.Fault.{FaultValue, wrong_kind, bad_value, levels, not_aligned, then_value}
-use Rattle.meaning.specs.Symbol.{Binary}
-use Rattle.pick_meaning.specs.Rows.{rows_where, are_some}
-use Rattle.row_keys.specs.Keys.{same_tuple as same_numbers}
-use Rattle.row_keys.specs.Partners.{rows_with}
-use Rattle.table_meaning.specs.Settled.{IsSettled}
-use Rattle.table_meaning.specs.Table.{ColumnOf, NumberedTable, Table, column_at, column_value, heading_value, tuple_value, table_value, no_column}
-use Rattle.table_meaning.specs.Value.{Entry}
-use Rattle.form_meaning.specs.Finish.{column_labels, same_kind}
-use Rattle.form_meaning.specs.Infix.{same_tuple, on_levels, compares, takes_twice, takes_rows, takes_each, labels_fit, spread_frame, joined_turned, across_unequal}
-use Rattle.frame_store.specs.Shown.{labels_value, columns_value}
-use Rattle.form_parts.proofs.RowLaws.{tuple_by_number, tuples_settled}
-use Rattle.frame_store.proofs.Settling.{labels_part}
-use Rattle.frame_ops.specs.Widening.{heading_tuple, labels_axis}
-use Rattle.frame_ops.proofs.MeetingLaws.{first_column, levels_one}
-use Rattle.frame_ops.proofs.WideLaws.{tuples_seen, labels_given}
+use Rattle.{
+  std.{proofs.{Common.{◌≡◌, ◌≢◌, ◌∙◌, ◌<◌, ◌+◌, ◌&&◌, ◌||◌, ℕ, suc, nat_eq, Bool, true, false, List, [], ◌∷◌, length, map, drop, refl, ap, sym, arith, add-one, All, Result, Err, slice_index_or, if◌then◌else◌}, Math.Seq.{drop-cons}, lemmas.{List.{get_or-map, Elements.{All-head, All-tail}, Folds.{list_all-map}}, Bool.Decides.{nat_tests}}}, specs.List.{list_any}},
+  cell_core.specs.{declared.cell.{Cell.{Cell}, Kind.{Kind}, Label.{Label}}, Texts.{AreDistinct}},
+  meaning.specs.{Text.{Text}, Cell.{CellValue}, Fault.{FaultValue, wrong_kind, bad_value, levels, not_aligned, then_value}, Symbol.{Binary}},
+  pick_meaning.specs.Rows.{rows_where, are_some},
+  row_keys.specs.{Keys.{same_tuple as same_numbers}, Partners.{rows_with}},
+  table_meaning.specs.{Settled.{IsSettled}, Table.{ColumnOf, NumberedTable, Table, column_at, column_value, heading_value, tuple_value, table_value, no_column}, Value.{Entry}},
+  form_meaning.specs.{Finish.{column_labels, same_kind}, Infix.{same_tuple, on_levels, compares, takes_twice, takes_rows, takes_each, labels_fit, spread_frame, joined_turned, across_unequal}},
+  frame_store.{specs.Shown.{labels_value, columns_value}, proofs.Settling.{labels_part}},
+  form_parts.proofs.RowLaws.{tuple_by_number, tuples_settled},
+  frame_ops.{specs.Widening.{heading_tuple, labels_axis}, proofs.{MeetingLaws.{first_column, levels_one}, WideLaws.{tuples_seen, labels_given}}},
+}
 
 -- a Series has a row, or none
 pub no_row : {K C : Type 0} (op : Binary) (labels : List K) (c : ColumnOf C) → length labels ≡ 0 → true ≡ takes_rows op labels c

@@ -1,26 +1,15 @@
 -- What the kernels answer, as what two columns come to.
-use Rattle.std.proofs.Common.{◌≡◌, ◌∙◌, ℕ, zero, suc, Bool, true, false, List, [], ◌∷◌, length, map, replicate, refl, ap, sym, subst, arith, Option, Some, None, Result, Ok, Err}
-use Rattle.std.specs.Prelude.{slice_get, slice_index_or, IfOk}
-use Rattle.std.proofs.lemmas.Option.{get_or_from_slice_get}
-use Rattle.std.proofs.lemmas.List.{length-map, length-replicate}
-use Rattle.cell_core.specs.declared.cell.Kind.{Kind}
-use Rattle.cell_core.specs.declared.cell.Kind.TheVariants.{Int64, Boolean, Text as string}
-use Rattle.cell_core.specs.declared.cell.Cell.{Cell}
+use Rattle.{
+  std.{proofs.{Common.{◌≡◌, ◌∙◌, ℕ, zero, suc, Bool, true, false, List, [], ◌∷◌, length, map, replicate, refl, ap, sym, subst, Some, Result}, lemmas.{Option.{get_or_from_slice_get}, List.{length-map}}}, specs.Prelude.{slice_get, slice_index_or}},
+  cell_core.specs.declared.cell.{Kind.{Kind, TheVariants.{Int64, Boolean, Text as string}}, Cell.{Cell}},
+  meaning.specs.{Text.{Text}, Cell.{datum, holds}, Column.{ColumnValue}, Operator.{binary_column, scalar_binary, scalar_column, scalar_kind}, Symbol.{Binary}},
+  nullable_array.specs.{Answers.{Answers}, declared.ops.ArrayFault.{ArrayFault}},
+  column_core.specs.Columns.{CellColumn, column_value as cells_value},
+  table_meaning.specs.Table.{ColumnOf, NumberedTable, column_at, column_value},
+  form_meaning.specs.Finish.{value_of_column},
+  frame_ops.{specs.{declared.other.Other.{Other, TheVariants.{Beside, Across}}, Pairs.{IsOpposite, turned_pair, repeated, pair_at, series_cell, kind_beside, kinds_meet, meeting_value, column_meant}}, proofs.KindLaws.{one_kind}},
+}
 use Rattle.cell_core.specs.declared.cell.Cell.TheVariants as cell
-use Rattle.meaning.specs.Text.{Text}
-use Rattle.meaning.specs.Cell.{CellValue, datum, holds}
-use Rattle.meaning.specs.Column.{ColumnValue, try_pairs, then_rows, column_if, zero_division}
-use Rattle.meaning.specs.Operator.{operator_kind, operator_cell, binary_column, scalar_binary, scalar_column, scalar_kind}
-use Rattle.meaning.specs.Symbol.{Binary}
-use Rattle.nullable_array.specs.Answers.{Answers}
-use Rattle.column_core.specs.Columns.{CellColumn, column_value as cells_value}
-use Rattle.nullable_array.specs.declared.ops.ArrayFault.{ArrayFault}
-use Rattle.table_meaning.specs.Table.{ColumnOf, NumberedTable, column_at, column_value}
-use Rattle.form_meaning.specs.Finish.{value_of_column}
-use Rattle.frame_ops.specs.declared.other.Other.TheVariants.{Beside, Across}
-use Rattle.frame_ops.specs.declared.other.Other.{Other}
-use Rattle.frame_ops.specs.Pairs.{IsOpposite, turned_pair, repeated, pair_at, series_cell, kind_beside, kinds_meet, meeting_value, column_meant}
-use Rattle.frame_ops.proofs.KindLaws.{one_kind}
 
 pub map-replicate : {X Y : Type 0} (f : X → Y) (n : ℕ) (x : X) → map f (replicate n x) ≡ replicate n (f x)
 map-replicate f zero x = refl
@@ -78,32 +67,6 @@ kind_held op left a Int64 (cell.Text id) meet held = cc
 kind_held op left a Boolean (cell.Text id) meet held = cc
 kind_held op left a string (cell.Text id) meet held = refl
 
--- each row has a cell
-one_more_row : (row : ℕ) (o : Option CellValue) (r : Result (List CellValue) ℕ) (zs xs : List CellValue) → ((rest : List CellValue) → r ≡ Ok rest → length rest ≡ length xs) → then_rows o row r ≡ Ok zs → length zs ≡ suc (length xs)
-one_more_row row None r zs xs rest is = cc
-one_more_row row (Some c) (Err k) zs xs rest is = cc
-one_more_row row (Some c) (Ok cs) zs xs rest is = let front : zs ≡ c ∷ cs = cc in ap length front ∙ ap suc (rest cs refl)
-
-pairs_length : (f : CellValue → CellValue → Option CellValue) (row : ℕ) (xs ys zs : List CellValue) → length xs ≡ length ys → try_pairs f row xs ys ≡ Ok zs → length zs ≡ length xs
-pairs_length f row [] [] zs same is = let none : zs ≡ [] = cc in ap length none
-pairs_length f row [] (y ∷ ys) zs same is = absurd (omega arith)
-pairs_length f row (x ∷ xs) [] zs same is = absurd (omega arith)
-pairs_length f row (x ∷ xs) (y ∷ ys) zs same is =
-    one_more_row row (f x y) (try_pairs f (suc row) xs ys) zs xs (λ rest e. let less : length xs ≡ length ys = omega arith in pairs_length f (suc row) xs ys rest less e) is
-
-column_length : (texts : List Text) (o : Option Kind) (n : ℕ) (r : Result (List CellValue) ℕ) (c : CellColumn) → ((zs : List CellValue) → r ≡ Ok zs → length zs ≡ n)
-    → column_if o zero_division r ≡ Ok (cells_value texts c) → length c.cells ≡ n
-column_length texts None n r c rows is = cc
-column_length texts (Some kind) n (Err k) c rows is = cc
-column_length texts (Some kind) n (Ok zs) c rows is =
-    let made : ColumnValue = record { kind = kind; cells = zs } in
-    let same : made ≡ cells_value texts c = cc in
-    sym (length-map c.cells (datum texts)) ∙ sym (ap (λ (x : ColumnValue). length x.cells) same) ∙ rows zs refl
-
-pub answer_length : (texts : List Text) (op : Binary) (x y : ColumnValue) (c : CellColumn) (n : ℕ) → length x.cells ≡ n → length y.cells ≡ n → Answers texts (Ok c) (binary_column op x y) → length c.cells ≡ n
-answer_length texts op x y c n e f is =
-    column_length texts (operator_kind op x.kind y.kind) n (try_pairs (operator_cell op) 0 x.cells y.cells) c (λ zs is. pairs_length (operator_cell op) 0 x.cells y.cells zs (e ∙ sym f) is ∙ e) is
-
 -- a column beside the cell of a Series at its place
 pub across_scalar : (old new : List Text) (op : Binary) (at : ColumnOf Cell) (a b : CellColumn) (s : NumberedTable) (place : ℕ) (c : Cell) (left : Bool) (result : Result CellColumn ArrayFault)
     → at ≡ record { kind = a.kind; cells = a.cells } → column_at s.columns 0 ≡ record { kind = b.kind; cells = b.cells } → slice_get b.cells place ≡ Some c → holds b.kind (datum [] c) ≡ true
@@ -116,30 +79,6 @@ across_scalar old new op at a b s place c left result is is' there held meet ans
     let same : kind ≡ kind_beside at.kind c = kind_held op left at kind c meet' (ap (λ (x : ColumnOf Cell). holds x.kind (datum [] c)) is' ∙ held) in
     subst (λ x. Answers new result (column_meant op (meeting_value old (turned_pair left at (repeated kind (length at.cells) x))))) (sym cell_is)
     (beside_scalar old new op at a kind c left result is same answer)
-
-made_rows : (texts : List Text) (op : Binary) (x y : ColumnValue) (n : ℕ) (result : Result CellColumn ArrayFault) → length x.cells ≡ n → length y.cells ≡ n → Answers texts result (binary_column op x y) → IfOk result (λ made. length made.cells ≡ n)
-made_rows texts op x y n (Err fault) e f answer = tt
-made_rows texts op x y n (Ok made) e f answer = answer_length texts op x y made n e f answer
-
--- the column that is made has as many rows as its operands
-pub column_rows : (old new : List Text) (op : Binary) (a b : CellColumn) (n : ℕ) (result : Result CellColumn ArrayFault) → length a.cells ≡ n → length b.cells ≡ n
-    → Answers new result (binary_column op (cells_value old a) (cells_value old b)) → IfOk result (λ made. length made.cells ≡ n)
-column_rows old new op a b n result e f answer =
-    made_rows new op (cells_value old a) (cells_value old b) n result (length-map a.cells (datum old) ∙ e) (length-map b.cells (datum old) ∙ f) answer
-
-pub scalar_rows : (old new : List Text) (op : Binary) (a : CellColumn) (c : Cell) (left : Bool) (n : ℕ) (result : Result CellColumn ArrayFault) → length a.cells ≡ n
-    → Answers new result (scalar_binary op (cells_value old a) (datum old c) left) → IfOk result (λ made. length made.cells ≡ n)
-scalar_rows old new op a c left n result e answer = go left answer
-  where
-    seen : length (map (datum old) a.cells) ≡ n
-    seen = length-map a.cells (datum old) ∙ e
-
-    many : length (scalar_column (cells_value old a) (datum old c)).cells ≡ n
-    many = length-replicate (length (map (datum old) a.cells)) (datum old c) ∙ seen
-
-    go : (left : Bool) → Answers new result (scalar_binary op (cells_value old a) (datum old c) left) → IfOk result (λ made. length made.cells ≡ n)
-    go true h = made_rows new op (scalar_column (cells_value old a) (datum old c)) (cells_value old a) n result many seen h
-    go false h = made_rows new op (cells_value old a) (scalar_column (cells_value old a) (datum old c)) n result seen many h
 
 -- a column of the table beside
 pub rows_beside : (on : NumberedTable) (other : Other) (t : NumberedTable) (cells : List Cell) → IsOpposite on other → other ≡ Beside t → length cells ≡ length t.labels → length cells ≡ length on.labels

@@ -1,31 +1,15 @@
 -- Columns that are made one after the other.
-use Rattle.std.proofs.Common.{◌≡◌, ◌∙◌, ℕ, ◌+◌, ◌<◌, ◌≤◌, Bool, true, false, ◌&&◌, List, [], ◌∷◌, ◌++◌, length, map, drop, refl, ap, sym, subst, arith, add-one, append_assoc, append-nil, Result, Ok, Err, All}
-use Rattle.std.specs.List.{list_all}
-use Rattle.std.proofs.Math.Seq.{drop-cons}
-use Rattle.std.proofs.lemmas.List.{map-append, length_push, drop_all}
-use Rattle.std.proofs.lemmas.List.Elements.{All-push, All-weaker, All-replicate}
-use Rattle.cell_core.specs.Texts.{IsLonger, AreGiven, IsGiven}
-use Rattle.cell_core.specs.declared.cell.Cell.{Cell}
-use Rattle.cell_core.specs.declared.cell.Cell.TheVariants.{Na}
-use Rattle.cell_core.specs.declared.cell.Kind.{Kind}
-use Rattle.meaning.specs.Text.{Text}
-use Rattle.meaning.specs.Cell.{CellValue, datum}
-use Rattle.meaning.specs.Fault.{FaultValue, then_value}
-use Rattle.meaning.specs.FaultOf.{fault_of}
-use Rattle.column_core.specs.Blocks.{CellBlock}
-use Rattle.table_meaning.specs.Settled.{IsSettled}
-use Rattle.table_meaning.specs.Table.{ColumnOf, NumberedTable, column_at, column_value, no_column}
-use Rattle.form_meaning.specs.Finish.{value_of_column, try_all}
-use Rattle.form_meaning.specs.Infix.{Meeting}
-use Rattle.frame_store.specs.declared.fault.OpFault.{OpFault}
-use Rattle.frame_store.specs.declared.fault.OpFault.TheVariants.{Refused, NoMemory}
-use Rattle.frame_store.specs.Parts.{IsSingle, HaveRows, block_column}
-use Rattle.frame_store.specs.Shown.{columns_value, cells_value}
-use Rattle.frame_store.proofs.Settling.{settled_later, seen_later, cell_settled, cell_given, cells_settled, cells_given, column_settled, columns_settled}
-use Rattle.form_parts.specs.Makes.{MakesBy, block_value, blocks_value, AreColumns}
-use Rattle.frame_ops.specs.declared.other.Other.{Other}
-use Rattle.frame_ops.specs.declared.other.Other.TheVariants.{Scalar, Beside, Across}
-use Rattle.frame_ops.specs.Pairs.{Pair, turned_pair, repeated, kind_beside, series_cell, pair_at, pairs_from, meeting_value, meetings_value, IsOpposite, IsGivenOther}
+use Rattle.{
+  std.{proofs.{Common.{◌≡◌, ◌∙◌, ℕ, ◌+◌, ◌<◌, ◌≤◌, Bool, true, false, ◌&&◌, List, [], ◌∷◌, ◌++◌, length, map, drop, refl, ap, sym, subst, arith, add-one, append_assoc, append-nil, Result, Ok, Err, All}, Math.Seq.{drop-cons}, lemmas.List.{map-append, length_push, drop_all, Elements.{All-push, All-weaker, All-replicate}}}, specs.List.{list_all}},
+  cell_core.specs.{Texts.{IsLonger, AreGiven, IsGiven}, declared.cell.{Cell.{Cell, TheVariants.{Na}}, Kind.{Kind}}},
+  meaning.specs.{Text.{Text}, Cell.{CellValue, datum}, Fault.{FaultValue, then_value}, FaultOf.{fault_of}},
+  column_core.specs.Blocks.{CellBlock},
+  table_meaning.specs.{Settled.{IsSettled}, Table.{ColumnOf, NumberedTable, column_at, column_value, no_column}},
+  form_meaning.specs.{Finish.{value_of_column, try_all}, Infix.{Meeting}},
+  frame_store.{specs.{declared.fault.OpFault.{OpFault, TheVariants.{Refused, NoMemory}}, Parts.{IsSingle, HaveRows, block_column}, Shown.{columns_value, cells_value}}, proofs.Settling.{settled_later, seen_later, cell_settled, cell_given, cells_settled, cells_given, column_settled, columns_settled}},
+  form_parts.specs.Makes.{MakesBy, block_value, blocks_value, AreColumns},
+  frame_ops.specs.{declared.other.Other.{Other, TheVariants.{Scalar, Beside, Across}}, Pairs.{Pair, turned_pair, repeated, kind_beside, series_cell, pair_at, pairs_from, meeting_value, meetings_value, IsOpposite, IsGivenOther}},
+}
 
 -- what was given stays so
 cells_later : (old new : List Text) → IsLonger old new → (cs : List Cell) → AreGiven old cs → AreGiven new cs

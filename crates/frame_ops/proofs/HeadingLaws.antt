@@ -1,19 +1,14 @@
 -- Labels of columns, and labels of rows that are those of columns.
-use Rattle.std.proofs.Common.{◌≡◌, ◌∙◌, ℕ, suc, ◌+◌, ◌<◌, Bool, true, false, ◌&&◌, List, [], ◌∷◌, ◌++◌, length, drop, refl, ap, sym, subst, arith, nat_eq, add-one, Option, Some, None, slice_index_or}
-use Rattle.std.specs.Prelude.{◌≢◌}
-use Rattle.std.proofs.Math.Seq.{drop-cons}
-use Rattle.std.proofs.lemmas.List.{get_or-map, length-map}
-use Rattle.std.proofs.lemmas.Bool.Decides.{nat_tests}
-use Rattle.cell_core.specs.declared.cell.Label.{Label}
+use Rattle.{
+  std.{proofs.{Common.{◌≡◌, ◌∙◌, ℕ, suc, ◌+◌, ◌<◌, Bool, true, false, ◌&&◌, List, [], ◌∷◌, ◌++◌, length, drop, refl, ap, sym, subst, arith, nat_eq, add-one, Option, Some, None, slice_index_or}, Math.Seq.{drop-cons}, lemmas.{List.{get_or-map, length-map}, Bool.Decides.{nat_tests}}}, specs.Prelude.{◌≢◌}},
+  cell_core.specs.declared.cell.Label.{Label},
+  meaning.specs.{Text.{Text}, Cell.{LabelValue, na, label_datum}},
+  multi_index.specs.Axes.{HaveLevels},
+  table_meaning.specs.{Settled.{IsSettled}, Table.{heading_value, tuple_value}},
+  form_meaning.specs.{Finish.{same_heading}, Infix.{same_headings, are_headings}},
+  frame_store.specs.Shown.{headings_value, labels_value},
+}
 use Rattle.cell_core.specs.declared.cell.Label.TheVariants as label
-use Rattle.meaning.specs.Text.{Text}
-use Rattle.meaning.specs.Cell.{LabelValue, na, label_datum}
-use Rattle.multi_index.specs.Axes.{HaveLevels}
-use Rattle.table_meaning.specs.Settled.{IsSettled}
-use Rattle.table_meaning.specs.Table.{heading_value, tuple_value}
-use Rattle.form_meaning.specs.Finish.{same_heading}
-use Rattle.form_meaning.specs.Infix.{same_headings, are_headings}
-use Rattle.frame_store.specs.Shown.{headings_value, labels_value}
 
 -- the heading at a place
 pub heading_settled : (texts : List Text) (hs : List (Option Label)) (h : Option Label) (k : ℕ) → IsSettled headings_value texts hs → k < length hs → h ≡ slice_index_or hs k None → IsSettled heading_value texts h

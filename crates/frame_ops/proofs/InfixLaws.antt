@@ -1,40 +1,16 @@
 -- What an operator makes of two operands is what is meant.
-use Rattle.std.proofs.Common.{◌≡◌, ◌∙◌, ℕ, suc, ◌<◌, nat_eq, Bool, true, false, ◌&&◌, List, [], ◌∷◌, length, refl, ap, sym, subst, arith, Option, Some, None, Result, Ok, Err, All, slice_index_or, if◌then◌else◌}
-use Rattle.std.specs.Prelude.{◌≢◌}
-use Rattle.std.specs.List.{list_all}
-use Rattle.std.specs.Cmp.Lexicographic.{as_long}
-use Rattle.std.proofs.lemmas.Bool.Decides.{nat_tests}
-use Rattle.std.proofs.lemmas.List.{length-map}
-use Rattle.cell_core.specs.declared.cell.Cell.{Cell}
-use Rattle.cell_core.specs.declared.cell.Label.{Label}
-use Rattle.cell_core.specs.declared.grid.Shape.TheVariants.{Series}
-use Rattle.meaning.specs.Text.{Text}
-use Rattle.meaning.specs.Cell.{LabelValue, datum, AreGiven}
-use Rattle.meaning.specs.Fault.{FaultValue, wrong_kind, bad_value, levels, not_aligned, then_value}
-use Rattle.meaning.specs.Symbol.{Binary}
-use Rattle.table_meaning.specs.Table.{NumberedTable, Table, table_value, heading_value, tuple_value, column_at, column_value, no_column}
-use Rattle.table_meaning.specs.Settled.{IsSettled}
-use Rattle.table_meaning.specs.Valid.{IsWhole}
-use Rattle.multi_index.specs.Axes.{AxisValue}
-use Rattle.frame_store.specs.Parts.{axis_of}
-use Rattle.frame_store.proofs.Settling.{columns_given, columns_part, headings_part, columns_name_part}
+use Rattle.{
+  std.{proofs.{Common.{◌≡◌, ◌∙◌, ℕ, suc, ◌<◌, nat_eq, Bool, true, false, ◌&&◌, List, [], ◌∷◌, length, refl, ap, sym, subst, arith, Option, Some, None, Result, Ok, Err, All, slice_index_or, if◌then◌else◌}, lemmas.{Bool.Decides.{nat_tests}, List.{length-map}}}, specs.{Prelude.{◌≢◌}, List.{list_all}, Cmp.Lexicographic.{as_long}}},
+  cell_core.specs.declared.{cell.{Cell.{Cell}, Label.{Label}}, grid.Shape.TheVariants.{Series}},
+  meaning.specs.{Text.{Text}, Cell.{LabelValue, datum, AreGiven}, Fault.{FaultValue, wrong_kind, bad_value, levels, not_aligned, then_value}, Symbol.{Binary}},
+  table_meaning.specs.{Table.{NumberedTable, Table, table_value, heading_value, tuple_value, column_at, column_value, no_column}, Settled.{IsSettled}, Valid.{IsWhole}, Value.{Entry}},
+  multi_index.specs.Axes.{AxisValue},
+  frame_store.{specs.{Parts.{axis_of}, declared.fault.OpFault.{OpFault, TheVariants.{Refused, NoMemory}}, Shown.{headings_value, labels_value, columns_value, Makes}}, proofs.Settling.{columns_given, columns_part, headings_part, columns_name_part}},
+  form_meaning.specs.{Finish.{with_columns, same_heading}, Infix.{meets, infix_table, on_levels, same_tuple, same_tuples, same_headings, are_headings, common_name, first_heading, beside, across, across_series, turned, has_one, same_count, compares, joined_rows, joined_infix, unequal_infix, scalar_infix, rows_infix, common_infix, joined_frames, frame_infix, across_unequal, across_infix}},
+  frame_ops.{specs.{declared.{naming.Naming.TheVariants.{Kept, Name, ColumnsName}, other.Other.{Other, TheVariants.{Scalar, Beside, Across}}}, Joining.{joined_after}, Namings.{named_by}, Pairs.{pairs_from, kinds_meet, meetings_value, levels_fit, IsOpposite, columns_meant}}, proofs.{Meanings.{table_meant, levels_agree, kinds_seen}, HeadingLaws.{heading_settled}, MeetingLaws.{scalar_meetings, beside_meetings, across_meetings, first_column, levels_same, levels_one}}},
+  form_parts.specs.Makes.{Passes},
+}
 use Rattle.table_meaning.specs.Value as value
-use Rattle.table_meaning.specs.Value.{Entry}
-use Rattle.form_meaning.specs.Finish.{with_columns, same_heading}
-use Rattle.form_meaning.specs.Infix.{meets, infix_table, on_levels, same_tuple, same_tuples, same_headings, are_headings, common_name, first_heading, beside, across, across_series, turned, has_one, same_count, compares, joined_rows, joined_infix, unequal_infix, scalar_infix, rows_infix, common_infix, joined_frames, frame_infix, across_unequal, across_infix}
-use Rattle.frame_store.specs.declared.fault.OpFault.{OpFault}
-use Rattle.frame_store.specs.declared.fault.OpFault.TheVariants.{Refused, NoMemory}
-use Rattle.frame_store.specs.Shown.{headings_value, labels_value, columns_value, Makes}
-use Rattle.frame_ops.specs.declared.naming.Naming.TheVariants.{Kept, Name, ColumnsName}
-use Rattle.frame_ops.specs.declared.other.Other.{Other}
-use Rattle.frame_ops.specs.declared.other.Other.TheVariants.{Scalar, Beside, Across}
-use Rattle.form_parts.specs.Makes.{Passes}
-use Rattle.frame_ops.specs.Joining.{joined_after}
-use Rattle.frame_ops.specs.Namings.{named_by}
-use Rattle.frame_ops.specs.Pairs.{pairs_from, kinds_meet, meetings_value, levels_fit, IsOpposite, columns_meant}
-use Rattle.frame_ops.proofs.Meanings.{table_meant, levels_agree, kinds_seen}
-use Rattle.frame_ops.proofs.HeadingLaws.{heading_settled}
-use Rattle.frame_ops.proofs.MeetingLaws.{scalar_meetings, beside_meetings, across_meetings, first_column, levels_same, levels_one}
 
 pub makes_as : (texts : List Text) (made : Result NumberedTable OpFault) (x y : Result Entry FaultValue) → Makes texts made x → x ≡ y → Makes texts made y
 makes_as texts made x y makes same = subst (Makes texts made) same makes

@@ -1,46 +1,20 @@
 -- Rows that are joined, and the sides of two tables on them.
-use Rattle.std.proofs.Common.{◌≡◌, ◌∙◌, ◌<◌, ◌≢◌, ◌+◌, ◌&&◌, ℕ, suc, Bool, true, false, List, [], ◌∷◌, length, map, refl, ap, sym, subst, arith, All, Option, Some, None, Result, Ok, Err, slice_index_or, if◌then◌else◌, nat_lt, below_more, get_or-set_other, get_or-set_same}
-use Rattle.std.specs.Prelude.{slice_set}
-use Rattle.std.specs.List.{list_all}
-use Rattle.std.proofs.Math.ListN.{get_or-map}
-use Rattle.std.proofs.lemmas.List.{length-map}
-use Rattle.std.proofs.lemmas.List.Elements.{All-map}
-use Rattle.cell_core.specs.declared.cell.Cell.{Cell}
-use Rattle.cell_core.specs.declared.cell.Cell.TheVariants.{Na}
-use Rattle.cell_core.specs.declared.cell.Label.{Label}
-use Rattle.cell_core.specs.declared.grid.Shape.{Shape}
-use Rattle.cell_core.specs.Texts.{AreDistinct, AreGiven, IsGiven}
-use Rattle.meaning.specs.Text.{Text}
-use Rattle.meaning.specs.Cell.{CellValue, na_cell, datum}
-use Rattle.meaning.specs.Column.{gap_cell, taken}
-use Rattle.meaning.specs.Symbol.{Binary}
-use Rattle.column_core.specs.Blocks.{CellBlock}
-use Rattle.column_core.specs.Moves.{IsPlaceOf}
-use Rattle.index_core.proofs.RangeLaws.{length-range_labels}
-use Rattle.index_core.specs.Ranges.{range_labels}
-use Rattle.multi_index.specs.Axes.{AxisValue, HaveLevels, range_axis}
-use Rattle.row_keys.specs.Keys.{same_tuple as same_numbers}
-use Rattle.align_meaning.specs.Faults.{AlignRefusal, duplicate_labels, too_large, met_rows}
-use Rattle.align_meaning.specs.Joins.{Entry, Lists, outer, outer_entries, lists_of, most_rows}
-use Rattle.align_meaning.proofs.InsideLaws.{AreInside, joined_inside}
-use Rattle.align_meaning.proofs.SeenLaws.{answer_seen, outer_seen}
-use Rattle.label_align.specs.declared.fault.AlignFault.{AlignFault}
-use Rattle.label_align.specs.declared.fault.AlignFault.TheVariants.{DuplicateLabels, TooLarge, NoMemory}
-use Rattle.label_align.specs.declared.joined.Joined.{Joined}
-use Rattle.label_align.specs.Answers.{AlignsBy}
-use Rattle.label_align.specs.Joined.{lists_seen}
-use Rattle.label_align.specs.Tuples.{tuple_less}
-use Rattle.table_meaning.specs.Settled.{IsSettled}
-use Rattle.table_meaning.specs.Table.{ColumnOf, NumberedTable, heading_value, tuple_value}
-use Rattle.table_meaning.specs.Valid.{IsWhole}
-use Rattle.form_meaning.specs.Finish.{value_of_column}
-use Rattle.form_meaning.specs.Infix.{same_tuple, tuple_before, common_name, common_names, joined_rows, on_rows, meets, beside}
-use Rattle.frame_store.specs.Parts.{HeadingList, HaveRows, block_column, table_with, headings_of}
-use Rattle.frame_store.specs.Shown.{labels_value, headings_value, columns_value}
-use Rattle.form_parts.specs.Faults.{align_refusal}
-use Rattle.form_parts.specs.Makes.{MakesBy}
-use Rattle.form_parts.proofs.RowLaws.{tuple_by_number, tuples_settled, settled_tuples}
-use Rattle.frame_ops.specs.Joining.{joined_value, side_on, IsJoined}
+use Rattle.{
+  std.{proofs.{Common.{◌≡◌, ◌∙◌, ◌<◌, ◌≢◌, ◌+◌, ◌&&◌, ℕ, suc, Bool, true, false, List, [], ◌∷◌, length, map, refl, ap, sym, subst, arith, All, Option, Some, None, Result, Ok, Err, slice_index_or, if◌then◌else◌, nat_lt, below_more, get_or-set_other, get_or-set_same}, Math.ListN.{get_or-map}, lemmas.List.{length-map, Elements.{All-map}}}, specs.{Prelude.{slice_set}, List.{list_all}}},
+  cell_core.specs.{declared.{cell.{Cell.{Cell, TheVariants.{Na}}, Label.{Label}}, grid.Shape.{Shape}}, Texts.{AreDistinct, AreGiven, IsGiven}},
+  meaning.specs.{Text.{Text}, Cell.{CellValue, na_cell, datum}, Column.{gap_cell, taken}, Symbol.{Binary}},
+  column_core.specs.{Blocks.{CellBlock}, Moves.{IsPlaceOf}},
+  index_core.{proofs.RangeLaws.{length-range_labels}, specs.Ranges.{range_labels}},
+  multi_index.specs.Axes.{AxisValue, HaveLevels, range_axis},
+  row_keys.specs.Keys.{same_tuple as same_numbers},
+  align_meaning.{specs.{Faults.{AlignRefusal, duplicate_labels, too_large, met_rows}, Joins.{Entry, Lists, outer, outer_entries, lists_of, most_rows}}, proofs.{InsideLaws.{AreInside, joined_inside}, SeenLaws.{answer_seen, outer_seen}}},
+  label_align.specs.{declared.{fault.AlignFault.{AlignFault, TheVariants.{DuplicateLabels, TooLarge, NoMemory}}, joined.Joined.{Joined}}, Answers.{AlignsBy}, Joined.{lists_seen}, Tuples.{tuple_less}},
+  table_meaning.specs.{Settled.{IsSettled}, Table.{ColumnOf, NumberedTable, heading_value, tuple_value}, Valid.{IsWhole}},
+  form_meaning.specs.{Finish.{value_of_column}, Infix.{same_tuple, tuple_before, common_name, common_names, joined_rows, on_rows, meets, beside}},
+  frame_store.specs.{Parts.{HeadingList, HaveRows, block_column, table_with, headings_of}, Shown.{labels_value, headings_value, columns_value}},
+  form_parts.{specs.{Faults.{align_refusal}, Makes.{MakesBy}}, proofs.RowLaws.{tuple_by_number, tuples_settled, settled_tuples}},
+  frame_ops.specs.Joining.{joined_value, side_on, IsJoined},
+}
 
 -- a tuple of so many labels, whose texts were given
 abbrev pub IsKept : List Text → ℕ → List Label → Type 0

@@ -1,40 +1,18 @@
 -- The table of two tables whose rows are joined.
-use Rattle.std.proofs.Common.{◌≡◌, ◌∙◌, ◌≤◌, ◌^◌, ℕ, Bool, true, false, List, length, map, ap, sym, subst, Option, Result, Ok, Err, if◌then◌else◌, All}
-use Rattle.std.specs.Prelude.{IfOk}
-use Rattle.std.specs.List.{list_all}
-use Rattle.std.proofs.lemmas.List.{length-map}
-use Rattle.cell_core.specs.declared.cell.Label.{Label}
-use Rattle.cell_core.specs.Texts.{IsLonger, AreGiven}
-use Rattle.meaning.specs.Text.{Text}
-use Rattle.meaning.specs.Cell.{CellValue, na_cell}
-use Rattle.meaning.specs.Fault.{FaultValue, wrong_kind, limit, then_value}
-use Rattle.meaning.specs.Symbol.{Binary}
-use Rattle.column_core.specs.Blocks.{CellBlock}
-use Rattle.column_core.specs.Moves.{IsPlaceOf}
-use Rattle.multi_index.specs.Axes.{AxisValue, HaveLevels}
-use Rattle.label_align.specs.declared.joined.Joined.{Joined}
-use Rattle.table_meaning.specs.Settled.{IsSettled}
-use Rattle.table_meaning.specs.Table.{ColumnOf, NumberedTable, Table, table_value, tuple_value, heading_value}
-use Rattle.table_meaning.specs.Valid.{AreHeadings, IsWhole}
+use Rattle.{
+  std.{proofs.{Common.{◌≡◌, ◌∙◌, ◌≤◌, ◌^◌, ℕ, Bool, true, false, List, length, map, ap, sym, subst, Option, Result, Ok, Err, if◌then◌else◌, All}, lemmas.List.{length-map}}, specs.{Prelude.{IfOk}, List.{list_all}}},
+  cell_core.specs.{declared.cell.Label.{Label}, Texts.{IsLonger, AreGiven}},
+  meaning.specs.{Text.{Text}, Cell.{CellValue, na_cell}, Fault.{FaultValue, wrong_kind, limit, then_value}, Symbol.{Binary}},
+  column_core.specs.{Blocks.{CellBlock}, Moves.{IsPlaceOf}},
+  multi_index.specs.Axes.{AxisValue, HaveLevels},
+  label_align.specs.declared.joined.Joined.{Joined},
+  table_meaning.specs.{Settled.{IsSettled}, Table.{ColumnOf, NumberedTable, Table, table_value, tuple_value, heading_value}, Valid.{AreHeadings, IsWhole}, Value.{Entry}},
+  form_meaning.specs.{Finish.{within_limits, try_all, with_columns}, Infix.{Meeting, met, meets, beside, on_rows, common_names, joined_rows, joined_columns, with_joined, joined_infix}},
+  frame_store.{specs.{declared.fault.OpFault.{OpFault}, Parts.{HeadingList, HaveRows, table_with, headings_of, axis_of, block_column}, Shown.{Makes, headings_value, labels_value, columns_value}}, proofs.Settling.{table_settled, columns_part, columns_name_part, headings_part, labels_part, level_names_part, columns_given}},
+  form_parts.{specs.Makes.{MakesBy, blocks_value, AreColumns}, proofs.TableMade.{made_is_meant, made_is_settled, refused_on}},
+  frame_ops.{specs.{declared.{naming.Naming.{Naming}, other.Other.TheVariants.{Beside}}, Joining.{joined_value, side_on, AreSideRows, IsJoined}, Namings.{headings_by, named_by, IsNaming, IsSettledNaming}, Pairs.{all_met, kinds_meet, meetings_value, columns_meant, columns_for, IsOpposite}}, proofs.{JoinLaws.{on_rows_seen, on_rows_given, kinds_on, length-beside, rows_numbered}, Meanings.{kinds_seen, table_meant, levels_agree}, MeetingLaws.{beside_meetings}, NamingLaws.{counted_by, fits_by, named_settled}}},
+}
 use Rattle.table_meaning.specs.Value as value
-use Rattle.table_meaning.specs.Value.{Entry}
-use Rattle.form_meaning.specs.Finish.{within_limits, try_all, with_columns}
-use Rattle.form_meaning.specs.Infix.{Meeting, met, meets, beside, on_rows, common_names, joined_rows, joined_columns, with_joined, joined_infix}
-use Rattle.frame_store.specs.declared.fault.OpFault.{OpFault}
-use Rattle.frame_store.specs.Parts.{HeadingList, HaveRows, table_with, headings_of, axis_of, block_column}
-use Rattle.frame_store.specs.Shown.{Makes, headings_value, labels_value, columns_value}
-use Rattle.frame_store.proofs.Settling.{table_settled, columns_part, columns_name_part, headings_part, labels_part, level_names_part, columns_given}
-use Rattle.form_parts.specs.Makes.{MakesBy, blocks_value, AreColumns}
-use Rattle.form_parts.proofs.TableMade.{made_is_meant, made_is_settled, refused_on}
-use Rattle.frame_ops.specs.declared.naming.Naming.{Naming}
-use Rattle.frame_ops.specs.declared.other.Other.TheVariants.{Beside}
-use Rattle.frame_ops.specs.Joining.{joined_value, side_on, AreSideRows, IsJoined}
-use Rattle.frame_ops.specs.Namings.{headings_by, named_by, IsNaming, IsSettledNaming}
-use Rattle.frame_ops.specs.Pairs.{all_met, kinds_meet, meetings_value, columns_meant, columns_for, IsOpposite}
-use Rattle.frame_ops.proofs.JoinLaws.{on_rows_seen, on_rows_given, kinds_on, length-beside, rows_numbered}
-use Rattle.frame_ops.proofs.Meanings.{kinds_seen, table_meant, levels_agree}
-use Rattle.frame_ops.proofs.MeetingLaws.{beside_meetings}
-use Rattle.frame_ops.proofs.NamingLaws.{counted_by, fits_by, named_settled}
 
 -- the columns of the sides
 module _ (op : Binary) (texts : List Text) (a b : NumberedTable) (rows : Joined) (columns : length b.columns ≡ length a.columns) where

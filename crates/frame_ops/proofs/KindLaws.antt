@@ -1,10 +1,9 @@
 -- An operator takes no two kinds.
-use Rattle.std.proofs.Common.{◌≡◌, ◌∙◌, true, false, refl, sym}
-use Rattle.std.specs.Prelude.{◌≢◌, is_some}
-use Rattle.cell_core.specs.declared.cell.Kind.{Kind}
-use Rattle.cell_core.specs.declared.cell.Kind.TheVariants.{Int64, Boolean, Text as string}
-use Rattle.meaning.specs.Operator.{operator_kind, number_kind, sum_kind, comparison_kind, truth_kind}
-use Rattle.meaning.specs.Symbol.{Binary, add, sub, mul, floor_div, mod_, eq, ne, lt, le, gt, ge, and, or, xor}
+use Rattle.{
+  std.{proofs.Common.{◌≡◌, ◌∙◌, true, false, refl, sym}, specs.Prelude.{◌≢◌, is_some}},
+  cell_core.specs.declared.cell.Kind.{Kind, TheVariants.{Int64, Boolean, Text as string}},
+  meaning.specs.{Operator.{operator_kind, number_kind, sum_kind, comparison_kind, truth_kind}, Symbol.{Binary, add, sub, mul, floor_div, mod_, eq, ne, lt, le, gt, ge, and, or, xor}},
+}
 
 record NoneTakes (a b : Kind) : Type 0 where
   numbers : is_some (number_kind a b) ≡ false

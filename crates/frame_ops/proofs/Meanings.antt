@@ -1,18 +1,13 @@
 -- The columns that are meant, by the tests.
-use Rattle.std.proofs.Common.{◌≡◌, ◌∙◌, ℕ, suc, Bool, true, false, List, [], ◌∷◌, length, refl, ap, sym, Ok, Err, if◌then◌else◌}
-use Rattle.std.specs.List.{list_all}
-use Rattle.std.proofs.lemmas.List.{length-map}
-use Rattle.std.proofs.lemmas.List.Folds.{list_all-map}
-use Rattle.cell_core.specs.declared.cell.Cell.{Cell}
-use Rattle.meaning.specs.Text.{Text}
-use Rattle.meaning.specs.Fault.{wrong_kind, bad_value, levels, limit, then_value}
-use Rattle.meaning.specs.Symbol.{Binary}
-use Rattle.table_meaning.specs.Table.{ColumnOf, Table}
+use Rattle.{
+  std.{proofs.{Common.{◌≡◌, ◌∙◌, ℕ, suc, Bool, true, false, List, [], ◌∷◌, length, refl, ap, sym, Ok, Err, if◌then◌else◌}, lemmas.List.{length-map, Folds.{list_all-map}}}, specs.List.{list_all}},
+  cell_core.specs.declared.cell.Cell.{Cell},
+  meaning.specs.{Text.{Text}, Fault.{wrong_kind, bad_value, levels, limit, then_value}, Symbol.{Binary}},
+  table_meaning.specs.Table.{ColumnOf, Table},
+  form_meaning.specs.{Finish.{within_limits, try_all, with_columns}, Infix.{Meeting, meets, met, infix_table, on_levels}},
+  frame_ops.specs.{declared.other.Other.{Other}, Pairs.{Pair, pairs_from, kinds_meet, meeting_value, meetings_value, columns_meant}},
+}
 use Rattle.table_meaning.specs.Value as value
-use Rattle.form_meaning.specs.Finish.{within_limits, try_all, with_columns}
-use Rattle.form_meaning.specs.Infix.{Meeting, meets, met, infix_table, on_levels}
-use Rattle.frame_ops.specs.declared.other.Other.{Other}
-use Rattle.frame_ops.specs.Pairs.{Pair, pairs_from, kinds_meet, meeting_value, meetings_value, columns_meant}
 
 pub length-pairs : (other : Other) (place : ℕ) (cs : List (ColumnOf Cell)) → length (pairs_from other place cs) ≡ length cs
 length-pairs other place [] = refl

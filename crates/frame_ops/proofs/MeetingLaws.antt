@@ -1,21 +1,13 @@
 -- What columns meet, as it is meant.
-use Rattle.std.proofs.Common.{◌≡◌, ◌∙◌, ℕ, suc, ◌+◌, ◌<◌, Bool, true, false, List, [], ◌∷◌, length, map, drop, replicate, refl, ap, sym, arith, nat_eq}
-use Rattle.std.proofs.Math.Seq.{drop-cons}
-use Rattle.std.proofs.lemmas.List.{length-map}
-use Rattle.std.proofs.lemmas.Bool.Decides.{nat_tests}
-use Rattle.cell_core.specs.declared.cell.Cell.{Cell}
-use Rattle.cell_core.specs.declared.cell.Cell.TheVariants.{Na}
-use Rattle.cell_core.specs.declared.cell.Kind.{Kind}
-use Rattle.meaning.specs.Text.{Text}
-use Rattle.meaning.specs.Cell.{datum}
-use Rattle.table_meaning.specs.Table.{ColumnOf, NumberedTable, column_at, column_value, no_column}
-use Rattle.form_meaning.specs.Finish.{value_of_column}
-use Rattle.form_meaning.specs.Infix.{swapped, with_scalar, beside, spread, across, turned, same_count, has_one}
-use Rattle.frame_store.specs.Parts.{HaveRows}
-use Rattle.frame_store.specs.Shown.{columns_value}
-use Rattle.frame_ops.specs.declared.other.Other.TheVariants.{Scalar, Beside, Across}
-use Rattle.frame_ops.specs.Pairs.{pair_at, pairs_from, kind_beside, repeated, series_cell, meeting_value, meetings_value}
-use Rattle.frame_ops.proofs.AnswerLaws.{map-replicate, repeated_value}
+use Rattle.{
+  std.proofs.{Common.{◌≡◌, ◌∙◌, ℕ, suc, ◌+◌, ◌<◌, Bool, true, false, List, [], ◌∷◌, length, map, drop, replicate, refl, ap, sym, arith, nat_eq}, Math.Seq.{drop-cons}, lemmas.{List.{length-map}, Bool.Decides.{nat_tests}}},
+  cell_core.specs.declared.cell.{Cell.{Cell, TheVariants.{Na}}, Kind.{Kind}},
+  meaning.specs.{Text.{Text}, Cell.{datum}},
+  table_meaning.specs.Table.{ColumnOf, NumberedTable, column_at, column_value, no_column},
+  form_meaning.specs.{Finish.{value_of_column}, Infix.{swapped, with_scalar, beside, spread, across, turned, same_count, has_one}},
+  frame_store.specs.{Parts.{HaveRows}, Shown.{columns_value}},
+  frame_ops.{specs.{declared.other.Other.TheVariants.{Scalar, Beside, Across}, Pairs.{pair_at, pairs_from, kind_beside, repeated, series_cell, meeting_value, meetings_value}}, proofs.AnswerLaws.{map-replicate, repeated_value}},
+}
 
 -- a scalar
 scalar_on_right : (texts : List Text) (c : Cell) (place : ℕ) (cs : List (ColumnOf Cell)) → meetings_value texts (pairs_from (Scalar c false) place cs) ≡ map (with_scalar (datum texts c)) (columns_value texts cs)

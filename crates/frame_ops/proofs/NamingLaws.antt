@@ -1,26 +1,16 @@
 -- Tables under the headings that an operator gives them.
-use Rattle.std.proofs.Common.{◌≡◌, ◌∙◌, List, [], ◌∷◌, length, map, refl, ap, sym, subst, Result, Ok, Option}
-use Rattle.cell_core.specs.declared.cell.Label.{Label}
-use Rattle.cell_core.specs.declared.grid.Shape.{Shape}
-use Rattle.cell_core.specs.declared.grid.Shape.TheVariants.{Series, Frame}
-use Rattle.cell_core.specs.Texts.{IsLonger}
-use Rattle.meaning.specs.Text.{Text}
-use Rattle.meaning.specs.Cell.{CellValue}
-use Rattle.meaning.specs.Fault.{FaultValue, then_value}
-use Rattle.column_core.specs.Blocks.{CellBlock}
-use Rattle.table_meaning.specs.Settled.{IsSettled}
-use Rattle.table_meaning.specs.Table.{ColumnOf, NumberedTable, table_value, heading_value}
-use Rattle.table_meaning.specs.Valid.{AreHeadings, IsWhole}
+use Rattle.{
+  std.proofs.Common.{◌≡◌, ◌∙◌, List, [], ◌∷◌, length, map, refl, ap, sym, subst, Result, Ok, Option},
+  cell_core.specs.{declared.{cell.Label.{Label}, grid.Shape.{Shape, TheVariants.{Series, Frame}}}, Texts.{IsLonger}},
+  meaning.specs.{Text.{Text}, Cell.{CellValue}, Fault.{FaultValue, then_value}},
+  column_core.specs.Blocks.{CellBlock},
+  table_meaning.specs.{Settled.{IsSettled}, Table.{ColumnOf, NumberedTable, table_value, heading_value}, Valid.{AreHeadings, IsWhole}},
+  form_meaning.specs.Finish.{with_columns},
+  frame_store.{specs.{Parts.{HeadingList, block_column, table_with, axis_of}, Shown.{headings_value}}, proofs.Settling.{columns_name_part, headings_part}},
+  form_parts.{specs.Makes.{blocks_value, AreColumns}, proofs.TableMade.{under_settled, whole_under, made_is_settled, made_is_meant}},
+  frame_ops.specs.{declared.naming.Naming.{Naming, TheVariants.{Kept, Name, ColumnsName}}, Namings.{headings_by, named_by, IsNaming, IsSettledNaming}},
+}
 use Rattle.table_meaning.specs.Value as value
-use Rattle.form_meaning.specs.Finish.{with_columns}
-use Rattle.frame_store.specs.Parts.{HeadingList, block_column, table_with, axis_of}
-use Rattle.frame_store.specs.Shown.{headings_value}
-use Rattle.frame_store.proofs.Settling.{columns_name_part, headings_part}
-use Rattle.form_parts.specs.Makes.{blocks_value, AreColumns}
-use Rattle.form_parts.proofs.TableMade.{under_settled, whole_under, made_is_settled, made_is_meant}
-use Rattle.frame_ops.specs.declared.naming.Naming.{Naming}
-use Rattle.frame_ops.specs.declared.naming.Naming.TheVariants.{Kept, Name, ColumnsName}
-use Rattle.frame_ops.specs.Namings.{headings_by, named_by, IsNaming, IsSettledNaming}
 
 -- a Series under a name, and a frame under a name of its columns
 series_headings : (shape : Shape) (columns_name : Option Label) (headings : List (Option Label)) (name : Option Label) → shape ≡ Series → AreHeadings shape columns_name headings → AreHeadings shape columns_name (name ∷ [])

@@ -1,28 +1,13 @@
 -- `~x` is `x ^ True`, and what the values of an expression are.
-use Rattle.std.proofs.Common.{◌≡◌, ◌∙◌, ℕ, suc, Bool, true, false, ◌&&◌, List, [], ◌∷◌, length, map, replicate, refl, ap, sym, Some, Result, Ok, Err, if◌then◌else◌}
-use Rattle.std.specs.List.{list_all}
-use Rattle.std.proofs.lemmas.List.{length-map}
-use Rattle.cell_core.specs.declared.cell.Kind.{Kind}
-use Rattle.cell_core.specs.declared.cell.Kind.TheVariants.{Int64, Boolean, Text as string}
-use Rattle.cell_core.specs.declared.cell.Cell.{Cell}
-use Rattle.meaning.specs.Text.{Text}
-use Rattle.meaning.specs.Cell.{CellValue, na_cell, int_cell, truth_cell, text_cell, IsGiven}
-use Rattle.meaning.specs.Column.{try_pairs, before_rows, column_of, zero_division}
-use Rattle.meaning.specs.Fault.{wrong_kind, limit, then_value}
-use Rattle.meaning.specs.Operator.{operator_cell, xor_cells, invert_cell}
-use Rattle.meaning.specs.Symbol.{xor}
-use Rattle.table_meaning.specs.Settled.{IsSettled}
-use Rattle.table_meaning.specs.Table.{ColumnOf, NumberedTable, Table, table_value}
+use Rattle.{
+  std.{proofs.{Common.{◌≡◌, ◌∙◌, ℕ, suc, Bool, true, false, ◌&&◌, List, [], ◌∷◌, length, map, replicate, refl, ap, sym, Some, Result, Ok, Err, if◌then◌else◌}, lemmas.List.{length-map}}, specs.List.{list_all}},
+  cell_core.specs.declared.cell.{Kind.{Kind, TheVariants.{Int64, Boolean, Text as string}}, Cell.{Cell}},
+  meaning.specs.{Text.{Text}, Cell.{CellValue, na_cell, int_cell, truth_cell, text_cell, IsGiven}, Column.{try_pairs, before_rows, column_of, zero_division}, Fault.{wrong_kind, limit, then_value}, Operator.{operator_cell, xor_cells, invert_cell}, Symbol.{xor}},
+  table_meaning.specs.{Settled.{IsSettled}, Table.{ColumnOf, NumberedTable, Table, table_value}, Value.{Entry}},
+  form_meaning.specs.{Finish.{made_column, try_all, within_limits, with_columns}, Infix.{meets, met, with_scalar, is_truth_column, inverted_column, scalar_infix, inverted, sign_result}},
+  frame_store.{specs.{Arguments.{entry_of}, Objects.{Tables, table_at, table_or}, declared.{arguments.Value.{Value, TheVariants.{Object, Scalar}}, object.ObjId.{ObjId}}}, proofs.Settling.{cell_given}},
+}
 use Rattle.table_meaning.specs.Value as value
-use Rattle.table_meaning.specs.Value.{Entry}
-use Rattle.form_meaning.specs.Finish.{made_column, try_all, within_limits, with_columns}
-use Rattle.form_meaning.specs.Infix.{meets, met, with_scalar, is_truth_column, inverted_column, scalar_infix, inverted, sign_result}
-use Rattle.frame_store.specs.Arguments.{entry_of}
-use Rattle.frame_store.specs.Objects.{Tables, table_at, table_or}
-use Rattle.frame_store.specs.declared.arguments.Value.TheVariants.{Object, Scalar}
-use Rattle.frame_store.specs.declared.arguments.Value.{Value}
-use Rattle.frame_store.specs.declared.object.ObjId.{ObjId}
-use Rattle.frame_store.proofs.Settling.{cell_given}
 
 one_cell : (x : CellValue) → xor_cells x (truth_cell true) ≡ invert_cell x
 one_cell na_cell = refl

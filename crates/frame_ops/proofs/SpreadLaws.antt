@@ -1,45 +1,18 @@
 -- A Series in each row of a frame, as a frame whose columns it labels.
-use Rattle.std.proofs.Common.{◌≡◌, ◌∙◌, ◌<◌, ◌+◌, ◌++◌, ℕ, Bool, true, false, List, [], ◌∷◌, length, map, take, replicate, refl, ap, sym, arith, All, Option, Some, None, Ok, Err, slice_index_or, if◌then◌else◌}
-use Rattle.std.specs.Prelude.{slice_get, IsSome}
-use Rattle.std.proofs.lemmas.List.{length-map, length-replicate, map-append, take_more}
-use Rattle.std.proofs.lemmas.List.Elements.{All-map, All-replicate}
-use Rattle.std.proofs.lemmas.Option.{get_or_from_slice_get}
-use Rattle.cell_core.specs.declared.cell.Cell.{Cell}
-use Rattle.cell_core.specs.declared.cell.Cell.TheVariants.{Na}
-use Rattle.cell_core.specs.declared.cell.Kind.{Kind}
-use Rattle.cell_core.specs.declared.cell.Label.{Label}
+use Rattle.{
+  std.{proofs.{Common.{◌≡◌, ◌∙◌, ◌<◌, ◌+◌, ◌++◌, ℕ, Bool, true, false, List, [], ◌∷◌, length, map, take, replicate, refl, ap, sym, arith, All, Option, Some, None, Ok, Err, slice_index_or, if◌then◌else◌}, lemmas.{List.{length-map, length-replicate, map-append, take_more, Elements.{All-map, All-replicate}}, Option.{get_or_from_slice_get}}}, specs.Prelude.{slice_get, IsSome}},
+  cell_core.specs.{declared.{cell.{Cell.{Cell, TheVariants.{Na}}, Kind.{Kind}, Label.{Label}}, grid.Shape.{Shape, TheVariants.{Series, Frame}}}, Texts.{AreDistinct, AreGiven, IsGiven}},
+  meaning.specs.{Text.{Text}, Cell.{CellValue, datum}, Fault.{limit}, FaultOf.{fault_of}},
+  column_core.specs.{Blocks.{CellBlock}, Columns.{CellColumn}},
+  multi_index.specs.Axes.{AxisValue, HaveLevels},
+  table_meaning.specs.{Settled.{IsSettled}, Table.{ColumnOf, NumberedTable, Table, column_at, column_value, heading_value, tuple_value, table_value, no_column}, Valid.{AreHeadings, IsWhole, within_limits}},
+  form_meaning.specs.{Finish.{first_repeated, unless_repeated, limited_table, column_of_value}, Infix.{tuple_heading, spread, spread_series, spread_frame}},
+  frame_store.{specs.{declared.fault.OpFault.{OpFault, TheVariants.{Refused, NoMemory}}, Parts.{HeadingList, block_column, table_with, axis_of}, Shown.{labels_value, headings_value, columns_value}, World.{IsKnownTable}}, proofs.Settling.{settled_by, table_settled, columns_settled, columns_name_part, level_names_part, labels_part}},
+  form_parts.specs.Makes.{MakesBy},
+  selections.{specs.Headings.{repeated_heading, NamesRepeated}, proofs.{HeadingLaws.{different, repeated_seen}, RefusalLaws.{repeated_settled}}},
+  frame_ops.{specs.{Pairs.{repeated}, Widening.{headings_of_keys, spread_table}}, proofs.{AnswerLaws.{map-replicate}, InfixLaws.{series_given}, MeetingLaws.{first_column}, WideLaws.{keys_seen}}},
+}
 use Rattle.cell_core.specs.declared.cell.Label.TheVariants as label
-use Rattle.cell_core.specs.declared.grid.Shape.{Shape}
-use Rattle.cell_core.specs.declared.grid.Shape.TheVariants.{Series, Frame}
-use Rattle.cell_core.specs.Texts.{AreDistinct, AreGiven, IsGiven}
-use Rattle.meaning.specs.Text.{Text}
-use Rattle.meaning.specs.Cell.{CellValue, datum}
-use Rattle.meaning.specs.Fault.{limit}
-use Rattle.meaning.specs.FaultOf.{fault_of}
-use Rattle.column_core.specs.Blocks.{CellBlock}
-use Rattle.column_core.specs.Columns.{CellColumn}
-use Rattle.multi_index.specs.Axes.{AxisValue, HaveLevels}
-use Rattle.table_meaning.specs.Settled.{IsSettled}
-use Rattle.table_meaning.specs.Table.{ColumnOf, NumberedTable, Table, column_at, column_value, heading_value, tuple_value, table_value, no_column}
-use Rattle.table_meaning.specs.Valid.{AreHeadings, IsWhole, within_limits}
-use Rattle.form_meaning.specs.Finish.{first_repeated, unless_repeated, limited_table, column_of_value}
-use Rattle.form_meaning.specs.Infix.{tuple_heading, spread, spread_series, spread_frame}
-use Rattle.frame_store.specs.declared.fault.OpFault.{OpFault}
-use Rattle.frame_store.specs.declared.fault.OpFault.TheVariants.{Refused, NoMemory}
-use Rattle.frame_store.specs.Parts.{HeadingList, block_column, table_with, axis_of}
-use Rattle.frame_store.specs.Shown.{labels_value, headings_value, columns_value}
-use Rattle.frame_store.specs.World.{IsKnownTable}
-use Rattle.frame_store.proofs.Settling.{settled_by, table_settled, columns_settled, columns_name_part, level_names_part, labels_part}
-use Rattle.form_parts.specs.Makes.{MakesBy}
-use Rattle.selections.specs.Headings.{repeated_heading, NamesRepeated}
-use Rattle.selections.proofs.HeadingLaws.{different, repeated_seen}
-use Rattle.selections.proofs.RefusalLaws.{repeated_settled}
-use Rattle.frame_ops.specs.Pairs.{repeated}
-use Rattle.frame_ops.specs.Widening.{headings_of_keys, spread_table}
-use Rattle.frame_ops.proofs.AnswerLaws.{map-replicate}
-use Rattle.frame_ops.proofs.InfixLaws.{series_given}
-use Rattle.frame_ops.proofs.MeetingLaws.{first_column}
-use Rattle.frame_ops.proofs.WideLaws.{keys_seen}
 
 -- the labels of rows as headings, one more of them
 label_of : (t : List Label) → length t ≡ 1 → tuple_heading t ≡ Some (slice_index_or t 0 label.Na)

@@ -1,36 +1,15 @@
 -- Frames under joined labels of columns.
-use Rattle.std.proofs.Common.{◌≡◌, ◌≢◌, ◌∙◌, ◌<◌, ◌+◌, ◌++◌, ℕ, zero, suc, pos, List, [], ◌∷◌, length, map, take, replicate, refl, ap, sym, subst, arith, add-one, All, Option, Some, None, Result, Ok, Err, slice_index_or}
-use Rattle.std.specs.Prelude.{slice_get, IsSome, IfOk, unwrap_or}
-use Rattle.std.proofs.Math.ListN.{get_or-map}
-use Rattle.std.proofs.lemmas.List.{length-map, length-replicate, map-append, take_more}
-use Rattle.std.proofs.lemmas.List.Elements.{All-nil, All-cons, All-head, All-tail, All-map, All-replicate}
-use Rattle.std.proofs.lemmas.Option.{get_or_from_slice_get}
-use Rattle.cell_core.specs.declared.cell.Cell.{Cell}
-use Rattle.cell_core.specs.declared.cell.Cell.TheVariants.{Na}
-use Rattle.cell_core.specs.declared.cell.Kind.{Kind}
-use Rattle.cell_core.specs.declared.cell.Kind.TheVariants.{Int64}
-use Rattle.cell_core.specs.declared.cell.Label.{Label}
-use Rattle.cell_core.specs.declared.grid.Shape.{Shape}
-use Rattle.cell_core.specs.declared.grid.Shape.TheVariants.{Series, Frame}
-use Rattle.cell_core.specs.Texts.{AreGiven, IsGiven}
-use Rattle.meaning.specs.Text.{Text}
-use Rattle.meaning.specs.Cell.{CellValue, LabelValue, int, na_cell, datum}
-use Rattle.column_core.specs.Blocks.{CellBlock}
-use Rattle.column_core.specs.Columns.{CellColumn}
-use Rattle.column_core.specs.Moves.{IsPlaceOf}
-use Rattle.multi_index.specs.Axes.{AxisValue, HaveLevels}
-use Rattle.table_meaning.specs.Settled.{IsSettled}
-use Rattle.table_meaning.specs.Table.{ColumnOf, NumberedTable, column_at, column_value, heading_value, tuple_value, table_value, no_column}
-use Rattle.table_meaning.specs.Valid.{AreHeadings, IsWhole}
-use Rattle.form_meaning.specs.Finish.{column_labels}
-use Rattle.form_meaning.specs.Infix.{tuple_heading, column_or_missing, columns_or_missing, on_columns}
-use Rattle.frame_store.specs.Parts.{HeadingList, with_heading, block_column, table_column, table_with, axis_of}
-use Rattle.frame_store.specs.Shown.{labels_value, headings_value, columns_value}
-use Rattle.frame_store.specs.World.{IsKnownTable}
-use Rattle.frame_store.proofs.Settling.{settled_by, table_settled, columns_settled, columns_given, columns_name_part, level_names_part, labels_part, headings_part, columns_part}
-use Rattle.frame_ops.specs.Joining.{AreApart, AreSideRows}
-use Rattle.frame_ops.specs.Widening.{heading_tuple, labels_axis, headings_of_keys, widened, AreColumnKeys}
-use Rattle.frame_ops.proofs.AnswerLaws.{map-replicate}
+use Rattle.{
+  std.{proofs.{Common.{◌≡◌, ◌≢◌, ◌∙◌, ◌<◌, ◌+◌, ◌++◌, ℕ, zero, suc, pos, List, [], ◌∷◌, length, map, take, replicate, refl, ap, sym, subst, arith, add-one, All, Option, Some, None, Result, Ok, Err, slice_index_or}, Math.ListN.{get_or-map}, lemmas.{List.{length-map, length-replicate, map-append, take_more, Elements.{All-nil, All-cons, All-head, All-tail, All-map, All-replicate}}, Option.{get_or_from_slice_get}}}, specs.Prelude.{slice_get, IsSome, IfOk, unwrap_or}},
+  cell_core.specs.{declared.{cell.{Cell.{Cell, TheVariants.{Na}}, Kind.{Kind, TheVariants.{Int64}}, Label.{Label}}, grid.Shape.{Shape, TheVariants.{Series, Frame}}}, Texts.{AreGiven, IsGiven}},
+  meaning.specs.{Text.{Text}, Cell.{CellValue, LabelValue, int, na_cell, datum}},
+  column_core.specs.{Blocks.{CellBlock}, Columns.{CellColumn}, Moves.{IsPlaceOf}},
+  multi_index.specs.Axes.{AxisValue, HaveLevels},
+  table_meaning.specs.{Settled.{IsSettled}, Table.{ColumnOf, NumberedTable, column_at, column_value, heading_value, tuple_value, table_value, no_column}, Valid.{AreHeadings, IsWhole}},
+  form_meaning.specs.{Finish.{column_labels}, Infix.{tuple_heading, column_or_missing, columns_or_missing, on_columns}},
+  frame_store.{specs.{Parts.{HeadingList, with_heading, block_column, table_column, table_with, axis_of}, Shown.{labels_value, headings_value, columns_value}, World.{IsKnownTable}}, proofs.Settling.{settled_by, table_settled, columns_settled, columns_given, columns_name_part, level_names_part, labels_part, headings_part, columns_part}},
+  frame_ops.{specs.{Joining.{AreApart, AreSideRows}, Widening.{heading_tuple, labels_axis, headings_of_keys, widened, AreColumnKeys}}, proofs.AnswerLaws.{map-replicate}},
+}
 
 -- labels of columns as tuples
 single : (h : Option Label) → length (heading_tuple h) ≡ 1

@@ -1,23 +1,12 @@
 -- Columns that are put and removed, and whole tables.
-use Rattle.std.proofs.Common.{◌≡◌, ◌∙◌, ℕ, suc, ◌+◌, ◌<◌, List, [], ◌∷◌, ◌++◌, length, take, drop, map, ap, sym, subst, arith, nat_lt, Bool, true, false, if◌then◌else◌, Option, All}
-use Rattle.std.specs.Prelude.{slice_set, remove}
-use Rattle.std.proofs.lemmas.List.{map-set, map-append, length-map, length-set, length-append, take-map, drop-map}
-use Rattle.std.proofs.lemmas.List.Elements.{All-set, All-push, All-map, All-append, All-take, All-drop}
-use Rattle.std.proofs.lemmas.List.Edits.{length-remove}
-use Rattle.cell_core.specs.declared.grid.Rows.{Rows}
-use Rattle.cell_core.specs.declared.grid.Shape.{Shape}
-use Rattle.cell_core.specs.declared.grid.Shape.TheVariants.{Series}
-use Rattle.cell_core.specs.declared.cell.Cell.{Cell}
-use Rattle.cell_core.specs.declared.cell.Cell.TheVariants.{Na}
-use Rattle.cell_core.specs.declared.cell.Label.{Label}
-use Rattle.multi_index.specs.Axes.{AxisValue}
-use Rattle.column_core.specs.Blocks.{CellBlock}
-use Rattle.column_core.proofs.ColumnLaws.{length-tabulate}
-use Rattle.table_meaning.specs.Table.{ColumnOf, NumberedTable, column_at}
-use Rattle.table_meaning.specs.Change.{put_at, strided_column, cut_columns, with_column, without_column}
-use Rattle.table_meaning.specs.Valid.{AreHeadings, IsWhole}
-use Rattle.frame_store.specs.Parts.{HeadingList, HaveRows, table_with, block_column}
-use Rattle.frame_store.proofs.PartLaws.{count_blocks}
+use Rattle.{
+  std.{proofs.{Common.{◌≡◌, ◌∙◌, ℕ, suc, ◌+◌, ◌<◌, List, [], ◌∷◌, ◌++◌, length, take, drop, map, ap, sym, subst, arith, nat_lt, Bool, true, false, if◌then◌else◌, Option, All}, lemmas.List.{map-set, map-append, length-map, length-set, length-append, take-map, drop-map, Elements.{All-set, All-push, All-map, All-append, All-take, All-drop}, Edits.{length-remove}}}, specs.Prelude.{slice_set, remove}},
+  cell_core.specs.declared.{grid.{Rows.{Rows}, Shape.{Shape, TheVariants.{Series}}}, cell.{Cell.{Cell, TheVariants.{Na}}, Label.{Label}}},
+  multi_index.specs.Axes.{AxisValue},
+  column_core.{specs.Blocks.{CellBlock}, proofs.ColumnLaws.{length-tabulate}},
+  table_meaning.specs.{Table.{ColumnOf, NumberedTable, column_at}, Change.{put_at, strided_column, cut_columns, with_column, without_column}, Valid.{AreHeadings, IsWhole}},
+  frame_store.{specs.Parts.{HeadingList, HaveRows, table_with, block_column}, proofs.PartLaws.{count_blocks}},
+}
 
 -- an item is replaced or appended
 pub map-put_at : {X Y : Type 0} (f : X → Y) (xs : List X) (place : ℕ) (x : X) → map f (put_at xs place x) ≡ put_at (map f xs) place (f x)

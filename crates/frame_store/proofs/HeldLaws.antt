@@ -1,8 +1,9 @@
 -- Cells that are counted.
-use Rattle.std.proofs.Common.{◌≡◌, ◌∙◌, ℕ, ◌+◌, ◌≤◌, List, [], ◌∷◌, min, sum_by, ap, sym, arith}
-use Rattle.std.proofs.lemmas.List.Sums.{sum_by-cons}
-use Rattle.table_meaning.specs.Table.{NumberedTable}
-use Rattle.frame_store.specs.Objects.{cells_in}
+use Rattle.{
+  std.proofs.{Common.{◌≡◌, ◌∙◌, ℕ, ◌+◌, ◌≤◌, List, [], ◌∷◌, min, sum_by, ap, sym, arith}, lemmas.List.Sums.{sum_by-cons}},
+  table_meaning.specs.Table.{NumberedTable},
+  frame_store.specs.Objects.{cells_in},
+}
 
 -- a sum that stops at a limit
 stops : (held count rest limit : ℕ) → min (min (held + min count limit) limit + rest) limit ≡ min (held + (count + rest)) limit

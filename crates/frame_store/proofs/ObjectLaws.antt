@@ -1,12 +1,10 @@
 -- The tables of objects.
-use Rattle.std.proofs.Common.{◌≡◌, ◌∙◌, ℕ, zero, suc, ◌<◌, List, [], ◌∷◌, length, refl, ap, sym, arith, nat_eq, Bool, true, false, if◌then◌else◌, Option, Some, None, IsSome}
-use Rattle.std.specs.Prelude.{◌≢◌, Result, Ok, Err, IfOk, is_some, slice_index_or, slice_set}
-use Rattle.std.proofs.lemmas.List.{length-set}
-use Rattle.std.proofs.lemmas.Bool.Decides.{nat_tests}
-use Rattle.slab.specs.Slab.{Slab, Updates, get}
-use Rattle.table_meaning.specs.Table.{NumberedTable}
-use Rattle.frame_store.specs.declared.object.ObjId.{ObjId}
-use Rattle.frame_store.specs.Objects.{Tables, with_object, table_or}
+use Rattle.{
+  std.{proofs.{Common.{◌≡◌, ◌∙◌, ℕ, zero, suc, ◌<◌, List, [], ◌∷◌, length, refl, ap, sym, arith, nat_eq, Bool, true, false, if◌then◌else◌, Option, Some, None, IsSome}, lemmas.{List.{length-set}, Bool.Decides.{nat_tests}}}, specs.Prelude.{◌≢◌, Result, Ok, Err, IfOk, is_some, slice_index_or, slice_set}},
+  slab.specs.Slab.{Slab, Updates, get},
+  table_meaning.specs.Table.{NumberedTable},
+  frame_store.specs.{declared.object.ObjId.{ObjId}, Objects.{Tables, with_object, table_or}},
+}
 
 nat_same : (a b : ℕ) → nat_eq a b ≡ true → a ≡ b
 nat_same a b e = grind (arith, nat_tests)

@@ -1,21 +1,12 @@
 -- Blocks of one column, and columns that are cut from others.
-use Rattle.std.proofs.Common.{◌≡◌, ◌∙◌, ℕ, suc, ◌+◌, ◌<◌, List, [], ◌∷◌, ◌++◌, length, take, map, refl, ap, sym, subst, arith, nat_lt, false, Some, All}
-use Rattle.std.specs.Prelude.{slice_index_or, slice_get}
-use Rattle.std.specs.List.{range_with_len}
-use Rattle.std.proofs.lemmas.List.{take_more, map-append, get_or-map, length-map}
-use Rattle.std.proofs.lemmas.List.Elements.{All-push}
-use Rattle.std.proofs.lemmas.Option.{get_or_from_slice_get}
-use Rattle.std.proofs.lemmas.Bool.Decides.{nat_tests}
-use Rattle.cell_core.specs.Grids.{AreRowsBelow}
-use Rattle.cell_core.specs.declared.grid.Rows.{Rows}
-use Rattle.cell_core.specs.declared.cell.Cell.{Cell}
-use Rattle.cell_core.specs.declared.cell.Cell.TheVariants.{Na}
-use Rattle.meaning.specs.Block.{strided}
-use Rattle.column_core.specs.Blocks.{CellBlock}
-use Rattle.column_core.specs.Columns.{CellColumn}
-use Rattle.table_meaning.specs.Table.{ColumnOf, column_at, no_column}
-use Rattle.table_meaning.specs.Change.{strided_column, cut_columns}
-use Rattle.frame_store.specs.Parts.{block_column, single_block, IsSingle, HaveRows}
+use Rattle.{
+  std.{proofs.{Common.{◌≡◌, ◌∙◌, ℕ, suc, ◌+◌, ◌<◌, List, [], ◌∷◌, ◌++◌, length, take, map, refl, ap, sym, subst, arith, nat_lt, false, Some, All}, lemmas.{List.{take_more, map-append, get_or-map, length-map, Elements.{All-push}}, Option.{get_or_from_slice_get}, Bool.Decides.{nat_tests}}}, specs.{Prelude.{slice_index_or, slice_get}, List.{range_with_len}}},
+  cell_core.specs.{Grids.{AreRowsBelow}, declared.{grid.Rows.{Rows}, cell.Cell.{Cell, TheVariants.{Na}}}},
+  meaning.specs.Block.{strided},
+  column_core.specs.{Blocks.{CellBlock}, Columns.{CellColumn}},
+  table_meaning.specs.{Table.{ColumnOf, column_at, no_column}, Change.{strided_column, cut_columns}},
+  frame_store.specs.Parts.{block_column, single_block, IsSingle, HaveRows},
+}
 
 -- a block of one column
 pub single_count : (b : CellBlock) → IsSingle b → length b.columns ≡ 1

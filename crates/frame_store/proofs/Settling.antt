@@ -1,18 +1,12 @@
 -- Laws of what is settled.
-use Rattle.std.proofs.Common.{◌≡◌, ◌∙◌, ◌<◌, ◌≤◌, refl, ap, sym, subst, List, [], ◌∷◌, ◌++◌, length, replicate, append_assoc, append-nil, Option, Some, None, option_map, ℕ, suc, zero, nat_eq, Bool, true, false, if◌then◌else◌, All, slice_index_or, nat_lt, arith}
-use Rattle.std.proofs.lemmas.Bool.Decides.{nat_tests}
-use Rattle.std.proofs.lemmas.List.{get_or-map}
-use Rattle.std.proofs.lemmas.List.Elements.{All-cons, All-nil}
-use Rattle.cell_core.specs.Texts.{AreGiven}
-use Rattle.cell_core.specs.declared.cell.Cell.{Cell}
+use Rattle.{
+  std.proofs.{Common.{◌≡◌, ◌∙◌, ◌<◌, ◌≤◌, refl, ap, sym, subst, List, [], ◌∷◌, ◌++◌, length, replicate, append_assoc, append-nil, Option, Some, None, option_map, ℕ, suc, zero, nat_eq, Bool, true, false, if◌then◌else◌, All, slice_index_or, nat_lt, arith}, lemmas.{Bool.Decides.{nat_tests}, List.{get_or-map, Elements.{All-cons, All-nil}}}},
+  cell_core.specs.{Texts.{AreGiven, IsLonger, IsGiven}, declared.cell.Cell.{Cell}, Values.{CellValue, text_cell, datum}},
+  meaning.specs.Text.{Text},
+  table_meaning.specs.{Settled.{IsSettled}, Table.{ColumnOf, NumberedTable, Table, table_value, heading_value, column_value, no_column}},
+  frame_store.specs.{Objects.{Tables, with_object}, Shown.{shown, with_shown, labels_value, headings_value, columns_value, cells_value}},
+}
 use Rattle.cell_core.specs.declared.cell.Cell.TheVariants as cell
-use Rattle.cell_core.specs.Texts.{IsLonger, IsGiven}
-use Rattle.cell_core.specs.Values.{CellValue, text_cell, datum}
-use Rattle.meaning.specs.Text.{Text}
-use Rattle.table_meaning.specs.Settled.{IsSettled}
-use Rattle.table_meaning.specs.Table.{ColumnOf, NumberedTable, Table, table_value, heading_value, column_value, no_column}
-use Rattle.frame_store.specs.Objects.{Tables, with_object}
-use Rattle.frame_store.specs.Shown.{shown, with_shown, labels_value, headings_value, columns_value, cells_value}
 
 -- what is settled stays so
 pub settled_later : {X Y : Type 0} (view : List Text → X → Y) (old new : List Text) (x : X) → IsLonger old new → IsSettled view old x → IsSettled view new x

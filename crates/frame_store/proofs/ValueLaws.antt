@@ -1,18 +1,11 @@
 -- Cells that are put into columns.
-use Rattle.std.proofs.Common.{◌≡◌, ◌∙◌, ℕ, zero, suc, ◌+◌, ◌*◌, ◌/◌, ◌%◌, ◌<◌, List, [], ◌∷◌, length, drop, map, refl, ap, sym, subst, arith, Some, All}
-use Rattle.std.specs.Prelude.{slice_index_or, slice_index, slice_get, slice_set}
-use Rattle.std.proofs.lemmas.List.{map-set, length-set, get_or_default}
-use Rattle.std.proofs.Math.Seq.{drop-cons, drop-length}
-use Rattle.std.proofs.Math.Nat.{div-lt_iff_lt-mul}
-use Rattle.std.proofs.lemmas.Option.{get_or_from_slice_get}
-use Rattle.std.proofs.lemmas.List.Elements.{All-set}
-use Rattle.cell_core.specs.declared.cell.Cell.{Cell}
-use Rattle.cell_core.specs.declared.cell.Cell.TheVariants.{Na}
-use Rattle.column_core.specs.Blocks.{CellBlock}
-use Rattle.table_meaning.specs.Table.{ColumnOf, column_at, no_column}
-use Rattle.table_meaning.specs.Change.{with_cell_at, with_cell, with_values_from}
-use Rattle.frame_store.specs.Parts.{block_column, single_block, IsSingle, IsHeld, HaveRows, AreHeld}
-use Rattle.frame_store.proofs.PartLaws.{column_of_block, single_made, column_made}
+use Rattle.{
+  std.{proofs.{Common.{◌≡◌, ◌∙◌, ℕ, zero, suc, ◌+◌, ◌*◌, ◌/◌, ◌%◌, ◌<◌, List, [], ◌∷◌, length, drop, map, refl, ap, sym, subst, arith, Some, All}, lemmas.{List.{map-set, length-set, get_or_default, Elements.{All-set}}, Option.{get_or_from_slice_get}}, Math.{Seq.{drop-cons, drop-length}, Nat.{div-lt_iff_lt-mul}}}, specs.Prelude.{slice_index_or, slice_index, slice_get, slice_set}},
+  cell_core.specs.declared.cell.Cell.{Cell, TheVariants.{Na}},
+  column_core.specs.Blocks.{CellBlock},
+  table_meaning.specs.{Table.{ColumnOf, column_at, no_column}, Change.{with_cell_at, with_cell, with_values_from}},
+  frame_store.{specs.Parts.{block_column, single_block, IsSingle, IsHeld, HaveRows, AreHeld}, proofs.PartLaws.{column_of_block, single_made, column_made}},
+}
 
 -- a block gets another cell
 pub put_column_cell : (blocks : List CellBlock) (place row : ℕ) (cell : Cell) (block block' : CellBlock) → place < length blocks → block ≡ slice_index_or blocks place block

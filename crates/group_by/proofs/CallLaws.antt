@@ -1,23 +1,13 @@
 -- What the calls on groups answer, as columns.
-use Rattle.std.proofs.Common.{◌≡◌, ◌∙◌, ap, refl, sym, subst, ℕ, true, false, cond, List, [], ◌∷◌, map, length, slice_index_or, Option, Some, None, Ok, Err, inl, inr}
-use Rattle.std.proofs.Math.ListN.{get_or-map}
-use Rattle.std.proofs.lemmas.Bool.{cases_lt}
-use Rattle.std.proofs.lemmas.List.{get_or_past}
-use Rattle.std.proofs.lemmas.List.Elements.{All-map}
-use Rattle.cell_core.specs.declared.cell.Cell.{Cell}
-use Rattle.cell_core.specs.declared.cell.Cell.TheVariants.{Na}
-use Rattle.cell_core.specs.declared.cell.Kind.{Kind}
-use Rattle.cell_core.specs.declared.cell.Kind.TheVariants.{Int64, Boolean, Text as string}
-use Rattle.cell_core.specs.contracts.cell.KindPartialEq.TheImpl.{eq-value}
-use Rattle.meaning.specs.Cell.{na_cell, datum, IsGiven, AreGiven}
-use Rattle.meaning.specs.Column.{kind_mismatch, tabulate, gap_cell, taken}
-use Rattle.meaning.specs.Cumulate.{cumulation_takes}
+use Rattle.{
+  std.proofs.{Common.{◌≡◌, ◌∙◌, ap, refl, sym, subst, ℕ, true, false, cond, List, [], ◌∷◌, map, length, slice_index_or, Option, Some, None, Ok, Err, inl, inr}, Math.ListN.{get_or-map}, lemmas.{Bool.{cases_lt}, List.{get_or_past, Elements.{All-map}}}},
+  cell_core.specs.{declared.cell.{Cell.{Cell, TheVariants.{Na}}, Kind.{Kind, TheVariants.{Int64, Boolean, Text as string}}}, contracts.cell.KindPartialEq.TheImpl.{eq-value}},
+  meaning.specs.{Cell.{na_cell, datum, IsGiven, AreGiven}, Column.{kind_mismatch, tabulate, gap_cell, taken}, Cumulate.{cumulation_takes}},
+  column_core.specs.Columns.{CellColumn, column_value},
+  group_meaning.specs.{Rows.{GroupsValue}, Reductions.{GroupReduction, group_takes, group_kind, reduced_cells, running_cell, transform_groups, cumsum_groups}},
+  group_by.{specs.Counted.{AreNumbers}, proofs.NumberLaws.{numbers_value}},
+}
 use Rattle.meaning.specs.Cumulate as cumulation
-use Rattle.column_core.specs.Columns.{CellColumn, column_value}
-use Rattle.group_meaning.specs.Rows.{GroupsValue}
-use Rattle.group_meaning.specs.Reductions.{GroupReduction, group_takes, group_kind, reduced_cells, running_cell, transform_groups, cumsum_groups}
-use Rattle.group_by.specs.Counted.{AreNumbers}
-use Rattle.group_by.proofs.NumberLaws.{numbers_value}
 
 -- all kinds but texts are summed
 kind_summed : (k : Kind) → eq-value.it k string ≡ false → cumulation_takes cumulation.sum k ≡ true

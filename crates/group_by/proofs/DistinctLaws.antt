@@ -1,25 +1,15 @@
 -- How many different cells each group has, with one cell more.
-use Rattle.std.proofs.Common.{◌≡◌, ◌∙◌, ◌+◌, ◌<◌, ◌≤◌, ◌==◌, ◌^◌, ap, refl, sym, subst, arith, ℕ, Bool, true, false, not, ◌&&◌, ◌||◌, cond, List, [], ◌∷◌, ◌++◌, filter, take, length, slice_index_or, All, Option, Some, None, length-append, append-nil}
-use Rattle.std.specs.List.{list_any}
-use Rattle.std.specs.Cmp.{IsEquivalence, nat_eq_equiv, on_equiv, and_equiv}
-use Rattle.std.proofs.lemmas.Bool.{false≢true, eqb-true}
-use Rattle.std.proofs.lemmas.List.{length-map, get_or_default}
-use Rattle.std.proofs.lemmas.List.Elements.{filter-append}
-use Rattle.std.proofs.lemmas.List.Folds.{list_any-append}
-use Rattle.indexmap.specs.IndexSet.{insert_key}
-use Rattle.cell_core.specs.declared.cell.Cell.{Cell}
-use Rattle.cell_core.specs.declared.cell.Cell.TheVariants.{Na, Int, Bool as Truth, Text as Words}
-use Rattle.cell_core.specs.contracts.cell.CellEq.TheImpl.Laws.{laws-law}
-use Rattle.meaning.specs.Cell.{CellValue, na_cell, datum, AreDistinct, IsGiven}
-use Rattle.meaning.specs.Reduce.{is_present, present, same_cell, distinct, distinct_count}
-use Rattle.nullable_array.proofs.DistinctLaws.{numbers_apart, truths_apart, texts_apart}
-use Rattle.row_keys.proofs.DistinctLaws.{covers_more}
-use Rattle.group_meaning.specs.Rows.{is_in, rows_of_group, cells_of_group}
-use Rattle.group_by.specs.Distincts.{is_missing, same_by_number, same_member, noted, new_in}
-use Rattle.group_by.specs.Counted.{IsCounted}
-use Rattle.column_core.specs.Moves.{IsPlaceOf}
-use Rattle.group_by.proofs.RowLaws.{cells_more, cells_same}
-use Rattle.group_by.proofs.NumberLaws.{rows_few}
+use Rattle.{
+  std.{proofs.{Common.{◌≡◌, ◌∙◌, ◌+◌, ◌<◌, ◌≤◌, ◌==◌, ◌^◌, ap, refl, sym, subst, arith, ℕ, Bool, true, false, not, ◌&&◌, ◌||◌, cond, List, [], ◌∷◌, ◌++◌, filter, take, length, slice_index_or, All, Option, Some, None, length-append, append-nil}, lemmas.{Bool.{false≢true, eqb-true}, List.{length-map, get_or_default, Elements.{filter-append}, Folds.{list_any-append}}}}, specs.{List.{list_any}, Cmp.{IsEquivalence, nat_eq_equiv, on_equiv, and_equiv}}},
+  indexmap.specs.IndexSet.{insert_key},
+  cell_core.specs.{declared.cell.Cell.{Cell, TheVariants.{Na, Int, Bool as Truth, Text as Words}}, contracts.cell.CellEq.TheImpl.Laws.{laws-law}},
+  meaning.specs.{Cell.{CellValue, na_cell, datum, AreDistinct, IsGiven}, Reduce.{is_present, present, same_cell, distinct, distinct_count}},
+  nullable_array.proofs.DistinctLaws.{numbers_apart, truths_apart, texts_apart},
+  row_keys.proofs.DistinctLaws.{covers_more},
+  group_meaning.specs.Rows.{is_in, rows_of_group, cells_of_group},
+  group_by.{specs.{Distincts.{is_missing, same_by_number, same_member, noted, new_in}, Counted.{IsCounted}}, proofs.{RowLaws.{cells_more, cells_same}, NumberLaws.{rows_few}}},
+  column_core.specs.Moves.{IsPlaceOf},
+}
 
 -- one more at the end, which is new or not
 distinct_push : {X : Type 0} (eq : X → X → Bool) (xs : List X) (x : X) → distinct eq (xs ++ x ∷ []) ≡ distinct eq xs ++ cond (list_any (eq x) xs) [] (x ∷ [])

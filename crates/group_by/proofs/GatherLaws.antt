@@ -1,21 +1,12 @@
 -- What is gathered with one cell more.
-use Rattle.std.proofs.Common.{◌≡◌, ◌∙◌, ◌<◌, ◌^◌, ap, refl, sym, subst, mod-eq_of_lt, ℕ, true, false, cond, arith, All, map, ℤ, pos, ◌+ℤ◌, List, [], ◌∷◌, ◌++◌, length, slice_index_or, set, fold, Option, Some, None}
-use Rattle.std.specs.Int.{int_wrap, cast_signed, w64}
-use Rattle.std.proofs.lemmas.Bool.{eqb-false}
-use Rattle.std.proofs.lemmas.List.{length-set, get_or-set_same, get_or-set_other, length-map, get_or-map}
-use Rattle.std.proofs.lemmas.List.FromFn.{fill_by_all}
-use Rattle.std.proofs.lemmas.List.Elements.{filter-append}
-use Rattle.std.proofs.lemmas.List.Sums.{fold-append}
-use Rattle.cell_core.specs.declared.cell.Cell.{Cell}
-use Rattle.cell_core.specs.declared.cell.Cell.TheVariants.{Na}
-use Rattle.cell_core.specs.declared.cell.Kind.{Kind}
-use Rattle.meaning.specs.Cell.{CellValue, na_cell, int_cell, datum, holds, AreGiven}
-use Rattle.column_core.specs.Columns.{CellColumn}
-use Rattle.meaning.specs.Reduce.{is_present, present}
-use Rattle.group_meaning.specs.Rows.{GroupsValue, is_in, cells_of_group}
-use Rattle.group_meaning.specs.Reductions.{GroupReduction, group_cell, reduced_cells}
-use Rattle.group_by.specs.Cells.{IsCellOf}
-use Rattle.group_by.specs.Gathered.{if_present, plus, total_of, total_cell, TakesIn, HaveGathered}
+use Rattle.{
+  std.{proofs.{Common.{◌≡◌, ◌∙◌, ◌<◌, ◌^◌, ap, refl, sym, subst, mod-eq_of_lt, ℕ, true, false, cond, arith, All, map, ℤ, pos, ◌+ℤ◌, List, [], ◌∷◌, ◌++◌, length, slice_index_or, set, fold, Option, Some, None}, lemmas.{Bool.{eqb-false}, List.{length-set, get_or-set_same, get_or-set_other, length-map, get_or-map, FromFn.{fill_by_all}, Elements.{filter-append}, Sums.{fold-append}}}}, specs.Int.{int_wrap, cast_signed, w64}},
+  cell_core.specs.declared.cell.{Cell.{Cell, TheVariants.{Na}}, Kind.{Kind}},
+  meaning.specs.{Cell.{CellValue, na_cell, int_cell, datum, holds, AreGiven}, Reduce.{is_present, present}},
+  column_core.specs.Columns.{CellColumn},
+  group_meaning.specs.{Rows.{GroupsValue, is_in, cells_of_group}, Reductions.{GroupReduction, group_cell, reduced_cells}},
+  group_by.specs.{Cells.{IsCellOf}, Gathered.{if_present, plus, total_of, total_cell, TakesIn, HaveGathered}},
+}
 
 -- a number of rows is a number of 64 bits as it stands
 pub count_wraps : (n : ℕ) → n < 2 ^ 64 → int_wrap w64 (pos n) ≡ cast_signed w64 n

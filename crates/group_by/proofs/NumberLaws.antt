@@ -1,23 +1,14 @@
 -- Columns of numbers, one row more at a time, and what is counted of groups.
-use Rattle.std.proofs.Common.{◌≡◌, ◌∙◌, ◌+◌, ◌<◌, ◌≤◌, ◌^◌, ap, refl, sym, subst, arith, ℕ, Bool, true, false, cond, List, [], ◌∷◌, ◌++◌, map, take, length, slice_index_or, All, Option, Some, None, Result, Ok, Err, IfOk, length-append}
-use Rattle.std.specs.List.{range_with_len}
-use Rattle.std.proofs.lemmas.Bool.{false≢true}
-use Rattle.std.proofs.lemmas.List.{map-append, length-take-le, get_or_default}
-use Rattle.std.proofs.lemmas.List.Elements.{All-push, All-nil}
-use Rattle.cell_core.specs.declared.cell.Cell.{Cell}
+use Rattle.{
+  std.{proofs.{Common.{◌≡◌, ◌∙◌, ◌+◌, ◌<◌, ◌≤◌, ◌^◌, ap, refl, sym, subst, arith, ℕ, Bool, true, false, cond, List, [], ◌∷◌, ◌++◌, map, take, length, slice_index_or, All, Option, Some, None, Result, Ok, Err, IfOk, length-append}, lemmas.{Bool.{false≢true}, List.{map-append, length-take-le, get_or_default, Elements.{All-push, All-nil}, FromFn.{fill_by_all}}}}, specs.List.{range_with_len}},
+  cell_core.specs.declared.cell.{Cell.{Cell}, Kind.TheVariants.{Int64}},
+  meaning.specs.{Cell.{CellValue, datum, holds, IsGiven}, Column.{tabulate}},
+  column_core.{specs.{Columns.{CellColumn, column_value}, Moves.{IsPlaceOf}}, proofs.CellRows.{map-map}},
+  pick_meaning.specs.Rows.{rows_where},
+  group_meaning.specs.{Rows.{is_in, rows_of_group}, Reductions.{of_group, count_cell}},
+  group_by.{specs.Counted.{IsCounted, AreNumbers}, proofs.RowLaws.{is_in_some, rows_more, rows_same}},
+}
 use Rattle.cell_core.specs.declared.cell.Cell.TheVariants as cell
-use Rattle.cell_core.specs.declared.cell.Kind.TheVariants.{Int64}
-use Rattle.meaning.specs.Cell.{CellValue, datum, holds, IsGiven}
-use Rattle.meaning.specs.Column.{tabulate}
-use Rattle.column_core.specs.Columns.{CellColumn, column_value}
-use Rattle.column_core.proofs.CellRows.{map-map}
-use Rattle.std.proofs.lemmas.List.FromFn.{fill_by_all}
-use Rattle.column_core.specs.Moves.{IsPlaceOf}
-use Rattle.pick_meaning.specs.Rows.{rows_where}
-use Rattle.group_meaning.specs.Rows.{is_in, rows_of_group}
-use Rattle.group_meaning.specs.Reductions.{of_group, count_cell}
-use Rattle.group_by.specs.Counted.{IsCounted, AreNumbers}
-use Rattle.group_by.proofs.RowLaws.{is_in_some, rows_more, rows_same}
 
 -- a cell that a column of numbers may hold has no text
 pub number_given : (c : Cell) → ((texts : List (List ℕ)) → holds Int64 (datum texts c) ≡ true) → (texts : List (List ℕ)) → IsGiven texts c

@@ -1,14 +1,12 @@
 -- The rows and cells of a group with one row more.
-use Rattle.std.proofs.Common.{◌≡◌, ◌∙◌, ◌+◌, ◌<◌, ap, refl, sym, ℕ, true, false, List, [], ◌∷◌, ◌++◌, take, length, slice_index_or, Option, Some, None}
-use Rattle.std.proofs.lemmas.Bool.{false≢true, eq-eqb, eqb-true}
-use Rattle.std.proofs.lemmas.List.{map-append}
-use Rattle.pick_meaning.proofs.RowLaws.{rows_more_yes, rows_more_no}
-use Rattle.cell_core.specs.declared.cell.Cell.{Cell}
-use Rattle.cell_core.specs.declared.cell.Cell.TheVariants.{Na}
-use Rattle.meaning.specs.Cell.{CellValue, na_cell, datum}
-use Rattle.group_meaning.specs.Rows.{is_in, rows_of_group, cells_at, cells_of_group}
-use Rattle.group_meaning.specs.Reductions.{GroupReduction, group_cell}
-use Rattle.group_by.specs.Gathered.{TakesIn}
+use Rattle.{
+  std.proofs.{Common.{◌≡◌, ◌∙◌, ◌+◌, ◌<◌, ap, refl, sym, ℕ, true, false, List, [], ◌∷◌, ◌++◌, take, length, slice_index_or, Option, Some, None}, lemmas.{Bool.{false≢true, eq-eqb, eqb-true}, List.{map-append}}},
+  pick_meaning.proofs.RowLaws.{rows_more_yes, rows_more_no},
+  cell_core.specs.declared.cell.Cell.{Cell, TheVariants.{Na}},
+  meaning.specs.Cell.{CellValue, na_cell, datum},
+  group_meaning.specs.{Rows.{is_in, rows_of_group, cells_at, cells_of_group}, Reductions.{GroupReduction, group_cell}},
+  group_by.specs.Gathered.{TakesIn},
+}
 
 -- the group of a code
 pub is_in_some : (group : ℕ) (code : Option ℕ) → is_in group code ≡ true → code ≡ Some group

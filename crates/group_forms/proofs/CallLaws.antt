@@ -1,32 +1,18 @@
 -- Calls behind `groupby` and their arguments.
-use Rattle.std.proofs.Common.{◌≡◌, ◌∙◌, refl, ap, sym, subst, List, Option, Some, None, Result, Ok, Err}
-use Rattle.std.specs.Prelude.{option_map, slice_get}
-use Rattle.cell_core.specs.declared.code.Code.TheVariants.{WrongKind, BadValue}
-use Rattle.cell_core.specs.declared.code.Reason.TheVariants.{Argument}
-use Rattle.cell_core.specs.declared.cell.TextId.{TextId}
-use Rattle.meaning.specs.Text.{Text}
-use Rattle.meaning.specs.Cell.{text_of}
-use Rattle.meaning.specs.Fault.{FaultValue}
-use Rattle.table_meaning.specs.Value.{Given}
-use Rattle.form_meaning.specs.declared.Parameter.{Parameter}
-use Rattle.form_meaning.specs.Binding as plain
-use Rattle.form_meaning.specs.Binding.{bound, bound_of, argument_at, arguments_from, text_in, HasNoText}
-use Rattle.form_meaning.specs.Make.{on}
+use Rattle.{
+  std.{proofs.Common.{◌≡◌, ◌∙◌, refl, ap, sym, subst, List, Option, Some, None, Result, Ok, Err}, specs.Prelude.{option_map, slice_get}},
+  cell_core.specs.declared.{code.{Code.TheVariants.{WrongKind, BadValue}, Reason.TheVariants.{Argument}}, cell.TextId.{TextId}},
+  meaning.specs.{Text.{Text}, Cell.{text_of}, Fault.{FaultValue}},
+  table_meaning.specs.Value.{Given},
+  form_meaning.specs.{declared.Parameter.{Parameter}, Binding.{bound_of, argument_at, arguments_from, text_in, HasNoText}, Make.{on}},
+  method_meaning.specs.Groups.{of_bound, transform_in, transform_of, transform_parameters, reduction_named},
+  form_parts.specs.Makes.{MakesBy},
+  frame_store.specs.{declared.arguments.Named.{Named}, Objects.{Tables}, Shown.{Refuses}, World.{World, arguments_in}},
+  group_by.specs.{declared.ops.GroupOp.{GroupOp}, Operations.{reduction_of}},
+  signatures.specs.{Bound.{given_in, stands_at, code_of, IsBound}, declared.{bound.Bound.{Bound}, binding.Unbound.{Unbound, TheVariants.{NotTaken, NotListed}}}},
+  group_forms.specs.{declared.calls.GroupCall.TheVariants.{Transformed}, Calls.{call_seen, IsTransform}},
+}
 use Rattle.method_meaning.specs.Groups as meant
-use Rattle.method_meaning.specs.Groups.{of_bound, transform_in, transform_of, transform_parameters, reduction_named}
-use Rattle.form_parts.specs.Makes.{MakesBy}
-use Rattle.frame_store.specs.declared.arguments.Named.{Named}
-use Rattle.frame_store.specs.Objects.{Tables}
-use Rattle.frame_store.specs.Shown.{Refuses}
-use Rattle.frame_store.specs.World.{World, arguments_in}
-use Rattle.group_by.specs.declared.ops.GroupOp.{GroupOp}
-use Rattle.group_by.specs.Operations.{reduction_of}
-use Rattle.signatures.specs.Bound.{given_in, stands_at, code_of, IsBound}
-use Rattle.signatures.specs.declared.bound.Bound.{Bound}
-use Rattle.signatures.specs.declared.binding.Unbound.{Unbound}
-use Rattle.signatures.specs.declared.binding.Unbound.TheVariants.{NotTaken, NotListed}
-use Rattle.group_forms.specs.declared.calls.GroupCall.TheVariants.{Transformed}
-use Rattle.group_forms.specs.Calls.{call_seen, IsTransform}
 
 -- arguments that aren't bound, and those that are
 pub unbound : {A : Type 0} (w : World) (ps : List Parameter) (args : List Named) (read : List Given → Result A FaultValue) (why : Unbound) → IsBound w ps args (Err why) → Refuses w.texts (code_of why) (of_bound read (bound_of ps (arguments_in w args)))

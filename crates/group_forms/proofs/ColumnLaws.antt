@@ -1,38 +1,20 @@
 -- Columns that are made by groups.
-use Rattle.std.proofs.Common.{◌≡◌, ◌≢◌, ◌∙◌, refl, ap, sym, subst, append_assoc, ℕ, ◌+◌, ◌<◌, Bool, true, false, ◌&&◌, List, [], ◌∷◌, ◌++◌, map, length, take, slice_index_or, All, Some, Result, Ok, Err, if◌then◌else◌}
-use Rattle.std.specs.Prelude.{slice_get, IfOk}
-use Rattle.std.specs.List.{list_all}
-use Rattle.std.proofs.lemmas.List.{length-map, map-append, take_more}
-use Rattle.std.proofs.lemmas.List.FromFn.{length-map-range_with_len}
-use Rattle.std.proofs.lemmas.List.Elements.{All-nil, All-cons, All-head, All-tail, All-push}
-use Rattle.std.proofs.lemmas.Option.{get_or_from_slice_get}
-use Rattle.cell_core.specs.declared.cell.Cell.{Cell}
-use Rattle.cell_core.specs.declared.cell.Kind.{Kind}
-use Rattle.meaning.specs.Text.{Text}
-use Rattle.meaning.specs.Cell.{CellValue, datum, AreGiven}
-use Rattle.meaning.specs.Column.{ColumnValue, ColumnFault, kind_mismatch}
-use Rattle.meaning.specs.Fault.{FaultValue, wrong_kind, then_value}
-use Rattle.column_core.specs.Blocks.{CellBlock}
-use Rattle.column_core.specs.Columns.{CellColumn}
+use Rattle.{
+  std.{proofs.{Common.{◌≡◌, ◌≢◌, ◌∙◌, refl, ap, sym, subst, append_assoc, ℕ, ◌+◌, ◌<◌, Bool, true, false, ◌&&◌, List, [], ◌∷◌, ◌++◌, map, length, take, slice_index_or, All, Some, Result, Ok, Err, if◌then◌else◌}, lemmas.{List.{length-map, map-append, take_more, FromFn.{length-map-range_with_len}, Elements.{All-nil, All-cons, All-head, All-tail, All-push}}, Option.{get_or_from_slice_get}}}, specs.{Prelude.{slice_get, IfOk}, List.{list_all}}},
+  cell_core.specs.declared.cell.{Cell.{Cell}, Kind.{Kind}},
+  meaning.specs.{Text.{Text}, Cell.{CellValue, datum, AreGiven}, Column.{ColumnValue, ColumnFault, kind_mismatch}, Fault.{FaultValue, wrong_kind, then_value}},
+  column_core.specs.{Blocks.{CellBlock}, Columns.{CellColumn}},
+  table_meaning.specs.{Settled.{IsSettled}, Table.{ColumnOf, NumberedTable, Table, column_at, no_column, table_value, column_value}},
+  form_meaning.specs.Finish.{value_of_column, column_of_value, made_column},
+  group_meaning.specs.{Rows.{GroupsValue}, Reductions.{group_takes, reduce_groups, transform_groups, running_cell, cumsum_groups}},
+  method_meaning.specs.Groups.{each_of},
+  form_parts.specs.Makes.{blocks_value},
+  frame_store.{specs.{Parts.{table_column, block_column, IsSingle, HaveRows, AreColumnsOf}, Shown.{columns_value}}, proofs.Settling.{columns_part, columns_given}},
+  selections.proofs.AnswerLaws.{column_seen},
+  group_by.specs.{Answers.{Answers}, Operations.{reduction_of}, declared.ops.GroupFault.{GroupFault, TheVariants.{KindMismatch, NoMemory}}},
+  group_forms.specs.{declared.columns.ColumnCall.{ColumnCall, TheVariants.{Reduced, Transformed, Cumsum}}, Columns.{made_of, takes, takes_at, column_made, made_at, rows_made, AreTaken, AreBlocks}},
+}
 use Rattle.column_core.specs.Columns as kernel
-use Rattle.table_meaning.specs.Settled.{IsSettled}
-use Rattle.table_meaning.specs.Table.{ColumnOf, NumberedTable, Table, column_at, no_column, table_value, column_value}
-use Rattle.form_meaning.specs.Finish.{value_of_column, column_of_value, made_column}
-use Rattle.group_meaning.specs.Rows.{GroupsValue}
-use Rattle.group_meaning.specs.Reductions.{group_takes, reduce_groups, transform_groups, running_cell, cumsum_groups}
-use Rattle.method_meaning.specs.Groups.{each_of}
-use Rattle.form_parts.specs.Makes.{blocks_value}
-use Rattle.frame_store.specs.Parts.{table_column, block_column, IsSingle, HaveRows, AreColumnsOf}
-use Rattle.frame_store.specs.Shown.{columns_value}
-use Rattle.frame_store.proofs.Settling.{columns_part, columns_given}
-use Rattle.selections.proofs.AnswerLaws.{column_seen}
-use Rattle.group_by.specs.Answers.{Answers}
-use Rattle.group_by.specs.Operations.{reduction_of}
-use Rattle.group_by.specs.declared.ops.GroupFault.{GroupFault}
-use Rattle.group_by.specs.declared.ops.GroupFault.TheVariants.{KindMismatch, NoMemory}
-use Rattle.group_forms.specs.declared.columns.ColumnCall.{ColumnCall}
-use Rattle.group_forms.specs.declared.columns.ColumnCall.TheVariants.{Reduced, Transformed, Cumsum}
-use Rattle.group_forms.specs.Columns.{made_of, takes, takes_at, column_made, made_at, rows_made, AreTaken, AreBlocks}
 
 -- what is meant of one column
 abbrev pub if_taken : {A : Type 0} → Bool → A → Result A FaultValue

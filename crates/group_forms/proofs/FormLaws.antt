@@ -1,35 +1,18 @@
 -- What a form answers, by what it reads.
-use Rattle.std.proofs.Common.{◌≡◌, ◌∙◌, ℕ, refl, ap, sym, subst, List, ◌++◌, Bool, true, false, Option, Some, None, Result, Ok, Err, if◌then◌else◌}
-use Rattle.meaning.specs.Text.{Text}
-use Rattle.meaning.specs.Cell.{CellValue, IsLonger}
-use Rattle.meaning.specs.Fault.{FaultValue, then_value}
-use Rattle.table_meaning.specs.Settled.{IsSettled}
-use Rattle.table_meaning.specs.Table.{NumberedTable, Table, table_value}
-use Rattle.table_meaning.specs.Valid.{IsWhole}
-use Rattle.table_meaning.specs.Value.{Entry, Given, NamedGiven, list_in}
-use Rattle.form_meaning.specs.Binding.{each, is_scalar}
-use Rattle.cell_core.specs.declared.cell.Cell.{Cell}
-use Rattle.form_meaning.specs.Select.{cells_of}
+use Rattle.{
+  std.proofs.Common.{◌≡◌, ◌∙◌, ℕ, refl, ap, sym, subst, List, ◌++◌, Bool, true, false, Option, Some, None, Result, Ok, Err, if◌then◌else◌},
+  meaning.specs.{Text.{Text}, Cell.{CellValue, IsLonger}, Fault.{FaultValue, then_value}},
+  table_meaning.specs.{Settled.{IsSettled}, Table.{NumberedTable, Table, table_value}, Valid.{IsWhole}, Value.{Entry, Given, NamedGiven, list_in}},
+  form_meaning.specs.{Binding.{each, is_scalar}, Select.{cells_of}},
+  cell_core.specs.declared.cell.Cell.{Cell},
+  method_meaning.specs.Groups.{grouping_of, values_in, group_call_of, group_answer, grouped_frame},
+  form_parts.specs.Makes.{MakesBy},
+  frame_store.{specs.{declared.{arguments.{Value.{Value}, Argument.{Argument}, Item.{Item}}, fault.OpFault.{OpFault, TheVariants.{Refused, NoMemory}}}, Arguments.{argument_of, items_of}, Objects.{Tables, table_or}, Shown.{shown, cells_value}, World.{World, IsSettledWorld, IsKnownTable, IsKnownArgument, Forms}, Parts.{AreColumnsOf}}, proofs.Settling.{object_settled, settled_later, seen_later, longer_self}},
+  selections.specs.Selected.{scalars_in},
+  signatures.{specs.Scalars.{scalars}, proofs.{ScalarLaws.{scalars_are}, ToldLaws.{some_same}}},
+  group_forms.specs.{declared.values.Values.{Values}, Grouped.{AreValues}},
+}
 use Rattle.method_meaning.specs.Groups as meant
-use Rattle.method_meaning.specs.Groups.{grouping_of, values_in, group_call_of, group_answer, grouped_frame}
-use Rattle.form_parts.specs.Makes.{MakesBy}
-use Rattle.frame_store.specs.declared.arguments.Value.{Value}
-use Rattle.frame_store.specs.declared.arguments.Argument.{Argument}
-use Rattle.frame_store.specs.declared.arguments.Item.{Item}
-use Rattle.frame_store.specs.declared.fault.OpFault.{OpFault}
-use Rattle.frame_store.specs.declared.fault.OpFault.TheVariants.{Refused, NoMemory}
-use Rattle.frame_store.specs.Arguments.{argument_of, items_of}
-use Rattle.frame_store.specs.Objects.{Tables, table_or}
-use Rattle.frame_store.specs.Shown.{shown, cells_value}
-use Rattle.frame_store.specs.World.{World, IsSettledWorld, IsKnownTable, IsKnownArgument, Forms}
-use Rattle.frame_store.proofs.Settling.{object_settled, settled_later, seen_later, longer_self}
-use Rattle.frame_store.specs.Parts.{AreColumnsOf}
-use Rattle.selections.specs.Selected.{scalars_in}
-use Rattle.signatures.specs.Scalars.{scalars}
-use Rattle.signatures.proofs.ScalarLaws.{scalars_are}
-use Rattle.signatures.proofs.ToldLaws.{some_same}
-use Rattle.group_forms.specs.declared.values.Values.{Values}
-use Rattle.group_forms.specs.Grouped.{AreValues}
 
 -- a table that is read
 pub known_table : (w : World) (id : ℕ) (t : NumberedTable) → w.tables id ≡ Some t → IsWhole t → IsSettledWorld w → IsKnownTable w.texts t

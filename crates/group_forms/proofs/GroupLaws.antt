@@ -1,52 +1,24 @@
 -- Tables that have a row for each group.
-use Rattle.std.proofs.Common.{◌≡◌, ◌∙◌, refl, ap, sym, subst, ℕ, ◌+◌, ◌^◌, ◌≤◌, Bool, true, false, ◌&&◌, List, [], ◌∷◌, ◌++◌, map, length, All, Option, Some, None, Result, if◌then◌else◌}
-use Rattle.std.specs.Prelude.{IsSome}
-use Rattle.std.specs.List.{list_all, range_with_len}
-use Rattle.std.proofs.lemmas.List.{length-map, length-append, map-append}
-use Rattle.std.proofs.lemmas.List.FromFn.{length-map-range_with_len}
-use Rattle.std.proofs.lemmas.List.Elements.{All-append, All-cons, All-nil}
-use Rattle.cell_core.specs.declared.cell.Label.{Label}
-use Rattle.cell_core.specs.declared.code.Code.TheVariants.{WrongKind}
-use Rattle.cell_core.specs.declared.grid.Shape.TheVariants.{Frame}
-use Rattle.meaning.specs.Text.{Text}
-use Rattle.meaning.specs.Cell.{CellValue, LabelValue, datum, AreGiven}
-use Rattle.meaning.specs.Column.{ColumnValue}
-use Rattle.meaning.specs.Fault.{FaultValue, then_value}
-use Rattle.column_core.specs.Blocks.{CellBlock}
-use Rattle.column_core.specs.Columns.{CellColumn}
+use Rattle.{
+  std.{proofs.{Common.{◌≡◌, ◌∙◌, refl, ap, sym, subst, ℕ, ◌+◌, ◌^◌, ◌≤◌, Bool, true, false, ◌&&◌, List, [], ◌∷◌, ◌++◌, map, length, All, Option, Some, None, Result, if◌then◌else◌}, lemmas.List.{length-map, length-append, map-append, FromFn.{length-map-range_with_len}, Elements.{All-append, All-cons, All-nil}}}, specs.{Prelude.{IsSome}, List.{list_all}}},
+  cell_core.specs.declared.{cell.Label.{Label}, code.Code.TheVariants.{WrongKind}, grid.Shape.TheVariants.{Frame}},
+  meaning.specs.{Text.{Text}, Cell.{CellValue, LabelValue, datum, AreGiven}, Column.{ColumnValue}, Fault.{FaultValue, then_value}},
+  column_core.specs.{Blocks.{CellBlock}, Columns.{CellColumn}},
+  table_meaning.specs.{Settled.{IsSettled}, Table.{ColumnOf, NumberedTable, Table, table_value, heading_value, tuple_value, column_value}, Valid.{IsWhole}, Value.{Entry}},
+  multi_index.specs.Axes.{AxisValue, range_axis},
+  form_meaning.specs.Finish.{default_labels, finished, column_of_value},
+  select_meaning.specs.Select.{shown_as},
+  group_meaning.specs.{Rows.{GroupsValue}, Reductions.{group_sizes}},
+  method_meaning.specs.Groups.{keys_of, groups_of, key_column, headings_of, under_keys, beside_keys, grouped_rows, group_answer},
+  group_by.specs.{declared.ops.GroupOp.{GroupOp, TheVariants.{First}}, Operations.{reduction_of}},
+  form_parts.{specs.Makes.{blocks_value}, proofs.LabelLaws.{default_seen}},
+  frame_store.{specs.{Parts.{block_column, table_column, AreColumnsOf}, Shown.{headings_value, labels_value, Refuses}}, proofs.Settling.{columns_name_part}},
+  selections.specs.Selected.{heading_of, headings_at},
+  label_methods.{specs.Levels.{row_labels}, proofs.IndexingLaws.{headings_seen}},
+  group_forms.{specs.{declared.{columns.ColumnCall.TheVariants.{Reduced}, grouping.Grouping.{Grouping}, values.Values.{Values}}, Columns.{takes_at, made_at, AreTaken, AreBlocks}, Grouped.{grouping_seen, values_seen, AreValues}, Tables.{HasHeadings, IsAxis, group_labels, group_names, group_headings, group_keys}}, proofs.{ColumnLaws.{if_taken, each_is, boxed, one_more_block, one_more_value}, KeyLaws.{key_labels_settled}, ShownLaws.{IsMade}, RowLaws.{headings_are, own_settled, own_labelled, labels_counted}}},
+}
 use Rattle.column_core.specs.Columns as kernel
-use Rattle.table_meaning.specs.Settled.{IsSettled}
-use Rattle.multi_index.specs.Axes.{AxisValue, range_axis}
-use Rattle.table_meaning.specs.Table.{ColumnOf, NumberedTable, Table, table_value, heading_value, tuple_value, column_value}
-use Rattle.table_meaning.specs.Valid.{IsWhole}
-use Rattle.table_meaning.specs.Value.{Entry}
-use Rattle.form_meaning.specs.Finish.{default_labels, finished, column_of_value}
-use Rattle.select_meaning.specs.Select.{shown_as}
-use Rattle.group_meaning.specs.Rows.{GroupsValue}
-use Rattle.group_meaning.specs.Reductions.{group_sizes}
 use Rattle.method_meaning.specs.Groups as meant
-use Rattle.method_meaning.specs.Groups.{keys_of, groups_of, key_column, headings_of, under_keys, beside_keys, grouped_rows, group_answer}
-use Rattle.group_by.specs.declared.ops.GroupOp.{GroupOp}
-use Rattle.group_by.specs.declared.ops.GroupOp.TheVariants.{First}
-use Rattle.group_by.specs.Operations.{reduction_of}
-use Rattle.form_parts.specs.Makes.{blocks_value}
-use Rattle.form_parts.proofs.LabelLaws.{default_seen}
-use Rattle.frame_store.specs.Parts.{block_column, table_column, AreColumnsOf}
-use Rattle.frame_store.specs.Shown.{headings_value, labels_value, Refuses}
-use Rattle.frame_store.proofs.Settling.{columns_name_part}
-use Rattle.selections.specs.Selected.{heading_of, headings_at}
-use Rattle.label_methods.specs.Levels.{row_labels}
-use Rattle.label_methods.proofs.IndexingLaws.{headings_seen}
-use Rattle.group_forms.specs.declared.columns.ColumnCall.TheVariants.{Reduced}
-use Rattle.group_forms.specs.declared.grouping.Grouping.{Grouping}
-use Rattle.group_forms.specs.declared.values.Values.{Values}
-use Rattle.group_forms.specs.Columns.{takes_at, made_at, AreTaken, AreBlocks}
-use Rattle.group_forms.specs.Grouped.{grouping_seen, values_seen, AreValues}
-use Rattle.group_forms.specs.Tables.{HasHeadings, IsAxis, group_labels, group_names, group_headings, group_keys}
-use Rattle.group_forms.proofs.ColumnLaws.{if_taken, each_is, boxed, one_more_block, one_more_value}
-use Rattle.group_forms.proofs.KeyLaws.{key_labels_settled}
-use Rattle.group_forms.proofs.ShownLaws.{IsMade}
-use Rattle.group_forms.proofs.RowLaws.{headings_are, own_settled, own_labelled, labels_counted}
 
 -- the table of groups, whether the keys are labels or columns
 abbrev headings_by : Bool → Table → List ℕ → List (Option LabelValue) → List (Option LabelValue)

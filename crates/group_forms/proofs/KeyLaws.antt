@@ -1,42 +1,22 @@
 -- The groups of a frame's rows are those of the rows with their texts.
-use Rattle.std.proofs.Common.{◌≡◌, ◌∙◌, refl, ap, sym, subst, zero-add, ℕ, ◌+◌, ◌<◌, ◌≤◌, Bool, List, [], ◌∷◌, ◌++◌, map, length, take, slice_index_or, All, Some}
-use Rattle.std.specs.Prelude.{slice_get, Result, Ok, Err, IfOk}
-use Rattle.std.specs.List.{range_with_len}
-use Rattle.std.proofs.Math.ListN.{get_or-map}
-use Rattle.std.proofs.lemmas.List.{length-map, map-append, take_all, take_more}
-use Rattle.std.proofs.lemmas.Option.{get_or_from_slice_get}
-use Rattle.std.proofs.lemmas.List.FromFn.{length-range_with_len, get_or-map-range_with_len}
-use Rattle.cell_core.specs.Texts.{AreDistinct}
-use Rattle.cell_core.specs.declared.cell.Cell.{Cell}
+use Rattle.{
+  std.{proofs.{Common.{◌≡◌, ◌∙◌, refl, ap, sym, subst, zero-add, ℕ, ◌+◌, ◌<◌, ◌≤◌, Bool, List, [], ◌∷◌, ◌++◌, map, length, take, slice_index_or, All, Some}, Math.ListN.{get_or-map}, lemmas.{List.{length-map, map-append, take_all, take_more, FromFn.{length-range_with_len, get_or-map-range_with_len}}, Option.{get_or_from_slice_get}}}, specs.Prelude.{slice_get, Result, Ok, Err, IfOk}},
+  cell_core.specs.{Texts.{AreDistinct}, declared.cell.{Cell.{Cell}, Label.{Label}}},
+  meaning.specs.{Text.{Text}, Cell.{CellValue, na_cell, datum, LabelValue, label_datum}, Operator.{cell_label}},
+  table_meaning.specs.{Settled.{IsSettled}, Table.{ColumnOf, NumberedTable, Table, column_at, table_value, tuple_value}},
+  row_keys.specs.Keys.{same_tuple, place_among},
+  multi_index.specs.Axes.{tuples_at},
+  factorize.{specs.{Keys.{seen_rules}, declared.factor.KeyGroups.{KeyGroups}}, proofs.GroupLaws.{rows_inside, tuples_there}},
+  group_meaning.{specs.{Keys.{tuple_rules, group_keys, group_codes}, Rows.{GroupsValue}}, proofs.{ListLaws.{map_on}, SeenLaws.{keys_seen, codes_seen}}},
+  form_parts.{specs.Labels.{label_of}, proofs.RowLaws.{tuple_by_number, tuples_settled}},
+  frame_store.{specs.{Parts.{AreRowsOf}, Shown.{labels_value}}, proofs.Settling.{settled_by}},
+  selections.{specs.Across.{cell_across}, proofs.AnswerLaws.{column_seen}},
+  label_methods.{specs.Levels.{row_labels}, proofs.IndexingLaws.{all_rows, tuples_seen}},
+  key_columns.proofs.KeyLaws.{numbered_keys},
+  group_forms.specs.{Grouped.{grouping_seen}, declared.grouping.Grouping.{Grouping}},
+}
 use Rattle.cell_core.specs.declared.cell.Cell.TheVariants as cell
-use Rattle.cell_core.specs.declared.cell.Label.{Label}
-use Rattle.meaning.specs.Text.{Text}
-use Rattle.meaning.specs.Cell.{CellValue, na_cell, datum, LabelValue, label_datum}
-use Rattle.meaning.specs.Operator.{cell_label}
-use Rattle.table_meaning.specs.Settled.{IsSettled}
-use Rattle.table_meaning.specs.Table.{ColumnOf, NumberedTable, Table, column_at, table_value, tuple_value}
-use Rattle.row_keys.specs.Keys.{same_tuple, place_among}
-use Rattle.multi_index.specs.Axes.{tuples_at}
-use Rattle.factorize.specs.Keys.{seen_rules}
-use Rattle.factorize.specs.declared.factor.KeyGroups.{KeyGroups}
-use Rattle.factorize.proofs.GroupLaws.{rows_inside, tuples_there}
-use Rattle.group_meaning.specs.Keys.{tuple_rules, group_keys, group_codes}
-use Rattle.group_meaning.specs.Rows.{GroupsValue}
-use Rattle.group_meaning.proofs.ListLaws.{map_on}
-use Rattle.group_meaning.proofs.SeenLaws.{keys_seen, codes_seen}
 use Rattle.method_meaning.specs.Groups as meant
-use Rattle.form_parts.specs.Labels.{label_of}
-use Rattle.form_parts.proofs.RowLaws.{tuple_by_number, tuples_settled}
-use Rattle.frame_store.specs.Parts.{AreRowsOf}
-use Rattle.frame_store.specs.Shown.{labels_value}
-use Rattle.frame_store.proofs.Settling.{settled_by}
-use Rattle.selections.specs.Across.{cell_across}
-use Rattle.selections.proofs.AnswerLaws.{column_seen}
-use Rattle.label_methods.specs.Levels.{row_labels}
-use Rattle.label_methods.proofs.IndexingLaws.{all_rows, tuples_seen}
-use Rattle.key_columns.proofs.KeyLaws.{numbered_keys}
-use Rattle.group_forms.specs.Grouped.{grouping_seen}
-use Rattle.group_forms.specs.declared.grouping.Grouping.{Grouping}
 
 -- a group for each row
 pub codes_counted : (texts : List Text) (t : NumberedTable) (g : Grouping) (groups : GroupsValue) → groups ≡ meant.groups_of (table_value texts t) (grouping_seen texts g) → length groups.codes ≡ length t.labels

@@ -1,9 +1,8 @@
 -- Kinds, column by column.
-use Rattle.std.proofs.Common.{◌≡◌, ◌∙◌, ap, sym, add-one, ℕ, suc, ◌+◌, ◌≤◌, Bool, true, false, ◌&&◌, List, drop, length, Some}
-use Rattle.std.specs.Prelude.{slice_get}
-use Rattle.std.specs.List.{list_all}
-use Rattle.std.proofs.lemmas.List.{drop_all}
-use Rattle.label_methods.proofs.Lists.{drop_next}
+use Rattle.{
+  std.{proofs.{Common.{◌≡◌, ◌∙◌, ap, sym, add-one, ℕ, suc, ◌+◌, ◌≤◌, Bool, true, false, ◌&&◌, List, drop, length, Some}, lemmas.List.{drop_all}}, specs.{Prelude.{slice_get}, List.{list_all}}},
+  label_methods.proofs.Lists.{drop_next},
+}
 
 -- where one passes, the rest decides
 pub passed_on : (p : ℕ → Bool) (xs : List ℕ) (k x : ℕ) (whole : Bool) → slice_get xs k ≡ Some x → p x ≡ true → list_all p (drop k xs) ≡ whole → list_all p (drop (k + 1) xs) ≡ whole

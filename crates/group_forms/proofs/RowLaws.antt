@@ -1,46 +1,22 @@
 -- Tables that have the rows of the frame.
-use Rattle.std.proofs.Common.{◌≡◌, ◌∙◌, refl, ap, sym, subst, ℕ, ◌<◌, Bool, false, List, [], ◌∷◌, ◌++◌, map, length, All, Option, None, Result}
-use Rattle.std.specs.Prelude.{IsSome}
-use Rattle.std.specs.List.{list_all}
-use Rattle.std.proofs.lemmas.List.{length-map}
-use Rattle.std.proofs.lemmas.List.FromFn.{length-map-range_with_len}
-use Rattle.std.proofs.lemmas.List.Elements.{All-nil}
-use Rattle.cell_core.specs.declared.cell.Cell.{Cell}
-use Rattle.cell_core.specs.declared.cell.Label.{Label}
-use Rattle.cell_core.specs.declared.code.Code.TheVariants.{WrongKind}
-use Rattle.cell_core.specs.declared.grid.Shape.TheVariants.{Frame}
-use Rattle.meaning.specs.Text.{Text}
-use Rattle.meaning.specs.Cell.{CellValue, datum, AreGiven}
-use Rattle.meaning.specs.Column.{ColumnValue}
-use Rattle.meaning.specs.Fault.{FaultValue, then_value}
-use Rattle.column_core.specs.Blocks.{CellBlock}
-use Rattle.column_core.specs.Columns.{CellColumn}
+use Rattle.{
+  std.{proofs.{Common.{◌≡◌, ◌∙◌, refl, ap, sym, subst, ℕ, ◌<◌, Bool, false, List, [], ◌∷◌, ◌++◌, map, length, All, Option, None, Result}, lemmas.List.{length-map, FromFn.{length-map-range_with_len}, Elements.{All-nil}}}, specs.{Prelude.{IsSome}, List.{list_all}}},
+  cell_core.specs.declared.{cell.{Cell.{Cell}, Label.{Label}}, code.Code.TheVariants.{WrongKind}, grid.Shape.TheVariants.{Frame}},
+  meaning.specs.{Text.{Text}, Cell.{CellValue, datum, AreGiven}, Column.{ColumnValue}, Fault.{FaultValue, then_value}},
+  column_core.specs.{Blocks.{CellBlock}, Columns.{CellColumn}},
+  multi_index.specs.Axes.{AxisValue},
+  table_meaning.specs.{Settled.{IsSettled}, Table.{ColumnOf, NumberedTable, Table, table_value, tuple_value, column_value}, Valid.{IsWhole}, Value.{Entry}},
+  form_meaning.specs.Finish.{column_of_value},
+  group_meaning.specs.{Rows.{GroupsValue}, Reductions.{group_places}},
+  method_meaning.specs.Groups.{headings_of, each_of, same_rows, group_answer},
+  form_parts.specs.Makes.{blocks_value},
+  frame_store.{specs.{Parts.{table_column, axis_of, AreColumnsOf, IsSingle}, Shown.{headings_value, Refuses}}, proofs.Settling.{headings_part, labels_part, level_names_part}},
+  selections.specs.Selected.{heading_of, headings_at},
+  label_methods.proofs.IndexingLaws.{headings_seen, headings_settled, labelled},
+  group_forms.{specs.{declared.{columns.ColumnCall.{ColumnCall, TheVariants.{Reduced, Transformed, Cumsum}}, grouping.Grouping.{Grouping}, values.Values.{Values}}, Columns.{made_of, takes_at, made_at, rows_made, AreBlocks, row_call_of, IsByRow}, Grouped.{grouping_seen, values_seen}, Tables.{HasHeadings, IsAxis}}, proofs.{ColumnLaws.{if_taken, each_is, boxed, one_more_block, one_more_value}, KeyLaws.{codes_counted}}},
+}
 use Rattle.column_core.specs.Columns as kernel
-use Rattle.multi_index.specs.Axes.{AxisValue}
-use Rattle.table_meaning.specs.Settled.{IsSettled}
-use Rattle.table_meaning.specs.Table.{ColumnOf, NumberedTable, Table, table_value, tuple_value, column_value}
-use Rattle.table_meaning.specs.Valid.{IsWhole}
-use Rattle.table_meaning.specs.Value.{Entry}
-use Rattle.form_meaning.specs.Finish.{column_of_value}
-use Rattle.group_meaning.specs.Rows.{GroupsValue}
-use Rattle.group_meaning.specs.Reductions.{group_places}
 use Rattle.method_meaning.specs.Groups as meant
-use Rattle.method_meaning.specs.Groups.{headings_of, each_of, same_rows, group_answer}
-use Rattle.form_parts.specs.Makes.{blocks_value}
-use Rattle.frame_store.specs.Parts.{table_column, axis_of, AreColumnsOf, IsSingle}
-use Rattle.frame_store.specs.Shown.{headings_value, Refuses}
-use Rattle.frame_store.proofs.Settling.{headings_part, labels_part, level_names_part}
-use Rattle.selections.specs.Selected.{heading_of, headings_at}
-use Rattle.label_methods.proofs.IndexingLaws.{headings_seen, headings_settled, labelled}
-use Rattle.group_forms.specs.declared.columns.ColumnCall.{ColumnCall}
-use Rattle.group_forms.specs.declared.columns.ColumnCall.TheVariants.{Reduced, Transformed, Cumsum}
-use Rattle.group_forms.specs.declared.grouping.Grouping.{Grouping}
-use Rattle.group_forms.specs.declared.values.Values.{Values}
-use Rattle.group_forms.specs.Columns.{made_of, takes_at, made_at, rows_made, AreBlocks, row_call_of, IsByRow}
-use Rattle.group_forms.specs.Grouped.{grouping_seen, values_seen}
-use Rattle.group_forms.specs.Tables.{HasHeadings, IsAxis}
-use Rattle.group_forms.proofs.ColumnLaws.{if_taken, each_is, boxed, one_more_block, one_more_value}
-use Rattle.group_forms.proofs.KeyLaws.{codes_counted}
 
 -- the headings of columns, as they are seen
 pub headings_are : (texts : List Text) (t : NumberedTable) (places : List ℕ) (labels : List (Option Label)) → labels ≡ headings_at t places → headings_of (table_value texts t) places ≡ headings_value texts labels

@@ -1,34 +1,19 @@
 -- New tables, and what is tested before they are made.
-use Rattle.std.proofs.Common.{◌≡◌, ◌∙◌, refl, ap, sym, subst, arith, ℕ, ◌*◌, ◌^◌, ◌≤◌, Bool, true, false, ◌&&◌, List, map, length, All, Option, Some, None, Result, Ok, Err, if◌then◌else◌}
-use Rattle.std.specs.Prelude.{IsSome, nat_le}
-use Rattle.std.proofs.lemmas.Bool.Decides.{nat_tests}
-use Rattle.cell_core.specs.Texts.{AreDistinct}
-use Rattle.cell_core.specs.declared.code.Code.TheVariants.{Limit}
-use Rattle.cell_core.specs.declared.cell.Label.{Label}
-use Rattle.cell_core.specs.declared.grid.Shape.TheVariants.{Series, Frame}
-use Rattle.meaning.specs.Text.{Text}
-use Rattle.meaning.specs.Cell.{AreGiven}
-use Rattle.meaning.specs.Fault.{FaultValue, limit, then_value}
-use Rattle.meaning.specs.FaultOf.{fault_of}
-use Rattle.column_core.specs.Blocks.{CellBlock}
-use Rattle.multi_index.specs.Axes.{AxisValue}
-use Rattle.table_meaning.specs.Settled.{IsSettled}
-use Rattle.table_meaning.specs.Table.{NumberedTable, Table, table_value, heading_value}
-use Rattle.table_meaning.specs.Valid.{AreHeadings}
-use Rattle.table_meaning.specs.Value.{Entry, table}
-use Rattle.form_meaning.specs.Finish.{within_limits, limited, first_repeated, unless_repeated, finished}
-use Rattle.select_meaning.specs.Select.{as_series, shown_as}
-use Rattle.form_parts.specs.Makes.{blocks_value}
-use Rattle.frame_store.specs.declared.fault.OpFault.{OpFault}
-use Rattle.frame_store.specs.declared.fault.OpFault.TheVariants.{Refused, NoMemory}
-use Rattle.frame_store.specs.Parts.{HeadingList, block_column, table_of}
-use Rattle.frame_store.specs.Shown.{headings_value, Makes}
-use Rattle.frame_store.proofs.Settling.{table_settled, columns_settled}
-use Rattle.selections.specs.Headings.{NamesRepeated, repeated_heading}
-use Rattle.selections.proofs.HeadingLaws.{repeated_seen, different}
-use Rattle.selections.proofs.RefusalLaws.{repeated_settled}
-use Rattle.label_methods.proofs.TableLaws.{limited_within}
-use Rattle.group_forms.specs.Tables.{shape_if, name_if, headings_if, shown_if, HasHeadings, MayShow, IsAxis}
+use Rattle.{
+  std.{proofs.{Common.{◌≡◌, ◌∙◌, refl, ap, sym, subst, arith, ℕ, ◌*◌, ◌^◌, ◌≤◌, Bool, true, false, ◌&&◌, List, map, length, All, Option, Some, None, Result, Ok, Err, if◌then◌else◌}, lemmas.Bool.Decides.{nat_tests}}, specs.Prelude.{IsSome, nat_le}},
+  cell_core.specs.{Texts.{AreDistinct}, declared.{code.Code.TheVariants.{Limit}, cell.Label.{Label}, grid.Shape.TheVariants.{Series, Frame}}},
+  meaning.specs.{Text.{Text}, Cell.{AreGiven}, Fault.{FaultValue, limit, then_value}, FaultOf.{fault_of}},
+  column_core.specs.Blocks.{CellBlock},
+  multi_index.specs.Axes.{AxisValue},
+  table_meaning.specs.{Settled.{IsSettled}, Table.{NumberedTable, Table, table_value, heading_value}, Valid.{AreHeadings}, Value.{Entry, table}},
+  form_meaning.specs.Finish.{within_limits, limited, first_repeated, unless_repeated, finished},
+  select_meaning.specs.Select.{as_series, shown_as},
+  form_parts.specs.Makes.{blocks_value},
+  frame_store.{specs.{declared.fault.OpFault.{OpFault, TheVariants.{Refused, NoMemory}}, Parts.{HeadingList, block_column, table_of}, Shown.{headings_value, Makes}}, proofs.Settling.{table_settled, columns_settled}},
+  selections.{specs.Headings.{NamesRepeated, repeated_heading}, proofs.{HeadingLaws.{repeated_seen, different}, RefusalLaws.{repeated_settled}}},
+  label_methods.proofs.TableLaws.{limited_within},
+  group_forms.specs.Tables.{shape_if, name_if, headings_if, shown_if, HasHeadings, MayShow, IsAxis},
+}
 
 -- within the limits, or beyond them
 abbrev within_then : Table → Bool → Result Entry FaultValue

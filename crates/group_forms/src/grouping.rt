@@ -10,7 +10,7 @@ ghost use Rattle.label_methods.specs.Named.{first_in, NamesColumns};
 ghost use Rattle.group_forms.specs.Grouped.{grouping_seen, HasKeys, AreKeys};
 
 use cell_core::{Code, Places, TextDict};
-use form_meaning::Method;
+use form_meaning::{Method, OtherMethod};
 use frame_store::{Named, ObjId, OpFault, Store};
 use label_methods::named_places;
 use signatures::{Bound, bind, parameters};
@@ -69,7 +69,12 @@ pub(crate) fn grouping_of(
         MakesBy grouping_seen dict.now result (meant.grouping_of t gs) }
     ensures keys { IfOk result (HasKeys (table_at (tables store.now) on.0)) }
 {
-    let bound = bind(store, dict, parameters(Method::Groupby), by)?;
+    let bound = bind(
+        store,
+        dict,
+        parameters(Method::Other(OtherMethod::Groupby)),
+        by,
+    )?;
     let sorted = bound.truth(1);
     let dropna = bound.truth(2);
     let as_index = bound.truth(3);

@@ -1,8 +1,5 @@
 -- Lists whose elements are seen otherwise, and tests that agree on elements.
-use Rattle.std.proofs.Common.{◌≡◌, ◌∙◌, ◌+◌, ap, refl, Bool, true, false, not, cond, List, [], ◌∷◌, map, filter, All, Some, None, nat_lt}
-use Rattle.std.specs.List.{position, position_or_len}
-use Rattle.std.proofs.lemmas.List.{length-map}
-use Rattle.std.proofs.lemmas.List.Elements.{All-head, All-tail}
+use Rattle.std.{proofs.{Common.{◌≡◌, ◌∙◌, ◌+◌, ap, refl, Bool, true, false, not, cond, List, [], ◌∷◌, map, filter, All, Some, None, nat_lt}, lemmas.List.{length-map, Elements.{All-head, All-tail}}}, specs.List.{position, position_or_len}}
 
 pub map_map : {X Y Z : Type 0} (g : Y → Z) (f : X → Y) (xs : List X) → map g (map f xs) ≡ map (λ x. g (f x)) xs
 map_map g f [] = refl

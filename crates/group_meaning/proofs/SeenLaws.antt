@@ -1,11 +1,11 @@
 -- Groups are the same where keys are seen otherwise, as tuples with their texts.
-use Rattle.std.proofs.Common.{◌≡◌, ◌∙◌, ap, refl, Bool, true, false, not, cond, List, [], ◌∷◌, map, filter, All}
-use Rattle.std.proofs.lemmas.List.Elements.{All-cons, All-head, All-tail, All-filter}
-use Rattle.meaning.specs.Reduce.{distinct}
-use Rattle.sorting.specs.Sorting.{in_order}
-use Rattle.align_meaning.proofs.OrderLaws.{all_in_order, in_order_map}
-use Rattle.group_meaning.specs.Keys.{KeyRules, is_kept, ordered_if, group_keys, group_of, group_codes}
-use Rattle.group_meaning.proofs.ListLaws.{map_map, map_on, filter_seen, position_seen}
+use Rattle.{
+  std.proofs.{Common.{◌≡◌, ◌∙◌, ap, refl, Bool, true, false, not, cond, List, [], ◌∷◌, map, filter, All}, lemmas.List.Elements.{All-cons, All-head, All-tail, All-filter}},
+  meaning.specs.Reduce.{distinct},
+  sorting.specs.Sorting.{in_order},
+  align_meaning.proofs.OrderLaws.{all_in_order, in_order_map},
+  group_meaning.{specs.Keys.{KeyRules, is_kept, ordered_if, group_keys, group_of, group_codes}, proofs.ListLaws.{map_map, map_on, filter_seen, position_seen}},
+}
 
 module _ {X Y : Type 0} (P : X → Type 0) (f : X → Y) (rules : KeyRules X) (rules' : KeyRules Y) (equal : (x y : X) → P x → P y → rules'.same (f x) (f y) ≡ rules.same x y)
     (below : (x y : X) → P x → P y → rules'.less (f x) (f y) ≡ rules.less x y) (missing : (x : X) → P x → rules'.holds_na (f x) ≡ rules.holds_na x) (sorted dropna : Bool) where

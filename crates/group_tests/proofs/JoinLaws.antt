@@ -1,9 +1,10 @@
 -- Keys of one level on both sides.
-use Rattle.std.proofs.Common.{◌≡◌, ◌∙◌, ◌++◌, refl, sym, List, [], ◌∷◌, length, All}
-use Rattle.std.proofs.lemmas.List.Elements.{All-append, All-head}
-use Rattle.cell_core.specs.declared.cell.Label.{Label}
-use Rattle.multi_index.specs.Axes.{HaveLevels}
-use Rattle.factorize.specs.Keys.{levels_of}
+use Rattle.{
+  std.proofs.{Common.{◌≡◌, ◌∙◌, ◌++◌, refl, sym, List, [], ◌∷◌, length, All}, lemmas.List.Elements.{All-append, All-head}},
+  cell_core.specs.declared.cell.Label.{Label},
+  multi_index.specs.Axes.{HaveLevels},
+  factorize.specs.Keys.{levels_of},
+}
 
 abbrev IsSingle : List Label → Type 0
 IsSingle tuple = length tuple ≡ 1

@@ -1,11 +1,8 @@
 -- The place of a bound that must stand once.
-use Rattle.std.proofs.Common.{◌≡◌, ◌∙◌, ap, sym, refl, ℕ, ◌+◌, ◌<◌, ◌≤◌, Bool, true, false, List, [], ◌∷◌, ◌++◌, length, take, drop, slice_index_or, Option, Some, None, Ok, Err}
-use Rattle.std.specs.Option.{option_to_list, is_some}
-use Rattle.std.proofs.lemmas.List.{take-append-drop, take_all}
-use Rattle.pick_meaning.specs.Faults.{not_there, bound_not_unique}
-use Rattle.pick_meaning.specs.Rows.{rows_where}
-use Rattle.pick_meaning.specs.Slices.{one_row}
-use Rattle.pick_meaning.proofs.RowLaws.{rows_where-append, rows_more_yes, rows_more_no}
+use Rattle.{
+  std.{proofs.{Common.{◌≡◌, ◌∙◌, ap, sym, refl, ℕ, ◌+◌, ◌<◌, ◌≤◌, Bool, true, false, List, [], ◌∷◌, ◌++◌, length, take, drop, slice_index_or, Option, Some, None, Ok, Err}, lemmas.List.{take-append-drop, take_all}}, specs.Option.{option_to_list, is_some}},
+  pick_meaning.{specs.{Faults.{not_there, bound_not_unique}, Rows.{rows_where}, Slices.{one_row}}, proofs.RowLaws.{rows_where-append, rows_more_yes, rows_more_no}},
+}
 
 module _ {X : Type 0} (p : X → Bool) (xs : List X) where
   -- so far: no row or one

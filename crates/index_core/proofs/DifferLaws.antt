@@ -1,14 +1,11 @@
 -- Labels of which none stands twice.
-use Rattle.std.proofs.Common.{◌≡◌, ◌∙◌, ap, sym, refl, arith, ℕ, zero, suc, ◌+◌, ◌<◌, Bool, true, false, not, ◌&&◌, ◌||◌, cond, List, [], ◌∷◌, ◌++◌, length, drop, slice_index_or, map}
-use Rattle.std.specs.List.{list_any, range_with_len}
-use Rattle.std.proofs.lemmas.List.{drop_more}
-use Rattle.std.proofs.lemmas.List.Folds.{list_any-append}
-use Rattle.indexmap.specs.IndexSet.{insert_key}
-use Rattle.cell_core.specs.declared.cell.Label.{Label}
-use Rattle.pick_meaning.specs.Labels.{all_differ}
-use Rattle.index_core.specs.Labels.{same_number}
-use Rattle.index_core.specs.Ranges.{number_label, range_labels}
-use Rattle.index_core.proofs.NumberLaws.{label_decides, not_same, same_pos}
+use Rattle.{
+  std.{proofs.{Common.{◌≡◌, ◌∙◌, ap, sym, refl, arith, ℕ, zero, suc, ◌+◌, ◌<◌, Bool, true, false, not, ◌&&◌, ◌||◌, cond, List, [], ◌∷◌, ◌++◌, length, drop, slice_index_or, map}, lemmas.List.{drop_more, Folds.{list_any-append}}}, specs.List.{list_any, range_with_len}},
+  indexmap.specs.IndexSet.{insert_key},
+  cell_core.specs.declared.cell.Label.{Label},
+  pick_meaning.specs.Labels.{all_differ},
+  index_core.{specs.{Labels.{same_number}, Ranges.{number_label, range_labels}}, proofs.NumberLaws.{label_decides, not_same, same_pos}},
+}
 
 -- one label more among the keys of a set
 among : (q h : Label) (keys : List Label) → list_any (same_number h) keys ≡ true → same_number q h ≡ true → list_any (same_number q) keys ≡ true

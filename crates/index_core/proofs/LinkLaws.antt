@@ -1,17 +1,10 @@
 -- Rows of a label that are found from the first one to the next.
-use Rattle.std.proofs.Common.{◌≡◌, ◌∙◌, ap, sym, refl, arith, inl, inr, ℕ, ◌+◌, ◌-◌, ◌<◌, ◌≤◌, Bool, true, false, cond, List, [], ◌∷◌, ◌++◌, length, drop, slice_index_or, Option, Some, None, if◌then◌else◌}
-use Rattle.std.specs.Prelude.{slice_set}
-use Rattle.std.specs.List.{position_from}
-use Rattle.std.specs.Map.{lookup}
-use Rattle.std.specs.Option.{is_some}
-use Rattle.std.proofs.lemmas.Bool.{cases_eq}
-use Rattle.std.proofs.lemmas.Bool.Decides.{same_from_decides}
-use Rattle.std.proofs.lemmas.List.{drop-drop, drop_more, length-drop, length-set, get_or-drop, get_or_default, append_assoc, get_or-set_same, get_or-set_other}
-use Rattle.cell_core.specs.declared.cell.Label.{Label}
-use Rattle.pick_meaning.specs.Rows.{rows_where, only_row, are_some}
-use Rattle.index_core.specs.Labels.{same_number}
-use Rattle.index_core.specs.Found.{HaveFirstRows, HaveNextRows, next_row}
-use Rattle.index_core.proofs.NumberLaws.{label_decides}
+use Rattle.{
+  std.{proofs.{Common.{◌≡◌, ◌∙◌, ap, sym, refl, arith, inl, inr, ℕ, ◌+◌, ◌-◌, ◌<◌, ◌≤◌, Bool, true, false, cond, List, [], ◌∷◌, ◌++◌, length, drop, slice_index_or, Option, Some, None, if◌then◌else◌}, lemmas.{Bool.{cases_eq, Decides.{same_from_decides}}, List.{drop-drop, drop_more, length-drop, length-set, get_or-drop, get_or_default, append_assoc, get_or-set_same, get_or-set_other}}}, specs.{Prelude.{slice_set}, List.{position_from}, Map.{lookup}, Option.{is_some}}},
+  cell_core.specs.declared.cell.Label.{Label},
+  pick_meaning.specs.Rows.{rows_where, only_row, are_some},
+  index_core.{specs.{Labels.{same_number}, Found.{HaveFirstRows, HaveNextRows, next_row}}, proofs.NumberLaws.{label_decides}},
+}
 
 abbrev pub rest_from : {X : Type 0} → (X → Bool) → List X → Option ℕ → List ℕ
 rest_from p xs None = []

@@ -1,23 +1,12 @@
 -- The places of a range: by the number of a label, and by the numbers of two bounds.
-use Rattle.std.proofs.Common.{◌≡◌, ◌∙◌, ap, sym, subst, refl, arith, rules, ℕ, zero, suc, ◌+◌, ◌-◌, ◌<◌, ◌≤◌, ℤ, pos, negsuc, Bool, true, false, not, cond, List, [], ◌∷◌, length, slice_index_or, Some, min, nat_lt, map, ◌&&◌}
-use Rattle.std.specs.Prelude.{◌*◌, unsigned_abs, int_lt as lt_z}
-use Rattle.std.specs.Bool.{Decides}
-use Rattle.std.specs.List.{range_with_len}
-use Rattle.std.specs.Ordering.{is_lt, is_gt, int_cmp}
-use Rattle.std.specs.declared.cmp.Ordering.TheVariants.{Less, Equal, Greater}
-use Rattle.std.proofs.lemmas.Bool.Decides.{nat_tests}
-use Rattle.std.proofs.lemmas.List.FromFn.{get_or-map-range_with_len}
-use Rattle.cell_core.specs.declared.cell.Label.{Label}
+use Rattle.{
+  std.{proofs.{Common.{◌≡◌, ◌∙◌, ap, sym, subst, refl, arith, rules, ℕ, zero, suc, ◌+◌, ◌-◌, ◌<◌, ◌≤◌, ℤ, pos, negsuc, Bool, true, false, not, cond, List, [], ◌∷◌, length, slice_index_or, Some, min, nat_lt, map, ◌&&◌}, lemmas.{Bool.Decides.{nat_tests}, List.FromFn.{get_or-map-range_with_len}}}, specs.{Prelude.{◌*◌, unsigned_abs, int_lt as lt_z}, Bool.{Decides}, List.{range_with_len}, Ordering.{is_lt, is_gt, int_cmp}, declared.cmp.Ordering.TheVariants.{Less, Equal, Greater}}},
+  cell_core.specs.{declared.cell.Label.{Label}, Grids.{place_from}},
+  meaning.specs.Text.{Text},
+  pick_meaning.{specs.{Rows.{rows_where, rows_of, rows_between}, Slices.{goes_on_in_order, is_in_order, reaches, stays_within}}, proofs.RowLaws.{rows_in_interval}},
+  index_core.{specs.{Labels.{same_number, order_in}, Ranges.{number_label, range_labels}, Splits.{IsSplitAt}}, proofs.RangeLaws.{length-range_labels}},
+}
 use Rattle.cell_core.specs.declared.cell.Label.TheVariants as label
-use Rattle.meaning.specs.Text.{Text}
-use Rattle.cell_core.specs.Grids.{place_from}
-use Rattle.pick_meaning.specs.Rows.{rows_where, rows_of, rows_between}
-use Rattle.pick_meaning.specs.Slices.{goes_on_in_order, is_in_order, reaches, stays_within}
-use Rattle.pick_meaning.proofs.RowLaws.{rows_in_interval}
-use Rattle.index_core.specs.Labels.{same_number, order_in}
-use Rattle.index_core.specs.Ranges.{number_label, range_labels}
-use Rattle.index_core.specs.Splits.{IsSplitAt}
-use Rattle.index_core.proofs.RangeLaws.{length-range_labels}
 
 pub label_decides : (a b : Label) → Decides (same_number a b) (a ≡ b)
 label_decides a b = search rules

@@ -1,10 +1,9 @@
 -- The labels of a range, one by one.
-use Rattle.std.specs.Prelude.{◌≡◌, ℕ, ◌^◌, ◌<◌, ◌≤◌, List, length, slice_get, Some, slice_index_or}
-use Rattle.std.proofs.Common.{◌∙◌, ap, sym, arith, refl}
-use Rattle.std.proofs.lemmas.List.FromFn.{length-map-range_with_len, get_or-map-range_with_len}
-use Rattle.std.proofs.lemmas.Option.{slice_get-get_or, slice_get_read}
-use Rattle.cell_core.specs.declared.cell.Label.{Label}
-use Rattle.index_core.specs.Ranges.{number_label, range_labels}
+use Rattle.{
+  std.{specs.Prelude.{◌≡◌, ℕ, ◌^◌, ◌<◌, ◌≤◌, List, length, slice_get, Some, slice_index_or}, proofs.{Common.{◌∙◌, ap, sym, arith, refl}, lemmas.{List.FromFn.{length-map-range_with_len, get_or-map-range_with_len}, Option.{slice_get-get_or, slice_get_read}}}},
+  cell_core.specs.declared.cell.Label.{Label},
+  index_core.specs.Ranges.{number_label, range_labels},
+}
 
 -- how many labels a range has
 pub length-range_labels : (n : ℕ) → length (range_labels n) ≡ n

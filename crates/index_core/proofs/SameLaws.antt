@@ -1,14 +1,9 @@
 -- Lists that are the same place by place.
-use Rattle.std.proofs.Common.{◌≡◌, ◌∙◌, ℕ, suc, ◌+◌, ◌<◌, Bool, true, List, [], ◌∷◌, ◌++◌, length, take, slice_index_or, refl, ap, sym, arith, Option, Some, None}
-use Rattle.std.specs.Prelude.{slice_get}
-use Rattle.std.specs.Bool.{Decides}
-use Rattle.std.proofs.lemmas.List.{take_more, map-append}
-use Rattle.std.proofs.lemmas.Option.{get_or_from_slice_get}
-use Rattle.cell_core.specs.declared.cell.Label.{Label}
-use Rattle.cell_core.specs.declared.cell.Label.TheVariants.{Na}
-use Rattle.index_core.specs.Labels.{labels_at}
-use Rattle.index_core.specs.Ranges.{range_labels}
-use Rattle.index_core.proofs.RangeLaws.{length-range_labels}
+use Rattle.{
+  std.{proofs.{Common.{◌≡◌, ◌∙◌, ℕ, suc, ◌+◌, ◌<◌, Bool, true, List, [], ◌∷◌, ◌++◌, length, take, slice_index_or, refl, ap, sym, arith, Option, Some, None}, lemmas.{List.{take_more, map-append}, Option.{get_or_from_slice_get}}}, specs.{Prelude.{slice_get}, Bool.{Decides}}},
+  cell_core.specs.declared.cell.Label.{Label, TheVariants.{Na}},
+  index_core.{specs.{Labels.{labels_at}, Ranges.{range_labels}}, proofs.RangeLaws.{length-range_labels}},
+}
 
 pub holds : {P : Type 0} → P → Decides true P
 holds p = (λ e. p, λ q. refl)

@@ -1,26 +1,11 @@
 -- Lists in order that are split at a bound.
-use Rattle.std.proofs.Common.{◌≡◌, ◌∙◌, ap, sym, subst, refl, arith, ℕ, zero, suc, ◌+◌, ◌-◌, ◌<◌, ◌≤◌, Bool, true, false, not, ◌&&◌, List, length, slice_index_or, Option, Ok, if◌then◌else◌}
-use Rattle.std.specs.Cmp.{IsTotalOrder}
-use Rattle.std.specs.List.{range_with_len}
-use Rattle.std.specs.List.Sorted.{IsPartitionedBy, IsPartitionPoint}
-use Rattle.std.specs.Ordering.{is_lt, is_gt}
-use Rattle.std.specs.declared.cmp.Ordering.{Ordering}
-use Rattle.std.proofs.lemmas.Cmp.{on_total}
-use Rattle.std.proofs.lemmas.List.Sorted.{ranks_by, sorted_far}
-use Rattle.cell_core.specs.Values.{label_datum}
-use Rattle.cell_core.specs.declared.cell.Label.{Label}
-use Rattle.cell_core.specs.declared.cell.Label.TheVariants.{Na}
-use Rattle.cell_core.proofs.LabelLaws.{label_total}
-use Rattle.cell_core.specs.declared.grid.Rows.{Rows}
-use Rattle.meaning.specs.Text.{Text}
-use Rattle.pick_meaning.specs.Rows.{rows_of, rows_between}
-use Rattle.pick_meaning.specs.Slices.{is_in_order, reaches, stays_within, sorted_slice, unsorted_slice, label_slice}
-use Rattle.pick_meaning.proofs.OrderLaws.{sorted_in_order, below_too, within_too, not_so}
-use Rattle.pick_meaning.proofs.RowLaws.{rows_in_interval}
-use Rattle.index_core.specs.Labels.{order_in}
-use Rattle.index_core.specs.Ranges.{range_labels}
-use Rattle.index_core.specs.Splits.{IsSplitAt}
-use Rattle.index_core.proofs.NumberLaws.{range_in_order}
+use Rattle.{
+  std.{proofs.{Common.{◌≡◌, ◌∙◌, ap, sym, subst, refl, arith, ℕ, zero, suc, ◌+◌, ◌-◌, ◌<◌, ◌≤◌, Bool, true, false, not, ◌&&◌, List, length, slice_index_or, Option, Ok, if◌then◌else◌}, lemmas.{Cmp.{on_total}, List.Sorted.{ranks_by, sorted_far}}}, specs.{Cmp.{IsTotalOrder}, List.{range_with_len, Sorted.{IsPartitionedBy, IsPartitionPoint}}, Ordering.{is_lt, is_gt}, declared.cmp.Ordering.{Ordering}}},
+  cell_core.{specs.{Values.{label_datum}, declared.{cell.Label.{Label, TheVariants.{Na}}, grid.Rows.{Rows}}}, proofs.LabelLaws.{label_total}},
+  meaning.specs.Text.{Text},
+  pick_meaning.{specs.{Rows.{rows_of, rows_between}, Slices.{is_in_order, reaches, stays_within, sorted_slice, unsorted_slice, label_slice}}, proofs.{OrderLaws.{sorted_in_order, below_too, within_too, not_so}, RowLaws.{rows_in_interval}}},
+  index_core.{specs.{Labels.{order_in}, Ranges.{range_labels}, Splits.{IsSplitAt}}, proofs.NumberLaws.{range_in_order}},
+}
 
 pub order_total : (texts : List Text) → IsTotalOrder (order_in texts)
 order_total texts = on_total (label_datum texts) label_total

@@ -1,29 +1,12 @@
 -- Labels that are told apart by the numbers of their texts, with the texts themselves.
-use Rattle.std.proofs.Common.{◌≡◌, ◌∙◌, ℕ, Bool, true, false, List, [], map, refl, ap, sym, All, Option}
-use Rattle.std.specs.Bool.{Decides}
-use Rattle.std.specs.FinMap.{int_cmp-IsAntisymmetric, nat_cmp-IsAntisymmetric, slice_cmp-IsAntisymmetric}
-use Rattle.std.specs.Option.{option_map}
-use Rattle.std.specs.Ordering.{is_eq, bool_cmp}
-use Rattle.std.specs.declared.cmp.Ordering.{Ordering}
-use Rattle.std.specs.declared.cmp.Ordering.TheVariants.{Less, Equal, Greater}
-use Rattle.std.proofs.lemmas.Bool.Decides.{same_from_decides}
-use Rattle.std.proofs.lemmas.Cmp.{tied_itself}
-use Rattle.cell_core.specs.declared.cell.Label.{Label}
+use Rattle.{
+  std.{proofs.{Common.{◌≡◌, ◌∙◌, ℕ, Bool, true, false, List, [], map, refl, ap, sym, All, Option}, lemmas.{Bool.Decides.{same_from_decides}, Cmp.{tied_itself}}}, specs.{Bool.{Decides}, FinMap.{int_cmp-IsAntisymmetric, nat_cmp-IsAntisymmetric, slice_cmp-IsAntisymmetric}, Option.{option_map}, Ordering.{is_eq, bool_cmp}, declared.cmp.Ordering.{Ordering, TheVariants.{Less, Equal, Greater}}}},
+  cell_core.{specs.{declared.cell.{Label.{Label}, TextId.{TextId}}, Texts.{AreDistinct, IsGivenLabel}, Values.{LabelValue, truth, int, text, na, label_cmp, label_datum}}, proofs.LabelLaws.{label_total}},
+  meaning.specs.Text.{Text},
+  pick_meaning.{specs.{Faults.{pick_seen}, Keys.{LabelKey, key_seen, picked_by_label}, Labels.{rows_of_key}, Masks.{masked_rows}, Slices.{label_slice}}, proofs.{SeenLaws.{rows_of_key-map, label_slice-map, masked_rows-map}, KeyLaws.{IsOfKey, picked_by_label-map}}},
+  index_core.{specs.Labels.{same_number, order_in}, proofs.NumberLaws.{label_decides}},
+}
 use Rattle.cell_core.specs.declared.cell.Label.TheVariants as label
-use Rattle.cell_core.specs.declared.cell.TextId.{TextId}
-use Rattle.cell_core.specs.Texts.{AreDistinct, IsGivenLabel}
-use Rattle.cell_core.specs.Values.{LabelValue, truth, int, text, na, label_cmp, label_datum}
-use Rattle.cell_core.proofs.LabelLaws.{label_total}
-use Rattle.meaning.specs.Text.{Text}
-use Rattle.pick_meaning.specs.Faults.{pick_seen}
-use Rattle.pick_meaning.specs.Keys.{LabelKey, key_seen, picked_by_label}
-use Rattle.pick_meaning.specs.Labels.{rows_of_key}
-use Rattle.pick_meaning.specs.Masks.{masked_rows}
-use Rattle.pick_meaning.specs.Slices.{label_slice}
-use Rattle.pick_meaning.proofs.SeenLaws.{rows_of_key-map, label_slice-map, masked_rows-map}
-use Rattle.pick_meaning.proofs.KeyLaws.{IsOfKey, picked_by_label-map}
-use Rattle.index_core.specs.Labels.{same_number, order_in}
-use Rattle.index_core.proofs.NumberLaws.{label_decides}
 
 -- equal labels, with their texts
 abbrev pub same_text : LabelValue → LabelValue → Bool

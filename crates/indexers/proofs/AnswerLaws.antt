@@ -1,22 +1,13 @@
 -- Answers and refusals that are handed on.
-use Rattle.std.proofs.Common.{◌≡◌, ◌∙◌, ap, sym, arith, ℕ, ◌<◌, ◌==◌, ◌&&◌, Bool, true, false, nat_lt, if◌then◌else◌, List, [], ◌∷◌, All, Some, Result, Ok, Err, length, refl}
-use Rattle.std.specs.Prelude.{IfOk, slice_get}
-use Rattle.std.specs.Cmp.Lexicographic.{pointwise}
-use Rattle.cell_core.specs.declared.cell.Label.{Label}
-use Rattle.index_core.specs.Labels.{same_number}
-use Rattle.multi_index.specs.Axes.{HaveLevels, single_tuples}
-use Rattle.multi_index.proofs.PickLaws.{rows_seen}
-use Rattle.multi_index.proofs.TupleLaws.{only_label_is}
-use Rattle.pick_meaning.specs.Faults.{PickFault, not_there, pick_seen}
-use Rattle.pick_meaning.specs.Keys.{Pick, has_one, key_pick}
-use Rattle.pick_meaning.specs.Labels.{unless_none, rows_of_key}
-use Rattle.pick_meaning.specs.Leading.{leads}
-use Rattle.pick_meaning.specs.Rows.{rows_where, are_some}
-use Rattle.pick_meaning.proofs.RowLaws.{some_there, rows_where-same}
-use Rattle.indexers.specs.declared.keys.Picked.{Picked}
-use Rattle.indexers.specs.declared.keys.KeyFault.{KeyFault}
+use Rattle.{
+  std.{proofs.Common.{◌≡◌, ◌∙◌, ap, sym, arith, ℕ, ◌<◌, ◌==◌, ◌&&◌, Bool, true, false, nat_lt, if◌then◌else◌, List, [], ◌∷◌, All, Some, Result, Ok, Err, length, refl}, specs.{Prelude.{IfOk, slice_get}, Cmp.Lexicographic.{pointwise}}},
+  cell_core.specs.declared.cell.Label.{Label},
+  index_core.specs.Labels.{same_number},
+  multi_index.{specs.Axes.{HaveLevels, single_tuples}, proofs.{PickLaws.{rows_seen}, TupleLaws.{only_label_is}}},
+  pick_meaning.{specs.{Faults.{PickFault, not_there, pick_seen}, Keys.{Pick, has_one, key_pick}, Labels.{unless_none, rows_of_key}, Leading.{leads}, Rows.{rows_where, are_some}}, proofs.RowLaws.{some_there, rows_where-same}},
+  indexers.specs.{declared.keys.{Picked.{Picked}, KeyFault.{KeyFault}}, Picks.{PicksBy, pick_of, as_it_is}},
+}
 use Rattle.indexers.specs.declared.keys.KeyFault.TheVariants as fault
-use Rattle.indexers.specs.Picks.{PicksBy, pick_of, as_it_is}
 
 -- what is picked lies within the axis where what is meant does
 pub picks_inside : (result : Result Picked KeyFault) (meant : Result Pick (PickFault (List Label))) (count : ℕ) → PicksBy pick_of result meant → ((pick : Pick) → meant ≡ Ok pick → All (λ row. row < count) pick.rows)

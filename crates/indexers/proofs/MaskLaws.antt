@@ -1,24 +1,12 @@
 -- Masks, by position and by labels.
-use Rattle.std.proofs.Common.{◌≡◌, ◌∙◌, ap, sym, subst, refl, arith, ℕ, suc, ◌+◌, ◌<◌, Bool, true, false, List, [], ◌∷◌, length, map, All, Option, Some, Ok, Err, slice_index_or, ◌&&◌, if◌then◌else◌}
-use Rattle.std.specs.Prelude.{slice_get}
-use Rattle.std.specs.Bool.{Decides}
-use Rattle.std.specs.Cmp.Lexicographic.{pointwise, pointwise_decides}
-use Rattle.std.proofs.lemmas.Bool.Decides.{same_from_decides}
-use Rattle.std.proofs.lemmas.List.{get_or-map, length-map}
-use Rattle.std.proofs.lemmas.List.Elements.{All-head, All-tail}
-use Rattle.std.proofs.lemmas.Option.{get_or_from_slice_get, slice_get_within}
-use Rattle.cell_core.specs.declared.cell.Cell.{Cell}
-use Rattle.cell_core.specs.declared.cell.Label.{Label}
-use Rattle.index_core.specs.Labels.{same_number}
-use Rattle.index_core.proofs.NumberLaws.{label_decides}
-use Rattle.multi_index.specs.Axes.{HaveLevels, single_tuples}
-use Rattle.pick_meaning.specs.Faults.{no_mask_label, then_pick, pick_seen}
-use Rattle.pick_meaning.specs.Masks.{cell_or_fault, cell_of_label, kept_rows, kept_by_label, masked_rows}
-use Rattle.pick_meaning.specs.Rows.{rows_where, only_row}
-use Rattle.pick_meaning.proofs.InsideLaws.{rows_inside}
-use Rattle.pick_meaning.proofs.RowLaws.{when_so, when_not}
-use Rattle.pick_meaning.proofs.SeenLaws.{kept_by_label-map}
-use Rattle.indexers.specs.Masks.{is_true, as_tuple}
+use Rattle.{
+  std.{proofs.{Common.{◌≡◌, ◌∙◌, ap, sym, subst, refl, arith, ℕ, suc, ◌+◌, ◌<◌, Bool, true, false, List, [], ◌∷◌, length, map, All, Option, Some, Ok, Err, slice_index_or, ◌&&◌, if◌then◌else◌}, lemmas.{Bool.Decides.{same_from_decides}, List.{get_or-map, length-map, Elements.{All-head, All-tail}}, Option.{get_or_from_slice_get, slice_get_within}}}, specs.{Prelude.{slice_get}, Bool.{Decides}, Cmp.Lexicographic.{pointwise, pointwise_decides}}},
+  cell_core.specs.declared.cell.{Cell.{Cell}, Label.{Label}},
+  index_core.{specs.Labels.{same_number}, proofs.NumberLaws.{label_decides}},
+  multi_index.specs.Axes.{HaveLevels, single_tuples},
+  pick_meaning.{specs.{Faults.{no_mask_label, then_pick, pick_seen}, Masks.{cell_or_fault, cell_of_label, kept_rows, kept_by_label, masked_rows}, Rows.{rows_where, only_row}}, proofs.{InsideLaws.{rows_inside}, RowLaws.{when_so, when_not}, SeenLaws.{kept_by_label-map}}},
+  indexers.specs.Masks.{is_true, as_tuple},
+}
 
 -- a cell of a mask
 pub cell_read : (cells : List Cell) (row : ℕ) (cell : Cell) → slice_get cells row ≡ Some cell → slice_index_or (map is_true cells) row false ≡ is_true cell

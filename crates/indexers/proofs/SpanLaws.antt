@@ -1,15 +1,10 @@
 -- Rows at equal distances.
-use Rattle.std.proofs.Common.{◌≡◌, ◌∙◌, ap, sym, subst, refl, arith, ℕ, zero, suc, ◌+◌, ◌-◌, ◌≤◌, ℤ, pos, negsuc, Bool, true, false, nat_lt, List, [], ◌∷◌, ◌++◌, map}
-use Rattle.std.specs.Prelude.{unsigned_abs, int_lt, ◌≢◌}
-use Rattle.std.specs.Int.{div_ceil}
-use Rattle.std.specs.List.{range_with_len}
-use Rattle.std.proofs.lemmas.Bool.Decides.{nat_tests}
-use Rattle.std.proofs.lemmas.List.FromFn.{map-range_with_len_more}
-use Rattle.cell_core.specs.declared.grid.Rows.{Rows}
-use Rattle.cell_core.specs.Grids.{AreRowsBelow}
-use Rattle.index_core.proofs.NumberLaws.{run_rows}
-use Rattle.pick_meaning.specs.Rows.{rows_of}
-use Rattle.pick_meaning.proofs.PositionLaws.{forward_below, backward_below}
+use Rattle.{
+  std.{proofs.{Common.{◌≡◌, ◌∙◌, ap, sym, subst, refl, arith, ℕ, zero, suc, ◌+◌, ◌-◌, ◌≤◌, ℤ, pos, negsuc, Bool, true, false, nat_lt, List, [], ◌∷◌, ◌++◌, map}, lemmas.{Bool.Decides.{nat_tests}, List.FromFn.{map-range_with_len_more}}}, specs.{Prelude.{unsigned_abs, int_lt, ◌≢◌}, Int.{div_ceil}, List.{range_with_len}}},
+  cell_core.specs.{declared.grid.Rows.{Rows}, Grids.{AreRowsBelow}},
+  index_core.proofs.NumberLaws.{run_rows},
+  pick_meaning.{specs.Rows.{rows_of}, proofs.PositionLaws.{forward_below, backward_below}},
+}
 
 -- one place more
 pub place_pushed : (f : ℕ → ℕ) (row place : ℕ) (places places' : List ℕ) → places ≡ map f (range_with_len 0 row) → place ≡ f row → places' ≡ places ++ place ∷ [] → places' ≡ map f (range_with_len 0 (row + 1))

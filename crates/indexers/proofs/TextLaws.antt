@@ -1,21 +1,13 @@
 -- Masks, and labels of which none stands twice, with the texts themselves; and a slice that goes back.
-use Rattle.std.proofs.Common.{◌≡◌, refl, arith, ℕ, suc, negsuc, zero, Bool, not, ◌&&◌, ◌||◌, List, [], ◌∷◌, map, All, Some, None, Ok}
-use Rattle.std.specs.List.{list_any}
-use Rattle.std.specs.Cmp.Lexicographic.{pointwise}
-use Rattle.cell_core.specs.Texts.{AreDistinct, IsGivenLabel}
-use Rattle.cell_core.specs.Values.{datum, label_datum}
-use Rattle.cell_core.specs.declared.cell.Cell.{Cell}
+use Rattle.{
+  std.{proofs.Common.{◌≡◌, refl, arith, ℕ, suc, negsuc, zero, Bool, not, ◌&&◌, ◌||◌, List, [], ◌∷◌, map, All, Some, None, Ok}, specs.{List.{list_any}, Cmp.Lexicographic.{pointwise}}},
+  cell_core.specs.{Texts.{AreDistinct, IsGivenLabel}, Values.{datum, label_datum}, declared.cell.{Cell.{Cell}, Label.{Label}}},
+  meaning.specs.Text.{Text},
+  pick_meaning.{specs.{Faults.{pick_seen}, Labels.{all_differ}, Masks.{is_kept, masked_rows}, Positions.{backward, position_slice}}, proofs.SeenLaws.{pointwise-map, masked_rows-map}},
+  index_core.{specs.Labels.{same_number}, proofs.TextLaws.{same_text, number_alike}},
+  indexers.specs.Masks.{is_true},
+}
 use Rattle.cell_core.specs.declared.cell.Cell.TheVariants as cell
-use Rattle.cell_core.specs.declared.cell.Label.{Label}
-use Rattle.meaning.specs.Text.{Text}
-use Rattle.pick_meaning.specs.Faults.{pick_seen}
-use Rattle.pick_meaning.specs.Labels.{all_differ}
-use Rattle.pick_meaning.specs.Masks.{is_kept, masked_rows}
-use Rattle.pick_meaning.specs.Positions.{backward, position_slice}
-use Rattle.pick_meaning.proofs.SeenLaws.{pointwise-map, masked_rows-map}
-use Rattle.index_core.specs.Labels.{same_number}
-use Rattle.index_core.proofs.TextLaws.{same_text, number_alike}
-use Rattle.indexers.specs.Masks.{is_true}
 
 -- a cell of a mask keeps its row by its number as by its text
 kept_value : (texts : List Text) (c : Cell) → is_kept (datum texts c) ≡ is_true c

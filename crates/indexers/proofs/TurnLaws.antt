@@ -1,10 +1,8 @@
 -- Keys that are answered one after the other.
-use Rattle.std.proofs.Common.{◌≡◌, ◌∙◌, ap, sym, refl, ℕ, ◌+◌, ◌<◌, ◌≤◌, ℤ, Bool, true, false, List, [], ◌∷◌, ◌++◌, length, drop, slice_index_or, Result, Ok, Err, if◌then◌else◌}
-use Rattle.std.proofs.lemmas.List.{drop_more, drop_all, append_assoc, append-nil}
-use Rattle.pick_meaning.specs.Faults.{PickFault, then_pick}
-use Rattle.pick_meaning.specs.Labels.{rows_of_key, rows_of_keys}
-use Rattle.pick_meaning.specs.Masks.{cell_of_label, kept_by_label}
-use Rattle.pick_meaning.specs.Positions.{row_at, rows_at}
+use Rattle.{
+  std.proofs.{Common.{◌≡◌, ◌∙◌, ap, sym, refl, ℕ, ◌+◌, ◌<◌, ◌≤◌, ℤ, Bool, true, false, List, [], ◌∷◌, ◌++◌, length, drop, slice_index_or, Result, Ok, Err, if◌then◌else◌}, lemmas.List.{drop_more, drop_all, append_assoc, append-nil}},
+  pick_meaning.specs.{Faults.{PickFault, then_pick}, Labels.{rows_of_key, rows_of_keys}, Masks.{cell_of_label, kept_by_label}, Positions.{row_at, rows_at}},
+}
 
 -- the rows so far, before those that are still to come
 abbrev pub added : {K : Type 0} → List ℕ → Result (List ℕ) (PickFault K) → Result (List ℕ) (PickFault K)

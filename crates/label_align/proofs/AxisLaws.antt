@@ -1,9 +1,11 @@
 -- Rows of one level are their labels.
-use Rattle.std.proofs.Common.{◌≡◌, ◌<◌, ℕ, suc, List, [], ◌∷◌, map, length, refl, arith, slice_index_or, All}
-use Rattle.cell_core.specs.declared.cell.Label.{Label}
-use Rattle.multi_index.specs.Axes.{HaveLevels, single_tuples, tuples_at}
-use Rattle.row_keys.specs.Keys.{label_in}
-use Rattle.label_align.specs.Runs.{label_of_row}
+use Rattle.{
+  std.proofs.Common.{◌≡◌, ◌<◌, ℕ, suc, List, [], ◌∷◌, map, length, refl, arith, slice_index_or, All},
+  cell_core.specs.declared.cell.Label.{Label},
+  multi_index.specs.Axes.{HaveLevels, single_tuples, tuples_at},
+  row_keys.specs.Keys.{label_in},
+  label_align.specs.Runs.{label_of_row},
+}
 
 only_label : (tuple : List Label) → length tuple ≡ 1 → label_in 0 tuple ∷ [] ≡ tuple
 only_label [] one = absurd (omega (arith, one))

@@ -1,11 +1,8 @@
 -- Entries, one more at a time, and how many there are.
-use Rattle.std.proofs.Common.{◌≡◌, ◌<◌, ◌≤◌, ◌+◌, ◌*◌, ℕ, List, [], ◌∷◌, ◌++◌, refl, sym, ap, ◌∙◌, map, take, length, Option, Some, slice_index_or, arith, max, cond, Ok, Err, lt-ltb, le-ltb}
-use Rattle.std.specs.List.{flat_map, sum_by}
-use Rattle.std.proofs.lemmas.List.{length-map, append-nil, take_more}
-use Rattle.std.proofs.lemmas.List.Sums.{sum_by-cons, sum_by-le-sum_by}
-use Rattle.std.proofs.lemmas.List.Concat.{length-flat_map, flat_map-append}
-use Rattle.align_meaning.specs.Faults.{too_large}
-use Rattle.align_meaning.specs.Joins.{Entry, or_gap, entry, entries_with, entries_of, most_rows, lists_of, within_limit}
+use Rattle.{
+  std.{proofs.{Common.{◌≡◌, ◌<◌, ◌≤◌, ◌+◌, ◌*◌, ℕ, List, [], ◌∷◌, ◌++◌, refl, sym, ap, ◌∙◌, map, take, length, Option, Some, slice_index_or, arith, max, cond, Ok, Err, lt-ltb, le-ltb}, lemmas.List.{length-map, append-nil, take_more, Sums.{sum_by-cons, sum_by-le-sum_by}, Concat.{length-flat_map, flat_map-append}}}, specs.List.{flat_map, sum_by}},
+  align_meaning.specs.{Faults.{too_large}, Joins.{Entry, or_gap, entry, entries_with, entries_of, most_rows, lists_of, within_limit}},
+}
 
 pub map-map : {A B C : Type 0} (f : B → C) (g : A → B) (xs : List A) → map f (map g xs) ≡ map (λ x. f (g x)) xs
 map-map f g [] = refl

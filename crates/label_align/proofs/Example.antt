@@ -1,8 +1,8 @@
 -- Left b a a with right a c a, and what is found of them.
-use Rattle.std.proofs.Common.{◌≡◌, ◌==◌, [], ◌∷◌, Some, None, Ok, Err, nat_lt, refl}
-use Rattle.align_meaning.specs.Faults.{duplicate_labels}
-use Rattle.align_meaning.specs.Joins.{outer}
-use Rattle.align_meaning.specs.Targets.{reindexed}
+use Rattle.{
+  std.proofs.Common.{◌≡◌, ◌==◌, [], ◌∷◌, Some, None, Ok, Err, nat_lt, refl},
+  align_meaning.specs.{Faults.{duplicate_labels}, Joins.{outer}, Targets.{reindexed}},
+}
 
 joined : outer ◌==◌ nat_lt (2 ∷ 1 ∷ 1 ∷ []) (1 ∷ 3 ∷ 1 ∷ []) ≡ Ok record {
   keys = 1 ∷ 1 ∷ 1 ∷ 1 ∷ 2 ∷ 3 ∷ [];

@@ -1,9 +1,9 @@
 -- More entries, and then more.
-use Rattle.std.proofs.Common.{◌≡◌, ◌++◌, ℕ, [], List, sym, ap, ◌∙◌, map}
-use Rattle.std.proofs.lemmas.List.{map-append, append-nil, append_assoc}
-use Rattle.align_meaning.specs.Joins.{Entry, Lists, lists_of}
-use Rattle.label_align.specs.declared.joined.Entries.{Entries}
-use Rattle.label_align.specs.Joined.{HasMore, entries_seen}
+use Rattle.{
+  std.proofs.{Common.{◌≡◌, ◌++◌, ℕ, [], List, sym, ap, ◌∙◌, map}, lemmas.List.{map-append, append-nil, append_assoc}},
+  align_meaning.specs.Joins.{Entry, Lists, lists_of},
+  label_align.specs.{declared.joined.Entries.{Entries}, Joined.{HasMore, entries_seen}},
+}
 
 step : {X Y : Type 0} (f : X → Y) (a b c : List Y) (es fs : List X) → b ≡ a ++ map f es → c ≡ b ++ map f fs → c ≡ a ++ map f (es ++ fs)
 step f a b c es fs p q = q ∙ ap (λ z. z ++ map f fs) p ∙ append_assoc a (map f es) (map f fs) ∙ ap (λ z. a ++ z) (sym (map-append f es fs))

@@ -1,23 +1,12 @@
 -- What is answered for an outer join is one.
-use Rattle.std.proofs.Common.{◌≡◌, ◌∙◌, true, false, cond, List, length, refl, ap, sym, subst, Result, Ok, Err, nat_lt}
-use Rattle.std.specs.Prelude.{IfOk}
-use Rattle.std.specs.Cmp.{IsStrictWeakOrder}
-use Rattle.std.specs.Cmp.Lexicographic.{lists_total}
-use Rattle.std.proofs.lemmas.List.Sorted.{ranks_by}
-use Rattle.cell_core.specs.declared.cell.Label.{Label}
-use Rattle.cell_core.proofs.LabelLaws.{label_total}
-use Rattle.meaning.specs.Text.{Text}
-use Rattle.align_meaning.specs.Faults.{AlignRefusal, too_large}
-use Rattle.align_meaning.specs.Joins.{Entry, Lists, most_rows, outer_entries, lists_of, within_limit}
-use Rattle.align_meaning.specs.OuterJoin.{IsOuterJoin}
-use Rattle.row_keys.specs.Keys.{same_tuple}
-use Rattle.label_align.specs.declared.fault.AlignFault.{AlignFault}
-use Rattle.label_align.specs.declared.joined.Joined.{Joined}
-use Rattle.label_align.specs.Tuples.{tuple_seen, tuple_less}
-use Rattle.label_align.specs.Joined.{lists_seen}
-use Rattle.label_align.specs.Answers.{AlignsBy}
-use Rattle.label_align.proofs.SameLaws.{tuple_decides}
-use Rattle.label_align.proofs.OuterJoinLaws.{outer_join}
+use Rattle.{
+  std.{proofs.{Common.{◌≡◌, ◌∙◌, true, false, cond, List, length, refl, ap, sym, subst, Result, Ok, Err, nat_lt}, lemmas.List.Sorted.{ranks_by}}, specs.{Prelude.{IfOk}, Cmp.{IsStrictWeakOrder, Lexicographic.{lists_total}}}},
+  cell_core.{specs.declared.cell.Label.{Label}, proofs.LabelLaws.{label_total}},
+  meaning.specs.Text.{Text},
+  align_meaning.specs.{Faults.{AlignRefusal, too_large}, Joins.{Entry, Lists, most_rows, outer_entries, lists_of, within_limit}, OuterJoin.{IsOuterJoin}},
+  row_keys.specs.Keys.{same_tuple},
+  label_align.{specs.{declared.{fault.AlignFault.{AlignFault}, joined.Joined.{Joined}}, Tuples.{tuple_seen, tuple_less}, Joined.{lists_seen}, Answers.{AlignsBy}}, proofs.{SameLaws.{tuple_decides}, OuterJoinLaws.{outer_join}}},
+}
 
 pub tuple_weak : (texts : List Text) → IsStrictWeakOrder (tuple_less texts)
 tuple_weak texts = ranks_by (lists_total label_total) (tuple_seen texts)

@@ -1,19 +1,12 @@
 -- The entries of both sides' keys in order are an outer join.
-use Rattle.std.proofs.Common.{◌≡◌, ◌∙◌, ◌<◌, ◌||◌, ◌++◌, ℕ, zero, suc, Bool, true, false, not, cond, List, [], ◌∷◌, filter, length, refl, ap, sym, slice_index_or, arith, All}
-use Rattle.std.specs.Bool.{Decides}
-use Rattle.std.specs.Cmp.{IsStrictWeakOrder}
-use Rattle.std.specs.List.{flat_map, list_any}
-use Rattle.std.proofs.lemmas.Bool.{false≢true, true≢false}
-use Rattle.std.proofs.lemmas.List.{append-nil}
-use Rattle.std.proofs.lemmas.List.Elements.{All-nil, All-cons, All-head, All-tail, All-map, filter-append}
-use Rattle.meaning.specs.Reduce.{distinct}
-use Rattle.sorting.specs.Sorting.{put_in, in_order}
-use Rattle.sorting.proofs.SortLaws.{irreflexive}
-use Rattle.align_meaning.proofs.OrderLaws.{all_append, all_flat, all_put_in, all_in_order, all_distinct}
-use Rattle.align_meaning.specs.Joins.{Entry, or_gap, entry, entries_with, entries_of, outer_entries, lists_of}
-use Rattle.align_meaning.specs.OuterJoin.{IsOuterJoin, rows_of_key}
-use Rattle.row_keys.proofs.KeyLaws.{any_at}
-use Rattle.label_align.proofs.EntryLaws.{length-entries_of}
+use Rattle.{
+  std.{proofs.{Common.{◌≡◌, ◌∙◌, ◌<◌, ◌||◌, ◌++◌, ℕ, zero, suc, Bool, true, false, not, cond, List, [], ◌∷◌, filter, length, refl, ap, sym, slice_index_or, arith, All}, lemmas.{Bool.{false≢true, true≢false}, List.{append-nil, Elements.{All-nil, All-cons, All-head, All-tail, All-map, filter-append}}}}, specs.{Bool.{Decides}, Cmp.{IsStrictWeakOrder}, List.{flat_map, list_any}}},
+  meaning.specs.Reduce.{distinct},
+  sorting.{specs.Sorting.{put_in, in_order}, proofs.SortLaws.{irreflexive}},
+  align_meaning.{proofs.OrderLaws.{all_append, all_flat, all_put_in, all_in_order, all_distinct}, specs.{Joins.{Entry, or_gap, entry, entries_with, entries_of, outer_entries, lists_of}, OuterJoin.{IsOuterJoin, rows_of_key}}},
+  row_keys.proofs.KeyLaws.{any_at},
+  label_align.proofs.EntryLaws.{length-entries_of},
+}
 
 filter_all : {X : Type 0} (p : X → Bool) (xs : List X) → All (λ x. p x ≡ true) xs → filter p xs ≡ xs
 filter_all p [] all = refl

@@ -1,30 +1,15 @@
 -- The rows of both sides in order, their runs and the entries of these are the outer join.
-use Rattle.std.proofs.Common.{◌≡◌, ◌∙◌, ◌<◌, ◌≤◌, ◌++◌, ℕ, zero, suc, List, [], ◌∷◌, map, length, ap, sym, subst, arith, All, Ok, Err}
-use Rattle.std.specs.List.{flat_map, range_with_len}
-use Rattle.std.specs.List.Sorted.{ties}
-use Rattle.std.proofs.lemmas.List.Elements.{All-head, All-tail, All-map}
-use Rattle.cell_core.specs.declared.cell.Label.{Label}
-use Rattle.cell_core.specs.Texts.{AreDistinct, IsGivenLabel}
-use Rattle.meaning.specs.Text.{Text}
-use Rattle.multi_index.specs.Axes.{HaveLevels, tuples_at}
-use Rattle.pick_meaning.specs.Rows.{rows_where}
-use Rattle.sorting.specs.Sorting.{in_order}
-use Rattle.sorting.proofs.OrderLaws.{in_order_same}
-use Rattle.align_meaning.specs.Faults.{too_large}
-use Rattle.align_meaning.specs.Joins.{Entry, Lists, most_rows, keys_in_order, outer_entries, lists_of, within_limit}
-use Rattle.align_meaning.proofs.OrderLaws.{all_append, all_in_order}
-use Rattle.row_keys.specs.Keys.{same_tuple}
-use Rattle.label_align.specs.declared.runs.Run.{Run}
-use Rattle.label_align.specs.declared.joined.Entries.{Entries}
-use Rattle.label_align.specs.Tuples.{tuple_less, row_less}
-use Rattle.label_align.specs.Joined.{entries_seen, entries_shown}
-use Rattle.label_align.specs.Runs.{AreGivenTuples, tuple_of_row, same_row, no_run, runs_from, run_entries, total, counted}
-use Rattle.label_align.proofs.EntryLaws.{map-map, too_many, few_enough}
-use Rattle.label_align.proofs.LawOfJoins.{tuple_weak}
-use Rattle.label_align.proofs.OrderLaws.{row_agrees, below_range}
-use Rattle.label_align.proofs.RunLaws.{rows_are, runs_are, have_rows}
-use Rattle.label_align.proofs.SameLaws.{tuple_decides, tuple_tied}
-use Rattle.label_align.proofs.SideLaws.{rekeyed, run_at, entries_are, counted_is, total_is, entries_inside}
+use Rattle.{
+  std.{proofs.{Common.{◌≡◌, ◌∙◌, ◌<◌, ◌≤◌, ◌++◌, ℕ, zero, suc, List, [], ◌∷◌, map, length, ap, sym, subst, arith, All, Ok, Err}, lemmas.List.Elements.{All-head, All-tail, All-map}}, specs.List.{flat_map, range_with_len, Sorted.{ties}}},
+  cell_core.specs.{declared.cell.Label.{Label}, Texts.{AreDistinct, IsGivenLabel}},
+  meaning.specs.Text.{Text},
+  multi_index.specs.Axes.{HaveLevels, tuples_at},
+  pick_meaning.specs.Rows.{rows_where},
+  sorting.{specs.Sorting.{in_order}, proofs.OrderLaws.{in_order_same}},
+  align_meaning.{specs.{Faults.{too_large}, Joins.{Entry, Lists, most_rows, keys_in_order, outer_entries, lists_of, within_limit}}, proofs.OrderLaws.{all_append, all_in_order}},
+  row_keys.specs.Keys.{same_tuple},
+  label_align.{specs.{declared.{runs.Run.{Run}, joined.Entries.{Entries}}, Tuples.{tuple_less, row_less}, Joined.{entries_seen, entries_shown}, Runs.{AreGivenTuples, tuple_of_row, same_row, no_run, runs_from, run_entries, total, counted}}, proofs.{EntryLaws.{map-map, too_many, few_enough}, LawOfJoins.{tuple_weak}, OrderLaws.{row_agrees, below_range}, RunLaws.{rows_are, runs_are, have_rows}, SameLaws.{tuple_decides, tuple_tied}, SideLaws.{rekeyed, run_at, entries_are, counted_is, total_is, entries_inside}}},
+}
 
 given_row : (texts : List Text) (tuples : List (List Label)) (row : ℕ) → AreGivenTuples texts tuples → All (IsGivenLabel texts) (tuple_of_row tuples row)
 given_row texts [] row given = λ k d lt. absurd (omega (arith, lt))

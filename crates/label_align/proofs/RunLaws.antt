@@ -1,21 +1,12 @@
 -- Rows in the order of their keys are the rows of one key after the other, and so are their runs.
-use Rattle.std.proofs.Common.{◌≡◌, ◌∙◌, ◌<◌, ◌+◌, ◌||◌, ◌++◌, ℕ, suc, Bool, true, false, not, cond, List, [], ◌∷◌, map, filter, length, refl, ap, sym, slice_index_or, arith, All}
-use Rattle.std.specs.Bool.{Decides}
-use Rattle.std.specs.Cmp.{IsStrictWeakOrder}
-use Rattle.std.specs.List.{flat_map, list_any, range_with_len}
-use Rattle.std.specs.List.Sorted.{ties, IsStableBy}
-use Rattle.std.proofs.lemmas.Bool.{false≢true, true≢false}
-use Rattle.std.proofs.lemmas.List.{append-nil}
-use Rattle.std.proofs.lemmas.List.Elements.{All-nil, All-cons, All-head, All-tail, All-filter}
-use Rattle.meaning.specs.Reduce.{distinct}
-use Rattle.pick_meaning.specs.Rows.{rows_where}
-use Rattle.sorting.specs.Sorting.{put_in, in_order}
-use Rattle.sorting.proofs.SortLaws.{Ascends, in_order_ascends, in_order_ties, one_order}
-use Rattle.align_meaning.specs.Joins.{keys_in_order}
-use Rattle.align_meaning.proofs.OrderLaws.{all_in_order, all_put_in}
-use Rattle.label_align.specs.declared.runs.Run.{Run}
-use Rattle.label_align.specs.Runs.{no_run, with_row, gathered, ends, runs_from}
-use Rattle.label_align.proofs.OuterJoinLaws.{Rises, in_order_rises, parts_rise, parts_apart, in_order_keeps, once, gone, keys_stand}
+use Rattle.{
+  std.{proofs.{Common.{◌≡◌, ◌∙◌, ◌<◌, ◌+◌, ◌||◌, ◌++◌, ℕ, suc, Bool, true, false, not, cond, List, [], ◌∷◌, map, filter, length, refl, ap, sym, slice_index_or, arith, All}, lemmas.{Bool.{false≢true, true≢false}, List.{append-nil, Elements.{All-nil, All-cons, All-head, All-tail, All-filter}}}}, specs.{Bool.{Decides}, Cmp.{IsStrictWeakOrder}, List.{flat_map, list_any, range_with_len, Sorted.{ties, IsStableBy}}}},
+  meaning.specs.Reduce.{distinct},
+  pick_meaning.specs.Rows.{rows_where},
+  sorting.{specs.Sorting.{put_in, in_order}, proofs.SortLaws.{Ascends, in_order_ascends, in_order_ties, one_order}},
+  align_meaning.{specs.Joins.{keys_in_order}, proofs.OrderLaws.{all_in_order, all_put_in}},
+  label_align.{specs.{declared.runs.Run.{Run}, Runs.{no_run, with_row, gathered, ends, runs_from}}, proofs.OuterJoinLaws.{Rises, in_order_rises, parts_rise, parts_apart, in_order_keeps, once, gone, keys_stand}},
+}
 
 -- the rows that pass a test
 module _ {K : Type 0} (p : K → Bool) where

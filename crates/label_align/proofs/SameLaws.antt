@@ -1,24 +1,12 @@
 -- Tuples are equal by `==` exactly where they are the same.
-use Rattle.std.proofs.Common.{◌≡◌, ◌∙◌, ◌&&◌, ℕ, Bool, true, false, not, List, [], ◌∷◌, refl, ap, sym, rules, All}
-use Rattle.std.specs.Bool.{Decides}
-use Rattle.std.specs.Cmp.Lexicographic.{pointwise, pointwise_decides, slice_cmp, lists_total}
-use Rattle.std.specs.FinMap.{int_cmp-IsAntisymmetric, nat_cmp-IsAntisymmetric, slice_cmp-IsAntisymmetric}
-use Rattle.std.specs.List.Sorted.{ties}
-use Rattle.std.specs.Ordering.{is_eq, is_lt, bool_cmp, ordering_reverse}
-use Rattle.std.specs.declared.cmp.Ordering.{Ordering}
-use Rattle.std.specs.declared.cmp.Ordering.TheVariants.{Less, Equal, Greater}
-use Rattle.std.proofs.lemmas.Bool.Decides.{same_from_decides}
-use Rattle.std.proofs.lemmas.Cmp.{tied_itself}
-use Rattle.std.proofs.lemmas.List.Elements.{All-head, All-tail}
-use Rattle.cell_core.specs.declared.cell.Label.{Label}
+use Rattle.{
+  std.{proofs.{Common.{◌≡◌, ◌∙◌, ◌&&◌, ℕ, Bool, true, false, not, List, [], ◌∷◌, refl, ap, sym, rules, All}, lemmas.{Bool.Decides.{same_from_decides}, Cmp.{tied_itself}, List.Elements.{All-head, All-tail}}}, specs.{Bool.{Decides}, Cmp.Lexicographic.{pointwise, pointwise_decides, slice_cmp, lists_total}, FinMap.{int_cmp-IsAntisymmetric, nat_cmp-IsAntisymmetric, slice_cmp-IsAntisymmetric}, List.Sorted.{ties}, Ordering.{is_eq, is_lt, bool_cmp, ordering_reverse}, declared.cmp.Ordering.{Ordering, TheVariants.{Less, Equal, Greater}}}},
+  cell_core.{specs.{declared.cell.{Label.{Label}, TextId.{TextId}}, Texts.{AreDistinct, IsGivenLabel}, Values.{LabelValue, truth, int, text, na, label_cmp, label_datum}}, proofs.LabelLaws.{label_total}},
+  label_align.specs.Tuples.{tuple_seen, tuple_less},
+  index_core.specs.Labels.{same_number},
+  row_keys.specs.Keys.{same_tuple},
+}
 use Rattle.cell_core.specs.declared.cell.Label.TheVariants as label
-use Rattle.cell_core.specs.declared.cell.TextId.{TextId}
-use Rattle.cell_core.specs.Texts.{AreDistinct, IsGivenLabel}
-use Rattle.cell_core.specs.Values.{LabelValue, truth, int, text, na, label_cmp, label_datum}
-use Rattle.cell_core.proofs.LabelLaws.{label_total}
-use Rattle.label_align.specs.Tuples.{tuple_seen, tuple_less}
-use Rattle.index_core.specs.Labels.{same_number}
-use Rattle.row_keys.specs.Keys.{same_tuple}
 pub use Rattle.row_keys.proofs.PartnerLaws.{tuple_laws}
 
 label_decides : (a b : Label) → Decides (same_number a b) (a ≡ b)

@@ -1,22 +1,10 @@
 -- The rows of each side in a run, and the entries of runs.
-use Rattle.std.proofs.Common.{◌≡◌, ◌∙◌, ◌<◌, ◌≤◌, ◌+◌, ◌-◌, ◌*◌, ◌++◌, ℕ, Bool, true, false, cond, List, [], ◌∷◌, map, take, drop, length, max, refl, ap, sym, subst, slice_index_or, slice_range, arith, All, Option, nat_lt, lt-ltb, le-ltb}
-use Rattle.std.specs.Bool.{Decides}
-use Rattle.std.specs.Cmp.{IsStrictWeakOrder}
-use Rattle.std.specs.List.{flat_map}
-use Rattle.std.proofs.Math.Seq.{take-append_seam, drop-append_seam}
-use Rattle.std.proofs.lemmas.List.{length-map, length-append, map-append, append_assoc, append-nil, take_more, drop-drop}
-use Rattle.std.proofs.lemmas.List.Sums.{sum_by-cons}
-use Rattle.std.proofs.lemmas.List.Elements.{All-nil, All-cons, All-head, All-tail}
-use Rattle.pick_meaning.specs.Rows.{rows_where}
-use Rattle.pick_meaning.proofs.RowLaws.{rows_where-append}
-use Rattle.pick_meaning.proofs.InsideLaws.{rows_inside}
-use Rattle.align_meaning.specs.Joins.{Entry, or_gap, entry, entries_with, entries_of}
-use Rattle.align_meaning.proofs.OrderLaws.{all_append}
-use Rattle.label_align.specs.declared.runs.Run.{Run}
-use Rattle.label_align.specs.Runs.{no_run, run_of, with_row, gathered, rows_in, total, entries_in, run_entries, count_in, counted}
-use Rattle.label_align.proofs.EntryLaws.{map-map, length-entries_of}
-use Rattle.label_align.proofs.OuterJoinLaws.{keyed}
-use Rattle.label_align.proofs.RunLaws.{key_at, HaveRows, keyed as carried}
+use Rattle.{
+  std.{proofs.{Common.{◌≡◌, ◌∙◌, ◌<◌, ◌≤◌, ◌+◌, ◌-◌, ◌*◌, ◌++◌, ℕ, Bool, true, false, cond, List, [], ◌∷◌, map, take, drop, length, max, refl, ap, sym, subst, slice_index_or, slice_range, arith, All, Option, nat_lt, lt-ltb, le-ltb}, Math.Seq.{take-append_seam, drop-append_seam}, lemmas.List.{length-map, length-append, map-append, append_assoc, append-nil, take_more, drop-drop, Sums.{sum_by-cons}, Elements.{All-nil, All-cons, All-head, All-tail}}}, specs.{Bool.{Decides}, Cmp.{IsStrictWeakOrder}, List.{flat_map}}},
+  pick_meaning.{specs.Rows.{rows_where}, proofs.{RowLaws.{rows_where-append}, InsideLaws.{rows_inside}}},
+  align_meaning.{specs.Joins.{Entry, or_gap, entry, entries_with, entries_of}, proofs.OrderLaws.{all_append}},
+  label_align.{specs.{declared.runs.Run.{Run}, Runs.{no_run, run_of, with_row, gathered, rows_in, total, entries_in, run_entries, count_in, counted}}, proofs.{EntryLaws.{map-map, length-entries_of}, OuterJoinLaws.{keyed}, RunLaws.{key_at, HaveRows, keyed as carried}}},
+}
 
 -- the rows of the right, from a count on
 module _ {K : Type 0} (p : K → Bool) (n : ℕ) where

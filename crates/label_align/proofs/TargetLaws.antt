@@ -1,23 +1,13 @@
 -- The row of each target, by codes.
-use Rattle.std.proofs.Common.{◌≡◌, ◌∙◌, ◌<◌, ◌≤◌, ◌==◌, ◌+◌, ◌++◌, ℕ, zero, suc, Bool, true, false, cond, List, [], ◌∷◌, map, length, refl, ap, sym, slice_index, slice_index_or, arith, All, Option, Some, None, Ok, Err, nat_lt, lt-ltb, le-ltb}
-use Rattle.std.specs.Bool.{Decides}
-use Rattle.std.specs.Cmp.Lexicographic.{pointwise}
-use Rattle.std.specs.List.{range_with_len}
-use Rattle.std.proofs.lemmas.Bool.{false≢true, eq-eqb, eqb-true}
-use Rattle.std.proofs.lemmas.List.FromFn.{get_or-map-range_with_len}
-use Rattle.std.proofs.lemmas.List.{get_or-map, length-map}
-use Rattle.std.proofs.lemmas.List.Elements.{All-head, All-tail}
-use Rattle.cell_core.specs.declared.cell.Label.{Label}
-use Rattle.meaning.specs.Reduce.{distinct}
-use Rattle.pick_meaning.specs.Rows.{rows_where, only_row}
-use Rattle.align_meaning.specs.Faults.{duplicate_labels}
-use Rattle.align_meaning.specs.Targets.{first_where, first_repeated, unless_repeated, rows_of_targets, reindexed}
-use Rattle.row_keys.specs.Keys.{same_tuple}
-use Rattle.row_keys.specs.Buckets.{buckets_of, rows_of_code}
-use Rattle.row_keys.proofs.KeyLaws.{position_in}
-use Rattle.row_keys.proofs.JoinLaws.{rank, count, left_known, right_known, bucket_of_key}
-use Rattle.label_align.specs.Targets.{repeats_at, IsFirstRepeat, NoneBefore, NoneRepeats, row_below}
-use Rattle.label_align.proofs.SameLaws.{tuples_decide, tuple_laws}
+use Rattle.{
+  std.{proofs.{Common.{◌≡◌, ◌∙◌, ◌<◌, ◌≤◌, ◌==◌, ◌+◌, ◌++◌, ℕ, zero, suc, Bool, true, false, cond, List, [], ◌∷◌, map, length, refl, ap, sym, slice_index, slice_index_or, arith, All, Option, Some, None, Ok, Err, nat_lt, lt-ltb, le-ltb}, lemmas.{Bool.{false≢true, eq-eqb, eqb-true}, List.{get_or-map, length-map, FromFn.{get_or-map-range_with_len}, Elements.{All-head, All-tail}}}}, specs.{Bool.{Decides}, Cmp.Lexicographic.{pointwise}, List.{range_with_len}}},
+  cell_core.specs.declared.cell.Label.{Label},
+  meaning.specs.Reduce.{distinct},
+  pick_meaning.specs.Rows.{rows_where, only_row},
+  align_meaning.specs.{Faults.{duplicate_labels}, Targets.{first_where, first_repeated, unless_repeated, rows_of_targets, reindexed}},
+  row_keys.{specs.{Keys.{same_tuple}, Buckets.{buckets_of, rows_of_code}}, proofs.{KeyLaws.{position_in}, JoinLaws.{rank, count, left_known, right_known, bucket_of_key}}},
+  label_align.{specs.Targets.{repeats_at, IsFirstRepeat, NoneBefore, NoneRepeats, row_below}, proofs.SameLaws.{tuples_decide, tuple_laws}},
+}
 
 -- the first that passes, by its place
 module _ {X : Type 0} (p : X → Bool) where

@@ -1,13 +1,10 @@
 -- Tables that are read of a world, and answers by another wording.
-use Rattle.std.proofs.Common.{◌≡◌, ℕ, subst, Some, Result}
-use Rattle.meaning.specs.Fault.{FaultValue}
-use Rattle.table_meaning.specs.Table.{NumberedTable}
-use Rattle.table_meaning.specs.Valid.{IsWhole}
-use Rattle.table_meaning.specs.Value.{Entry}
-use Rattle.frame_store.specs.declared.arguments.Value.{Value}
-use Rattle.frame_store.specs.declared.fault.OpFault.{OpFault}
-use Rattle.frame_store.specs.World.{World, IsSettledWorld, IsKnownTable, Forms}
-use Rattle.frame_store.proofs.Settling.{object_settled}
+use Rattle.{
+  std.proofs.Common.{◌≡◌, ℕ, subst, Some, Result},
+  meaning.specs.Fault.{FaultValue},
+  table_meaning.specs.{Table.{NumberedTable}, Valid.{IsWhole}, Value.{Entry}},
+  frame_store.{specs.{declared.{arguments.Value.{Value}, fault.OpFault.{OpFault}}, World.{World, IsSettledWorld, IsKnownTable, Forms}}, proofs.Settling.{object_settled}},
+}
 
 -- a table that is read of a settled world
 pub known_table : (w : World) (id : ℕ) (t : NumberedTable) → w.tables id ≡ Some t → IsWhole t → IsSettledWorld w → IsKnownTable w.texts t

@@ -1,13 +1,13 @@
 -- The labels of columns as labels of rows.
-use Rattle.std.proofs.Common.{◌≡◌, refl, pos, List, [], ◌∷◌, map, length, Option, Some, None, slice_index_or, unwrap_or}
-use Rattle.std.proofs.lemmas.List.Elements.{All-map}
-use Rattle.cell_core.specs.declared.cell.Label.{Label}
-use Rattle.meaning.specs.Text.{Text}
-use Rattle.meaning.specs.Cell.{LabelValue, int}
-use Rattle.multi_index.specs.Axes.{HaveLevels}
-use Rattle.table_meaning.specs.Table.{heading_value, tuple_value}
-use Rattle.frame_store.specs.Shown.{labels_value, headings_value}
-use Rattle.label_methods.specs.Labels.{column_tuple}
+use Rattle.{
+  std.proofs.{Common.{◌≡◌, refl, pos, List, [], ◌∷◌, map, length, Option, Some, None, slice_index_or, unwrap_or}, lemmas.List.Elements.{All-map}},
+  cell_core.specs.declared.cell.Label.{Label},
+  meaning.specs.{Text.{Text}, Cell.{LabelValue, int}},
+  multi_index.specs.Axes.{HaveLevels},
+  table_meaning.specs.Table.{heading_value, tuple_value},
+  frame_store.specs.Shown.{labels_value, headings_value},
+  label_methods.specs.Labels.{column_tuple},
+}
 
 single : (h : Option Label) → length (column_tuple h) ≡ 1
 single None = refl

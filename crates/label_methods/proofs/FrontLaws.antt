@@ -1,8 +1,10 @@
 -- Lists that are made item by item.
-use Rattle.std.proofs.Common.{◌≡◌, ◌∙◌, refl, ap, sym, List, [], ◌∷◌, ◌++◌, append_assoc, Result, Ok, Err}
-use Rattle.meaning.specs.Fault.{FaultValue, then_value}
-use Rattle.form_meaning.specs.Finish.{try_all}
-use Rattle.label_methods.specs.Columns.{with_front}
+use Rattle.{
+  std.proofs.Common.{◌≡◌, ◌∙◌, refl, ap, sym, List, [], ◌∷◌, ◌++◌, append_assoc, Result, Ok, Err},
+  meaning.specs.Fault.{FaultValue, then_value},
+  form_meaning.specs.Finish.{try_all},
+  label_methods.specs.Columns.{with_front},
+}
 
 front_twice : {B : Type 0} (made : List B) (y : B) (rest : Result (List B) FaultValue) → with_front (made ++ y ∷ []) rest ≡ with_front made (then_value rest (λ ys. Ok (y ∷ ys)))
 front_twice made y (Ok ys) = ap Ok (append_assoc made (y ∷ []) ys)

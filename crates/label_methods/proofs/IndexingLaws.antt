@@ -1,53 +1,20 @@
 -- Columns as the labels of the rows.
-use Rattle.std.proofs.Common.{◌≡◌, ◌∙◌, refl, ap, sym, subst, arith, ℕ, zero, suc, ◌+◌, ◌<◌, ◌≤◌, Bool, true, false, ◌&&◌, List, [], ◌∷◌, ◌++◌, map, length, take, get_or, slice_index_or, All, Option, Some, None, Result, Ok, Err, if◌then◌else◌}
-use Rattle.std.specs.Prelude.{nat_le, filter, slice_get, IsSome}
-use Rattle.std.specs.List.{range_with_len}
-use Rattle.std.proofs.Math.ListN.{get_or-map}
-use Rattle.std.proofs.lemmas.Bool.Decides.{nat_tests}
-use Rattle.std.proofs.lemmas.List.{length-map, map-append, take_more}
-use Rattle.std.proofs.lemmas.Option.{get_or_from_slice_get}
-use Rattle.std.proofs.lemmas.List.FromFn.{length-range_with_len}
-use Rattle.std.proofs.lemmas.List.Elements.{All-cons, All-nil}
-use Rattle.cell_core.specs.Texts.{AreDistinct}
-use Rattle.cell_core.specs.declared.cell.Cell.{Cell}
+use Rattle.{
+  std.{proofs.{Common.{◌≡◌, ◌∙◌, refl, ap, sym, subst, arith, ℕ, zero, suc, ◌+◌, ◌<◌, ◌≤◌, Bool, true, false, ◌&&◌, List, [], ◌∷◌, ◌++◌, map, length, take, get_or, slice_index_or, All, Option, Some, None, Result, Ok, Err, if◌then◌else◌}, Math.ListN.{get_or-map}, lemmas.{Bool.Decides.{nat_tests}, List.{length-map, map-append, take_more, FromFn.{length-range_with_len}, Elements.{All-cons, All-nil}}, Option.{get_or_from_slice_get}}}, specs.{Prelude.{nat_le, filter, slice_get, IsSome}, List.{range_with_len}}},
+  cell_core.specs.{Texts.{AreDistinct}, declared.{cell.{Cell.{Cell}, Label.{Label}}, grid.Shape.TheVariants.{Frame}}},
+  column_core.specs.Blocks.{CellBlock},
+  meaning.specs.{Cell.{CellValue, LabelValue, na_cell, datum, label_datum}, Fault.{FaultValue, limit, then_value}, FaultOf.{fault_of}, Operator.{cell_label}, Text.{Text}},
+  multi_index.specs.Axes.{AxisValue, HaveLevels, single_tuples},
+  table_meaning.specs.{Settled.{IsSettled}, Table.{ColumnOf, NumberedTable, Table, column_at, no_column, table_value, heading_value, tuple_value, column_value}, Valid.{IsWhole}, Value.{Entry, table}},
+  form_meaning.specs.{Finish.{within_limits, limited, first_repeated, unless_repeated}, Select.{heading_at, columns_frame}},
+  form_parts.specs.Labels.{label_of},
+  method_meaning.specs.{Rows.{cells_by_row, places_besides}, Levels.{on_levels, indexed_by, index_set}},
+  frame_store.{specs.{declared.fault.OpFault.{OpFault, TheVariants.{Refused, NoMemory}}, Parts.{HeadingList, block_column, table_with}, Shown.{labels_value, headings_value, Makes}}, proofs.Settling.{settled_by, headings_part}},
+  selections.{specs.{Across.{cell_across}, Headings.{NamesRepeated, repeated_heading}, Selected.{heading_of, headings_at}}, proofs.{AnswerLaws.{column_seen}, HeadingLaws.{repeated_seen, different}, PickedLaws.{one_more_place, list_is}, PlaceLaws.{heading_seen, heading_settled}, RefusalLaws.{repeated_settled}}},
+  signatures.proofs.ToldLaws.{some_same},
+  label_methods.{specs.{Levels.{row_labels}, Rows.{row_cells}}, proofs.{RowLaws.{cells_in, by_rows}, TableLaws.{limited_within}, NamedLaws.{is_other, others_meant}}},
+}
 use Rattle.cell_core.specs.declared.cell.Cell.TheVariants as cell
-use Rattle.cell_core.specs.declared.cell.Label.{Label}
-use Rattle.cell_core.specs.declared.grid.Shape.TheVariants.{Frame}
-use Rattle.column_core.specs.Blocks.{CellBlock}
-use Rattle.meaning.specs.Cell.{CellValue, LabelValue, na_cell, datum, label_datum}
-use Rattle.meaning.specs.Fault.{FaultValue, limit, then_value}
-use Rattle.meaning.specs.FaultOf.{fault_of}
-use Rattle.meaning.specs.Operator.{cell_label}
-use Rattle.meaning.specs.Text.{Text}
-use Rattle.multi_index.specs.Axes.{AxisValue, HaveLevels, single_tuples}
-use Rattle.table_meaning.specs.Settled.{IsSettled}
-use Rattle.table_meaning.specs.Table.{ColumnOf, NumberedTable, Table, column_at, no_column, table_value, heading_value, tuple_value, column_value}
-use Rattle.table_meaning.specs.Valid.{IsWhole}
-use Rattle.table_meaning.specs.Value.{Entry, table}
-use Rattle.form_meaning.specs.Finish.{within_limits, limited, first_repeated, unless_repeated}
-use Rattle.form_meaning.specs.Select.{heading_at, columns_frame}
-use Rattle.form_parts.specs.Labels.{label_of}
-use Rattle.method_meaning.specs.Rows.{cells_by_row, places_besides}
-use Rattle.method_meaning.specs.Levels.{on_levels, indexed_by, index_set}
-use Rattle.frame_store.specs.declared.fault.OpFault.{OpFault}
-use Rattle.frame_store.specs.declared.fault.OpFault.TheVariants.{Refused, NoMemory}
-use Rattle.frame_store.specs.Parts.{HeadingList, block_column, table_with}
-use Rattle.frame_store.specs.Shown.{labels_value, headings_value, Makes}
-use Rattle.frame_store.proofs.Settling.{settled_by, headings_part}
-use Rattle.selections.specs.Across.{cell_across}
-use Rattle.selections.specs.Headings.{NamesRepeated, repeated_heading}
-use Rattle.selections.specs.Selected.{heading_of, headings_at}
-use Rattle.selections.proofs.AnswerLaws.{column_seen}
-use Rattle.selections.proofs.HeadingLaws.{repeated_seen, different}
-use Rattle.selections.proofs.PickedLaws.{one_more_place, list_is}
-use Rattle.selections.proofs.PlaceLaws.{heading_seen, heading_settled}
-use Rattle.selections.proofs.RefusalLaws.{repeated_settled}
-use Rattle.signatures.proofs.ToldLaws.{some_same}
-use Rattle.label_methods.specs.Levels.{row_labels}
-use Rattle.label_methods.specs.Rows.{row_cells}
-use Rattle.label_methods.proofs.RowLaws.{cells_in, by_rows}
-use Rattle.label_methods.proofs.TableLaws.{limited_within}
-use Rattle.label_methods.proofs.NamedLaws.{is_other, others_meant}
 
 -- a cell as a label
 label_is : (texts : List Text) (c : Cell) → label_datum texts (label_of c) ≡ cell_label (datum texts c)

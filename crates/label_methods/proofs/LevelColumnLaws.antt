@@ -1,36 +1,16 @@
 -- The labels of a level as the cells of a column, row by row.
-use Rattle.std.proofs.Common.{◌≡◌, ◌∙◌, ap, sym, subst, ℕ, zero, suc, ◌+◌, ◌<◌, List, [], ◌∷◌, ◌++◌, map, drop, length, slice_index_or, slice_get, Option, Some, append-nil, arith}
-use Rattle.std.specs.Prelude.{Result, Ok, Err, unwrap_or}
-use Rattle.std.specs.List.{range_with_len}
-use Rattle.std.specs.Option.{option_and_then}
-use Rattle.std.proofs.lemmas.List.{length-map, map-append}
-use Rattle.std.proofs.lemmas.List.FromFn.{length-range_with_len, get_or-range_with_len}
-use Rattle.std.proofs.lemmas.Option.{slice_get-get_or}
-use Rattle.cell_core.specs.declared.cell.Cell.{Cell}
-use Rattle.cell_core.specs.declared.cell.Kind.{Kind}
-use Rattle.cell_core.specs.declared.cell.Kind.TheVariants.{Int64}
-use Rattle.cell_core.specs.declared.cell.Label.{Label}
-use Rattle.cell_core.specs.declared.cell.Label.TheVariants.{Na}
-use Rattle.meaning.specs.Text.{Text}
-use Rattle.meaning.specs.Cell.{CellValue, datum}
-use Rattle.meaning.specs.Fault.{FaultValue}
-use Rattle.meaning.specs.FaultOf.{fault_of}
-use Rattle.column_core.specs.Blocks.{CellBlock}
-use Rattle.column_core.specs.Columns.{CellColumn}
-use Rattle.multi_index.specs.Axes.{AxisValue, label_at}
-use Rattle.table_meaning.specs.Table.{ColumnOf, column_value}
-use Rattle.form_meaning.specs.Finish.{try_all}
-use Rattle.form_parts.specs.Makes.{MakesBy, blocks_value}
-use Rattle.form_meaning.specs.Set.{first_kind}
-use Rattle.frame_store.specs.Parts.{block_column, single_block, table_column}
-use Rattle.frame_store.specs.Shown.{cells_value, columns_value}
-use Rattle.frame_store.specs.declared.fault.OpFault.{OpFault}
-use Rattle.frame_store.specs.declared.fault.OpFault.TheVariants.{Refused, NoMemory}
-use Rattle.label_methods.specs.Columns.{seen_column, with_front}
-use Rattle.label_methods.specs.LevelColumns.{cell_of, level_cells, held_after, held_column, GetsCell, RefusesCell, level_column, level_columns}
-use Rattle.label_methods.proofs.Lists.{drop_next}
-use Rattle.label_methods.proofs.Lists.{drop_all}
-use Rattle.label_methods.proofs.FrontLaws.{front_next, front_fails}
+use Rattle.{
+  std.{proofs.{Common.{◌≡◌, ◌∙◌, ap, sym, subst, ℕ, zero, suc, ◌+◌, ◌<◌, List, [], ◌∷◌, ◌++◌, map, drop, length, slice_index_or, slice_get, Option, Some, append-nil, arith}, lemmas.{List.{length-map, map-append, FromFn.{length-range_with_len, get_or-range_with_len}}, Option.{slice_get-get_or}}}, specs.{Prelude.{Result, Ok, Err, unwrap_or}, List.{range_with_len}, Option.{option_and_then}}},
+  cell_core.specs.declared.cell.{Cell.{Cell}, Kind.{Kind, TheVariants.{Int64}}, Label.{Label, TheVariants.{Na}}},
+  meaning.specs.{Text.{Text}, Cell.{CellValue, datum}, Fault.{FaultValue}, FaultOf.{fault_of}},
+  column_core.specs.{Blocks.{CellBlock}, Columns.{CellColumn}},
+  multi_index.specs.Axes.{AxisValue, label_at},
+  table_meaning.specs.Table.{ColumnOf, column_value},
+  form_meaning.specs.{Finish.{try_all}, Set.{first_kind}},
+  form_parts.specs.Makes.{MakesBy, blocks_value},
+  frame_store.specs.{Parts.{block_column, single_block, table_column}, Shown.{cells_value, columns_value}, declared.fault.OpFault.{OpFault, TheVariants.{Refused, NoMemory}}},
+  label_methods.{specs.{Columns.{seen_column, with_front}, LevelColumns.{cell_of, level_cells, held_after, held_column, GetsCell, RefusesCell, level_column, level_columns}}, proofs.{Lists.{drop_next, drop_all}, FrontLaws.{front_next, front_fails}}},
+}
 
 label_is : (tuple : List Label) (level : ℕ) (l : Label) → slice_get tuple level ≡ Some l → slice_index_or tuple level Na ≡ l
 label_is [] level l is = cc

@@ -1,35 +1,17 @@
 -- Levels that go, or change places with one another.
-use Rattle.std.proofs.Common.{◌≡◌, ◌∙◌, refl, ap, sym, subst, ℕ, suc, ◌<◌, ◌≤◌, Bool, true, false, ℤ, List, [], ◌∷◌, ◌++◌, map, take, drop, length, slice_index_or, Option, Some, None, Result, Ok, Err, if◌then◌else◌, arith}
-use Rattle.std.specs.Prelude.{IfSome, nat_le, remove, swap, slice_set}
-use Rattle.std.specs.Option.{option_map}
-use Rattle.std.proofs.Math.ListN.{get_or-map}
-use Rattle.std.proofs.lemmas.Bool.Decides.{nat_tests}
-use Rattle.std.proofs.lemmas.List.{length-map, map-append, take-map, map-set}
-use Rattle.std.specs.List.{drop-map}
-use Rattle.cell_core.specs.Texts.{IsGiven}
-use Rattle.cell_core.specs.declared.cell.Cell.{Cell}
-use Rattle.cell_core.specs.declared.cell.Label.{Label}
-use Rattle.meaning.specs.Text.{Text}
-use Rattle.meaning.specs.Cell.{datum, label_datum}
-use Rattle.meaning.specs.Fault.{FaultValue, bad_value, levels}
-use Rattle.meaning.specs.Place.{place_of}
-use Rattle.multi_index.specs.Axes.{AxisValue, without_level, with_swapped}
-use Rattle.pick_meaning.specs.Positions.{row_at, row_or_fault}
-use Rattle.select_meaning.specs.Keys.{found_pick}
-use Rattle.table_meaning.specs.Change.{with_labels}
-use Rattle.table_meaning.specs.Settled.{IsSettled}
-use Rattle.table_meaning.specs.Table.{NumberedTable, table_value, heading_value}
-use Rattle.table_meaning.specs.Value.{Entry, scalar_in}
-use Rattle.form_meaning.specs.Finish.{limited}
-use Rattle.method_meaning.specs.Levels.{level_dropped, level_gone, levels_swapped}
-use Rattle.frame_store.specs.Arguments.{arguments_of}
-use Rattle.frame_store.specs.Objects.{Tables}
-use Rattle.frame_store.specs.Parts.{axis_of}
-use Rattle.frame_store.specs.Shown.{labels_value}
-use Rattle.frame_store.proofs.Settling.{settled_by, cell_given}
-use Rattle.signatures.specs.Bound.{Tells}
-use Rattle.signatures.specs.declared.bound.Bound.{Bound}
-use Rattle.signatures.proofs.ToldLaws.{told_settled, some_same}
+use Rattle.{
+  std.{proofs.{Common.{◌≡◌, ◌∙◌, refl, ap, sym, subst, ℕ, suc, ◌<◌, ◌≤◌, Bool, true, false, ℤ, List, [], ◌∷◌, ◌++◌, map, take, drop, length, slice_index_or, Option, Some, None, Result, Ok, Err, if◌then◌else◌, arith}, Math.ListN.{get_or-map}, lemmas.{Bool.Decides.{nat_tests}, List.{length-map, map-append, take-map, map-set}}}, specs.{Prelude.{IfSome, nat_le, remove, swap, slice_set}, Option.{option_map}, List.{drop-map}}},
+  cell_core.specs.{Texts.{IsGiven}, declared.cell.{Cell.{Cell}, Label.{Label}}},
+  meaning.specs.{Text.{Text}, Cell.{datum, label_datum}, Fault.{FaultValue, bad_value, levels}, Place.{place_of}},
+  multi_index.specs.Axes.{AxisValue, without_level, with_swapped},
+  pick_meaning.specs.Positions.{row_at, row_or_fault},
+  select_meaning.specs.Keys.{found_pick},
+  table_meaning.specs.{Change.{with_labels}, Settled.{IsSettled}, Table.{NumberedTable, table_value, heading_value}, Value.{Entry, scalar_in}},
+  form_meaning.specs.Finish.{limited},
+  method_meaning.specs.Levels.{level_dropped, level_gone, levels_swapped},
+  frame_store.{specs.{Arguments.{arguments_of}, Objects.{Tables}, Parts.{axis_of}, Shown.{labels_value}}, proofs.Settling.{settled_by, cell_given}},
+  signatures.{specs.{Bound.{Tells}, declared.bound.Bound.{Bound}}, proofs.ToldLaws.{told_settled, some_same}},
+}
 
 -- the texts of an argument were given
 pub option_given : (b : Bound) (place : ℕ) (o : Option Cell) (live : Tables) (texts : List Text) → Tells b place scalar_in (λ _ ts. option_map (datum ts) o) → IsSettled (arguments_of live) texts b.args.now → IfSome o (IsGiven texts)

@@ -1,29 +1,16 @@
 -- Names of levels that an argument is.
-use Rattle.std.proofs.Common.{◌≡◌, ◌∙◌, append_assoc, append-nil, ap, sym, ℕ, ◌+◌, ◌<◌, ◌≤◌, List, [], ◌∷◌, ◌++◌, length, drop, get_or, map, Option, Some, None, option_map}
-use Rattle.std.proofs.lemmas.List.{map-append, at_drop_all}
-use Rattle.column_core.proofs.CellRows.{map-map}
-use Rattle.cell_core.specs.declared.cell.Cell.{Cell}
-use Rattle.cell_core.specs.declared.cell.Label.{Label}
-use Rattle.meaning.specs.Cell.{LabelValue, datum, label_datum}
-use Rattle.meaning.specs.Operator.{cell_label}
-use Rattle.meaning.specs.Text.{Text}
-use Rattle.table_meaning.specs.Table.{heading_value}
-use Rattle.table_meaning.specs.Value.{Given, nothing, one, row, many, entries, scalar_in, list_in}
-use Rattle.table_meaning.specs.Settled.{IsSettled}
-use Rattle.form_meaning.specs.Binding.{argument_at}
-use Rattle.form_meaning.specs.Select.{cells_of, labels_of}
-use Rattle.method_meaning.specs.Levels.{names_in}
-use Rattle.frame_store.specs.Objects.{Tables}
-use Rattle.frame_store.specs.Arguments.{items_of, arguments_of}
-use Rattle.frame_store.specs.Shown.{headings_value}
-use Rattle.frame_store.specs.declared.arguments.Item.{Item}
-use Rattle.signatures.specs.Bound.{stands_at}
-use Rattle.signatures.specs.declared.bound.Bound.{Bound}
-use Rattle.signatures.specs.Scalars.{scalars}
-use Rattle.signatures.proofs.ScalarLaws.{scalars_are}
-use Rattle.signatures.proofs.ToldLaws.{some_same}
-use Rattle.label_methods.specs.Levels.{some_labels}
-use Rattle.label_methods.proofs.ScalarLaws.{IsScalarOf, scalars_from}
+use Rattle.{
+  std.proofs.{Common.{◌≡◌, ◌∙◌, append_assoc, append-nil, ap, sym, ℕ, ◌+◌, ◌<◌, ◌≤◌, List, [], ◌∷◌, ◌++◌, length, drop, get_or, map, Option, Some, None, option_map}, lemmas.List.{map-append, at_drop_all}},
+  column_core.proofs.CellRows.{map-map},
+  cell_core.specs.declared.cell.{Cell.{Cell}, Label.{Label}},
+  meaning.specs.{Cell.{LabelValue, datum, label_datum}, Operator.{cell_label}, Text.{Text}},
+  table_meaning.specs.{Table.{heading_value}, Value.{Given, nothing, one, row, many, entries, scalar_in, list_in}, Settled.{IsSettled}},
+  form_meaning.specs.{Binding.{argument_at}, Select.{cells_of, labels_of}},
+  method_meaning.specs.Levels.{names_in},
+  frame_store.specs.{Objects.{Tables}, Arguments.{items_of, arguments_of}, Shown.{headings_value}, declared.arguments.Item.{Item}},
+  signatures.{specs.{Bound.{stands_at}, declared.bound.Bound.{Bound}, Scalars.{scalars}}, proofs.{ScalarLaws.{scalars_are}, ToldLaws.{some_same}}},
+  label_methods.{specs.Levels.{some_labels}, proofs.ScalarLaws.{IsScalarOf, scalars_from}},
+}
 
 -- one name more
 pub names_more : (texts : List Text) (items : List Item) (i : ℕ) (item : Item) (c : Cell) (l : Label) (names names' : List (Option Label)) (whole : List (Option LabelValue)) → i < length items → item ≡ get_or items i item → IsScalarOf (Some c) item

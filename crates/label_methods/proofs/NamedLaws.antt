@@ -1,34 +1,17 @@
 -- Columns that an argument names, and a frame without them.
-use Rattle.std.proofs.Common.{◌≡◌, ◌∙◌, append_assoc, append-nil, refl, ap, sym, subst, arith, ℕ, ◌+◌, ◌<◌, ◌≤◌, Bool, true, false, ◌||◌, cond, nat_eq, List, [], ◌∷◌, ◌++◌, length, take, drop, set, get_or, slice_index_or, slice_get, All, Some, None, Result, Ok, Err}
-use Rattle.std.specs.Prelude.{not, filter}
-use Rattle.std.specs.List.{list_any, range_with_len}
-use Rattle.std.proofs.lemmas.Bool.Decides.{nat_tests}
-use Rattle.std.proofs.lemmas.List.{length-map, length-set, take_more, map-append, at_drop_all, get_or-set_same, get_or-set_other}
-use Rattle.std.proofs.lemmas.List.Elements.{All-cons, All-nil, All-filter, filter-append}
-use Rattle.std.proofs.lemmas.List.Folds.{list_any-append}
-use Rattle.std.proofs.lemmas.Option.{get_or_from_slice_get}
-use Rattle.cell_core.specs.declared.cell.Cell.{Cell}
-use Rattle.cell_core.specs.declared.cell.Label.{Label}
-use Rattle.meaning.specs.Text.{Text}
-use Rattle.meaning.specs.Cell.{CellValue, datum, label_datum}
-use Rattle.meaning.specs.Operator.{cell_label}
-use Rattle.meaning.specs.Fault.{FaultValue, then_value}
-use Rattle.table_meaning.specs.Table.{NumberedTable, Table, table_value, column_value}
-use Rattle.table_meaning.specs.Value.{Given, GivenList, cell, table, nothing, one, row, many, entries, scalar_in, list_in}
-use Rattle.form_meaning.specs.Binding.{is_nothing}
-use Rattle.form_meaning.specs.Select.{column_place, column_places, labels_of}
-use Rattle.form_parts.specs.Makes.{MakesBy}
-use Rattle.method_meaning.specs.Rows.{labels_in, all_places, subset_places, places_besides}
-use Rattle.frame_store.specs.declared.arguments.Item.{Item}
-use Rattle.frame_store.specs.declared.fault.OpFault.{OpFault}
-use Rattle.frame_store.specs.declared.fault.OpFault.TheVariants.{Refused, NoMemory}
-use Rattle.frame_store.specs.Shown.{cells_value}
-use Rattle.signatures.specs.Scalars.{scalars}
-use Rattle.selections.specs.Selected.{as_it_is}
-use Rattle.selections.proofs.PickedLaws.{one_more_place, places_inside}
-use Rattle.label_methods.specs.Named.{FindsPlaces, AreMarks}
-use Rattle.frame_store.specs.Parts.{AreColumnsOf}
-use Rattle.label_methods.proofs.ScalarLaws.{IsScalarOf, scalars_from}
+use Rattle.{
+  std.{proofs.{Common.{◌≡◌, ◌∙◌, append_assoc, append-nil, refl, ap, sym, subst, arith, ℕ, ◌+◌, ◌<◌, ◌≤◌, Bool, true, false, ◌||◌, cond, nat_eq, List, [], ◌∷◌, ◌++◌, length, take, drop, set, get_or, slice_index_or, slice_get, All, Some, None, Result, Ok, Err}, lemmas.{Bool.Decides.{nat_tests}, List.{length-map, length-set, take_more, map-append, at_drop_all, get_or-set_same, get_or-set_other, Elements.{All-cons, All-nil, All-filter, filter-append}, Folds.{list_any-append}}, Option.{get_or_from_slice_get}}}, specs.{Prelude.{not, filter}, List.{list_any, range_with_len}}},
+  cell_core.specs.declared.cell.{Cell.{Cell}, Label.{Label}},
+  meaning.specs.{Text.{Text}, Cell.{CellValue, datum, label_datum}, Operator.{cell_label}, Fault.{FaultValue, then_value}},
+  table_meaning.specs.{Table.{NumberedTable, Table, table_value, column_value}, Value.{Given, GivenList, cell, table, nothing, one, row, many, entries, scalar_in, list_in}},
+  form_meaning.specs.{Binding.{is_nothing}, Select.{column_place, column_places, labels_of}},
+  form_parts.specs.Makes.{MakesBy},
+  method_meaning.specs.Rows.{labels_in, all_places, subset_places, places_besides},
+  frame_store.specs.{declared.{arguments.Item.{Item}, fault.OpFault.{OpFault, TheVariants.{Refused, NoMemory}}}, Shown.{cells_value}, Parts.{AreColumnsOf}},
+  signatures.specs.Scalars.{scalars},
+  selections.{specs.Selected.{as_it_is}, proofs.PickedLaws.{one_more_place, places_inside}},
+  label_methods.{specs.Named.{FindsPlaces, AreMarks}, proofs.ScalarLaws.{IsScalarOf, scalars_from}},
+}
 
 -- another wording of what is meant
 pub found_so : (texts : List Text) (t : NumberedTable) (r : Result (List ℕ) OpFault) (meant meant' : Result (List ℕ) FaultValue) → meant ≡ meant' → FindsPlaces texts t r meant → FindsPlaces texts t r meant'

@@ -1,58 +1,22 @@
 -- The rows, or the columns, of the labels in a list.
-use Rattle.std.proofs.Common.{◌≡◌, ◌∙◌, refl, ap, sym, subst, arith, ℕ, zero, suc, ◌+◌, ◌<◌, Bool, true, false, List, [], ◌∷◌, ◌++◌, map, length, take, replicate, slice_index_or, All, Option, Some, None, Result, Ok, Err, if◌then◌else◌}
-use Rattle.std.specs.Borrow.{Bor}
-use Rattle.std.specs.Prelude.{IfOk, IsSome, slice_get}
-use Rattle.std.proofs.lemmas.List.{length-map, length-replicate, map-append, take_more}
-use Rattle.std.proofs.lemmas.Option.{get_or_from_slice_get}
-use Rattle.std.proofs.lemmas.List.Elements.{All-map, All-replicate}
-use Rattle.cell_core.specs.Texts.{AreDistinct, AreGiven, IsGiven}
-use Rattle.cell_core.specs.declared.cell.Cell.{Cell}
-use Rattle.cell_core.specs.declared.cell.Cell.TheVariants.{Na}
-use Rattle.cell_core.specs.declared.cell.Kind.TheVariants.{Int64}
-use Rattle.cell_core.specs.declared.cell.Label.{Label}
+use Rattle.{
+  std.{proofs.{Common.{◌≡◌, ◌∙◌, refl, ap, sym, subst, arith, ℕ, zero, suc, ◌+◌, ◌<◌, Bool, true, false, List, [], ◌∷◌, ◌++◌, map, length, take, replicate, slice_index_or, All, Option, Some, None, Result, Ok, Err, if◌then◌else◌}, lemmas.{List.{length-map, length-replicate, map-append, take_more, Elements.{All-map, All-replicate}}, Option.{get_or_from_slice_get}}}, specs.{Borrow.{Bor}, Prelude.{IfOk, IsSome, slice_get}}},
+  cell_core.specs.{Texts.{AreDistinct, AreGiven, IsGiven}, declared.{cell.{Cell.{Cell, TheVariants.{Na}}, Kind.TheVariants.{Int64}, Label.{Label}}, grid.Shape.{Shape, TheVariants.{Frame}}}},
+  column_core.specs.{Blocks.{CellBlock}, Columns.{CellColumn}, Moves.{IsPlaceOf}},
+  meaning.specs.{Cell.{LabelValue, na_cell, datum}, Fault.{FaultValue, limit, then_value}, FaultOf.{fault_of}, Text.{Text}},
+  multi_index.specs.Axes.{AxisValue, HaveLevels},
+  align_meaning.specs.{Faults.{met_rows}, Targets.{reindexed}},
+  table_meaning.specs.{Settled.{IsSettled}, Table.{ColumnOf, NumberedTable, Table, column_at, no_column, table_value, heading_value, tuple_value, column_value}, Valid.{IsWhole}, Value.{Entry, GivenList, table}},
+  form_meaning.specs.{Finish.{within_limits, limited, finished, first_repeated, unless_repeated, column_labels}, Infix.{same_tuple, on_rows}},
+  form_parts.{specs.Makes.{MakesBy}, proofs.{GapLaws.{on_rows_seen, on_rows_given}, TableMade.{refused_on}}},
+  select_meaning.specs.{Keys.{whole_items}, Select.{row_name}},
+  method_meaning.specs.Reindex.{rows_at, rows_reindexed, column_or_missing, columns_at, columns_reindexed, reindex_rows, reindex_columns},
+  frame_store.{specs.{Arguments.{items_of}, Objects.{Tables}, Parts.{HeadingList, axis_of, block_column, headings_of, table_column, table_with}, Shown.{labels_value, headings_value, columns_value, Makes}, World.{IsKnownTable}, declared.{arguments.Item.{Item}, fault.OpFault.{OpFault, TheVariants.{Refused, NoMemory}}}}, proofs.Settling.{settled_by, columns_name_part, level_names_part, labels_part, headings_part, columns_part, columns_settled, columns_given, table_settled}},
+  selections.{specs.Headings.{NamesRepeated, repeated_heading}, proofs.{AnswerLaws.{column_seen}, HeadingLaws.{repeated_seen, different}, RefusalLaws.{repeated_settled}}},
+  signatures.proofs.ToldLaws.{some_same},
+  label_methods.{specs.{Labels.{column_tuple}, Reindexed.{heading_of, list_lent}}, proofs.{ColumnLabelLaws.{label_tuple, tuples_seen}, TableLaws.{limited_within}}},
+}
 use Rattle.cell_core.specs.declared.cell.Label.TheVariants as label
-use Rattle.cell_core.specs.declared.grid.Shape.{Shape}
-use Rattle.cell_core.specs.declared.grid.Shape.TheVariants.{Frame}
-use Rattle.column_core.specs.Blocks.{CellBlock}
-use Rattle.column_core.specs.Columns.{CellColumn}
-use Rattle.column_core.specs.Moves.{IsPlaceOf}
-use Rattle.meaning.specs.Cell.{LabelValue, na_cell, datum}
-use Rattle.meaning.specs.Fault.{FaultValue, limit, then_value}
-use Rattle.meaning.specs.FaultOf.{fault_of}
-use Rattle.meaning.specs.Text.{Text}
-use Rattle.multi_index.specs.Axes.{AxisValue, HaveLevels}
-use Rattle.align_meaning.specs.Faults.{met_rows}
-use Rattle.align_meaning.specs.Targets.{reindexed}
-use Rattle.table_meaning.specs.Settled.{IsSettled}
-use Rattle.table_meaning.specs.Table.{ColumnOf, NumberedTable, Table, column_at, no_column, table_value, heading_value, tuple_value, column_value}
-use Rattle.table_meaning.specs.Valid.{IsWhole}
-use Rattle.table_meaning.specs.Value.{Entry, GivenList, table}
-use Rattle.form_meaning.specs.Finish.{within_limits, limited, finished, first_repeated, unless_repeated, column_labels}
-use Rattle.form_meaning.specs.Infix.{same_tuple, on_rows}
-use Rattle.form_parts.specs.Makes.{MakesBy}
-use Rattle.form_parts.proofs.GapLaws.{on_rows_seen, on_rows_given}
-use Rattle.form_parts.proofs.TableMade.{refused_on}
-use Rattle.select_meaning.specs.Keys.{whole_items}
-use Rattle.select_meaning.specs.Select.{row_name}
-use Rattle.method_meaning.specs.Reindex.{rows_at, rows_reindexed, column_or_missing, columns_at, columns_reindexed, reindex_rows, reindex_columns}
-use Rattle.frame_store.specs.Arguments.{items_of}
-use Rattle.frame_store.specs.Objects.{Tables}
-use Rattle.frame_store.specs.Parts.{HeadingList, axis_of, block_column, headings_of, table_column, table_with}
-use Rattle.frame_store.specs.Shown.{labels_value, headings_value, columns_value, Makes}
-use Rattle.frame_store.specs.World.{IsKnownTable}
-use Rattle.frame_store.specs.declared.arguments.Item.{Item}
-use Rattle.frame_store.specs.declared.fault.OpFault.{OpFault}
-use Rattle.frame_store.specs.declared.fault.OpFault.TheVariants.{Refused, NoMemory}
-use Rattle.frame_store.proofs.Settling.{settled_by, columns_name_part, level_names_part, labels_part, headings_part, columns_part, columns_settled, columns_given, table_settled}
-use Rattle.selections.specs.Headings.{NamesRepeated, repeated_heading}
-use Rattle.selections.proofs.AnswerLaws.{column_seen}
-use Rattle.selections.proofs.HeadingLaws.{repeated_seen, different}
-use Rattle.selections.proofs.RefusalLaws.{repeated_settled}
-use Rattle.signatures.proofs.ToldLaws.{some_same}
-use Rattle.label_methods.specs.Labels.{column_tuple}
-use Rattle.label_methods.specs.Reindexed.{heading_of, list_lent}
-use Rattle.label_methods.proofs.ColumnLabelLaws.{label_tuple, tuples_seen}
-use Rattle.label_methods.proofs.TableLaws.{limited_within}
 
 -- a table that is beyond the limits
 abbrev if_within : Table → Bool → Result Entry FaultValue

@@ -1,42 +1,21 @@
 -- The levels of a table as columns of a frame.
-use Rattle.std.proofs.Common.{◌≡◌, ◌∙◌, refl, ap, sym, subst, ℕ, zero, suc, pos, ◌+◌, ◌<◌, ◌||◌, ◌&&◌, not, nat_eq, Bool, true, false, List, [], ◌∷◌, ◌++◌, map, take, drop, length, slice_index_or, slice_get, All, Option, Some, None, Ok, Err, if◌then◌else◌, append_assoc, append-nil, arith}
-use Rattle.std.specs.Prelude.{unwrap_or, bytes_eq}
-use Rattle.std.specs.List.{list_any, range_with_len}
-use Rattle.std.proofs.Math.ListN.{get_or-map}
-use Rattle.std.proofs.lemmas.Bool.Decides.{nat_tests}
-use Rattle.std.proofs.lemmas.List.{length-map, map-append, take_more, take_all}
-use Rattle.std.proofs.lemmas.List.Elements.{All-cons, All-nil, All-append}
-use Rattle.std.proofs.lemmas.Option.{slice_get-get_or, get_or_from_slice_get}
-use Rattle.cell_core.specs.Texts.{with_text}
+use Rattle.{
+  std.{proofs.{Common.{◌≡◌, ◌∙◌, refl, ap, sym, subst, ℕ, zero, suc, pos, ◌+◌, ◌<◌, ◌||◌, ◌&&◌, not, nat_eq, Bool, true, false, List, [], ◌∷◌, ◌++◌, map, take, drop, length, slice_index_or, slice_get, All, Option, Some, None, Ok, Err, if◌then◌else◌, append_assoc, append-nil, arith}, Math.ListN.{get_or-map}, lemmas.{Bool.Decides.{nat_tests}, List.{length-map, map-append, take_more, take_all, Elements.{All-cons, All-nil, All-append}}, Option.{slice_get-get_or, get_or_from_slice_get}}}, specs.{Prelude.{unwrap_or, bytes_eq}, List.{list_any, range_with_len}}},
+  cell_core.specs.{Texts.{with_text}, declared.cell.{Label.{Label}, TextId.{TextId}}},
+  column_core.{specs.{Blocks.{CellBlock}, Columns.{CellColumn}}, proofs.CellRows.{map-map}},
+  meaning.specs.{Text.{Text}, Cell.{LabelValue, int, text, label_datum, IsLonger}, Fault.{then_value}},
+  table_meaning.specs.{Settled.{IsSettled}, Table.{NumberedTable, Table, table_value, heading_value, column_value, column_at, no_column}},
+  form_meaning.specs.Finish.{same_heading},
+  method_meaning.specs.{Levels.{numbered_label, nameless_label}, Methods.{as_frame}},
+  form_parts.specs.Makes.{MakesBy, blocks_value},
+  frame_store.{specs.{Parts.{axis_of, block_column, single_block, table_column, IsSingle}, Shown.{headings_value, columns_value}, declared.fault.OpFault.{OpFault, TheVariants.{Refused, NoMemory}}}, proofs.Settling.{settled_later, seen_later, settled_by, headings_part, level_names_part, cell_settled}},
+  selections.proofs.{PickedLaws.{one_more_place}, PlaceLaws.{label_settled as label_settled_by}},
+  label_methods.{specs.{Labels.{column_tuple}, Resets.{frame_heading, frame_headings, reset_columns, reset_headings}}, proofs.Lists.{drop_next, drop_all}},
+}
 use Rattle.cell_core.specs.declared.cell.Cell.TheVariants as cell
-use Rattle.cell_core.specs.declared.cell.Label.{Label}
 use Rattle.cell_core.specs.declared.cell.Label.TheVariants as label
-use Rattle.cell_core.specs.declared.cell.TextId.{TextId}
-use Rattle.column_core.specs.Blocks.{CellBlock}
-use Rattle.column_core.specs.Columns.{CellColumn}
-use Rattle.column_core.proofs.CellRows.{map-map}
-use Rattle.meaning.specs.Text.{Text}
-use Rattle.meaning.specs.Cell.{LabelValue, int, text, label_datum, IsLonger}
-use Rattle.meaning.specs.Fault.{then_value}
-use Rattle.table_meaning.specs.Settled.{IsSettled}
-use Rattle.table_meaning.specs.Table.{NumberedTable, Table, table_value, heading_value, column_value, column_at, no_column}
-use Rattle.form_meaning.specs.Finish.{same_heading}
 use Rattle.method_meaning.specs.Levels as meant
-use Rattle.method_meaning.specs.Levels.{numbered_label, nameless_label}
-use Rattle.method_meaning.specs.Methods.{as_frame}
-use Rattle.form_parts.specs.Makes.{MakesBy, blocks_value}
-use Rattle.frame_store.specs.Parts.{axis_of, block_column, single_block, table_column, IsSingle}
-use Rattle.frame_store.specs.Shown.{headings_value, columns_value}
-use Rattle.frame_store.proofs.Settling.{settled_later, seen_later, settled_by, headings_part, level_names_part, cell_settled}
-use Rattle.frame_store.specs.declared.fault.OpFault.{OpFault}
-use Rattle.frame_store.specs.declared.fault.OpFault.TheVariants.{Refused, NoMemory}
-use Rattle.selections.proofs.PickedLaws.{one_more_place}
-use Rattle.selections.proofs.PlaceLaws.{label_settled as label_settled_by}
-use Rattle.label_methods.specs.Labels.{column_tuple}
 use Rattle.label_methods.specs.LevelColumns as levels
-use Rattle.label_methods.specs.Resets.{frame_heading, frame_headings, reset_columns, reset_headings}
-use Rattle.label_methods.proofs.Lists.{drop_next}
-use Rattle.label_methods.proofs.Lists.{drop_all}
 
 -- the labels of the columns of a frame
 pub heading_is : (h : Option Label) (l : Label) → column_tuple h ≡ l ∷ [] → frame_heading h ≡ Some l

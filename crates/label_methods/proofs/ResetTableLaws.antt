@@ -1,48 +1,22 @@
 -- The frame that the levels and the columns of a table become.
-use Rattle.std.proofs.Common.{◌≡◌, ◌∙◌, refl, ap, sym, subst, ℕ, suc, pos, ◌+◌, Bool, true, false, List, [], ◌∷◌, ◌++◌, map, length, slice_index_or, All, Option, Some, None, Result, Ok, Err, if◌then◌else◌, length-append}
-use Rattle.std.specs.Prelude.{IsSome, IfOk}
-use Rattle.std.specs.List.{list_all, range_with_len}
-use Rattle.std.proofs.Math.ListN.{get_or-map}
-use Rattle.std.proofs.lemmas.List.{length-map}
-use Rattle.std.proofs.lemmas.List.Elements.{All-cons, All-nil, All-append, All-head, All-tail}
-use Rattle.std.proofs.lemmas.List.FromFn.{length-range_with_len, length-map-range_with_len}
-use Rattle.cell_core.specs.Texts.{AreDistinct}
-use Rattle.cell_core.specs.declared.cell.Cell.{Cell}
-use Rattle.cell_core.specs.declared.cell.Label.{Label}
+use Rattle.{
+  std.{proofs.{Common.{◌≡◌, ◌∙◌, refl, ap, sym, subst, ℕ, suc, pos, ◌+◌, Bool, true, false, List, [], ◌∷◌, ◌++◌, map, length, slice_index_or, All, Option, Some, None, Result, Ok, Err, if◌then◌else◌, length-append}, Math.ListN.{get_or-map}, lemmas.List.{length-map, Elements.{All-cons, All-nil, All-append, All-head, All-tail}, FromFn.{length-range_with_len, length-map-range_with_len}}}, specs.{Prelude.{IsSome, IfOk}, List.{list_all, range_with_len}}},
+  cell_core.specs.{Texts.{AreDistinct}, declared.{cell.{Cell.{Cell}, Label.{Label, TheVariants.{Na}}}, grid.Shape.TheVariants.{Frame}}},
+  column_core.specs.Blocks.{CellBlock},
+  index_core.specs.Ranges.{number_label},
+  meaning.specs.{Text.{Text}, Cell.{CellValue, LabelValue, na, int, datum, label_datum, holds, IsLonger}, Fault.{FaultValue, wrong_kind, limit, then_value}, FaultOf.{fault_of}},
+  multi_index.specs.Axes.{AxisValue, range_axis, single_tuples},
+  table_meaning.specs.{Change.{with_labels}, Settled.{IsSettled}, Table.{ColumnOf, NumberedTable, Table, table_value, heading_value, tuple_value, column_value}, Valid.{IsWhole}, Value.{Entry, table}},
+  form_meaning.specs.{Finish.{within_limits, limited, finished, first_repeated, unless_repeated, default_labels, try_all}, Set.{list_column, first_kind}},
+  method_meaning.specs.{Levels.{label_cell, level_labels, levels_reset, renumbered}, Methods.{as_frame}},
+  form_parts.{specs.Makes.{MakesBy, blocks_value, AreColumns}, proofs.TableMade.{refused_on}},
+  frame_store.{specs.{Parts.{HeadingList, axis_of, block_column, table_of, IsSingle}, Shown.{labels_value, headings_value, columns_value, cells_value, Makes}, declared.fault.OpFault.{OpFault, TheVariants.{Refused, NoMemory}}}, proofs.Settling.{seen_later, settled_by, columns_given, columns_name_part, columns_settled, table_settled}},
+  selections.{specs.Headings.{NamesRepeated, repeated_heading}, proofs.{HeadingLaws.{repeated_seen, different}, RefusalLaws.{repeated_settled}}},
+  label_methods.{specs.{LevelColumns.{cell_of}, Resets.{reset_columns, reset_headings, reset_frame}}, proofs.TableLaws.{limited_within}},
+}
 use Rattle.cell_core.specs.declared.cell.Label.TheVariants as label
-use Rattle.cell_core.specs.declared.cell.Label.TheVariants.{Na}
-use Rattle.cell_core.specs.declared.grid.Shape.TheVariants.{Frame}
-use Rattle.column_core.specs.Blocks.{CellBlock}
-use Rattle.index_core.specs.Ranges.{number_label}
-use Rattle.meaning.specs.Text.{Text}
-use Rattle.meaning.specs.Cell.{CellValue, LabelValue, na, int, datum, label_datum, holds, IsLonger}
-use Rattle.meaning.specs.Fault.{FaultValue, wrong_kind, limit, then_value}
-use Rattle.meaning.specs.FaultOf.{fault_of}
-use Rattle.multi_index.specs.Axes.{AxisValue, range_axis, single_tuples}
-use Rattle.table_meaning.specs.Change.{with_labels}
-use Rattle.table_meaning.specs.Settled.{IsSettled}
-use Rattle.table_meaning.specs.Table.{ColumnOf, NumberedTable, Table, table_value, heading_value, tuple_value, column_value}
-use Rattle.table_meaning.specs.Valid.{IsWhole}
-use Rattle.table_meaning.specs.Value.{Entry, table}
-use Rattle.form_meaning.specs.Finish.{within_limits, limited, finished, first_repeated, unless_repeated, default_labels, try_all}
-use Rattle.form_meaning.specs.Set.{list_column, first_kind}
 use Rattle.method_meaning.specs.Levels as meant
-use Rattle.method_meaning.specs.Levels.{label_cell, level_labels, levels_reset, renumbered}
-use Rattle.method_meaning.specs.Methods.{as_frame}
-use Rattle.form_parts.specs.Makes.{MakesBy, blocks_value, AreColumns}
-use Rattle.form_parts.proofs.TableMade.{refused_on}
-use Rattle.frame_store.specs.Parts.{HeadingList, axis_of, block_column, table_of, IsSingle}
-use Rattle.frame_store.specs.Shown.{labels_value, headings_value, columns_value, cells_value, Makes}
-use Rattle.frame_store.specs.declared.fault.OpFault.{OpFault}
-use Rattle.frame_store.specs.declared.fault.OpFault.TheVariants.{Refused, NoMemory}
-use Rattle.frame_store.proofs.Settling.{seen_later, settled_by, columns_given, columns_name_part, columns_settled, table_settled}
-use Rattle.selections.specs.Headings.{NamesRepeated, repeated_heading}
-use Rattle.selections.proofs.HeadingLaws.{repeated_seen, different}
-use Rattle.selections.proofs.RefusalLaws.{repeated_settled}
 use Rattle.label_methods.specs.LevelColumns as levels
-use Rattle.label_methods.specs.LevelColumns.{cell_of}
-use Rattle.label_methods.specs.Resets.{reset_columns, reset_headings, reset_frame}
-use Rattle.label_methods.proofs.TableLaws.{limited_within}
 
 -- the labels of a level as cells, with texts
 cell_seen : (texts : List Text) (l : Label) → datum texts (cell_of l) ≡ label_cell (label_datum texts l)

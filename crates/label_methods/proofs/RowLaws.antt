@@ -1,12 +1,12 @@
 -- The cells of rows.
-use Rattle.std.proofs.Common.{◌≡◌, ℕ, List, map, length, slice_index_or}
-use Rattle.std.specs.List.{range_with_len}
-use Rattle.column_core.proofs.CellRows.{map-map}
-use Rattle.meaning.specs.Cell.{CellValue, na_cell}
-use Rattle.meaning.specs.Column.{tabulate}
-use Rattle.table_meaning.specs.Table.{Table, row_of, column_at}
-use Rattle.form_meaning.specs.Select.{columns_frame}
-use Rattle.method_meaning.specs.Rows.{cells_by_row}
+use Rattle.{
+  std.{proofs.Common.{◌≡◌, ℕ, List, map, length, slice_index_or}, specs.List.{range_with_len}},
+  column_core.proofs.CellRows.{map-map},
+  meaning.specs.{Cell.{CellValue, na_cell}, Column.{tabulate}},
+  table_meaning.specs.Table.{Table, row_of, column_at},
+  form_meaning.specs.Select.{columns_frame},
+  method_meaning.specs.Rows.{cells_by_row},
+}
 
 -- the cells of a row in the columns at these places, and of all rows
 abbrev pub cells_in : Table → List ℕ → ℕ → List CellValue

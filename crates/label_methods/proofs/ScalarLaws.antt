@@ -1,16 +1,12 @@
 -- The scalars of a list from a part on.
-use Rattle.std.proofs.Common.{◌≡◌, ◌∙◌, ◌<◌, ◌+◌, ap, sym, ℕ, suc, List, ◌∷◌, length, drop, get_or, Option, None, arith}
-use Rattle.std.specs.Option.{option_map}
-use Rattle.std.proofs.Math.Seq.{drop-cons}
-use Rattle.cell_core.specs.declared.cell.Cell.{Cell}
-use Rattle.meaning.specs.Text.{Text}
-use Rattle.meaning.specs.Cell.{datum}
-use Rattle.table_meaning.specs.Value.{scalar_in}
-use Rattle.frame_store.specs.Objects.{Tables}
-use Rattle.frame_store.specs.Arguments.{item_of, items_of}
-use Rattle.frame_store.specs.declared.arguments.Item.{Item}
-use Rattle.signatures.proofs.ScalarLaws.{cells_of_more}
-use Rattle.signatures.specs.Scalars.{scalars, with_cell}
+use Rattle.{
+  std.{proofs.{Common.{◌≡◌, ◌∙◌, ◌<◌, ◌+◌, ap, sym, ℕ, suc, List, ◌∷◌, length, drop, get_or, Option, None, arith}, Math.Seq.{drop-cons}}, specs.Option.{option_map}},
+  cell_core.specs.declared.cell.Cell.{Cell},
+  meaning.specs.{Text.{Text}, Cell.{datum}},
+  table_meaning.specs.Value.{scalar_in},
+  frame_store.specs.{Objects.{Tables}, Arguments.{item_of, items_of}, declared.arguments.Item.{Item}},
+  signatures.{proofs.ScalarLaws.{cells_of_more}, specs.Scalars.{scalars, with_cell}},
+}
 
 -- the scalars from a part on
 abbrev pub IsScalarOf : Option Cell → Item → Type 0

@@ -1,49 +1,22 @@
 -- Rows by their label on one level.
-use Rattle.std.proofs.Common.{◌≡◌, ◌∙◌, refl, ap, sym, subst, arith, ℕ, ◌<◌, ◌≤◌, true, false, List, [], ◌∷◌, ◌++◌, map, length, slice_index_or, Result, Ok, Err, if◌then◌else◌}
-use Rattle.std.specs.Prelude.{◌≢◌, nat_le, remove}
-use Rattle.std.specs.List.{range_with_len}
-use Rattle.std.proofs.Math.ListN.{get_or-map}
-use Rattle.std.proofs.lemmas.Bool.Decides.{nat_tests}
-use Rattle.std.proofs.lemmas.List.{length-map}
-use Rattle.std.proofs.lemmas.List.FromFn.{length-range_with_len}
-use Rattle.std.proofs.lemmas.List.Elements.{All-map}
-use Rattle.cell_core.specs.Texts.{AreDistinct}
-use Rattle.cell_core.specs.declared.cell.Cell.{Cell}
-use Rattle.cell_core.specs.declared.cell.Label.{Label}
-use Rattle.cell_core.specs.declared.cell.Label.TheVariants.{Na}
-use Rattle.cell_core.specs.declared.grid.Shape.{Shape}
-use Rattle.column_core.specs.Blocks.{CellBlock}
-use Rattle.meaning.specs.Cell.{LabelValue, na, label_datum}
-use Rattle.meaning.specs.Fault.{FaultValue, bad_value, levels, no_key, limit, then_value}
-use Rattle.meaning.specs.Text.{Text}
-use Rattle.index_core.specs.Labels.{same_number}
-use Rattle.row_keys.specs.Keys.{label_in}
-use Rattle.multi_index.specs.Axes.{AxisValue, taken_axis, tuples_at, without_level}
-use Rattle.pick_meaning.specs.Labels.{unless_none}
-use Rattle.pick_meaning.specs.Rows.{rows_where}
-use Rattle.pick_meaning.proofs.RowLaws.{rows_where-map}
-use Rattle.table_meaning.specs.Settled.{IsSettled}
-use Rattle.table_meaning.specs.Table.{ColumnOf, NumberedTable, Table, column_at, table_value, heading_value, tuple_value, column_value}
-use Rattle.table_meaning.specs.Valid.{IsWhole}
-use Rattle.table_meaning.specs.Value.{Entry, table}
-use Rattle.form_meaning.specs.Binding.{same_label}
-use Rattle.form_meaning.specs.Finish.{within_limits, limited}
-use Rattle.form_parts.proofs.LabelLaws.{same_by_number}
-use Rattle.form_parts.proofs.RowLaws.{tuples_settled}
-use Rattle.select_meaning.specs.Keys.{found_pick}
-use Rattle.select_meaning.specs.Select.{rows_taken, column_rows}
-use Rattle.method_meaning.specs.Levels.{of_several, level_dropped}
-use Rattle.method_meaning.specs.Section.{has_label, rows_with_label, section}
-use Rattle.frame_store.specs.Parts.{HeadingList, axis_of, block_column, headings_of, table_with}
-use Rattle.frame_store.specs.Shown.{labels_value, Makes}
-use Rattle.frame_store.proofs.Settling.{settled_by, labels_part}
-use Rattle.selections.specs.Chosen.{chosen, cells_at, columns_at}
-use Rattle.selections.proofs.HeadingLaws.{label_decides}
-use Rattle.selections.proofs.TakenLaws.{chosen_rows}
-use Rattle.label_methods.specs.Section.{has_number, section_of}
-use Rattle.label_methods.proofs.LevelMoveLaws.{dropped_seen}
-use Rattle.label_methods.proofs.ReindexLaws.{limited_beyond}
-use Rattle.label_methods.proofs.TableLaws.{limited_within}
+use Rattle.{
+  std.{proofs.{Common.{◌≡◌, ◌∙◌, refl, ap, sym, subst, arith, ℕ, ◌<◌, ◌≤◌, true, false, List, [], ◌∷◌, ◌++◌, map, length, slice_index_or, Result, Ok, Err, if◌then◌else◌}, Math.ListN.{get_or-map}, lemmas.{Bool.Decides.{nat_tests}, List.{length-map, FromFn.{length-range_with_len}, Elements.{All-map}}}}, specs.{Prelude.{◌≢◌, nat_le, remove}, List.{range_with_len}}},
+  cell_core.specs.{Texts.{AreDistinct}, declared.{cell.{Cell.{Cell}, Label.{Label, TheVariants.{Na}}}, grid.Shape.{Shape}}},
+  column_core.specs.Blocks.{CellBlock},
+  meaning.specs.{Cell.{LabelValue, na, label_datum}, Fault.{FaultValue, bad_value, levels, no_key, limit, then_value}, Text.{Text}},
+  index_core.specs.Labels.{same_number},
+  row_keys.specs.Keys.{label_in},
+  multi_index.specs.Axes.{AxisValue, taken_axis, tuples_at, without_level},
+  pick_meaning.{specs.{Labels.{unless_none}, Rows.{rows_where}}, proofs.RowLaws.{rows_where-map}},
+  table_meaning.specs.{Settled.{IsSettled}, Table.{ColumnOf, NumberedTable, Table, column_at, table_value, heading_value, tuple_value, column_value}, Valid.{IsWhole}, Value.{Entry, table}},
+  form_meaning.specs.{Binding.{same_label}, Finish.{within_limits, limited}},
+  form_parts.proofs.{LabelLaws.{same_by_number}, RowLaws.{tuples_settled}},
+  select_meaning.specs.{Keys.{found_pick}, Select.{rows_taken, column_rows}},
+  method_meaning.specs.{Levels.{of_several, level_dropped}, Section.{has_label, rows_with_label, section}},
+  frame_store.{specs.{Parts.{HeadingList, axis_of, block_column, headings_of, table_with}, Shown.{labels_value, Makes}}, proofs.Settling.{settled_by, labels_part}},
+  selections.{specs.Chosen.{chosen, cells_at, columns_at}, proofs.{HeadingLaws.{label_decides}, TakenLaws.{chosen_rows}}},
+  label_methods.{specs.Section.{has_number, section_of}, proofs.{LevelMoveLaws.{dropped_seen}, ReindexLaws.{limited_beyond}, TableLaws.{limited_within}}},
+}
 
 module _ (texts : List Text) where
   -- the label of a level, with its text

@@ -1,9 +1,10 @@
 -- Tables within the limits.
-use Rattle.std.proofs.Common.{◌≡◌, ◌∙◌, ap, Bool, true, length, Result, Ok, Err, if◌then◌else◌}
-use Rattle.meaning.specs.Fault.{FaultValue, limit, then_value}
-use Rattle.table_meaning.specs.Table.{Table}
-use Rattle.table_meaning.specs.Value.{Entry, table}
-use Rattle.form_meaning.specs.Finish.{within_limits, limited}
+use Rattle.{
+  std.proofs.Common.{◌≡◌, ◌∙◌, ap, Bool, true, length, Result, Ok, Err, if◌then◌else◌},
+  meaning.specs.Fault.{FaultValue, limit, then_value},
+  table_meaning.specs.{Table.{Table}, Value.{Entry, table}},
+  form_meaning.specs.Finish.{within_limits, limited},
+}
 
 abbrev unless_beyond : Table → Bool → Result Entry FaultValue
 unless_beyond t within = then_value (if within then Ok t else Err limit) (λ t. Ok (table t))

@@ -1,31 +1,17 @@
 -- Tables under another axis.
-use Rattle.std.proofs.Common.{◌≡◌, ◌∙◌, refl, ap, sym, subst, arith, ℕ, ◌+◌, ◌<◌, ◌≤◌, true, List, [], ◌∷◌, ◌++◌, map, length, take, set, get_or, slice_index_or, nat_eq, Bool, false, All, Option, Some, Result, Ok, Err, if◌then◌else◌}
-use Rattle.std.specs.Prelude.{slice_get}
-use Rattle.std.specs.List.{range_with_len}
-use Rattle.std.proofs.lemmas.Bool.Decides.{nat_tests}
-use Rattle.std.proofs.lemmas.List.{length-map, map-append, take_all, take_more, take_more_set}
-use Rattle.std.proofs.lemmas.List.Elements.{All-push}
-use Rattle.std.proofs.lemmas.Option.{get_or_from_slice_get}
-use Rattle.cell_core.specs.declared.cell.Cell.{Cell}
-use Rattle.cell_core.specs.declared.cell.Label.{Label}
-use Rattle.column_core.specs.Blocks.{CellBlock}
-use Rattle.column_core.specs.Columns.{CellColumn}
-use Rattle.meaning.specs.Cell.{LabelValue}
-use Rattle.meaning.specs.Fault.{FaultValue, bad_value, length_of, limit, then_value}
-use Rattle.meaning.specs.Text.{Text}
-use Rattle.multi_index.specs.Axes.{AxisValue}
-use Rattle.table_meaning.specs.Change.{with_labels}
-use Rattle.table_meaning.specs.Settled.{IsSettled}
-use Rattle.table_meaning.specs.Table.{ColumnOf, NumberedTable, Table, column_at, no_column, table_value, heading_value, tuple_value, column_value}
-use Rattle.table_meaning.specs.Valid.{IsWhole}
-use Rattle.table_meaning.specs.Value.{Entry, table}
-use Rattle.form_meaning.specs.Finish.{within_limits, limited}
-use Rattle.method_meaning.specs.Levels.{axis_renamed}
-use Rattle.frame_store.specs.Parts.{HeadingList, block_column, table_with, IsSingle}
-use Rattle.frame_store.specs.Shown.{headings_value, Makes}
-use Rattle.frame_store.proofs.Settling.{columns_name_part, labels_part, headings_part, columns_part, table_settled}
-use Rattle.selections.proofs.PickedLaws.{list_is}
-use Rattle.label_methods.proofs.TableLaws.{limited_within}
+use Rattle.{
+  std.{proofs.{Common.{◌≡◌, ◌∙◌, refl, ap, sym, subst, arith, ℕ, ◌+◌, ◌<◌, ◌≤◌, true, List, [], ◌∷◌, ◌++◌, map, length, take, set, get_or, slice_index_or, nat_eq, Bool, false, All, Option, Some, Result, Ok, Err, if◌then◌else◌}, lemmas.{Bool.Decides.{nat_tests}, List.{length-map, map-append, take_all, take_more, take_more_set, Elements.{All-push}}, Option.{get_or_from_slice_get}}}, specs.{Prelude.{slice_get}, List.{range_with_len}}},
+  cell_core.specs.declared.cell.{Cell.{Cell}, Label.{Label}},
+  column_core.specs.{Blocks.{CellBlock}, Columns.{CellColumn}},
+  meaning.specs.{Cell.{LabelValue}, Fault.{FaultValue, bad_value, length_of, limit, then_value}, Text.{Text}},
+  multi_index.specs.Axes.{AxisValue},
+  table_meaning.specs.{Change.{with_labels}, Settled.{IsSettled}, Table.{ColumnOf, NumberedTable, Table, column_at, no_column, table_value, heading_value, tuple_value, column_value}, Valid.{IsWhole}, Value.{Entry, table}},
+  form_meaning.specs.Finish.{within_limits, limited},
+  method_meaning.specs.Levels.{axis_renamed},
+  frame_store.{specs.{Parts.{HeadingList, block_column, table_with, IsSingle}, Shown.{headings_value, Makes}}, proofs.Settling.{columns_name_part, labels_part, headings_part, columns_part, table_settled}},
+  selections.proofs.PickedLaws.{list_is},
+  label_methods.proofs.TableLaws.{limited_within},
+}
 
 -- one column more
 pub one_more_column : (columns : List (ColumnOf Cell)) (places : List ℕ) (k place : ℕ) (c : CellColumn) (block : CellBlock) (blocks blocks' : List CellBlock) → k < length places → slice_get places k ≡ Some place

@@ -1,18 +1,13 @@
 -- Tuples of axes that are put one below the other, level by level.
-use Rattle.std.proofs.Common.{◌≡◌, ◌∙◌, ◌+◌, ◌-◌, ◌<◌, ◌≤◌, ℕ, zero, suc, true, List, [], ◌∷◌, ◌++◌, length, map, take, drop, replicate, slice_index_or, refl, ap, sym, subst, arith, append_assoc, None}
-use Rattle.std.specs.List.{flat_map}
-use Rattle.std.specs.Borrow.{Bor}
-use Rattle.std.proofs.lemmas.List.{append-nil, get_or-map, length-map, drop_more, drop_all, length-append, length-replicate}
-use Rattle.std.proofs.lemmas.List.Folds.{flat_map-map}
-use Rattle.std.proofs.lemmas.List.Elements.{All-append, All-head, All-tail}
-use Rattle.cell_core.specs.declared.cell.Label.{Label}
-use Rattle.cell_core.specs.declared.cell.Label.TheVariants.{Na}
-use Rattle.multi_index.specs.Axes.{AxisValue, HaveLevels, nameless_axis, single_tuples, tuples_with, with_level}
-use Rattle.row_keys.specs.Keys.{label_in}
-use Rattle.row_keys.proofs.RecodeLaws.{drop_none}
-use Rattle.label_align.proofs.EntryLaws.{flat_map_more}
-use Rattle.join_meaning.specs.Concat.{labels_under}
-use Rattle.merge_concat.specs.Axes.{tuples_of_each, tuples_in, levels_of_first, keys_below}
+use Rattle.{
+  std.{proofs.{Common.{◌≡◌, ◌∙◌, ◌+◌, ◌-◌, ◌<◌, ◌≤◌, ℕ, zero, suc, true, List, [], ◌∷◌, ◌++◌, length, map, take, drop, replicate, slice_index_or, refl, ap, sym, subst, arith, append_assoc, None}, lemmas.List.{append-nil, get_or-map, length-map, drop_more, drop_all, length-append, length-replicate, Folds.{flat_map-map}, Elements.{All-append, All-head, All-tail}}}, specs.{List.{flat_map}, Borrow.{Bor}}},
+  cell_core.specs.declared.cell.Label.{Label, TheVariants.{Na}},
+  multi_index.specs.Axes.{AxisValue, HaveLevels, nameless_axis, single_tuples, tuples_with, with_level},
+  row_keys.{specs.Keys.{label_in}, proofs.RecodeLaws.{drop_none}},
+  label_align.proofs.EntryLaws.{flat_map_more},
+  join_meaning.specs.Concat.{labels_under},
+  merge_concat.specs.Axes.{tuples_of_each, tuples_in, levels_of_first, keys_below},
+}
 
 -- the levels of the first axis are those of any
 pub first_levels : (axes : List (Bor AxisValue)) (axis : Bor AxisValue) → 1 ≤ length axes → axis ≡ slice_index_or axes 0 axis → levels_of_first axes ≡ length axis.now.names

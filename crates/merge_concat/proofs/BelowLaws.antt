@@ -1,21 +1,13 @@
 -- Columns one below the other.
-use Rattle.std.proofs.Common.{◌≡◌, ◌∙◌, ◌-◌, ◌<◌, ◌≤◌, ℕ, Bool, true, false, cond, ◌&&◌, List, [], ◌∷◌, ◌++◌, length, map, take, drop, slice_index_or, refl, ap, sym, arith, Option, Some, None, Ok, Err, nat_lt, lt-ltb, le-ltb}
-use Rattle.std.specs.List.{list_all, flat_map, All}
-use Rattle.std.proofs.lemmas.Bool.{and_parts}
-use Rattle.std.proofs.lemmas.List.{map-append, length-map, take_rest}
-use Rattle.std.proofs.lemmas.List.Concat.{length-flat_map}
-use Rattle.std.proofs.lemmas.List.Elements.{All-nil, All-cons}
-use Rattle.cell_core.specs.declared.cell.Kind.{Kind}
-use Rattle.cell_core.specs.declared.cell.Kind.TheVariants.{Int64, Boolean, Text as string}
-use Rattle.cell_core.specs.declared.cell.Label.{Label}
-use Rattle.meaning.specs.Cell.{CellValue, datum}
-use Rattle.meaning.specs.Column.{ColumnValue}
-use Rattle.column_core.specs.Columns.{CellColumn, column_value}
-use Rattle.align_meaning.specs.Joins.{most_rows}
-use Rattle.join_meaning.specs.Concat.{mixed_kinds, too_large, same_kind, column_below, column_within_limit, rows_concatenated}
-use Rattle.merge_concat.specs.declared.parts.Part.{Part}
-use Rattle.merge_concat.specs.declared.parts.Part.TheVariants.{Cells, Missing}
-use Rattle.merge_concat.specs.Parts.{part_kind, part_cells, part_column, kind_of_all, cells_below, count_below}
+use Rattle.{
+  std.{proofs.{Common.{◌≡◌, ◌∙◌, ◌-◌, ◌<◌, ◌≤◌, ℕ, Bool, true, false, cond, ◌&&◌, List, [], ◌∷◌, ◌++◌, length, map, take, drop, slice_index_or, refl, ap, sym, arith, Option, Some, None, Ok, Err, nat_lt, lt-ltb, le-ltb}, lemmas.{Bool.{and_parts}, List.{map-append, length-map, take_rest, Concat.{length-flat_map}, Elements.{All-nil, All-cons}}}}, specs.List.{list_all, flat_map, All}},
+  cell_core.specs.declared.cell.{Kind.{Kind, TheVariants.{Int64, Boolean, Text as string}}, Label.{Label}},
+  meaning.specs.{Cell.{CellValue, datum}, Column.{ColumnValue}},
+  column_core.specs.Columns.{CellColumn, column_value},
+  align_meaning.specs.Joins.{most_rows},
+  join_meaning.specs.Concat.{mixed_kinds, too_large, same_kind, column_below, column_within_limit, rows_concatenated},
+  merge_concat.specs.{declared.parts.Part.{Part, TheVariants.{Cells, Missing}}, Parts.{part_kind, part_cells, part_column, kind_of_all, cells_below, count_below}},
+}
 
 -- equal kinds
 pub kinds_same : (a b : Kind) → same_kind a b ≡ true → a ≡ b

@@ -1,24 +1,13 @@
 -- Rows meet by their keys as they meet by the numbers of the keys.
-use Rattle.std.proofs.Common.{◌≡◌, ◌∙◌, ◌<◌, ◌+◌, ◌==◌, ◌++◌, ap, refl, sym, arith, ℕ, zero, suc, Bool, true, false, not, cond, List, [], ◌∷◌, map, filter, length, All, slice_index_or, slice_index, take, set, min, length-append, nat_eq, nat_lt, Option, Some, inl, inr}
-use Rattle.std.specs.Prelude.{option_map}
-use Rattle.std.specs.List.{list_any, position_or_len, flat_map, range_with_len}
-use Rattle.std.specs.Cmp.{IsEquivalence}
-use Rattle.std.proofs.lemmas.Bool.{false≢true, eqb-true, eqb-false, cases_lt, lt-ltb, le-ltb}
-use Rattle.std.proofs.lemmas.List.{map-append, length-set, get_or-set_same, get_or-set_other}
-use Rattle.std.proofs.lemmas.List.FromFn.{fill_by_all, length-map-range_with_len, get_or-map-range_with_len}
-use Rattle.std.proofs.lemmas.List.Elements.{All-head, All-tail}
-use Rattle.std.proofs.lemmas.Simd.{map-map}
-use Rattle.align_meaning.specs.Joins.{Entry, or_gap, entry, entries_with, entries_of}
-use Rattle.align_meaning.specs.Targets.{first_where, first_repeated}
-use Rattle.pick_meaning.specs.Rows.{rows_where}
-use Rattle.pick_meaning.proofs.RowLaws.{rows_where-map}
-use Rattle.join_meaning.specs.Pairs.{pair, partners, pairs_from, pair_of_entry}
-use Rattle.row_keys.specs.Keys.{place_among}
-use Rattle.row_keys.specs.Buckets.{rows_of_code, buckets_of}
-use Rattle.row_keys.proofs.KeyLaws.{place_tells}
-use Rattle.row_keys.proofs.FillLaws.{rows_more}
-use Rattle.label_align.proofs.OrderLaws.{below_range}
-use Rattle.merge_concat.specs.Codes.{pairs_with, pairs_of, pairs_at, outer_pairs, repeated_from, AreCounts}
+use Rattle.{
+  std.{proofs.{Common.{◌≡◌, ◌∙◌, ◌<◌, ◌+◌, ◌==◌, ◌++◌, ap, refl, sym, arith, ℕ, zero, suc, Bool, true, false, not, cond, List, [], ◌∷◌, map, filter, length, All, slice_index_or, slice_index, take, set, min, length-append, nat_eq, nat_lt, Option, Some, inl, inr}, lemmas.{Bool.{false≢true, eqb-true, eqb-false, cases_lt, lt-ltb, le-ltb}, List.{map-append, length-set, get_or-set_same, get_or-set_other, FromFn.{fill_by_all, length-map-range_with_len, get_or-map-range_with_len}, Elements.{All-head, All-tail}}, Simd.{map-map}}}, specs.{Prelude.{option_map}, List.{list_any, position_or_len, flat_map, range_with_len}, Cmp.{IsEquivalence}}},
+  align_meaning.specs.{Joins.{Entry, or_gap, entry, entries_with, entries_of}, Targets.{first_where, first_repeated}},
+  pick_meaning.{specs.Rows.{rows_where}, proofs.RowLaws.{rows_where-map}},
+  join_meaning.specs.Pairs.{pair, partners, pairs_from, pair_of_entry},
+  row_keys.{specs.{Keys.{place_among}, Buckets.{rows_of_code, buckets_of}}, proofs.{KeyLaws.{place_tells}, FillLaws.{rows_more}}},
+  label_align.proofs.OrderLaws.{below_range},
+  merge_concat.specs.Codes.{pairs_with, pairs_of, pairs_at, outer_pairs, repeated_from, AreCounts},
+}
 
 -- a list in which one element passes
 module _ {X : Type 0} (p : X → Bool) where

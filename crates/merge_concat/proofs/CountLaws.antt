@@ -1,18 +1,12 @@
 -- How many pairs there are.
-use Rattle.std.proofs.Common.{◌≡◌, ◌∙◌, ◌<◌, ◌≤◌, ◌+◌, ◌*◌, ℕ, zero, suc, ◌-◌, take, slice_index_or, Bool, true, false, List, [], ◌∷◌, refl, sym, ap, map, length, length-append, Some, arith, max, cond, Result, Ok, Err, lt-ltb, le-ltb, nat_eq, nat_lt}
-use Rattle.std.specs.List.{sum_by, range_with_len}
-use Rattle.std.proofs.lemmas.List.{length-map}
-use Rattle.std.proofs.lemmas.List.Sums.{sum_by-cons, sum_by-le-sum_by, sum_by_push, sum_by_more, sum_by-take-le}
-use Rattle.std.proofs.lemmas.List.Concat.{length-flat_map}
-use Rattle.std.proofs.lemmas.Simd.{map-map}
-use Rattle.align_meaning.specs.Joins.{or_gap, most_rows}
-use Rattle.pick_meaning.specs.Rows.{rows_where}
-use Rattle.join_meaning.specs.Pairs.{Pair, JoinRefusal, pair, exchanged, partners, pairs_from, within_limit, too_large}
-use Rattle.row_keys.specs.Buckets.{rows_of_code}
-use Rattle.merge_concat.specs.Codes.{pairs_with, pairs_of, count_of, count_with, pairs_at, outer_pairs, counted_by_row, counted_by_key}
-use Rattle.merge_concat.specs.declared.pairs.Pairs.{Pairs}
-use Rattle.merge_concat.specs.Pairs.{IsJoined}
-use Rattle.merge_concat.proofs.PairLaws.{range_more}
+use Rattle.{
+  std.{proofs.{Common.{◌≡◌, ◌∙◌, ◌<◌, ◌≤◌, ◌+◌, ◌*◌, ℕ, zero, suc, ◌-◌, take, slice_index_or, Bool, true, false, List, [], ◌∷◌, refl, sym, ap, map, length, length-append, Some, arith, max, cond, Result, Ok, Err, lt-ltb, le-ltb, nat_eq, nat_lt}, lemmas.{List.{length-map, Sums.{sum_by-cons, sum_by-le-sum_by, sum_by_push, sum_by_more, sum_by-take-le}, Concat.{length-flat_map}}, Simd.{map-map}}}, specs.List.{sum_by, range_with_len}},
+  align_meaning.specs.Joins.{or_gap, most_rows},
+  pick_meaning.specs.Rows.{rows_where},
+  join_meaning.specs.Pairs.{Pair, JoinRefusal, pair, exchanged, partners, pairs_from, within_limit, too_large},
+  row_keys.specs.Buckets.{rows_of_code},
+  merge_concat.{specs.{Codes.{pairs_with, pairs_of, count_of, count_with, pairs_at, outer_pairs, counted_by_row, counted_by_key}, declared.pairs.Pairs.{Pairs}, Pairs.{IsJoined}}, proofs.PairLaws.{range_more}},
+}
 
 length-or_gap : (rs : List ℕ) → length (or_gap rs) ≡ max (length rs) 1
 length-or_gap [] = refl

@@ -1,18 +1,13 @@
 -- Axes that all have the labels of the first.
-use Rattle.std.proofs.Common.{◌≡◌, ◌∙◌, ◌-◌, ◌≤◌, Bool, List, [], ◌∷◌, length, take, drop, slice_index_or, ap, sym, arith}
-use Rattle.std.specs.Borrow.{Bor}
-use Rattle.std.specs.Bool.{Decides}
-use Rattle.std.specs.Cmp.Lexicographic.{pointwise}
-use Rattle.std.specs.List.{list_all}
-use Rattle.std.proofs.lemmas.Bool.Decides.{same_from_decides}
-use Rattle.std.proofs.lemmas.List.{take_rest}
-use Rattle.std.proofs.lemmas.List.Folds.{list_all-map}
-use Rattle.cell_core.specs.declared.cell.Label.{Label}
-use Rattle.join_meaning.specs.Concat.{are_equal}
-use Rattle.multi_index.specs.Axes.{AxisValue}
-use Rattle.row_keys.specs.Keys.{same_tuple}
-use Rattle.label_align.proofs.SameLaws.{tuples_decide}
-use Rattle.merge_concat.specs.Axes.{tuples_of_each}
+use Rattle.{
+  std.{proofs.{Common.{◌≡◌, ◌∙◌, ◌-◌, ◌≤◌, Bool, List, [], ◌∷◌, length, take, drop, slice_index_or, ap, sym, arith}, lemmas.{Bool.Decides.{same_from_decides}, List.{take_rest, Folds.{list_all-map}}}}, specs.{Borrow.{Bor}, Bool.{Decides}, Cmp.Lexicographic.{pointwise}, List.{list_all}}},
+  cell_core.specs.declared.cell.Label.{Label},
+  join_meaning.specs.Concat.{are_equal},
+  multi_index.specs.Axes.{AxisValue},
+  row_keys.specs.Keys.{same_tuple},
+  label_align.proofs.SameLaws.{tuples_decide},
+  merge_concat.specs.Axes.{tuples_of_each},
+}
 
 -- whether an axis has the labels of another
 abbrev pub has_labels_of : Bor AxisValue → Bor AxisValue → Bool

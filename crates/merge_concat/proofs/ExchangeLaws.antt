@@ -1,18 +1,12 @@
 -- The sides of a join exchanged, and two joins of the same sides.
-use Rattle.std.proofs.Common.{◌≡◌, ◌∙◌, ◌<◌, ◌≤◌, ◌&&◌, ap, refl, sym, subst, arith, ℕ, Bool, true, false, not, cond, List, [], ◌∷◌, map, filter, length, All, slice_index_or, Option, Some, None, inl, inr}
-use Rattle.std.specs.List.{list_any}
-use Rattle.std.proofs.lemmas.Bool.{false≢true, eqb-true, cases_lt}
-use Rattle.std.proofs.lemmas.List.Elements.{All-head, All-tail, All-map}
-use Rattle.column_core.specs.Moves.{IsPlaceOf}
-use Rattle.join_meaning.specs.declared.How.{How}
-use Rattle.join_meaning.specs.declared.How.TheVariants.{Inner, Left, Right, Outer}
-use Rattle.join_meaning.specs.Pairs.{Pair, pair, exchanged}
-use Rattle.cell_core.specs.declared.cell.Label.{Label}
-use Rattle.row_keys.specs.Keys.{same_tuple}
-use Rattle.row_keys.proofs.PartnerLaws.{tuple_laws}
-use Rattle.merge_concat.specs.declared.pairs.Pairs.{Pairs}
-use Rattle.merge_concat.specs.Joining.{keeps_left, keeps_right, same_row, same_pair, how_often, once_if, turned, AreAlike, IsJoin, IsJoinOf, JoinsAreAlike, SidesExchange, ExchangeChangesOrder}
-use Rattle.merge_concat.proofs.OftenLaws.{often_exchanged}
+use Rattle.{
+  std.{proofs.{Common.{◌≡◌, ◌∙◌, ◌<◌, ◌≤◌, ◌&&◌, ap, refl, sym, subst, arith, ℕ, Bool, true, false, not, cond, List, [], ◌∷◌, map, filter, length, All, slice_index_or, Option, Some, None, inl, inr}, lemmas.{Bool.{false≢true, eqb-true, cases_lt}, List.Elements.{All-head, All-tail, All-map}}}, specs.List.{list_any}},
+  column_core.specs.Moves.{IsPlaceOf},
+  join_meaning.specs.{declared.How.{How, TheVariants.{Inner, Left, Right, Outer}}, Pairs.{Pair, pair, exchanged}},
+  cell_core.specs.declared.cell.Label.{Label},
+  row_keys.{specs.Keys.{same_tuple}, proofs.PartnerLaws.{tuple_laws}},
+  merge_concat.{specs.{declared.pairs.Pairs.{Pairs}, Joining.{keeps_left, keeps_right, same_row, same_pair, how_often, once_if, turned, AreAlike, IsJoin, IsJoinOf, JoinsAreAlike, SidesExchange, ExchangeChangesOrder}}, proofs.OftenLaws.{often_exchanged}},
+}
 
 -- a row of the one side that stays is one of the other
 keeps_turned : (how : How) → keeps_right how ≡ keeps_left (turned how)

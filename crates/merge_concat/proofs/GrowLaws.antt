@@ -1,17 +1,11 @@
 -- Values behind values, as cells.
-use Rattle.std.proofs.Common.{◌≡◌, ◌∙◌, ◌+◌, ◌-◌, ◌<◌, ℕ, zero, suc, Bool, false, List, [], ◌∷◌, ◌++◌, length, take, replicate, map, refl, ap, sym, arith, Option, None, append_assoc}
-use Rattle.std.specs.List.{range_with_len}
-use Rattle.std.proofs.lemmas.List.{take_all}
-use Rattle.std.proofs.lemmas.List.FromFn.{map-range_with_len_more}
-use Rattle.cell_core.specs.declared.cell.Cell.{Cell}
-use Rattle.cell_core.specs.declared.cell.Cell.TheVariants.{Na}
-use Rattle.cell_core.specs.declared.cell.Kind.{Kind}
-use Rattle.meaning.specs.Column.{tabulate}
-use Rattle.column_core.specs.Columns.{CellColumn}
-use Rattle.column_core.specs.Lanes.{option_at, IsPushed}
-use Rattle.column_core.proofs.ColumnLaws.{length-tabulate}
-use Rattle.column_core.proofs.CellRows.{range-same, pushed_column}
-use Rattle.merge_concat.specs.Growing.{cells_of_values}
+use Rattle.{
+  std.{proofs.{Common.{◌≡◌, ◌∙◌, ◌+◌, ◌-◌, ◌<◌, ℕ, zero, suc, Bool, false, List, [], ◌∷◌, ◌++◌, length, take, replicate, map, refl, ap, sym, arith, Option, None, append_assoc}, lemmas.List.{take_all, FromFn.{map-range_with_len_more}}}, specs.List.{range_with_len}},
+  cell_core.specs.declared.cell.{Cell.{Cell, TheVariants.{Na}}, Kind.{Kind}},
+  meaning.specs.Column.{tabulate},
+  column_core.{specs.{Columns.{CellColumn}, Lanes.{option_at, IsPushed}}, proofs.{ColumnLaws.{length-tabulate}, CellRows.{range-same, pushed_column}}},
+  merge_concat.specs.Growing.{cells_of_values},
+}
 
 next_numbers : {C : Type 0} (f g : ℕ → C) → ((k : ℕ) → f (suc k) ≡ g k) → (a n : ℕ) → map f (range_with_len (a + 1) n) ≡ map g (range_with_len a n)
 next_numbers f g same a zero = refl

@@ -1,29 +1,17 @@
 -- What is meant, by the numbers of the keys.
-use Rattle.std.proofs.Common.{◌≡◌, ◌∙◌, ◌<◌, ◌≤◌, ◌++◌, ap, sym, arith, ℕ, Bool, true, false, cond, List, [], ◌∷◌, map, length, take, drop, All, Option, Some, None, Ok, Err, Result}
-use Rattle.std.specs.Prelude.{option_map, IfOk}
-use Rattle.cell_core.specs.declared.cell.Label.{Label}
-use Rattle.cell_core.specs.declared.cell.Label.TheVariants.{Na}
-use Rattle.meaning.specs.Fault.{Side}
+use Rattle.{
+  std.{proofs.Common.{◌≡◌, ◌∙◌, ◌<◌, ◌≤◌, ◌++◌, ap, sym, arith, ℕ, Bool, true, false, cond, List, [], ◌∷◌, map, length, take, drop, All, Option, Some, None, Ok, Err, Result}, specs.Prelude.{option_map, IfOk}},
+  cell_core.specs.declared.cell.Label.{Label, TheVariants.{Na}},
+  meaning.specs.{Fault.{Side}, Text.{Text}},
+  multi_index.specs.Axes.{HaveLevels},
+  align_meaning.specs.Targets.{first_repeated},
+  join_meaning.specs.{declared.{How.{How}, Validate.{Validate}}, Pairs.{Pair, RepeatedKey, JoinRefusal, not_one_to_one, repeated_on, or_else, within_limit, unless_repeated, key_pairs, joined}},
+  row_keys.{specs.Keys.{same_tuple}, proofs.PartnerLaws.{tuple_laws}},
+  label_align.{specs.Tuples.{tuple_less}, proofs.{SameLaws.{tuple_decides}, LawOfJoins.{tuple_weak}}},
+  factorize.specs.Keys.{levels_of},
+  merge_concat.{specs.{declared.{fault.MergeFault.{MergeFault}, pairs.Pairs.{Pairs}}, Joining.{IsJoinOf}, Pairs.{JoinsBy}, Codes.{keys_of, is_outer, code_pairs, repeated_in}}, proofs.{JoiningLaws.{answer_is_join}, KnownLaws.{rank, left_known, right_known, below, repeats_are, pairs_are, all_left, all_right}}},
+}
 use Rattle.meaning.specs.Fault as side
-use Rattle.meaning.specs.Text.{Text}
-use Rattle.multi_index.specs.Axes.{HaveLevels}
-use Rattle.align_meaning.specs.Targets.{first_repeated}
-use Rattle.join_meaning.specs.declared.How.{How}
-use Rattle.join_meaning.specs.declared.Validate.{Validate}
-use Rattle.join_meaning.specs.Pairs.{Pair, RepeatedKey, JoinRefusal, not_one_to_one, repeated_on, or_else, within_limit, unless_repeated, key_pairs, joined}
-use Rattle.row_keys.specs.Keys.{same_tuple}
-use Rattle.label_align.specs.Tuples.{tuple_less}
-use Rattle.factorize.specs.Keys.{levels_of}
-use Rattle.row_keys.proofs.PartnerLaws.{tuple_laws}
-use Rattle.label_align.proofs.SameLaws.{tuple_decides}
-use Rattle.label_align.proofs.LawOfJoins.{tuple_weak}
-use Rattle.merge_concat.specs.declared.fault.MergeFault.{MergeFault}
-use Rattle.merge_concat.specs.declared.pairs.Pairs.{Pairs}
-use Rattle.merge_concat.specs.Joining.{IsJoinOf}
-use Rattle.merge_concat.specs.Pairs.{JoinsBy}
-use Rattle.merge_concat.proofs.JoiningLaws.{answer_is_join}
-use Rattle.merge_concat.specs.Codes.{keys_of, is_outer, code_pairs, repeated_in}
-use Rattle.merge_concat.proofs.KnownLaws.{rank, left_known, right_known, below, repeats_are, pairs_are, all_left, all_right}
 use Rattle.merge_concat.proofs.KnownLaws as known
 
 module _ (texts : List Text) (how : How) (once : Validate) (left right : List (List Label)) where

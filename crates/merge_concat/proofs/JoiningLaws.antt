@@ -1,29 +1,15 @@
 -- What is meant by a join is one.
-use Rattle.std.proofs.Common.{◌≡◌, ◌∙◌, ◌<◌, ◌+◌, ◌*◌, ◌&&◌, ◌||◌, ◌++◌, ap, refl, sym, subst, arith, ℕ, Bool, true, false, not, cond, List, [], ◌∷◌, map, filter, length, slice_index_or, Option, Some, None, Result, Ok, Err, nat_lt, All}
-use Rattle.std.specs.List.{list_any, flat_map, sum_by}
-use Rattle.std.specs.Bool.{Decides}
-use Rattle.std.specs.Cmp.{IsEquivalence, IsStrictWeakOrder}
-use Rattle.std.proofs.lemmas.Bool.{false≢true}
-use Rattle.std.proofs.lemmas.List.{map-append}
-use Rattle.std.proofs.lemmas.List.Elements.{All-nil, All-cons, All-head, All-tail, All-map}
-use Rattle.std.proofs.lemmas.List.Sums.{sum_by-cons}
-use Rattle.column_core.specs.Moves.{IsPlaceOf}
-use Rattle.meaning.specs.Reduce.{distinct}
-use Rattle.align_meaning.specs.Joins.{or_gap, keys_in_order, entries_of, most_rows}
-use Rattle.align_meaning.proofs.OrderLaws.{all_append, all_flat, all_in_order}
-use Rattle.pick_meaning.specs.Rows.{rows_where}
-use Rattle.pick_meaning.proofs.InsideLaws.{rows_inside}
-use Rattle.join_meaning.specs.declared.How.{How}
-use Rattle.join_meaning.specs.declared.How.TheVariants.{Inner, Left, Right, Outer}
-use Rattle.join_meaning.specs.declared.Validate.{Validate}
-use Rattle.join_meaning.specs.Pairs.{Pair, pair, exchanged, partners, pairs_from, key_pairs, pair_of_entry, RepeatedKey, JoinRefusal, repeated_key, unless_repeated, within_limit, too_large, joined}
-use Rattle.row_keys.proofs.KeyLaws.{any_at}
-use Rattle.row_keys.proofs.RecodeLaws.{All-distinct}
-use Rattle.label_align.proofs.OuterJoinLaws.{in_order_keeps, once}
-use Rattle.merge_concat.specs.Codes.{pairs_with, pairs_of}
-use Rattle.merge_concat.specs.Joining.{how_often, once_if, IsJoin}
-use Rattle.merge_concat.proofs.CodeLaws.{with_seen}
-use Rattle.merge_concat.proofs.OftenLaws.{row_often, or_gap_there, gap_there, partner_there, partner_gap, never, met_there, often_exchanged, often_product, often_parts}
+use Rattle.{
+  std.{proofs.{Common.{◌≡◌, ◌∙◌, ◌<◌, ◌+◌, ◌*◌, ◌&&◌, ◌||◌, ◌++◌, ap, refl, sym, subst, arith, ℕ, Bool, true, false, not, cond, List, [], ◌∷◌, map, filter, length, slice_index_or, Option, Some, None, Result, Ok, Err, nat_lt, All}, lemmas.{Bool.{false≢true}, List.{map-append, Elements.{All-nil, All-cons, All-head, All-tail, All-map}, Sums.{sum_by-cons}}}}, specs.{List.{list_any, flat_map, sum_by}, Bool.{Decides}, Cmp.{IsEquivalence, IsStrictWeakOrder}}},
+  column_core.specs.Moves.{IsPlaceOf},
+  meaning.specs.Reduce.{distinct},
+  align_meaning.{specs.Joins.{or_gap, keys_in_order, entries_of, most_rows}, proofs.OrderLaws.{all_append, all_flat, all_in_order}},
+  pick_meaning.{specs.Rows.{rows_where}, proofs.InsideLaws.{rows_inside}},
+  join_meaning.specs.{declared.{How.{How, TheVariants.{Inner, Left, Right, Outer}}, Validate.{Validate}}, Pairs.{Pair, pair, exchanged, partners, pairs_from, key_pairs, pair_of_entry, RepeatedKey, JoinRefusal, repeated_key, unless_repeated, within_limit, too_large, joined}},
+  row_keys.proofs.{KeyLaws.{any_at}, RecodeLaws.{All-distinct}},
+  label_align.proofs.OuterJoinLaws.{in_order_keeps, once},
+  merge_concat.{specs.{Codes.{pairs_with, pairs_of}, Joining.{how_often, once_if, IsJoin}}, proofs.{CodeLaws.{with_seen}, OftenLaws.{row_often, or_gap_there, gap_there, partner_there, partner_gap, never, met_there, often_exchanged, often_product, often_parts}}},
+}
 
 abbrev AreInside : ℕ → ℕ → Pair → Type 0
 AreInside n m p = IsPlaceOf n p.left × IsPlaceOf m p.right

@@ -1,34 +1,19 @@
 -- The keys of both sides, each once: each row's key is among them, and no two of them are the same.
-use Rattle.std.proofs.Common.{◌≡◌, ◌∙◌, ◌<◌, ◌++◌, ap, refl, sym, subst, ℕ, Bool, true, false, cond, List, [], ◌∷◌, map, filter, length, take, drop, All, slice_index_or, None}
-use Rattle.std.specs.Prelude.{option_map}
-use Rattle.std.specs.List.{list_any, flat_map}
-use Rattle.std.proofs.Math.Seq.{take-append_seam, drop-append_seam}
-use Rattle.std.proofs.lemmas.List.{length-map, map-append}
-use Rattle.std.proofs.lemmas.List.Elements.{All-take, All-drop, All-map}
-use Rattle.cell_core.specs.declared.cell.Label.{Label}
-use Rattle.meaning.specs.Text.{Text}
-use Rattle.meaning.specs.Reduce.{distinct}
-use Rattle.sorting.specs.Sorting.{in_order}
-use Rattle.align_meaning.specs.Joins.{entries_of}
-use Rattle.align_meaning.specs.Targets.{first_repeated}
-use Rattle.pick_meaning.specs.Rows.{rows_where}
-use Rattle.align_meaning.proofs.OrderLaws.{all_in_order}
-use Rattle.join_meaning.specs.declared.How.{How}
-use Rattle.join_meaning.specs.declared.How.TheVariants.{Inner, Left, Right, Outer}
-use Rattle.join_meaning.specs.Pairs.{exchanged, key_pairs, pair_of_entry}
-use Rattle.row_keys.specs.Keys.{same_tuple, place_among}
-use Rattle.row_keys.proofs.KeyLaws.{any_at, position_in}
-use Rattle.row_keys.proofs.RecodeLaws.{All-distinct}
-use Rattle.row_keys.proofs.PartnerLaws.{tuple_laws}
-use Rattle.label_align.specs.Tuples.{tuple_less}
-use Rattle.label_align.proofs.SameLaws.{tuple_decides}
-use Rattle.label_align.proofs.LawOfJoins.{tuple_weak}
-use Rattle.label_align.proofs.OuterJoinLaws.{in_order_keeps, once}
-use Rattle.group_meaning.specs.Keys.{ordered_if}
+use Rattle.{
+  std.{proofs.{Common.{◌≡◌, ◌∙◌, ◌<◌, ◌++◌, ap, refl, sym, subst, ℕ, Bool, true, false, cond, List, [], ◌∷◌, map, filter, length, take, drop, All, slice_index_or, None}, Math.Seq.{take-append_seam, drop-append_seam}, lemmas.List.{length-map, map-append, Elements.{All-take, All-drop, All-map}}}, specs.{Prelude.{option_map}, List.{list_any, flat_map}}},
+  cell_core.specs.declared.cell.Label.{Label},
+  meaning.specs.{Text.{Text}, Reduce.{distinct}},
+  sorting.specs.Sorting.{in_order},
+  align_meaning.{specs.{Joins.{entries_of}, Targets.{first_repeated}}, proofs.OrderLaws.{all_in_order}},
+  pick_meaning.specs.Rows.{rows_where},
+  join_meaning.specs.{declared.How.{How, TheVariants.{Inner, Left, Right, Outer}}, Pairs.{exchanged, key_pairs, pair_of_entry}},
+  row_keys.{specs.Keys.{same_tuple, place_among}, proofs.{KeyLaws.{any_at, position_in}, RecodeLaws.{All-distinct}, PartnerLaws.{tuple_laws}}},
+  label_align.{specs.Tuples.{tuple_less}, proofs.{SameLaws.{tuple_decides}, LawOfJoins.{tuple_weak}, OuterJoinLaws.{in_order_keeps, once}}},
+  group_meaning.specs.Keys.{ordered_if},
+  merge_concat.{specs.Codes.{keys_of, is_outer, code_pairs, repeated_in, repeated_from}, proofs.CodeLaws.{only_place}},
+}
 use Rattle.factorize.proofs.KeyNumberLaws as numbers
-use Rattle.merge_concat.specs.Codes.{keys_of, is_outer, code_pairs, repeated_in, repeated_from}
 use Rattle.merge_concat.proofs.CodeLaws as law
-use Rattle.merge_concat.proofs.CodeLaws.{only_place}
 
 pub all_left : {X : Type 0} (P : X → Type 0) (xs ys : List X) → All P (xs ++ ys) → All P xs
 all_left P xs ys all = subst (All P) (take-append_seam xs ys) (All-take P (length xs) (xs ++ ys) all)

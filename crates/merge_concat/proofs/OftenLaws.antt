@@ -1,13 +1,11 @@
 -- How often a pair stands among pairs.
-use Rattle.std.proofs.Common.{◌≡◌, ◌∙◌, ◌<◌, ◌+◌, ◌*◌, ◌&&◌, ◌||◌, ◌++◌, ap, refl, sym, arith, ℕ, zero, suc, Bool, true, false, not, cond, List, [], ◌∷◌, map, filter, length, length-append, slice_index_or, nat_eq, Option, Some, None}
-use Rattle.std.specs.List.{list_any, flat_map, sum_by}
-use Rattle.std.proofs.lemmas.Bool.{ne_eqb, eq-eqb}
-use Rattle.std.proofs.lemmas.List.Elements.{filter-append}
-use Rattle.std.proofs.lemmas.List.Sums.{sum_by-cons}
-use Rattle.align_meaning.specs.Joins.{or_gap}
-use Rattle.pick_meaning.specs.Rows.{rows_where}
-use Rattle.join_meaning.specs.Pairs.{Pair, pair, exchanged, partners, pairs_from}
-use Rattle.merge_concat.specs.Joining.{same_row, same_pair, how_often, once_if}
+use Rattle.{
+  std.{proofs.{Common.{◌≡◌, ◌∙◌, ◌<◌, ◌+◌, ◌*◌, ◌&&◌, ◌||◌, ◌++◌, ap, refl, sym, arith, ℕ, zero, suc, Bool, true, false, not, cond, List, [], ◌∷◌, map, filter, length, length-append, slice_index_or, nat_eq, Option, Some, None}, lemmas.{Bool.{ne_eqb, eq-eqb}, List.{Elements.{filter-append}, Sums.{sum_by-cons}}}}, specs.List.{list_any, flat_map, sum_by}},
+  align_meaning.specs.Joins.{or_gap},
+  pick_meaning.specs.Rows.{rows_where},
+  join_meaning.specs.Pairs.{Pair, pair, exchanged, partners, pairs_from},
+  merge_concat.specs.Joining.{same_row, same_pair, how_often, once_if},
+}
 
 module _ {X : Type 0} where
   abbrev pub count : (X → Bool) → List X → ℕ

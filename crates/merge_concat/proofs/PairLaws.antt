@@ -1,17 +1,10 @@
 -- More pairs, and then more.
-use Rattle.std.proofs.Common.{◌≡◌, ◌<◌, ◌++◌, ◌∷◌, [], ◌+◌, ℕ, Bool, true, false, List, Option, Some, refl, sym, ap, ◌∙◌, arith, map, length, take, slice_index_or}
-use Rattle.std.specs.List.{flat_map, range_with_len}
-use Rattle.std.proofs.lemmas.List.{map-id, map-append, append-nil, append_assoc, take_more, length-take-le}
-use Rattle.std.proofs.lemmas.List.Folds.{flat_map-map}
-use Rattle.std.proofs.lemmas.List.Concat.{flat_map-append}
-use Rattle.std.proofs.lemmas.List.FromFn.{map-range_with_len_more}
-use Rattle.std.proofs.lemmas.Simd.{map-map}
-use Rattle.pick_meaning.specs.Rows.{rows_where}
-use Rattle.join_meaning.specs.Pairs.{Pair, pair, partners, pairs_from}
-use Rattle.merge_concat.specs.declared.pairs.Pairs.{Pairs}
-use Rattle.merge_concat.specs.declared.pairs.PairLists.{PairLists}
-use Rattle.merge_concat.specs.Codes.{pairs_with, pairs_of, pairs_at, outer_pairs}
-use Rattle.merge_concat.specs.Pairs.{ArePairs, AreListed, HasMore}
+use Rattle.{
+  std.{proofs.{Common.{◌≡◌, ◌<◌, ◌++◌, ◌∷◌, [], ◌+◌, ℕ, Bool, true, false, List, Option, Some, refl, sym, ap, ◌∙◌, arith, map, length, take, slice_index_or}, lemmas.{List.{map-id, map-append, append-nil, append_assoc, take_more, length-take-le, Folds.{flat_map-map}, Concat.{flat_map-append}, FromFn.{map-range_with_len_more}}, Simd.{map-map}}}, specs.List.{flat_map, range_with_len}},
+  pick_meaning.specs.Rows.{rows_where},
+  join_meaning.specs.Pairs.{Pair, pair, partners, pairs_from},
+  merge_concat.specs.{declared.pairs.{Pairs.{Pairs}, PairLists.{PairLists}}, Codes.{pairs_with, pairs_of, pairs_at, outer_pairs}, Pairs.{ArePairs, AreListed, HasMore}},
+}
 
 step : {X Y : Type 0} (f : X → Y) (a b c : List Y) (es fs : List X) → b ≡ a ++ map f es → c ≡ b ++ map f fs → c ≡ a ++ map f (es ++ fs)
 step f a b c es fs p q = q ∙ ap (λ z. z ++ map f fs) p ∙ append_assoc a (map f es) (map f fs) ∙ ap (λ z. a ++ z) (sym (map-append f es fs))

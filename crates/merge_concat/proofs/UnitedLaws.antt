@@ -1,25 +1,16 @@
 -- What stands on any axis, or on all of them.
-use Rattle.std.proofs.Common.{◌≡◌, ◌∙◌, ◌+◌, ◌-◌, ◌<◌, ◌≤◌, ◌&&◌, ◌||◌, ℕ, zero, suc, Bool, true, false, cond, List, [], ◌∷◌, ◌++◌, ◌==◌, length, map, take, drop, slice_index_or, slice_get, refl, ap, sym, subst, arith, Option, Some, None, Ok, Err, All}
-use Rattle.std.specs.Borrow.{Bor}
-use Rattle.std.specs.List.{filter, list_all, list_any}
-use Rattle.std.proofs.lemmas.List.{append-nil, get_or-map, take_rest}
-use Rattle.std.proofs.lemmas.List.Elements.{filter_more}
-use Rattle.std.proofs.lemmas.Option.{get_or_from_slice_get}
-use Rattle.std.proofs.lemmas.Bool.{eqb-true, eqb-false}
-use Rattle.cell_core.specs.declared.cell.Label.{Label}
-use Rattle.meaning.specs.Reduce.{distinct}
-use Rattle.pick_meaning.specs.Rows.{rows_where}
-use Rattle.align_meaning.specs.Faults.{duplicate_labels}
-use Rattle.align_meaning.specs.Targets.{first_repeated, unless_repeated, reindexed}
-use Rattle.join_meaning.specs.Pairs.{or_else}
-use Rattle.join_meaning.specs.Concat.{united, first_axis, repeated_on_any}
-use Rattle.multi_index.specs.Axes.{AxisValue, tuples_at}
-use Rattle.row_keys.specs.Keys.{same_tuple, first_rows}
-use Rattle.row_keys.specs.Partners.{rows_with}
-use Rattle.row_keys.proofs.RecodeLaws.{first_keys, firsts_inside}
-use Rattle.label_align.proofs.SameLaws.{tuple_decides, tuple_laws}
-use Rattle.merge_concat.specs.Axes.{tuples_of_each, tuples_in}
-use Rattle.merge_concat.proofs.AxisLaws.{lists_of_axes}
+use Rattle.{
+  std.{proofs.{Common.{◌≡◌, ◌∙◌, ◌+◌, ◌-◌, ◌<◌, ◌≤◌, ◌&&◌, ◌||◌, ℕ, zero, suc, Bool, true, false, cond, List, [], ◌∷◌, ◌++◌, ◌==◌, length, map, take, drop, slice_index_or, slice_get, refl, ap, sym, subst, arith, Option, Some, None, Ok, Err, All}, lemmas.{List.{append-nil, get_or-map, take_rest, Elements.{filter_more}}, Option.{get_or_from_slice_get}, Bool.{eqb-true, eqb-false}}}, specs.{Borrow.{Bor}, List.{filter, list_all, list_any}}},
+  cell_core.specs.declared.cell.Label.{Label},
+  meaning.specs.Reduce.{distinct},
+  pick_meaning.specs.Rows.{rows_where},
+  align_meaning.specs.{Faults.{duplicate_labels}, Targets.{first_repeated, unless_repeated, reindexed}},
+  join_meaning.specs.{Pairs.{or_else}, Concat.{united, first_axis, repeated_on_any}},
+  multi_index.specs.Axes.{AxisValue, tuples_at},
+  row_keys.{specs.{Keys.{same_tuple, first_rows}, Partners.{rows_with}}, proofs.RecodeLaws.{first_keys, firsts_inside}},
+  label_align.proofs.SameLaws.{tuple_decides, tuple_laws},
+  merge_concat.{specs.Axes.{tuples_of_each, tuples_in}, proofs.AxisLaws.{lists_of_axes}},
+}
 
 -- the rows of no tuple are told exactly where none repeats
 no_targets : (keys : List (List Label)) → reindexed same_tuple keys [] ≡ unless_repeated (first_repeated same_tuple keys) []

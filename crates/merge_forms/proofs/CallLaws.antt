@@ -5,7 +5,7 @@ use Rattle.{
   meaning.specs.{Text.{Text}, Cell.{CellValue, LabelValue, na_cell, datum}, Operator.{cell_label}, Fault.{FaultValue, then_value}},
   join_meaning.specs.declared.{How.{How}, Validate.{Validate}},
   table_meaning.specs.{Settled.{IsSettled}, Table.{NumberedTable, Table, table_value}, Value.{Entry, cell, table, Given, GivenList, NamedGiven, nothing, one, row, many, entries, no_given, more_given, object_in}},
-  form_meaning.specs.{declared.{Method.TheVariants.{Merge}, Parameter.{Parameter}}, Signature.{parameters_of, needed, optional}, Binding.{not_taken, not_listed, bound, bound_of, on_bound, are_listed, arguments_from, argument_at, each, is_scalar, count_of, is_frame, takes, text_in}, Make.{on}, Select.{cells_of}},
+  form_meaning.specs.{declared.{Method.TheVariants.{Other}, OtherMethod.TheVariants.{Merge}, Parameter.{Parameter}}, Signature.{parameters_of, needed, optional}, Binding.{not_taken, not_listed, bound, bound_of, on_bound, are_listed, arguments_from, argument_at, each, is_scalar, count_of, is_frame, takes, text_in}, Make.{on}, Select.{cells_of}},
   method_meaning.specs.{Levels.{label_cell}, Calls.{merge_call, method_result, chain_result, call_result}, Merge.{keys_of_merge, checked_keys, merged_rows, how_named, validate_in, merge_result}},
   form_parts.specs.Makes.{MakesBy},
   frame_store.specs.{declared.{arguments.{Chain.{Chain, TheVariants.{Plain}}, Named.{Named}, Value.{Value, TheVariants.{Object, Scalar}}}, fault.OpFault.{OpFault, TheVariants.{Refused, NoMemory}}, object.ObjId.{ObjId}}, Arguments.{object_value, shape_at}, Objects.{Tables, table_or}, Shown.{cells_value, Makes}, World.{World, entry_in, arguments_in, AreKnownArguments}},
@@ -32,7 +32,7 @@ call_filled w ps args b is place p at =
     let h = fitted _ _ (are_listed ps 0 gs) (arguments_from ps gs 0 ps) _ is.0 in
     subst (Fills p) (λ i. argument_at (sym is.1 i) (arguments_in w (sym is.2 i)) place) (filled ps gs h.0 h.1 place p at)
 
-pub is_call : (w : World) (ps : List Parameter) (args : List Named) (b : BoundArguments) → ps ≡ parameters_of Merge → AreKnownArguments w args → IsBound w ps args (Ok b) → IsMergeCall w b
+pub is_call : (w : World) (ps : List Parameter) (args : List Named) (b : BoundArguments) → ps ≡ parameters_of (Other Merge) → AreKnownArguments w args → IsBound w ps args (Ok b) → IsMergeCall w b
 is_call w ps args b merge known is = record {
   parameters = is.1 ∙ merge;
   given = rw is.2 known.given;

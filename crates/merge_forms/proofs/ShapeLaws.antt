@@ -4,19 +4,19 @@ use Rattle.{
   cell_core.specs.declared.grid.Shape.{Shape, TheVariants.{Frame}},
   meaning.specs.Text.{Text},
   form_meaning.{
-    specs.{declared.Method.{Method, TheVariants.{Merge}}, Signature.{method_names, method_named, fits_shape}},
+    specs.{declared.{Method.{Method, TheVariants.{Other}}, OtherMethod.TheVariants.{Merge}}, Signature.{method_names, method_named, fits_shape}},
     proofs.ShapeLaws.{named_fits, of_frame},
   },
   method_meaning.specs.Calls.{is_merge},
 }
 
-merge_of_frame : (shape : Shape) → fits_shape Merge shape ≡ true → shape ≡ Frame
+merge_of_frame : (shape : Shape) → fits_shape (Other Merge) shape ≡ true → shape ≡ Frame
 unfolding method_names
-merge_of_frame shape = of_frame Merge shape refl
+merge_of_frame shape = of_frame (Other Merge) shape refl
 
 pub merge_is_of_frame : (shape : Shape) (name : Text) → is_merge (method_named shape name) ≡ true → shape ≡ Frame
 merge_is_of_frame shape name is = by (method_named shape name) refl is
   where
     by : (o : Option Method) → method_named shape name ≡ o → is_merge o ≡ true → shape ≡ Frame
-    by (Some Merge) named is = merge_of_frame _ (named_fits _ name _ named)
+    by (Some (Other Merge)) named is = merge_of_frame _ (named_fits _ name _ named)
     by o named is = cc

@@ -1,7 +1,8 @@
 -- Calls of `merge`.
 use Rattle.std.specs.Prelude.{◌≡◌, ℕ, Bool, true, false, slice_get, Option, Some, None, if◌then◌else◌}
 use Rattle.table_meaning.specs.Settled.{IsSettled}
-use Rattle.form_meaning.specs.declared.Method.TheVariants.{Merge}
+use Rattle.form_meaning.specs.declared.Method.TheVariants.{Other}
+use Rattle.form_meaning.specs.declared.OtherMethod.TheVariants.{Merge}
 use Rattle.form_meaning.specs.declared.Parameter.{Parameter}
 use Rattle.form_meaning.specs.Signature.{parameters_of, method_named}
 use Rattle.method_meaning.specs.Calls.{is_merge}
@@ -31,7 +32,7 @@ merge_of tables on chain = None
 
 -- the arguments are those of `merge`, which takes them, and their texts were given
 pub record IsMergeCall (w : World) (b : Bound) : Type 0 where
-  pub parameters : b.parameters.now ≡ parameters_of Merge
+  pub parameters : b.parameters.now ≡ parameters_of (Other Merge)
   pub given : IsSettled (arguments_of w.tables) w.texts b.args.now
   pub live : AreLive w.tables b.args.now
-  pub filled : (place : ℕ) (p : Parameter) → slice_get (parameters_of Merge) place ≡ Some p → Fills p (stands_at w.tables w.texts b place)
+  pub filled : (place : ℕ) (p : Parameter) → slice_get (parameters_of (Other Merge)) place ≡ Some p → Fills p (stands_at w.tables w.texts b place)

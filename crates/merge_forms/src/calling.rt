@@ -11,7 +11,7 @@ ghost use Rattle.merge_forms.specs.Calls.{is_plain, merge_of};
 
 use crate::merging::merged;
 use cell_core::{Grid, Shape, TextDict};
-use form_meaning::Method;
+use form_meaning::{Method, OtherMethod};
 use form_parts::placed;
 use frame_store::{Chain, Named, NamedList, ObjId, OpFault, Store, Value};
 use signatures::{bind, method_named, parameters};
@@ -22,7 +22,7 @@ fn is_merge(shape: Shape, name: &str) -> bool
     ensures { result ≡ meant.is_merge (signature.method_named shape name.now) }
 {
     match method_named(shape, name) {
-        Some(method) => matches!(method, Method::Merge),
+        Some(method) => matches!(method, Method::Other(OtherMethod::Merge)),
         None => false,
     }
 }
@@ -61,7 +61,12 @@ fn merge_call(
         Forms result (meant.merge_call (object_value w.tables w.texts on)
         (arguments_in w args.now)) w (world store.new dict.new) }
 {
-    let bound = bind(store, dict, parameters(Method::Merge), args)?;
+    let bound = bind(
+        store,
+        dict,
+        parameters(Method::Other(OtherMethod::Merge)),
+        args,
+    )?;
     let table = merged(alloc, store, dict, &bound, on);
     placed(store, dict, table)
 }

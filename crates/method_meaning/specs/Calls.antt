@@ -5,7 +5,8 @@ use Rattle.meaning.specs.Fault.{FaultValue, no_attribute, not_built}
 use Rattle.table_meaning.specs.Table.{Table}
 use Rattle.table_meaning.specs.Value.{Entry, cell, table, Given, NamedGiven}
 use Rattle.form_meaning.specs.declared.Method.{Method}
-use Rattle.form_meaning.specs.declared.Method.TheVariants.{Merge}
+use Rattle.form_meaning.specs.declared.Method.TheVariants.{Other}
+use Rattle.form_meaning.specs.declared.OtherMethod.TheVariants.{Merge}
 use Rattle.form_meaning.specs.Signature.{parameters_of, method_named}
 use Rattle.form_meaning.specs.Binding.{bound_of, on_bound}
 use Rattle.method_meaning.specs.Groups.{grouped_result}
@@ -44,11 +45,11 @@ chain_result v (through name) gs = not_built_if (has_method v name) name
 
 -- `merge`, the method that takes a second table
 abbrev pub is_merge : Option Method → Bool
-is_merge (Some Merge) = true
+is_merge (Some (Other Merge)) = true
 is_merge m = false
 
 abbrev pub merge_call : Table → List NamedGiven → Result Entry FaultValue
-merge_call t gs = on_bound (bound_of (parameters_of Merge) gs) (merge_result t)
+merge_call t gs = on_bound (bound_of (parameters_of (Other Merge)) gs) (merge_result t)
 
 abbrev pub plain_result : Entry → Text → List NamedGiven → Result Entry FaultValue
 plain_result (cell c) name gs = method_result (cell c) name gs

@@ -9,7 +9,8 @@ use Rattle.meaning.specs.Operator.{cell_label}
 use Rattle.meaning.specs.Fault.{FaultValue, no_attribute, wrong_kind, bad_value, argument, limit, then_value}
 use Rattle.table_meaning.specs.Table.{ColumnOf, Table, column_at}
 use Rattle.table_meaning.specs.Value.{Entry, cell, table, Given, GivenList, NamedGiven, scalar_in, list_in}
-use Rattle.form_meaning.specs.declared.Method.TheVariants.{Groupby}
+use Rattle.form_meaning.specs.declared.Method.TheVariants.{Other}
+use Rattle.form_meaning.specs.declared.OtherMethod.TheVariants.{Groupby}
 use Rattle.form_meaning.specs.declared.Parameter.{Parameter}
 use Rattle.form_meaning.specs.declared.ParameterName.TheVariants as name
 use Rattle.form_meaning.specs.declared.Form.TheVariants as form
@@ -135,7 +136,7 @@ grouping_in t gs = Err wrong_kind
 
 -- the arguments of `groupby`
 abbrev pub grouping_of : Table → List NamedGiven → Result Grouping FaultValue
-grouping_of t by = of_bound (grouping_in t) (bound_of (parameters_of Groupby) by)
+grouping_of t by = of_bound (grouping_in t) (bound_of (parameters_of (Other Groupby)) by)
 
 -- the columns that brackets name: that of a label, or those of a list of labels
 abbrev pub values_named : Table → Option CellValue → Option GivenList → Result Values FaultValue

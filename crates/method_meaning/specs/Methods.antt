@@ -19,6 +19,13 @@ use Rattle.table_meaning.specs.Table.{ColumnOf, Table, column_at}
 use Rattle.table_meaning.specs.Value.{Entry, cell, Given, nothing, scalar_in, list_in, dict_in}
 use Rattle.form_meaning.specs.declared.Method.{Method}
 use Rattle.form_meaning.specs.declared.Method.TheVariants as method
+use Rattle.form_meaning.specs.declared.ColumnMethod.TheVariants as column_method
+use Rattle.form_meaning.specs.declared.SummaryMethod.{SummaryMethod}
+use Rattle.form_meaning.specs.declared.SummaryMethod.TheVariants as summary_method
+use Rattle.form_meaning.specs.declared.RowMethod.TheVariants as row_method
+use Rattle.form_meaning.specs.declared.LevelMethod.TheVariants as level_method
+use Rattle.form_meaning.specs.declared.LabelMethod.TheVariants as label_method
+use Rattle.form_meaning.specs.declared.TableMethod.TheVariants as table_method
 use Rattle.form_meaning.specs.Binding.{is_scalar, same_label, whole_in, truth_in}
 use Rattle.form_meaning.specs.Finish.{limited, finished, value_of_column, fault_of_column, made_column, try_all, with_columns, same_kind, across_columns}
 use Rattle.form_meaning.specs.Select.{cells_of}
@@ -69,6 +76,15 @@ cumulated op c = made_column (cumulate_column op (value_of_column c))
 pub data Summary : Type 0 where
   reduced : Reduction → Summary
   distinct : Summary
+
+abbrev pub summary_of_method : SummaryMethod → Summary
+summary_of_method summary_method.Sum = reduced reduction.sum
+summary_of_method summary_method.Min = reduced reduction.min
+summary_of_method summary_method.Max = reduced reduction.max
+summary_of_method summary_method.Any = reduced reduction.any
+summary_of_method summary_method.All = reduced reduction.all
+summary_of_method summary_method.Count = reduced reduction.count
+summary_of_method summary_method.Nunique = distinct
 
 abbrev pub made_cell : Result CellValue ColumnFault → Result CellValue FaultValue
 made_cell (Ok c) = Ok c
@@ -139,56 +155,42 @@ abbrev pub csv_answer : Bool → Table → Result Entry FaultValue
 csv_answer index t = if index || nat_lt 0 (length t.columns) then Ok (cell (text_cell (csv_text_of index t))) else Err (bad_value no_columns)
 
 abbrev pub answer_for : Method → List Given → Table → Result Entry FaultValue
-answer_for method.Copy gs t = limited t
-answer_for method.Head (n ∷ []) t = on (whole_in n) (head_result t)
-answer_for method.Tail (n ∷ []) t = on (whole_in n) (tail_result t)
-answer_for method.Isna gs t = each_column (mapped Boolean missing_mark) t
-answer_for method.Notna gs t = each_column (mapped Boolean present_mark) t
-answer_for method.Fillna (value ∷ []) t = on (scalar_in value) (λ c. each_column (filled_column c) t)
-answer_for method.Dropna gs t = dropna_result t
-answer_for method.Isin (values ∷ []) t = on (list_in values) (λ parts. each_column (mapped Boolean (is_in (cells_of parts))) t)
-answer_for method.Astype (dtype ∷ []) t = on (kind_given (scalar_in dtype)) (λ kind. each_column (cast_as kind) t)
-answer_for method.DuplicatedSeries gs t = duplicated_result t nothing
-answer_for method.DuplicatedFrame (subset ∷ []) t = duplicated_result t subset
-answer_for method.Shift (periods ∷ []) t = on (whole_in periods) (λ z. each_column (shifted_column z) t)
-answer_for method.Cumsum gs t = each_column (cumulated cumulation.sum) t
-answer_for method.Cummin gs t = each_column (cumulated cumulation.min) t
-answer_for method.Cummax gs t = each_column (cumulated cumulation.max) t
-answer_for method.Sum gs t = summary (reduced reduction.sum) t
-answer_for method.Min gs t = summary (reduced reduction.min) t
-answer_for method.Max gs t = summary (reduced reduction.max) t
-answer_for method.Any gs t = summary (reduced reduction.any) t
-answer_for method.All gs t = summary (reduced reduction.all) t
-answer_for method.Count gs t = summary (reduced reduction.count) t
-answer_for method.Nunique gs t = summary distinct t
-answer_for method.SortValuesSeries (ascending ∷ []) t = on (truth_in ascending) (λ b. sort_values_result t b (all_places t))
-answer_for method.SortValuesFrame (by ∷ ascending ∷ []) t = on (truth_in ascending) (λ b. sort_by_result t b by)
-answer_for method.SortIndex (ascending ∷ []) t = on (truth_in ascending) (λ b. sorted_result t b t.labels)
-answer_for method.RenameSeries (name ∷ []) t = limited (renamed_series t (option_map cell_label (scalar_in name)))
-answer_for method.RenameFrame (columns ∷ []) t = on (dict_in columns) (λ pairs. renamed_frame t (pairs_in pairs))
-answer_for method.RenameAxis (names ∷ []) t = rename_axis_result t names
-answer_for method.SetIndex (keys ∷ []) t = set_index_result t keys
-answer_for method.ResetIndex (drop ∷ []) t = on (truth_in drop) (reset_index_result t)
-answer_for method.DropColumns (columns ∷ []) t = drop_result t columns
-answer_for method.Droplevel (level ∷ []) t = droplevel_result t (scalar_in level)
-answer_for method.Swaplevel (i ∷ j ∷ []) t = swaplevel_result t (scalar_in i) (scalar_in j)
-answer_for method.ReindexSeries (index ∷ []) t = reindex_result t (list_in index) None
-answer_for method.ReindexFrame (index ∷ columns ∷ []) t = reindex_result t (list_in index) (list_in columns)
-answer_for method.Xs (key ∷ level ∷ []) t = on (scalar_in key) (λ c. xs_result t c (scalar_in level))
-answer_for method.ToFrame gs t = limited (as_frame t)
-answer_for method.ToCsv (index ∷ []) t = on (truth_in index) (λ b. csv_answer b t)
+answer_for (method.Table table_method.Copy) gs t = limited t
+answer_for (method.Table table_method.Head) (n ∷ []) t = on (whole_in n) (head_result t)
+answer_for (method.Table table_method.Tail) (n ∷ []) t = on (whole_in n) (tail_result t)
+answer_for (method.Columns column_method.Isna) gs t = each_column (mapped Boolean missing_mark) t
+answer_for (method.Columns column_method.Notna) gs t = each_column (mapped Boolean present_mark) t
+answer_for (method.Columns column_method.Fillna) (value ∷ []) t = on (scalar_in value) (λ c. each_column (filled_column c) t)
+answer_for (method.Rows row_method.Dropna) gs t = dropna_result t
+answer_for (method.Columns column_method.Isin) (values ∷ []) t = on (list_in values) (λ parts. each_column (mapped Boolean (is_in (cells_of parts))) t)
+answer_for (method.Columns column_method.Astype) (dtype ∷ []) t = on (kind_given (scalar_in dtype)) (λ kind. each_column (cast_as kind) t)
+answer_for (method.Rows row_method.DuplicatedSeries) gs t = duplicated_result t nothing
+answer_for (method.Rows row_method.DuplicatedFrame) (subset ∷ []) t = duplicated_result t subset
+answer_for (method.Columns column_method.Shift) (periods ∷ []) t = on (whole_in periods) (λ z. each_column (shifted_column z) t)
+answer_for (method.Columns column_method.Cumsum) gs t = each_column (cumulated cumulation.sum) t
+answer_for (method.Columns column_method.Cummin) gs t = each_column (cumulated cumulation.min) t
+answer_for (method.Columns column_method.Cummax) gs t = each_column (cumulated cumulation.max) t
+answer_for (method.Summary m) gs t = summary (summary_of_method m) t
+answer_for (method.Rows row_method.SortValuesSeries) (ascending ∷ []) t = on (truth_in ascending) (λ b. sort_values_result t b (all_places t))
+answer_for (method.Rows row_method.SortValuesFrame) (by ∷ ascending ∷ []) t = on (truth_in ascending) (λ b. sort_by_result t b by)
+answer_for (method.Rows row_method.SortIndex) (ascending ∷ []) t = on (truth_in ascending) (λ b. sorted_result t b t.labels)
+answer_for (method.Table table_method.RenameSeries) (name ∷ []) t = limited (renamed_series t (option_map cell_label (scalar_in name)))
+answer_for (method.Table table_method.RenameFrame) (columns ∷ []) t = on (dict_in columns) (λ pairs. renamed_frame t (pairs_in pairs))
+answer_for (method.Levels level_method.RenameAxis) (names ∷ []) t = rename_axis_result t names
+answer_for (method.Levels level_method.SetIndex) (keys ∷ []) t = set_index_result t keys
+answer_for (method.Levels level_method.ResetIndex) (drop ∷ []) t = on (truth_in drop) (reset_index_result t)
+answer_for (method.Table table_method.DropColumns) (columns ∷ []) t = drop_result t columns
+answer_for (method.Levels level_method.Droplevel) (level ∷ []) t = droplevel_result t (scalar_in level)
+answer_for (method.Levels level_method.Swaplevel) (i ∷ j ∷ []) t = swaplevel_result t (scalar_in i) (scalar_in j)
+answer_for (method.Labels label_method.ReindexSeries) (index ∷ []) t = reindex_result t (list_in index) None
+answer_for (method.Labels label_method.ReindexFrame) (index ∷ columns ∷ []) t = reindex_result t (list_in index) (list_in columns)
+answer_for (method.Labels label_method.Xs) (key ∷ level ∷ []) t = on (scalar_in key) (λ c. xs_result t c (scalar_in level))
+answer_for (method.Table table_method.ToFrame) gs t = limited (as_frame t)
+answer_for (method.Table table_method.ToCsv) (index ∷ []) t = on (truth_in index) (λ b. csv_answer b t)
 -- no other number of arguments is bound, and no other method is built
 answer_for m gs t = Err not_built
 
 -- whether the method is built; one that isn't answers so before its arguments are looked at
 abbrev pub is_built : Method → Bool
-is_built method.Groupby = false
-is_built method.Rolling = false
-is_built method.Expanding = false
-is_built method.Merge = false
-is_built method.Stack = false
-is_built method.Unstack = false
-is_built method.Pivot = false
-is_built method.PivotTable = false
-is_built method.Melt = false
+is_built (method.Other m) = false
 is_built m = true

@@ -1,9 +1,9 @@
 -- One more level, first or last.
-use Rattle.std.proofs.Common.{◌≡◌, ◌∙◌, ap, sym, refl, arith, ℕ, zero, suc, ◌+◌, ◌-◌, ◌<◌, ◌≤◌, Bool, true, false, List, [], ◌∷◌, ◌++◌, length, take, set, replicate, slice_index_or}
-use Rattle.std.proofs.lemmas.List.{take_more, take_all, length-take-le, length-append, length-replicate}
-use Rattle.std.proofs.lemmas.List.Elements.{All-nil, All-cons, All-head, All-tail}
-use Rattle.cell_core.specs.declared.cell.Label.{Label}
-use Rattle.multi_index.specs.Axes.{HaveLevels, with_one, first_of, tuples_with}
+use Rattle.{
+  std.proofs.{Common.{◌≡◌, ◌∙◌, ap, sym, refl, arith, ℕ, zero, suc, ◌+◌, ◌-◌, ◌<◌, ◌≤◌, Bool, true, false, List, [], ◌∷◌, ◌++◌, length, take, set, replicate, slice_index_or}, lemmas.List.{take_more, take_all, length-take-le, length-append, length-replicate, Elements.{All-nil, All-cons, All-head, All-tail}}},
+  cell_core.specs.declared.cell.Label.{Label},
+  multi_index.specs.Axes.{HaveLevels, with_one, first_of, tuples_with},
+}
 
 -- four places of which the old ones so far are written, and the new one stands in all others
 abbrev pub four_with : {X : Type 0} → Bool → X → List X → List X

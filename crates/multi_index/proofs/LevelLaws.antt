@@ -1,14 +1,10 @@
 -- Some levels of an axis, by their places.
-use Rattle.std.proofs.Common.{◌≡◌, ◌∙◌, ap, sym, refl, arith, ℕ, suc, ◌+◌, ◌-◌, ◌<◌, List, [], ◌∷◌, ◌++◌, length, map, take, drop, set, remove, swap, slice_index_or, Option, None, All}
-use Rattle.std.specs.List.{range_with_len}
-use Rattle.std.proofs.lemmas.List.{take_more, take_more_set, map-append, map-id, map-set, take-map, drop-map, get_or-map, length-map, length-drop}
-use Rattle.std.proofs.lemmas.List.Elements.{All-head, All-tail, All-map, All-append, All-take, All-drop, All-set}
-use Rattle.std.proofs.lemmas.List.FromFn.{fill_by_all, length-range_with_len, get_or-range_with_len, map-range_with_len_more}
-use Rattle.std.proofs.lemmas.List.Edits.{length-remove}
-use Rattle.cell_core.specs.declared.cell.Label.{Label}
-use Rattle.cell_core.specs.declared.cell.Label.TheVariants.{Na}
-use Rattle.index_core.specs.Labels.{labels_at}
-use Rattle.multi_index.specs.Axes.{AxisValue, HaveLevels, at_levels, without_level, without_leading, with_swapped}
+use Rattle.{
+  std.{proofs.{Common.{◌≡◌, ◌∙◌, ap, sym, refl, arith, ℕ, suc, ◌+◌, ◌-◌, ◌<◌, List, [], ◌∷◌, ◌++◌, length, map, take, drop, set, remove, swap, slice_index_or, Option, None, All}, lemmas.List.{take_more, take_more_set, map-append, map-id, map-set, take-map, drop-map, get_or-map, length-map, length-drop, Elements.{All-head, All-tail, All-map, All-append, All-take, All-drop, All-set}, FromFn.{fill_by_all, length-range_with_len, get_or-range_with_len, map-range_with_len_more}, Edits.{length-remove}}}, specs.List.{range_with_len}},
+  cell_core.specs.declared.cell.Label.{Label, TheVariants.{Na}},
+  index_core.specs.Labels.{labels_at},
+  multi_index.specs.Axes.{AxisValue, HaveLevels, at_levels, without_level, without_leading, with_swapped},
+}
 
 -- all levels
 pub levels_below : (n : ℕ) → All (λ level. level < n) (range_with_len 0 n)

@@ -1,22 +1,11 @@
 -- Leading labels in a list of tuples, and slices of tuples in order.
-use Rattle.std.proofs.Common.{◌≡◌, ◌∙◌, ap, sym, refl, arith, ℕ, zero, suc, ◌+◌, ◌<◌, ◌≤◌, ◌==◌, Bool, true, false, not, ◌&&◌, List, [], ◌∷◌, length, drop, slice_index_or, Option, Some, Ok}
-use Rattle.std.specs.Ordering.{is_lt, is_gt, ordering_then}
-use Rattle.std.specs.declared.cmp.Ordering.{Ordering}
-use Rattle.std.specs.declared.cmp.Ordering.TheVariants.{Less, Equal, Greater}
-use Rattle.std.proofs.lemmas.Bool.Decides.{nat_tests}
-use Rattle.std.proofs.lemmas.List.{drop_more, drop_all}
-use Rattle.cell_core.specs.declared.cell.Label.{Label}
-use Rattle.cell_core.specs.declared.grid.Rows.{Rows}
-use Rattle.meaning.specs.Text.{Text}
-use Rattle.pick_meaning.specs.Leading.{leads, leading_cmp}
-use Rattle.pick_meaning.specs.Rows.{rows_of, rows_between}
-use Rattle.pick_meaning.specs.Slices.{is_in_order, reaches, stays_within, sorted_slice, label_slice, unfound_slice, leading_slice, slice_on}
-use Rattle.pick_meaning.proofs.OrderLaws.{sorted_in_order}
-use Rattle.pick_meaning.proofs.LeadingLaws.{leading_below, leading_within}
-use Rattle.pick_meaning.proofs.RowLaws.{when_so, when_not}
-use Rattle.index_core.specs.Labels.{order_in}
-use Rattle.index_core.specs.Splits.{IsSplitAt}
-use Rattle.index_core.proofs.SplitLaws.{order_total, rows_of_splits, split_at_first}
+use Rattle.{
+  std.{proofs.{Common.{◌≡◌, ◌∙◌, ap, sym, refl, arith, ℕ, zero, suc, ◌+◌, ◌<◌, ◌≤◌, ◌==◌, Bool, true, false, not, ◌&&◌, List, [], ◌∷◌, length, drop, slice_index_or, Option, Some, Ok}, lemmas.{Bool.Decides.{nat_tests}, List.{drop_more, drop_all}}}, specs.{Ordering.{is_lt, is_gt, ordering_then}, declared.cmp.Ordering.{Ordering, TheVariants.{Less, Equal, Greater}}}},
+  cell_core.specs.declared.{cell.Label.{Label}, grid.Rows.{Rows}},
+  meaning.specs.Text.{Text},
+  pick_meaning.{specs.{Leading.{leads, leading_cmp}, Rows.{rows_of, rows_between}, Slices.{is_in_order, reaches, stays_within, sorted_slice, label_slice, unfound_slice, leading_slice, slice_on}}, proofs.{OrderLaws.{sorted_in_order}, LeadingLaws.{leading_below, leading_within}, RowLaws.{when_so, when_not}}},
+  index_core.{specs.{Labels.{order_in}, Splits.{IsSplitAt}}, proofs.SplitLaws.{order_total, rows_of_splits, split_at_first}},
+}
 
 -- leading labels, one more at a time
 module _ {L : Type 0} (same : L → L → Bool) where

@@ -1,11 +1,9 @@
 -- The names of an axis among the four that it has room for.
-use Rattle.std.specs.Prelude.{◌≡◌, ℕ, ◌<◌, ◌≤◌, List, length, take, replicate, slice_get, slice_set, slice_index_or, Option, Some, None}
-use Rattle.std.proofs.Common.{◌∙◌, ap, sym, arith}
-use Rattle.std.proofs.lemmas.List.{length-take, take-replicate, get_or-take}
-use Rattle.std.proofs.lemmas.Option.{slice_get-get_or}
-use Rattle.std.proofs.Math.Seq.{take-set-lt}
-use Rattle.cell_core.specs.declared.cell.Label.{Label}
-use Rattle.multi_index.specs.Axes.{AxisValue, nameless_axis, with_name}
+use Rattle.{
+  std.{specs.Prelude.{◌≡◌, ℕ, ◌<◌, ◌≤◌, List, length, take, replicate, slice_get, slice_set, slice_index_or, Option, Some, None}, proofs.{Common.{◌∙◌, ap, sym, arith}, lemmas.{List.{length-take, take-replicate, get_or-take}, Option.{slice_get-get_or}}, Math.Seq.{take-set-lt}}},
+  cell_core.specs.declared.cell.Label.{Label},
+  multi_index.specs.Axes.{AxisValue, nameless_axis, with_name},
+}
 
 -- there are as many names as levels
 pub count_of_names : (kept seen : List (Option Label)) (levels : ℕ) → take levels kept ≡ seen → length kept ≡ 4 → levels ≤ 4 → levels ≡ length seen

@@ -1,21 +1,14 @@
 -- What one level answers, as the answer of an axis.
-use Rattle.std.proofs.Common.{◌≡◌, ◌∙◌, ap, sym, List, [], ◌∷◌, length, Option, Some, Result, Err}
-use Rattle.std.specs.Prelude.{slice_get}
-use Rattle.std.specs.Option.{option_map}
-use Rattle.cell_core.specs.declared.cell.Label.{Label}
-use Rattle.index_core.specs.Labels.{same_number, order_in}
+use Rattle.{
+  std.{proofs.Common.{◌≡◌, ◌∙◌, ap, sym, List, [], ◌∷◌, length, Option, Some, Result, Err}, specs.{Prelude.{slice_get}, Option.{option_map}}},
+  cell_core.specs.declared.cell.Label.{Label},
+  index_core.specs.{Labels.{same_number, order_in}, declared.fault.IndexFault.{IndexFault}},
+  meaning.specs.Text.{Text},
+  pick_meaning.{specs.{Faults.{PickFault, pick_seen}, Labels.{rows_of_key}, Leading.{leads, leading_cmp}, Slices.{label_slice}}, proofs.SeenLaws.{single_rows, single_slice}},
+  multi_index.{specs.{Axes.{single_tuples}, Picks.{PicksOr, axis_fault}}, proofs.TupleLaws.{only_label_is}},
+}
 use Rattle.index_core.specs.Picks as index
-use Rattle.index_core.specs.declared.fault.IndexFault.{IndexFault}
 use Rattle.index_core.specs.declared.fault.IndexFault.TheVariants as fault
-use Rattle.meaning.specs.Text.{Text}
-use Rattle.pick_meaning.specs.Faults.{PickFault, pick_seen}
-use Rattle.pick_meaning.specs.Labels.{rows_of_key}
-use Rattle.pick_meaning.specs.Leading.{leads, leading_cmp}
-use Rattle.pick_meaning.specs.Slices.{label_slice}
-use Rattle.pick_meaning.proofs.SeenLaws.{single_rows, single_slice}
-use Rattle.multi_index.specs.Axes.{single_tuples}
-use Rattle.multi_index.specs.Picks.{PicksOr, axis_fault}
-use Rattle.multi_index.proofs.TupleLaws.{only_label_is}
 
 -- the rows of a label
 pub rows_seen : (labels : List Label) (tuples : List (List Label)) (key : List Label) (l : Label) → single_tuples labels ≡ tuples → length key ≡ 1 → slice_get key 0 ≡ Some l

@@ -1,11 +1,10 @@
 -- Axes whose tuples are the same.
-use Rattle.std.proofs.Common.{◌≡◌, ◌∙◌, ℕ, ◌<◌, Bool, List, [], ◌∷◌, length, refl, ap, sym, arith, Some, slice_index_or}
-use Rattle.std.specs.Prelude.{slice_get, option_and_then}
-use Rattle.std.specs.Bool.{Decides}
-use Rattle.std.proofs.lemmas.Option.{slice_get-get_or}
-use Rattle.cell_core.specs.declared.cell.Label.{Label}
-use Rattle.index_core.proofs.SameLaws.{all_same}
-use Rattle.multi_index.specs.Axes.{AxisValue, HaveLevels, single_tuples, label_at}
+use Rattle.{
+  std.{proofs.{Common.{◌≡◌, ◌∙◌, ℕ, ◌<◌, Bool, List, [], ◌∷◌, length, refl, ap, sym, arith, Some, slice_index_or}, lemmas.Option.{slice_get-get_or}}, specs.{Prelude.{slice_get, option_and_then}, Bool.{Decides}}},
+  cell_core.specs.declared.cell.Label.{Label},
+  index_core.proofs.SameLaws.{all_same},
+  multi_index.specs.Axes.{AxisValue, HaveLevels, single_tuples, label_at},
+}
 
 abbrev heads : List (List Label) → List Label
 heads [] = []

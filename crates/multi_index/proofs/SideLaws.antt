@@ -1,11 +1,9 @@
 -- Labels of tuples, one more at a time.
-use Rattle.std.proofs.Common.{◌≡◌, ◌∙◌, ℕ, ◌+◌, ◌<◌, ◌≤◌, List, [], ◌∷◌, ◌++◌, map, take, set, length, ap, sym, Some, slice_index_or}
-use Rattle.std.specs.Prelude.{slice_get, option_and_then}
-use Rattle.std.proofs.lemmas.List.{take_more, take_all, take_more_set, map-append, append_assoc}
-use Rattle.std.proofs.lemmas.Option.{slice_get-get_or, get_or_from_slice_get}
-use Rattle.cell_core.specs.declared.cell.Label.{Label}
-use Rattle.cell_core.specs.declared.cell.Label.TheVariants.{Na}
-use Rattle.multi_index.specs.Axes.{AxisValue, label_at}
+use Rattle.{
+  std.{proofs.{Common.{◌≡◌, ◌∙◌, ℕ, ◌+◌, ◌<◌, ◌≤◌, List, [], ◌∷◌, ◌++◌, map, take, set, length, ap, sym, Some, slice_index_or}, lemmas.{List.{take_more, take_all, take_more_set, map-append, append_assoc}, Option.{slice_get-get_or, get_or_from_slice_get}}}, specs.Prelude.{slice_get, option_and_then}},
+  cell_core.specs.declared.cell.Label.{Label, TheVariants.{Na}},
+  multi_index.specs.Axes.{AxisValue, label_at},
+}
 
 -- what is made of one row more
 pub one_row_more : {X Y : Type 0} (f : X → Y) (xs : List X) (i : ℕ) (d : X) (y : Y) (start made made' : List Y) → i < length xs → y ≡ f (slice_index_or xs i d)

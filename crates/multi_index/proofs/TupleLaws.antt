@@ -1,13 +1,10 @@
 -- The tuples of an axis.
-use Rattle.std.specs.Prelude.{◌≡◌, ℕ, ◌+◌, ◌<◌, List, [], ◌∷◌, ◌++◌, length, take, slice_get, slice_index_or, Some, All}
-use Rattle.std.proofs.Common.{◌∙◌, ap, sym, subst, refl, arith, suc}
-use Rattle.std.proofs.lemmas.List.{take_more, map-append, get_or-map, length-map}
-use Rattle.std.proofs.lemmas.List.Elements.{All-map, All-take}
-use Rattle.std.proofs.lemmas.Option.{get_or_from_slice_get}
-use Rattle.cell_core.specs.declared.cell.Label.{Label}
-use Rattle.cell_core.specs.declared.cell.Label.TheVariants.{Na}
-use Rattle.index_core.specs.Labels.{labels_at}
-use Rattle.multi_index.specs.Axes.{HaveLevels, single_tuples, tuples_at}
+use Rattle.{
+  std.{specs.Prelude.{◌≡◌, ℕ, ◌+◌, ◌<◌, List, [], ◌∷◌, ◌++◌, length, take, slice_get, slice_index_or, Some, All}, proofs.{Common.{◌∙◌, ap, sym, subst, refl, arith, suc}, lemmas.{List.{take_more, map-append, get_or-map, length-map, Elements.{All-map, All-take}}, Option.{get_or_from_slice_get}}}},
+  cell_core.specs.declared.cell.Label.{Label, TheVariants.{Na}},
+  index_core.specs.Labels.{labels_at},
+  multi_index.specs.Axes.{HaveLevels, single_tuples, tuples_at},
+}
 
 -- a label is a tuple of one label
 pub levels_of_single : (labels : List Label) → HaveLevels 1 (single_tuples labels)

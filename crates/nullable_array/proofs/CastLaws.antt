@@ -1,17 +1,11 @@
 -- The numbers that texts are.
-use Rattle.std.proofs.Common.{◌≡◌, ℕ, zero, suc, ◌<◌, ◌^◌, Bool, true, false, cond, ◌&&◌, ◌==◌, List, [], ◌∷◌, length, drop, slice_index, refl, sym, ap, subst, ◌∙◌, arith, ℤ, pos, negsuc, Option, Some, None, option_map, FitsSigned, w64}
-use Rattle.std.specs.Str.{all_ascii_digits, IsAscii, IsUtf8}
-use Rattle.std.specs.Str.Parse.{IsNumeral, digits_value, without_leading_sign, signed_digits_value}
-use Rattle.std.proofs.lemmas.Bool.{lt-ltb, ltb-true, and_parts, and_from, eqb-true, false_from_ne_true}
-use Rattle.std.proofs.lemmas.Str.{IsUtf8-from_ascii}
-use Rattle.std.proofs.lemmas.Str.Parse.{IsNumeralModel, numerals_by_value, tells_all_ascii_digits}
-use Rattle.std.specs.Fmt.{signed_decimal}
-use Rattle.cell_core.specs.declared.cell.TextId.{TextId}
-use Rattle.cell_core.specs.declared.cell.Kind.TheVariants.{Int64, Boolean, Text as string}
-use Rattle.meaning.specs.Cell.{has_64_bits, datum, text_of, int_cell, truth_cell as truth_value_cell}
-use Rattle.meaning.specs.Cast.{is_numeral, numeral_value, whole_number, truth_value, truth_text, truth_of_number, number_of_truth, cast_cell}
-use Rattle.column_core.specs.Columns.{number_cell, truth_cell, text_cell, text_value}
-use Rattle.nullable_array.specs.Casts.{total_cast, partial_cast}
+use Rattle.{
+  std.{proofs.{Common.{◌≡◌, ℕ, zero, suc, ◌<◌, ◌^◌, Bool, true, false, cond, ◌&&◌, ◌==◌, List, [], ◌∷◌, length, drop, slice_index, refl, sym, ap, subst, ◌∙◌, arith, ℤ, pos, negsuc, Option, Some, None, option_map, FitsSigned, w64}, lemmas.{Bool.{lt-ltb, ltb-true, and_parts, and_from, eqb-true, false_from_ne_true}, Str.{IsUtf8-from_ascii, Parse.{IsNumeralModel, numerals_by_value, tells_all_ascii_digits}}}}, specs.{Str.{all_ascii_digits, IsAscii, IsUtf8, Parse.{IsNumeral, digits_value, without_leading_sign, signed_digits_value}}, Fmt.{signed_decimal}}},
+  cell_core.specs.declared.cell.{TextId.{TextId}, Kind.TheVariants.{Int64, Boolean, Text as string}},
+  meaning.specs.{Cell.{has_64_bits, datum, text_of, int_cell, truth_cell as truth_value_cell}, Cast.{is_numeral, numeral_value, whole_number, truth_value, truth_text, truth_of_number, number_of_truth, cast_cell}},
+  column_core.specs.Columns.{number_cell, truth_cell, text_cell, text_value},
+  nullable_array.specs.Casts.{total_cast, partial_cast},
+}
 
 digits : IsNumeralModel (λ ds. all_ascii_digits ds ≡ true) (digits_value 10)
 digits = numerals_by_value (λ ds. all_ascii_digits ds ≡ true) tells_all_ascii_digits

@@ -1,16 +1,11 @@
 -- What kernels answer, from rows of values to columns of cells.
-use Rattle.std.proofs.Common.{◌≡◌, ℕ, List, refl, sym, ap, subst, ◌∙◌, Option, Some, option_map, Result, Ok, Err, IfOk}
-use Rattle.std.specs.List.{range_with_len}
-use Rattle.cell_core.specs.declared.cell.Cell.{Cell}
-use Rattle.cell_core.specs.declared.cell.Kind.{Kind}
-use Rattle.meaning.specs.Cell.{CellValue, datum, AreGiven}
-use Rattle.meaning.specs.Column.{ColumnValue, ColumnFault, not_cast, tabulate, try_each, column_of}
-use Rattle.meaning.specs.Cast.{cast_cell, cast_column}
-use Rattle.nullable_array.specs.declared.ops.ArrayFault.{ArrayFault}
-use Rattle.column_core.specs.Columns.{CellColumn, column_value, column_with}
-use Rattle.column_core.specs.Rows.{try_rows, map_rows}
-use Rattle.nullable_array.specs.Answers.{Answers}
-use Rattle.column_core.proofs.CellRows.{map-map, each-rows, total-rows}
+use Rattle.{
+  std.{proofs.Common.{◌≡◌, ℕ, List, refl, sym, ap, subst, ◌∙◌, Option, Some, option_map, Result, Ok, Err, IfOk}, specs.List.{range_with_len}},
+  cell_core.specs.declared.cell.{Cell.{Cell}, Kind.{Kind}},
+  meaning.specs.{Cell.{CellValue, datum, AreGiven}, Column.{ColumnValue, ColumnFault, not_cast, tabulate, try_each, column_of}, Cast.{cast_cell, cast_column}},
+  nullable_array.specs.{declared.ops.ArrayFault.{ArrayFault}, Answers.{Answers}},
+  column_core.{specs.{Columns.{CellColumn, column_value, column_with}, Rows.{try_rows, map_rows}}, proofs.CellRows.{map-map, each-rows, total-rows}},
+}
 
 -- given in each dictionary, so in one
 pub given_at : (r : Result CellColumn ArrayFault) (texts : List (List ℕ)) → IfOk r (λ c. (ts : List (List ℕ)) → AreGiven ts c.cells) → IfOk r (λ c. AreGiven texts c.cells)

@@ -1,26 +1,12 @@
 -- The different values, seen one after another, are the different cells.
-use Rattle.std.proofs.Common.{◌≡◌, ℕ, zero, suc, ◌+◌, ◌<◌, ◌≤◌, Bool, true, false, not, ◌&&◌, ◌||◌, cond, List, [], ◌∷◌, ◌++◌, length, map, refl, ap, sym, ◌∙◌, append_assoc, append-nil, arith, Option, Some, None, Result, Ok, Err, IfOk, IfSome, fold}
-use Rattle.std.specs.List.{filter, list_any, range_with_len}
-use Rattle.std.specs.Cmp.{IsEquivalence}
-use Rattle.std.proofs.lemmas.List.{length-map}
-use Rattle.std.proofs.lemmas.List.Folds.{list_any-append}
-use Rattle.indexmap.specs.IndexSet.{insert_key}
-use Rattle.cell_core.specs.declared.cell.Cell.{Cell}
-use Rattle.meaning.specs.Cell.{CellValue, na_cell, datum, text_of, AreDistinct, IsGiven}
-use Rattle.cell_core.specs.declared.cell.TextId.{TextId}
-use Rattle.std.specs.Ordering.{is_eq, int_cmp, int_eq, bool_cmp, nat_cmp}
-use Rattle.std.specs.Cmp.Lexicographic.{slice_cmp}
-use Rattle.std.proofs.lemmas.Map.Text.{is_eq-slice_cmp}
-use Rattle.std.specs.Prelude.{ℤ, nat_eq, bytes_eq, slice_index_or}
-use Rattle.std.proofs.Math.Bool.{beq}
-use Rattle.std.proofs.lemmas.Bool.Decides.{same_from_decides, Decides-eqb, Decides-like}
-use Rattle.std.proofs.lemmas.Slice.Eq.{bytes_eq-Decides}
-use Rattle.meaning.specs.Column.{tabulate}
-use Rattle.meaning.specs.Reduce.{is_present, present, same_cell, distinct, distinct_count}
-use Rattle.nullable_array.specs.Folds.{step_row, folded}
-use Rattle.column_core.specs.Columns.{text_cell}
-use Rattle.nullable_array.specs.Distincts.{present_values}
-use Rattle.column_core.proofs.CellRows.{map-map}
+use Rattle.{
+  std.{proofs.{Common.{◌≡◌, ℕ, zero, suc, ◌+◌, ◌<◌, ◌≤◌, Bool, true, false, not, ◌&&◌, ◌||◌, cond, List, [], ◌∷◌, ◌++◌, length, map, refl, ap, sym, ◌∙◌, append_assoc, append-nil, arith, Option, Some, None, Result, Ok, Err, IfOk, IfSome, fold}, lemmas.{List.{length-map, Folds.{list_any-append}}, Map.Text.{is_eq-slice_cmp}, Bool.Decides.{same_from_decides, Decides-eqb, Decides-like}, Slice.Eq.{bytes_eq-Decides}}, Math.Bool.{beq}}, specs.{List.{filter, list_any, range_with_len}, Cmp.{IsEquivalence, Lexicographic.{slice_cmp}}, Ordering.{is_eq, int_cmp, int_eq, bool_cmp, nat_cmp}, Prelude.{ℤ, nat_eq, bytes_eq, slice_index_or}}},
+  indexmap.specs.IndexSet.{insert_key},
+  cell_core.specs.declared.cell.{Cell.{Cell}, TextId.{TextId}},
+  meaning.specs.{Cell.{CellValue, na_cell, datum, text_of, AreDistinct, IsGiven}, Column.{tabulate}, Reduce.{is_present, present, same_cell, distinct, distinct_count}},
+  nullable_array.specs.{Folds.{step_row, folded}, Distincts.{present_values}},
+  column_core.{specs.Columns.{text_cell}, proofs.CellRows.{map-map}},
+}
 
 filter-filter : {X : Type 0} (p q : X → Bool) (xs : List X) → filter p (filter q xs) ≡ filter (λ x. q x && p x) xs
 filter-filter p q [] = refl

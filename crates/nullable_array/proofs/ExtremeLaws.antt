@@ -1,15 +1,9 @@
 -- The last of rows, told with a number that stands before all.
-use Rattle.std.proofs.Common.{◌≡◌, ℕ, ◌+◌, Bool, true, false, true≢false, refl, sym, ap, ◌∙◌, Option, Some, None, arith}
-use Rattle.std.specs.Prelude.{ℤ, pos, negsuc, ◌<ℤ◌, FitsSigned, unwrap_or, if◌then◌else◌}
-use Rattle.std.specs.Cmp.{int_ranks}
-use Rattle.std.specs.Int.{w64}
-use Rattle.std.specs.Ordering.{int_cmp, is_lt, MatchOrdering}
-use Rattle.std.specs.declared.cmp.Ordering.TheVariants.{Less, Equal, Greater}
-use Rattle.std.proofs.lemmas.Int.{ints}
-use Rattle.std.specs.declared.cmp.Ordering.{Ordering}
-use Rattle.column_core.specs.Rows.{flagged}
-use Rattle.nullable_array.specs.Folds.{step_row, folded, least_step, greatest_step}
-use Rattle.nullable_array.proofs.FoldLaws.{folded_more}
+use Rattle.{
+  std.{proofs.{Common.{◌≡◌, ℕ, ◌+◌, Bool, true, false, true≢false, refl, sym, ap, ◌∙◌, Option, Some, None, arith}, lemmas.Int.{ints}}, specs.{Prelude.{ℤ, pos, negsuc, ◌<ℤ◌, FitsSigned, unwrap_or, if◌then◌else◌}, Cmp.{int_ranks}, Int.{w64}, Ordering.{int_cmp, is_lt, MatchOrdering}, declared.cmp.Ordering.{Ordering, TheVariants.{Less, Equal, Greater}}}},
+  column_core.specs.Rows.{flagged},
+  nullable_array.{specs.Folds.{step_row, folded, least_step, greatest_step}, proofs.FoldLaws.{folded_more}},
+}
 
 module _ (cmp : ℤ → ℤ → Ordering) (blank : ℤ) where
   abbrev later : ℤ → ℤ → ℤ

@@ -1,16 +1,11 @@
 -- What is gathered from rows is what is gathered from their cells.
-use Rattle.std.proofs.Common.{◌≡◌, ℕ, zero, suc, ◌+◌, ◌<◌, ◌≤◌, Bool, true, false, not, cond, List, [], ◌∷◌, map, refl, sym, ap, ◌∙◌, arith, Option, Some, None, fold}
-use Rattle.std.specs.List.{range_with_len}
-use Rattle.std.specs.declared.cmp.Ordering.{Ordering}
-use Rattle.std.specs.Ordering.{is_lt}
-use Rattle.std.proofs.Math.Bool.{beq}
-use Rattle.cell_core.specs.declared.cell.Cell.{Cell}
-use Rattle.meaning.specs.Cell.{CellValue, na_cell, datum}
-use Rattle.meaning.specs.Column.{tabulate}
-use Rattle.meaning.specs.Reduce.{is_present, present, lesser, greater}
-use Rattle.meaning.specs.Operator.{cell_cmp}
-use Rattle.nullable_array.specs.Folds.{step_row, folded, least_step, greatest_step}
-use Rattle.column_core.proofs.CellRows.{map-map}
+use Rattle.{
+  std.{proofs.{Common.{◌≡◌, ℕ, zero, suc, ◌+◌, ◌<◌, ◌≤◌, Bool, true, false, not, cond, List, [], ◌∷◌, map, refl, sym, ap, ◌∙◌, arith, Option, Some, None, fold}, Math.Bool.{beq}}, specs.{List.{range_with_len}, declared.cmp.Ordering.{Ordering}, Ordering.{is_lt}}},
+  cell_core.specs.declared.cell.Cell.{Cell},
+  meaning.specs.{Cell.{CellValue, na_cell, datum}, Column.{tabulate}, Reduce.{is_present, present, lesser, greater}, Operator.{cell_cmp}},
+  nullable_array.specs.Folds.{step_row, folded, least_step, greatest_step},
+  column_core.proofs.CellRows.{map-map},
+}
 
 fold-range : {S : Type 0} (f : S → ℕ → S) (s : S) (a n : ℕ) → fold f s (range_with_len a (suc n)) ≡ f (fold f s (range_with_len a n)) (a + n)
 fold-range f s a zero = ap (f s) (omega arith)

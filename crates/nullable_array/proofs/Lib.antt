@@ -6,7 +6,6 @@ pub mod FoldLaws
 pub mod RunningLaws
 pub mod DistinctLaws
 pub mod TruthLaws
-pub mod MarkLaws
 pub mod PlaceLaws
 pub mod PairRows
 pub mod OrderedLaws

@@ -1,24 +1,9 @@
 -- Numbers in order, of which each is kept once, are the different numbers.
-use Rattle.std.proofs.Common.{◌≡◌, ℕ, Bool, true, false, not, ◌||◌, cond, List, [], ◌∷◌, ◌++◌, length, refl, ap, sym, ◌∙◌, append_assoc, append-nil, fold, Option}
-use Rattle.std.specs.Prelude.{ℤ}
-use Rattle.std.specs.Cmp.{IsEquivalence}
-use Rattle.std.specs.List.{AllByRecursion, IsDistinct, filter, list_any, dedup, dedup_from, range_with_len}
-use Rattle.std.specs.List.Retain.{IsFiltered, DiffersFromLast}
-use Rattle.std.specs.List.Sorted.{IsPermutation, IsSorted}
-use Rattle.std.specs.Ordering.{int_cmp, int_eq}
-use Rattle.std.proofs.lemmas.Bool.{cond_both}
-use Rattle.std.proofs.lemmas.Cmp.{int_cmp_total, int_eq_equiv}
-use Rattle.std.proofs.lemmas.List.Elements.{All-filter, All-from_recursion, recursion_from_All}
-use Rattle.std.proofs.lemmas.List.Filters.{dedup_is}
-use Rattle.std.proofs.lemmas.List.Kept.{IsStrictlySortedBy-dedup}
-use Rattle.std.proofs.lemmas.List.Sorted.{list_any-IsPermutation}
-use Rattle.std.proofs.lemmas.Map.Keys.{IsDistinct-from_sorted}
-use Rattle.std.proofs.lemmas.Map.Made.{length-from_same_keys}
-use Rattle.meaning.specs.Column.{tabulate}
-use Rattle.meaning.specs.Reduce.{distinct}
-use Rattle.nullable_array.specs.Distincts.{present_values, then_value}
-use Rattle.nullable_array.specs.Folds.{folded}
-use Rattle.nullable_array.proofs.DistinctLaws.{values_folded}
+use Rattle.{
+  std.{proofs.{Common.{◌≡◌, ℕ, Bool, true, false, not, ◌||◌, cond, List, [], ◌∷◌, ◌++◌, length, refl, ap, sym, ◌∙◌, append_assoc, append-nil, fold, Option}, lemmas.{Bool.{cond_both}, Cmp.{int_cmp_total, int_eq_equiv}, List.{Elements.{All-filter, All-from_recursion, recursion_from_All}, Filters.{dedup_is}, Kept.{IsStrictlySortedBy-dedup}, Sorted.{list_any-IsPermutation}}, Map.{Keys.{IsDistinct-from_sorted}, Made.{length-from_same_keys}}}}, specs.{Prelude.{ℤ}, Cmp.{IsEquivalence}, List.{AllByRecursion, IsDistinct, filter, list_any, dedup, dedup_from, range_with_len, Retain.{IsFiltered, DiffersFromLast}, Sorted.{IsPermutation, IsSorted}}, Ordering.{int_cmp, int_eq}}},
+  meaning.specs.{Column.{tabulate}, Reduce.{distinct}},
+  nullable_array.{specs.{Distincts.{present_values, then_value}, Folds.{folded}}, proofs.DistinctLaws.{values_folded}},
+}
 
 -- what is added to what is there already adds nothing
 or_twice : (a b : Bool) → (a || b) ≡ (a || (a || b))

@@ -1,11 +1,9 @@
 -- Rows that are pushed one after another.
-use Rattle.std.proofs.Common.{◌≡◌, ℕ, zero, suc, ◌+◌, ◌<◌, Bool, false, cond, List, [], ◌∷◌, ◌++◌, length, slice_get, slice_index_or, refl, sym, ap, ◌∙◌, arith, Option, Some, None, is_some, unwrap_or, inl, inr}
-use Rattle.std.proofs.lemmas.Bool.{cases_eq}
-use Rattle.std.proofs.Math.ListN.{get_or-append}
-use Rattle.std.proofs.Math.Seq.{get_or-append_seam}
-use Rattle.column_core.specs.Lanes.{option_at}
-use Rattle.column_core.specs.Rows.{flagged, AreWritten}
-use Rattle.nullable_array.specs.Pairs.{AreFlagged, AreValued}
+use Rattle.{
+  std.proofs.{Common.{◌≡◌, ℕ, zero, suc, ◌+◌, ◌<◌, Bool, false, cond, List, [], ◌∷◌, ◌++◌, length, slice_get, slice_index_or, refl, sym, ap, ◌∙◌, arith, Option, Some, None, is_some, unwrap_or, inl, inr}, lemmas.Bool.{cases_eq}, Math.{ListN.{get_or-append}, Seq.{get_or-append_seam}}},
+  column_core.specs.{Lanes.{option_at}, Rows.{flagged, AreWritten}},
+  nullable_array.specs.Pairs.{AreFlagged, AreValued},
+}
 
 -- what stands before a pushed item, and the pushed item
 get_before : {T : Type 0} (xs : List T) (x : T) (k : ℕ) → k < length xs → slice_get (xs ++ x ∷ []) k ≡ slice_get xs k

@@ -1,14 +1,10 @@
 -- Numbers that are counted by marks at their places.
-use Rattle.std.proofs.Common.{◌≡◌, ◌∙◌, sym, ap, subst, ℕ, ◌+◌, ◌≤◌, ℤ, Bool, true, false, cond, List, [], length, Option, arith}
-use Rattle.std.specs.Ordering.{int_eq}
-use Rattle.std.proofs.lemmas.Cmp.{int_eq_equiv}
-use Rattle.indexmap.specs.IndexSet.{insert_key}
-use Rattle.nullable_array.specs.Distincts.{AreMarked, IsMarkedMore, present_values}
-use Rattle.nullable_array.specs.Folds.{step_row, folded}
-use Rattle.nullable_array.proofs.FoldLaws.{folded_more}
-use Rattle.nullable_array.proofs.DistinctLaws.{each_value_once}
-use Rattle.meaning.specs.Column.{tabulate}
-use Rattle.meaning.specs.Reduce.{distinct}
+use Rattle.{
+  std.{proofs.{Common.{◌≡◌, ◌∙◌, sym, ap, subst, ℕ, ◌+◌, ◌≤◌, ℤ, Bool, true, false, cond, List, [], length, Option, arith}, lemmas.Cmp.{int_eq_equiv}}, specs.Ordering.{int_eq}},
+  indexmap.specs.IndexSet.{insert_key},
+  nullable_array.{specs.{Distincts.{AreMarked, IsMarkedMore, present_values}, Folds.{step_row, folded}}, proofs.{FoldLaws.{folded_more}, DistinctLaws.{each_value_once}}},
+  meaning.specs.{Column.{tabulate}, Reduce.{distinct}},
+}
 
 -- a row more
 pub marked_step : (least : ℤ) (marks marks' : List Bool) (row : ℕ → Option ℤ) (k count more : ℕ) (value : Option ℤ) (added : Bool)

@@ -1,21 +1,13 @@
 -- What is gathered at each row is the cumulation of the cells.
-use Rattle.std.proofs.Common.{◌≡◌, ℕ, zero, suc, ◌+◌, Bool, true, false, List, [], ◌∷◌, map, refl, sym, ap, ◌∙◌, arith, ℤ, pos, ◌+ℤ◌, Option, Some, None, is_some, unwrap_or, cond, Ok}
-use Rattle.std.specs.Int.{int_wrap, w64}
-use Rattle.std.specs.Ordering.{int_cmp}
-use Rattle.std.specs.List.{range_with_len}
-use Rattle.std.proofs.lemmas.List.FromFn.{map-range_with_len_more}
-use Rattle.cell_core.specs.declared.cell.Cell.{Cell}
-use Rattle.cell_core.specs.declared.cell.Kind.TheVariants.{Int64, Boolean}
-use Rattle.meaning.specs.Cell.{CellValue, na_cell, int_cell, datum}
-use Rattle.meaning.specs.Column.{tabulate}
-use Rattle.meaning.specs.Reduce.{reduction_cell, is_present, present, number_in}
+use Rattle.{
+  std.{proofs.{Common.{◌≡◌, ℕ, zero, suc, ◌+◌, Bool, true, false, List, [], ◌∷◌, map, refl, sym, ap, ◌∙◌, arith, ℤ, pos, ◌+ℤ◌, Option, Some, None, is_some, unwrap_or, cond, Ok}, lemmas.List.FromFn.{map-range_with_len_more}}, specs.{Int.{int_wrap, w64}, Ordering.{int_cmp}, List.{range_with_len}}},
+  cell_core.specs.declared.cell.{Cell.{Cell}, Kind.TheVariants.{Int64, Boolean}},
+  meaning.specs.{Cell.{CellValue, na_cell, int_cell, datum}, Column.{tabulate}, Reduce.{reduction_cell, is_present, number_in}, Cumulate.{running, unless_missing, cumulate_column}},
+  column_core.{specs.Columns.{column_value, column_with, number_cell, truth_cell}, proofs.CellRows.{map-map}},
+  nullable_array.{specs.Folds.{step_row, folded, sum_step, running_step, running_row, one_of_truth, least_step, greatest_step}, proofs.FoldLaws.{folded_more, folded_seen, least_seen, greatest_seen}},
+}
 use Rattle.meaning.specs.Reduce as reduction
-use Rattle.meaning.specs.Cumulate.{running, unless_missing, cumulate_column, cumulation_cell, cumulation_takes}
 use Rattle.meaning.specs.Cumulate as cumulation
-use Rattle.column_core.specs.Columns.{column_value, column_with, number_cell, truth_cell}
-use Rattle.nullable_array.specs.Folds.{step_row, folded, sum_step, running_step, running_row, one_of_truth, least_step, greatest_step}
-use Rattle.column_core.proofs.CellRows.{map-map}
-use Rattle.nullable_array.proofs.FoldLaws.{folded_more, folded_seen, least_seen, greatest_seen}
 
 module _ {T : Type 0} (texts : List (List ℕ)) (cell : Option T → Cell) (f : List CellValue → CellValue) (step : Option ℤ → T → Option ℤ) (row : ℕ → Option T) (missing : datum texts (cell None) ≡ na_cell)
     (there : (x : T) (y : CellValue) → unless_missing (datum texts (cell (Some x))) y ≡ y)

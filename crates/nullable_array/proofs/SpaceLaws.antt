@@ -1,8 +1,8 @@
 -- Laws of the spaces at the ends of a text.
-use Rattle.std.proofs.Common.{◌≡◌, ◌∙◌, ◌≤◌, Bool, true, false, cond, ◌==◌, [], ◌∷◌, length, reverse, refl, sym, ap, arith}
-use Rattle.std.proofs.lemmas.List.{length-reverse, reverse-reverse}
-use Rattle.meaning.specs.Text.{Text}
-use Rattle.meaning.specs.Cast.{after_spaces, without_spaces}
+use Rattle.{
+  std.proofs.{Common.{◌≡◌, ◌∙◌, ◌≤◌, Bool, true, false, cond, ◌==◌, [], ◌∷◌, length, reverse, refl, sym, ap, arith}, lemmas.List.{length-reverse, reverse-reverse}},
+  meaning.specs.{Text.{Text}, Cast.{after_spaces, without_spaces}},
+}
 
 no_longer : (t : Text) → length (after_spaces t) ≤ length t
 no_longer [] = omega arith

@@ -1,19 +1,10 @@
 -- Laws of the texts of rows.
-use Rattle.std.proofs.Common.{◌≡◌, ℕ, ◌+◌, ◌<◌, ◌≤◌, List, [], ◌++◌, length, take, slice_set, slice_index_or, refl, sym, ap, subst, ◌∙◌, arith, append_assoc, append-nil, Bool, Option, Some, None, option_map, is_some, unwrap_or, inl, inr}
-use Rattle.std.proofs.Math.ListN.{get_or-append}
-use Rattle.std.proofs.lemmas.Bool.{cases_eq}
-use Rattle.std.proofs.lemmas.List.{length-append, take_at}
-use Rattle.cell_core.specs.declared.cell.TextId.{TextId}
-use Rattle.meaning.specs.Cell.{CellValue, text_of, datum, AreGiven, IsLonger}
-use Rattle.column_core.specs.Lanes.{option_at}
-use Rattle.std.specs.List.{range_with_len}
-use Rattle.cell_core.specs.declared.cell.Kind.TheVariants.{Text as string}
-use Rattle.meaning.specs.Column.{tabulate}
-use Rattle.column_core.specs.Columns.{CellColumn, text_cell, text_value, column_value, column_with}
-use Rattle.column_core.proofs.ColumnLaws.{given-tabulate}
-use Rattle.column_core.proofs.CellRows.{map-map, range-same}
-use Rattle.column_core.specs.Rows.{IsTextRow, AreTexts}
-use Rattle.column_core.proofs.RowsMade.{option-set_same, option-set_other}
+use Rattle.{
+  std.{proofs.{Common.{◌≡◌, ℕ, ◌+◌, ◌<◌, ◌≤◌, List, [], ◌++◌, length, take, slice_set, slice_index_or, refl, sym, ap, subst, ◌∙◌, arith, append_assoc, append-nil, Bool, Option, Some, None, option_map, is_some, unwrap_or, inl, inr}, Math.ListN.{get_or-append}, lemmas.{Bool.{cases_eq}, List.{length-append, take_at}}}, specs.List.{range_with_len}},
+  cell_core.specs.declared.cell.{TextId.{TextId}, Kind.TheVariants.{Text as string}},
+  meaning.specs.{Cell.{CellValue, text_of, datum, AreGiven, IsLonger}, Column.{tabulate}},
+  column_core.{specs.{Lanes.{option_at}, Columns.{CellColumn, text_cell, text_value, column_value, column_with}, Rows.{IsTextRow, AreTexts}}, proofs.{ColumnLaws.{given-tabulate}, CellRows.{map-map, range-same}, RowsMade.{option-set_same, option-set_other}}},
+}
 
 -- no dictionary is longer than itself by nothing
 pub longer_self : (texts : List (List ℕ)) → IsLonger texts texts

@@ -1,15 +1,10 @@
 -- Truth values are told by two flags: whether one is True, and whether all are.
-use Rattle.std.proofs.Common.{◌≡◌, ℕ, Bool, true, false, not, ◌&&◌, ◌||◌, cond, List, [], ◌∷◌, ◌++◌, length, length-append, map, refl, sym, ap, subst, ◌∙◌, arith, Option, fold}
-use Rattle.std.specs.List.{list_any, range_with_len}
-use Rattle.std.specs.Cmp.{bool_eq_equiv}
-use Rattle.std.proofs.Math.Bool.{beq}
-use Rattle.std.proofs.lemmas.List.Folds.{list_any-append}
-use Rattle.indexmap.specs.IndexSet.{insert_key}
-use Rattle.meaning.specs.Column.{tabulate}
-use Rattle.meaning.specs.Reduce.{distinct}
-use Rattle.nullable_array.specs.Folds.{step_row}
-use Rattle.nullable_array.specs.Distincts.{present_values, truths_told, truths_of}
-use Rattle.nullable_array.proofs.DistinctLaws.{each_value_once, values_folded}
+use Rattle.{
+  std.{proofs.{Common.{◌≡◌, ℕ, Bool, true, false, not, ◌&&◌, ◌||◌, cond, List, [], ◌∷◌, ◌++◌, length, length-append, map, refl, sym, ap, subst, ◌∙◌, arith, Option, fold}, Math.Bool.{beq}, lemmas.List.Folds.{list_any-append}}, specs.{List.{list_any, range_with_len}, Cmp.{bool_eq_equiv}}},
+  indexmap.specs.IndexSet.{insert_key},
+  meaning.specs.{Column.{tabulate}, Reduce.{distinct}},
+  nullable_array.{specs.{Folds.{step_row}, Distincts.{present_values, truths_told, truths_of}}, proofs.DistinctLaws.{each_value_once, values_folded}},
+}
 
 -- the flags tell the truth values that were seen
 record AreTold (seen : List Bool) (some all : Bool) : Type 0 where

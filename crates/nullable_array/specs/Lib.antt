@@ -3,4 +3,3 @@ pub mod Casts
 pub mod Folds
 pub mod Distincts
 pub mod Pairs
-pub mod Marks

@@ -1,4 +1,4 @@
-//! Missing cells, casts, reductions and cumulations of columns of nullable cells.
+//! Casts, reductions and cumulations of columns of nullable cells.
 //!
 //! A [`Column`] and a [`ColRef`] are those of `column_core`; each call here makes a new column, a cell or a
 //! number of the cells that it is given, and its answer is a definition on these cells. Below them lie two loops for
@@ -9,7 +9,7 @@
 //! let mut price = Column::new(alloc, Kind::Int64);
 //! price.push(Cell::Int(7))?;
 //! price.push(Cell::Na)?;
-//! let known = fillna(alloc, price.as_ref(), Cell::Int(0))?;
+//! let so_far = cumulate(alloc, Cumulation::Sum, price.as_ref())?;
 //! let total = reduce(&dict, Reduction::Sum, price.as_ref())?;
 //! ```
 #![tactic(auto)]
@@ -19,9 +19,6 @@ mod cumulations;
 mod distinct_cells;
 mod extremes;
 mod folds;
-mod maps;
-mod membership;
-mod missing;
 mod ops;
 mod orders;
 mod pairs;
@@ -32,8 +29,6 @@ pub use casts::{cast, number_of_text, truth_of_text};
 pub use column_core::{Block, ColRef, Column, shift, take};
 pub use cumulations::cumulate;
 pub use distinct_cells::distinct;
-pub use membership::isin;
-pub use missing::{fillna, isna, notna};
 pub use ops::{ArrayFault, Cumulation, Reduction};
 pub use orders::{ByNumber, ByText, ByTruth, Order};
 pub use pairs::{PairOp, Side, by_sides};

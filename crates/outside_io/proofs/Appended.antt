@@ -1,8 +1,8 @@
 -- Bytes put at an end one piece after another.
-use Rattle.std.proofs.Common.{◌≡◌, ◌≢◌, ℕ, ◌+◌, ◌-◌, ◌<◌, List, [], ◌++◌, Option, Some, None, length, take, drop, refl, sym, ◌∙◌, ap, append_assoc, arith, length-drop}
-use Rattle.std.proofs.Math.Seq.{take-add}
-use Rattle.std.proofs.lemmas.List.{take_rest, append-nil}
-use Rattle.outside_io.specs.Sink.{appended}
+use Rattle.{
+  std.proofs.{Common.{◌≡◌, ◌≢◌, ℕ, ◌+◌, ◌-◌, ◌<◌, List, [], ◌++◌, Option, Some, None, length, take, drop, refl, sym, ◌∙◌, ap, append_assoc, arith, length-drop}, Math.Seq.{take-add}, lemmas.List.{take_rest, append-nil}},
+  outside_io.specs.Sink.{appended},
+}
 
 -- one piece after another is both at once
 pub appended-appended : (w : Option (List ℕ)) (a b : List ℕ) → appended (appended w a) b ≡ appended w (a ++ b)

@@ -1,11 +1,8 @@
 -- Held files: one of them, and other bytes for one of them.
-use Rattle.std.proofs.Common.{◌≡◌, ◌≢◌, ℕ, zero, suc, ◌+◌, ◌<◌, ◌≤◌, true, false, cond, nat_eq, List, [], ◌∷◌, ◌++◌, length, get_or, set, refl, ap, sym, ◌∙◌, arith}
-use Rattle.std.proofs.lemmas.Bool.{eqb-true, eq-eqb}
-use Rattle.std.specs.Global.{Vec}
-use Rattle.outside_io.specs.declared.shelf.HeldFile.{HeldFile}
-use Rattle.outside_io.specs.declared.shelf.Reading.{Reading}
-use Rattle.outside_io.specs.declared.shelf.Reading.TheVariants.{Nothing, Held, Replaced}
-use Rattle.outside_io.specs.Shelf.{bytes_at, with_bytes, reading_bytes, least_held, kept_reading}
+use Rattle.{
+  std.{proofs.{Common.{◌≡◌, ◌≢◌, ℕ, zero, suc, ◌+◌, ◌<◌, ◌≤◌, true, false, cond, nat_eq, List, [], ◌∷◌, ◌++◌, length, get_or, set, refl, ap, sym, ◌∙◌, arith}, lemmas.Bool.{eqb-true, eq-eqb}}, specs.Global.{Vec}},
+  outside_io.specs.{declared.shelf.{HeldFile.{HeldFile}, Reading.{Reading, TheVariants.{Nothing, Held, Replaced}}}, Shelf.{bytes_at, with_bytes, reading_bytes, least_held, kept_reading}},
+}
 
 pub bytes_at-get : (files : List HeldFile) (place : ℕ) (file : HeldFile) → place < length files → file ≡ get_or files place file → bytes_at files place ≡ file.bytes.items
 bytes_at-get [] place file lt is = absurd (omega arith)

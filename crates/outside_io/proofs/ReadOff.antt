@@ -1,9 +1,9 @@
 -- How far a fetched file was read, and what that says of the file that is held.
-use Rattle.std.proofs.Common.{◌≡◌, ◌<◌, ℕ, List, ◌++◌, length, Option, Some, None, IfSome, ◌∙◌, ap}
-use Rattle.meaning.specs.Text.{Text, Contents}
-use Rattle.outside_io.specs.declared.files.Fetch.TheVariants.{Fetched}
-use Rattle.outside_io.specs.Files.{Fetches}
-use Rattle.outside_io.specs.Whole.{IsWholeFile, IsLonger}
+use Rattle.{
+  std.proofs.Common.{◌≡◌, ◌<◌, ℕ, List, ◌++◌, length, Option, Some, None, IfSome, ◌∙◌, ap},
+  meaning.specs.Text.{Text, Contents},
+  outside_io.specs.{declared.files.Fetch.TheVariants.{Fetched}, Files.{Fetches}, Whole.{IsWholeFile, IsLonger}},
+}
 
 -- these bytes were read of the whole, and the rest is left
 abbrev pub IsReadOff : Option (List ℕ) → List ℕ → Option (List ℕ) → Type 0

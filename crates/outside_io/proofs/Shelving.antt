@@ -1,16 +1,10 @@
 -- A shelf after a path was given bytes: what it holds, and what is left of the file that is read.
-use Rattle.std.proofs.Common.{◌≡◌, ℕ, ◌+◌, ◌≤◌, List, [], ◌∷◌, ◌++◌, length, drop, Some, None, Result, Ok, Err, OnOk, OnErr, sym, subst, ◌∙◌, ap, arith, length-append}
-use Rattle.std.specs.Prelude.{position}
-use Rattle.std.specs.FinMap.{insert}
-use Rattle.std.specs.Global.{Vec}
-use Rattle.cell_core.specs.declared.memory.NoMemory.{NoMemory}
-use Rattle.meaning.specs.Text.{Text}
-use Rattle.outside_io.specs.declared.shelf.HeldFile.{HeldFile}
-use Rattle.outside_io.specs.declared.shelf.Reading.{Reading}
-use Rattle.outside_io.specs.declared.shelf.Reading.TheVariants.{Replaced}
-use Rattle.outside_io.specs.Shelf.{Shelved, map_of, is_under, bytes_at, with_bytes, reading_bytes, least_held, kept_reading}
-use Rattle.outside_io.proofs.Held.{length-with_bytes, reading_bytes-with_bytes, least_held-kept_reading, reading_bytes-push}
-use Rattle.outside_io.proofs.Under.{map_of-with_bytes, map_of-push}
+use Rattle.{
+  std.{proofs.Common.{◌≡◌, ℕ, ◌+◌, ◌≤◌, List, [], ◌∷◌, ◌++◌, length, drop, Some, None, Result, Ok, Err, OnOk, OnErr, sym, subst, ◌∙◌, ap, arith, length-append}, specs.{Prelude.{position}, FinMap.{insert}, Global.{Vec}}},
+  cell_core.specs.declared.memory.NoMemory.{NoMemory},
+  meaning.specs.Text.{Text},
+  outside_io.{specs.{declared.shelf.{HeldFile.{HeldFile}, Reading.{Reading, TheVariants.{Replaced}}}, Shelf.{Shelved, map_of, is_under, bytes_at, with_bytes, reading_bytes, least_held, kept_reading}}, proofs.{Held.{length-with_bytes, reading_bytes-with_bytes, least_held-kept_reading, reading_bytes-push}, Under.{map_of-with_bytes, map_of-push}}},
+}
 
 abbrev pub shelved : List HeldFile → Reading → ℕ → Shelved
 shelved files reads at = record { contents = map_of files; rest = drop at (reading_bytes files reads) }

@@ -1,17 +1,9 @@
 -- The first file under a path, and the map of held files.
-use Rattle.std.proofs.Common.{◌≡◌, ℕ, zero, suc, ◌+◌, ◌<◌, Bool, true, false, cond, nat_eq, List, [], ◌∷◌, ◌++◌, length, map, Option, Some, None, refl, sym, subst, ◌∙◌, ap, arith}
-use Rattle.std.proofs.lemmas.List.{map-append}
-use Rattle.std.proofs.lemmas.Cmp.{nat_list_cmp_total, eq_by_cmp_equiv}
-use Rattle.std.proofs.lemmas.Iterator.Adapters.{position_from-zero}
-use Rattle.std.specs.Prelude.{position}
-use Rattle.std.specs.List.{position_from}
-use Rattle.std.specs.Ordering.{nat_cmp, eq_by_cmp}
-use Rattle.std.specs.Cmp.Lexicographic.{slice_cmp, pointwise, bytes_decides, texts_ties}
-use Rattle.std.specs.FinMap.{find, get, insert, from_entries, get-from_entries, get-insert, same_map, from_entries_push, nat_cmp-IsAntisymmetric, slice_cmp-IsAntisymmetric}
-use Rattle.std.specs.Global.{Vec}
-use Rattle.meaning.specs.Text.{Text}
-use Rattle.outside_io.specs.declared.shelf.HeldFile.{HeldFile}
-use Rattle.outside_io.specs.Shelf.{entry_of, map_of, is_under, bytes_at, with_bytes}
+use Rattle.{
+  std.{proofs.{Common.{◌≡◌, ℕ, zero, suc, ◌+◌, ◌<◌, Bool, true, false, cond, nat_eq, List, [], ◌∷◌, ◌++◌, length, map, Option, Some, None, refl, sym, subst, ◌∙◌, ap, arith}, lemmas.{List.{map-append}, Cmp.{nat_list_cmp_total, eq_by_cmp_equiv}, Iterator.Adapters.{position_from-zero}}}, specs.{Prelude.{position}, List.{position_from}, Ordering.{nat_cmp, eq_by_cmp}, Cmp.Lexicographic.{slice_cmp, pointwise, bytes_decides, texts_ties}, FinMap.{find, get, insert, from_entries, get-from_entries, get-insert, same_map, from_entries_push, nat_cmp-IsAntisymmetric, slice_cmp-IsAntisymmetric}, Global.{Vec}}},
+  meaning.specs.Text.{Text},
+  outside_io.specs.{declared.shelf.HeldFile.{HeldFile}, Shelf.{entry_of, map_of, is_under, bytes_at, with_bytes}},
+}
 
 -- the order's test of two texts is the program's
 tie : (q path : Text) → eq_by_cmp (slice_cmp nat_cmp) q path ≡ pointwise nat_eq path q

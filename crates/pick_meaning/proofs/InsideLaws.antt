@@ -1,20 +1,8 @@
 -- What keys pick lies within the axis, and what a label, a slice and a mask pick is in order.
-use Rattle.std.proofs.Common.{◌≡◌, ◌∙◌, ap, subst, refl, arith, ℕ, zero, suc, ◌+◌, ◌-◌, ◌<◌, ◌≤◌, ◌==◌, Bool, true, false, not, ◌&&◌, List, [], ◌∷◌, ◌++◌, length, All, Option, Some, None, Result, Ok, Err, if◌then◌else◌}
-use Rattle.std.specs.Prelude.{slice_index}
-use Rattle.std.specs.Cmp.{IsTotalOrder}
-use Rattle.std.specs.Cmp.Lexicographic.{pointwise}
-use Rattle.std.specs.List.{range_with_len}
-use Rattle.std.specs.List.Sorted.{IsStrictlyIncreasing}
-use Rattle.std.specs.Ordering.{is_lt, is_eq, is_gt}
-use Rattle.std.specs.declared.cmp.Ordering.{Ordering}
-use Rattle.std.proofs.lemmas.List.Elements.{All-nil, All-cons, All-append, All-weaker, All-head}
-use Rattle.std.proofs.lemmas.List.FromFn.{length-range_with_len, get_or-range_with_len}
-use Rattle.pick_meaning.specs.Faults.{PickFault, then_pick}
-use Rattle.pick_meaning.specs.Rows.{rows_where, rows_between}
-use Rattle.pick_meaning.specs.Labels.{unless_none, rows_of_key, rows_of_keys}
-use Rattle.pick_meaning.specs.Slices.{is_in_order, reaches, stays_within, sorted_slice, one_row, row_of_bound, first_row, end_row, unsorted_slice, label_slice, unfound_slice, leading_slice, slice_on}
-use Rattle.pick_meaning.specs.Masks.{kept_rows, cell_of_label, kept_by_label, masked_rows}
-use Rattle.pick_meaning.proofs.OrderLaws.{below_too, lt_reversed}
+use Rattle.{
+  std.{proofs.{Common.{◌≡◌, ◌∙◌, ap, subst, refl, arith, ℕ, zero, suc, ◌+◌, ◌-◌, ◌<◌, ◌≤◌, ◌==◌, Bool, true, false, not, ◌&&◌, List, [], ◌∷◌, ◌++◌, length, All, Option, Some, None, Result, Ok, Err, if◌then◌else◌}, lemmas.List.{Elements.{All-nil, All-cons, All-append, All-weaker, All-head}, FromFn.{length-range_with_len, get_or-range_with_len}}}, specs.{Prelude.{slice_index}, Cmp.{IsTotalOrder, Lexicographic.{pointwise}}, List.{range_with_len, Sorted.{IsStrictlyIncreasing}}, Ordering.{is_lt, is_eq, is_gt}, declared.cmp.Ordering.{Ordering}}},
+  pick_meaning.{specs.{Faults.{PickFault, then_pick}, Rows.{rows_where, rows_between}, Labels.{unless_none, rows_of_key, rows_of_keys}, Slices.{is_in_order, reaches, stays_within, sorted_slice, one_row, row_of_bound, first_row, end_row, unsorted_slice, label_slice, unfound_slice, leading_slice, slice_on}, Masks.{kept_rows, cell_of_label, kept_by_label, masked_rows}}, proofs.OrderLaws.{below_too, lt_reversed}},
+}
 
 pub ok_same : {A E : Type 0} (a b : A) → ◌≡◌ {A = Result A E} (Ok a) (Ok b) → a ≡ b
 ok_same a b e = cc

@@ -1,20 +1,8 @@
 -- What a key of `loc` picks is the same where labels are seen otherwise, and lies within the axis.
-use Rattle.std.proofs.Common.{◌≡◌, ◌∙◌, ap, subst, refl, arith, ℕ, zero, suc, ◌<◌, ◌==◌, Bool, false, ◌&&◌, List, [], ◌∷◌, length, map, All, Ok, nat_lt, slice_index_or, if◌then◌else◌}
-use Rattle.std.specs.List.{range_with_len}
-use Rattle.std.specs.Ordering.{ordering_then}
-use Rattle.std.specs.declared.cmp.Ordering.{Ordering}
-use Rattle.std.proofs.lemmas.List.{length-map}
-use Rattle.std.proofs.lemmas.List.FromFn.{length-range_with_len, get_or-range_with_len}
-use Rattle.pick_meaning.specs.Faults.{then_pick, pick_seen}
-use Rattle.pick_meaning.specs.Leading.{leads, leading_cmp}
-use Rattle.pick_meaning.specs.Labels.{rows_of_key, rows_of_keys}
-use Rattle.pick_meaning.specs.Slices.{slice_on}
-use Rattle.pick_meaning.specs.Keys.{LabelKey, all_rows, one_key, each_key, between, key_seen, PlaceKey, one_place, each_place, place_slice, Pick, listed_pick, sliced_pick, single_pick, has_one, key_pick, picked_by_label, picked_by_place}
-use Rattle.pick_meaning.specs.Positions.{row_at, rows_at, step_or_one, position_slice}
-use Rattle.pick_meaning.specs.Rows.{rows_of}
-use Rattle.pick_meaning.proofs.SeenLaws.{then_seen, rows_of_key-map, rows_of_keys-map, slice_on-map}
-use Rattle.pick_meaning.proofs.InsideLaws.{went_on, ok_same, key_inside, keys_inside, slice_on_inside}
-use Rattle.pick_meaning.proofs.PositionLaws.{at_inside, rows_at_inside, slice_below, spaced_inside}
+use Rattle.{
+  std.{proofs.{Common.{◌≡◌, ◌∙◌, ap, subst, refl, arith, ℕ, zero, suc, ◌<◌, ◌==◌, Bool, false, ◌&&◌, List, [], ◌∷◌, length, map, All, Ok, nat_lt, slice_index_or, if◌then◌else◌}, lemmas.List.{length-map, FromFn.{length-range_with_len, get_or-range_with_len}}}, specs.{List.{range_with_len}, Ordering.{ordering_then}, declared.cmp.Ordering.{Ordering}}},
+  pick_meaning.{specs.{Faults.{then_pick, pick_seen}, Leading.{leads, leading_cmp}, Labels.{rows_of_key, rows_of_keys}, Slices.{slice_on}, Keys.{LabelKey, all_rows, one_key, each_key, between, key_seen, PlaceKey, one_place, each_place, place_slice, Pick, listed_pick, sliced_pick, single_pick, has_one, key_pick, picked_by_label, picked_by_place}, Positions.{row_at, rows_at, step_or_one, position_slice}, Rows.{rows_of}}, proofs.{SeenLaws.{then_seen, rows_of_key-map, rows_of_keys-map, slice_on-map}, InsideLaws.{went_on, ok_same, key_inside, keys_inside, slice_on_inside}, PositionLaws.{at_inside, rows_at_inside, slice_below, spaced_inside}}},
+}
 
 module _ {X Y : Type 0} (cmp' : Y → Y → Ordering) (cmp : X → X → Ordering) (f : X → Y) (alike : (x y : X) → cmp' (f x) (f y) ≡ cmp x y) where
   pub leading_cmp-map : (tuple bound : List X) → leading_cmp cmp' (map f tuple) (map f bound) ≡ leading_cmp cmp tuple bound

@@ -1,10 +1,8 @@
 -- How leading labels of tuples in order stand to a bound.
-use Rattle.std.proofs.Common.{◌≡◌, ◌∙◌, ap, sym, refl, true, false, List, [], ◌∷◌}
-use Rattle.std.specs.Cmp.{IsTotalOrder}
-use Rattle.std.specs.Ordering.{is_lt, is_gt, ordering_then, ordering_reverse}
-use Rattle.std.specs.declared.cmp.Ordering.{Ordering}
-use Rattle.std.specs.declared.cmp.Ordering.TheVariants.{Less, Equal, Greater}
-use Rattle.pick_meaning.specs.Leading.{leading_cmp}
+use Rattle.{
+  std.{proofs.Common.{◌≡◌, ◌∙◌, ap, sym, refl, true, false, List, [], ◌∷◌}, specs.{Cmp.{IsTotalOrder}, Ordering.{is_lt, is_gt, ordering_then, ordering_reverse}, declared.cmp.Ordering.{Ordering, TheVariants.{Less, Equal, Greater}}}},
+  pick_meaning.specs.Leading.{leading_cmp},
+}
 
 module _ {L : Type 0} {R : L → L → Ordering} (o : IsTotalOrder R) where
   -- a label that is less than one that isn't above a third is less than the third

@@ -1,13 +1,8 @@
 -- Lists in order.
-use Rattle.std.proofs.Common.{◌≡◌, ◌∙◌, ap, sym, refl, arith, ℕ, zero, suc, ◌+◌, ◌-◌, ◌<◌, ◌≤◌, Bool, true, false, not, ◌&&◌, List, [], ◌∷◌, length, drop, slice_index_or}
-use Rattle.std.specs.Cmp.{IsTotalOrder}
-use Rattle.std.specs.List.Sorted.{IsSortedBy}
-use Rattle.std.specs.Ordering.{is_lt, is_gt, ordering_reverse}
-use Rattle.std.specs.declared.cmp.Ordering.{Ordering}
-use Rattle.std.specs.declared.cmp.Ordering.TheVariants.{Less, Equal, Greater}
-use Rattle.std.proofs.lemmas.Cmp.{upto}
-use Rattle.std.proofs.lemmas.List.{drop_more, length-drop}
-use Rattle.pick_meaning.specs.Slices.{goes_on_in_order, is_in_order}
+use Rattle.{
+  std.{proofs.{Common.{◌≡◌, ◌∙◌, ap, sym, refl, arith, ℕ, zero, suc, ◌+◌, ◌-◌, ◌<◌, ◌≤◌, Bool, true, false, not, ◌&&◌, List, [], ◌∷◌, length, drop, slice_index_or}, lemmas.{Cmp.{upto}, List.{drop_more, length-drop}}}, specs.{Cmp.{IsTotalOrder}, List.Sorted.{IsSortedBy}, Ordering.{is_lt, is_gt, ordering_reverse}, declared.cmp.Ordering.{Ordering, TheVariants.{Less, Equal, Greater}}}},
+  pick_meaning.specs.Slices.{goes_on_in_order, is_in_order},
+}
 
 pub not_so : (b : Bool) → not b ≡ true → b ≡ false
 not_so true e = cc

@@ -1,20 +1,10 @@
 -- Slices by positions lie within the rows, and `::-1` taken twice is all rows in order.
-use Rattle.std.proofs.Common.{◌≡◌, ◌∙◌, ap, sym, subst, refl, arith, inl, inr, Bool, true, false, nat_lt, if◌then◌else◌, ℕ, zero, suc, ◌+◌, ◌-◌, ◌*◌, ◌/◌, ◌<◌, ◌≤◌, ℤ, pos, negsuc, List, [], ◌∷◌, map, length, All, Option, Some, None, Result, Ok, slice_index_or}
-use Rattle.std.specs.Int.{div_ceil}
-use Rattle.std.specs.List.{range_with_len}
-use Rattle.std.proofs.Math.Nat.{mul-le-mul_left}
-use Rattle.std.proofs.lemmas.Bool.{cases_lt}
-use Rattle.std.proofs.lemmas.Bool.Decides.{nat_tests}
-use Rattle.std.proofs.lemmas.List.{same_lists, length-map, get_or-map}
-use Rattle.std.proofs.lemmas.List.Elements.{All-nil, All-cons}
-use Rattle.std.proofs.lemmas.List.FromFn.{length-range_with_len, get_or-range_with_len, length-map-range_with_len, get_or-map-range_with_len}
-use Rattle.cell_core.specs.declared.grid.Rows.{Rows}
-use Rattle.cell_core.specs.Grids.{place_from, AreRowsBelow}
-use Rattle.meaning.specs.Place.{place_of}
-use Rattle.pick_meaning.specs.Faults.{PickFault, then_pick}
-use Rattle.pick_meaning.specs.Rows.{rows_of}
-use Rattle.pick_meaning.specs.Positions.{row_or_fault, row_at, rows_at, rows_before, rows_through, bound_or, forward, backward, slice_with_step}
-use Rattle.pick_meaning.proofs.InsideLaws.{went_on, ok_same}
+use Rattle.{
+  std.{proofs.{Common.{◌≡◌, ◌∙◌, ap, sym, subst, refl, arith, inl, inr, Bool, true, false, nat_lt, if◌then◌else◌, ℕ, zero, suc, ◌+◌, ◌-◌, ◌*◌, ◌/◌, ◌<◌, ◌≤◌, ℤ, pos, negsuc, List, [], ◌∷◌, map, length, All, Option, Some, None, Result, Ok, slice_index_or}, Math.Nat.{mul-le-mul_left}, lemmas.{Bool.{cases_lt, Decides.{nat_tests}}, List.{same_lists, length-map, get_or-map, Elements.{All-nil, All-cons}, FromFn.{length-range_with_len, get_or-range_with_len, length-map-range_with_len, get_or-map-range_with_len}}}}, specs.{Int.{div_ceil}, List.{range_with_len}}},
+  cell_core.specs.{declared.grid.Rows.{Rows}, Grids.{place_from, AreRowsBelow}},
+  meaning.specs.Place.{place_of},
+  pick_meaning.{specs.{Faults.{PickFault, then_pick}, Rows.{rows_of}, Positions.{row_or_fault, row_at, rows_at, rows_before, rows_through, bound_or, forward, backward, slice_with_step}}, proofs.InsideLaws.{went_on, ok_same}},
+}
 
 -- the rows that a step takes stand before the end
 pub taken_before : (rows distance row : ℕ) → 0 < distance → row < div_ceil rows distance → row * distance < rows

@@ -1,10 +1,8 @@
 -- Laws of lists of rows.
-use Rattle.std.proofs.Common.{◌≡◌, ◌∙◌, ap, sym, refl, arith, ℕ, zero, suc, ◌+◌, ◌-◌, ◌<◌, ◌≤◌, Bool, true, false, List, [], ◌∷◌, ◌++◌, length, take, map, slice_index_or, All, Ok, Err, if◌then◌else◌}
-use Rattle.std.specs.List.{range_with_len}
-use Rattle.std.proofs.lemmas.List.{take_more, length-take-le, append-nil, map-id}
-use Rattle.pick_meaning.specs.Faults.{not_there}
-use Rattle.pick_meaning.specs.Rows.{rows_where, are_some}
-use Rattle.pick_meaning.specs.Labels.{unless_none}
+use Rattle.{
+  std.{proofs.{Common.{◌≡◌, ◌∙◌, ap, sym, refl, arith, ℕ, zero, suc, ◌+◌, ◌-◌, ◌<◌, ◌≤◌, Bool, true, false, List, [], ◌∷◌, ◌++◌, length, take, map, slice_index_or, All, Ok, Err, if◌then◌else◌}, lemmas.List.{take_more, length-take-le, append-nil, map-id}}, specs.List.{range_with_len}},
+  pick_meaning.specs.{Faults.{not_there}, Rows.{rows_where, are_some}, Labels.{unless_none}},
+}
 
 -- a test that is known
 pub when_so : {A : Type 0} (b : Bool) (x y : A) → b ≡ true → (if b then x else y) ≡ x

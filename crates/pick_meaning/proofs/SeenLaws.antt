@@ -1,18 +1,8 @@
 -- Keys pick the same rows where labels are seen otherwise: with their texts, or as tuples of one label.
-use Rattle.std.proofs.Common.{◌≡◌, ◌∙◌, ap, refl, arith, ℕ, suc, ◌+◌, ◌==◌, Bool, true, false, not, ◌&&◌, List, [], ◌∷◌, ◌++◌, map, All, Option, Some, None, Result, Ok, Err, if◌then◌else◌}
-use Rattle.std.specs.Option.{option_map}
-use Rattle.std.specs.Ordering.{is_lt, is_eq, is_gt, ordering_then}
-use Rattle.std.specs.declared.cmp.Ordering.{Ordering}
-use Rattle.std.specs.declared.cmp.Ordering.TheVariants.{Less, Equal, Greater}
-use Rattle.std.specs.Cmp.Lexicographic.{pointwise}
-use Rattle.std.proofs.lemmas.List.{length-map}
-use Rattle.pick_meaning.specs.Faults.{PickFault, then_pick, pick_seen}
-use Rattle.pick_meaning.specs.Rows.{rows_where, rows_between, only_row}
-use Rattle.pick_meaning.specs.Leading.{leads, leading_cmp}
-use Rattle.pick_meaning.specs.Labels.{unless_none, rows_of_key, rows_of_keys}
-use Rattle.pick_meaning.specs.Slices.{goes_on_in_order, is_in_order, reaches, stays_within, sorted_slice, one_row, row_of_bound, first_row, end_row, unsorted_slice, label_slice, unfound_slice, leading_slice, slice_on}
-use Rattle.pick_meaning.specs.Masks.{cell_or_fault, cell_of_label, kept_by_label, kept_rows, masked_rows}
-use Rattle.pick_meaning.proofs.RowLaws.{rows_where-map}
+use Rattle.{
+  std.{proofs.{Common.{◌≡◌, ◌∙◌, ap, refl, arith, ℕ, suc, ◌+◌, ◌==◌, Bool, true, false, not, ◌&&◌, List, [], ◌∷◌, ◌++◌, map, All, Option, Some, None, Result, Ok, Err, if◌then◌else◌}, lemmas.List.{length-map}}, specs.{Option.{option_map}, Ordering.{is_lt, is_eq, is_gt, ordering_then}, declared.cmp.Ordering.{Ordering, TheVariants.{Less, Equal, Greater}}, Cmp.Lexicographic.{pointwise}}},
+  pick_meaning.{specs.{Faults.{PickFault, then_pick, pick_seen}, Rows.{rows_where, rows_between, only_row}, Leading.{leads, leading_cmp}, Labels.{unless_none, rows_of_key, rows_of_keys}, Slices.{goes_on_in_order, is_in_order, reaches, stays_within, sorted_slice, one_row, row_of_bound, first_row, end_row, unsorted_slice, label_slice, unfound_slice, leading_slice, slice_on}, Masks.{cell_or_fault, cell_of_label, kept_by_label, kept_rows, masked_rows}}, proofs.RowLaws.{rows_where-map}},
+}
 
 -- steps that are seen otherwise
 pub then_seen : {A B K J : Type 0} (f : K → J) (r : Result A (PickFault K)) (go : A → Result B (PickFault K)) (go' : A → Result B (PickFault J)) → ((a : A) → go' a ≡ pick_seen f (go a))

@@ -1,13 +1,10 @@
 -- The distinct keys, seen one after another.
-use Rattle.std.proofs.Common.{◌≡◌, ◌+◌, Bool, true, false, not, ◌&&◌, ◌||◌, cond, ℕ, zero, suc, List, [], ◌∷◌, ◌++◌, map, refl, ap, sym, ◌∙◌, append_assoc, length, slice_get, slice_index_or, arith, unwrap_or, nat_lt, Option, Some, None, ◌≤◌}
-use Rattle.std.proofs.lemmas.List.{map-append}
-use Rattle.std.specs.List.{filter, list_any, position_or_len, position, prefix_len}
-use Rattle.std.specs.Cmp.{IsEquivalence}
-use Rattle.std.proofs.lemmas.List.Folds.{list_any-append}
-use Rattle.std.proofs.lemmas.Bool.{false≢true, ltb-false}
-use Rattle.indexmap.specs.IndexSet.{insert_key}
-use Rattle.meaning.specs.Reduce.{distinct}
-use Rattle.row_keys.specs.Keys.{place_among}
+use Rattle.{
+  std.{proofs.{Common.{◌≡◌, ◌+◌, Bool, true, false, not, ◌&&◌, ◌||◌, cond, ℕ, zero, suc, List, [], ◌∷◌, ◌++◌, map, refl, ap, sym, ◌∙◌, append_assoc, length, slice_get, slice_index_or, arith, unwrap_or, nat_lt, Option, Some, None, ◌≤◌}, lemmas.{List.{map-append, Folds.{list_any-append}}, Bool.{false≢true, ltb-false}}}, specs.{List.{filter, list_any, position_or_len, position, prefix_len}, Cmp.{IsEquivalence}}},
+  indexmap.specs.IndexSet.{insert_key},
+  meaning.specs.Reduce.{distinct},
+  row_keys.specs.Keys.{place_among},
+}
 
 filter-filter : {X : Type 0} (p q : X → Bool) (xs : List X) → filter p (filter q xs) ≡ filter (λ x. q x && p x) xs
 filter-filter p q [] = refl

@@ -1,16 +1,10 @@
 -- Keys of two sides, numbered together, have the same partners as their codes.
-use Rattle.std.proofs.Common.{◌≡◌, ◌+◌, ◌==◌, Bool, true, cond, ℕ, List, [], ◌∷◌, ◌++◌, ◌<◌, length, take, drop, slice_index_or, map, refl, ap, sym, ◌∙◌, arith}
-use Rattle.std.specs.List.{list_any, All}
-use Rattle.std.specs.Cmp.{IsEquivalence}
-use Rattle.std.proofs.lemmas.List.{map-append, length-map}
-use Rattle.std.proofs.lemmas.List.FromFn.{get_or-map-range_with_len}
-use Rattle.std.proofs.lemmas.List.Elements.{All-nil, All-cons, All-head, All-tail, All-map}
-use Rattle.meaning.specs.Reduce.{distinct}
-use Rattle.row_keys.specs.Keys.{place_among, codes_of}
-use Rattle.pick_meaning.specs.Rows.{rows_where}
-use Rattle.row_keys.proofs.KeyLaws.{place_tells, all_known, position_in}
-use Rattle.row_keys.proofs.RecodeLaws.{place_there}
-use Rattle.row_keys.specs.Buckets.{rows_of_code, buckets_of}
+use Rattle.{
+  std.{proofs.{Common.{◌≡◌, ◌+◌, ◌==◌, Bool, true, cond, ℕ, List, [], ◌∷◌, ◌++◌, ◌<◌, length, take, drop, slice_index_or, map, refl, ap, sym, ◌∙◌, arith}, lemmas.List.{map-append, length-map, FromFn.{get_or-map-range_with_len}, Elements.{All-nil, All-cons, All-head, All-tail, All-map}}}, specs.{List.{list_any, All}, Cmp.{IsEquivalence}}},
+  meaning.specs.Reduce.{distinct},
+  row_keys.{specs.{Keys.{place_among, codes_of}, Buckets.{rows_of_code, buckets_of}}, proofs.{KeyLaws.{place_tells, all_known, position_in}, RecodeLaws.{place_there}}},
+  pick_meaning.specs.Rows.{rows_where},
+}
 
 all_right : {X : Type 0} (P : X → Type 0) (xs ys : List X) → All P (xs ++ ys) → All P ys
 all_right P [] ys all = all

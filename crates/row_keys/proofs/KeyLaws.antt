@@ -1,11 +1,9 @@
 -- A key's place among the distinct keys tells the key.
-use Rattle.std.proofs.Common.{◌≡◌, ◌<◌, ◌+◌, ◌==◌, ◌||◌, Bool, true, false, not, cond, ℕ, zero, suc, List, [], ◌∷◌, refl, sym, ap, ◌∙◌, length, slice_index_or, arith}
-use Rattle.std.specs.List.{position_or_len, list_any, filter, All}
-use Rattle.std.specs.Cmp.{IsEquivalence}
-use Rattle.std.proofs.lemmas.Bool.{false≢true, eq-eqb, eqb-true}
-use Rattle.std.proofs.lemmas.List.Sums.{passes_at_first}
-use Rattle.meaning.specs.Reduce.{distinct}
-use Rattle.row_keys.specs.Keys.{place_among}
+use Rattle.{
+  std.{proofs.{Common.{◌≡◌, ◌<◌, ◌+◌, ◌==◌, ◌||◌, Bool, true, false, not, cond, ℕ, zero, suc, List, [], ◌∷◌, refl, sym, ap, ◌∙◌, length, slice_index_or, arith}, lemmas.{Bool.{false≢true, eq-eqb, eqb-true}, List.Sums.{passes_at_first}}}, specs.{List.{position_or_len, list_any, filter, All}, Cmp.{IsEquivalence}}},
+  meaning.specs.Reduce.{distinct},
+  row_keys.specs.Keys.{place_among},
+}
 
 position_same : {K : Type 0} (p q : K → Bool) → ((y : K) → p y ≡ q y) → (xs : List K) → position_or_len p xs ≡ position_or_len q xs
 position_same p q same [] = refl

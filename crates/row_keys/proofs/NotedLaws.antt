@@ -1,17 +1,10 @@
 -- What a walk over rows has noted of their keys.
-use Rattle.std.proofs.Common.{◌≡◌, ◌+◌, ◌<◌, ◌≤◌, Bool, true, false, not, cond, ℕ, List, [], ◌∷◌, ◌++◌, map, take, drop, length, slice_index_or, nat_eq, refl, ap, sym, ◌∙◌, arith}
-use Rattle.std.specs.Prelude.{slice_index}
-use Rattle.std.specs.Cmp.{IsEquivalence, nat_eq_equiv}
-use Rattle.std.specs.List.{list_any, position_or_len}
-use Rattle.std.proofs.lemmas.Bool.{eq-eqb, ne_eqb}
-use Rattle.std.proofs.lemmas.List.{append-nil, take_more, drop_more, map-append, take-append-drop, length-take, length-map, get_or-take, get_or-map, get_or_default, take_all, drop_all}
-use Rattle.std.proofs.lemmas.List.Folds.{list_any_none}
-use Rattle.indexmap.specs.IndexSet.{insert_key}
-use Rattle.meaning.specs.Reduce.{distinct}
-use Rattle.row_keys.specs.Keys.{place_among, codes_of, first_rows}
-use Rattle.row_keys.specs.Numbers.{LeadBack}
-use Rattle.row_keys.proofs.DistinctLaws.{unseen, unseen-nil, Covers, seen_more, place_kept, place_first, place_new, covers_more, firsts_more}
-use Rattle.row_keys.proofs.KeyLaws.{any_at}
+use Rattle.{
+  std.{proofs.{Common.{◌≡◌, ◌+◌, ◌<◌, ◌≤◌, Bool, true, false, not, cond, ℕ, List, [], ◌∷◌, ◌++◌, map, take, drop, length, slice_index_or, nat_eq, refl, ap, sym, ◌∙◌, arith}, lemmas.{Bool.{eq-eqb, ne_eqb}, List.{append-nil, take_more, drop_more, map-append, take-append-drop, length-take, length-map, get_or-take, get_or-map, get_or_default, take_all, drop_all, Folds.{list_any_none}}}}, specs.{Prelude.{slice_index}, Cmp.{IsEquivalence, nat_eq_equiv}, List.{list_any, position_or_len}}},
+  indexmap.specs.IndexSet.{insert_key},
+  meaning.specs.Reduce.{distinct},
+  row_keys.{specs.{Keys.{place_among, codes_of, first_rows}, Numbers.{LeadBack}}, proofs.{DistinctLaws.{unseen, unseen-nil, Covers, seen_more, place_kept, place_first, place_new, covers_more, firsts_more}, KeyLaws.{any_at}}},
+}
 
 -- the keys so far, with what the other rows add, are all; each row so far has its code, and each key so far its first row
 pub record Noted {K : Type 0} (eq : K → K → Bool) (keys : List K) (row : ℕ) (seen : List K) (codes firsts : List ℕ) : Type 0 where

@@ -1,18 +1,10 @@
 -- Numbers of labels packed with the numbers beside them.
-use Rattle.std.proofs.Common.{◌≡◌, ◌<◌, ◌≤◌, ◌+◌, ◌*◌, ◌==◌, ◌&&◌, true, false, ℕ, List, [], ◌∷◌, ◌++◌, map, take, max, refl, sym, ap, subst, ◌∙◌, length, slice_index_or, arith, All}
-use Rattle.std.specs.Prelude.{slice_index}
-use Rattle.std.specs.List.{range_with_len}
-use Rattle.std.proofs.Math.Nat.{mul-le-mul_right}
-use Rattle.std.proofs.lemmas.Nat.{same_from_place}
-use Rattle.std.proofs.lemmas.Bool.{eq-eqb, eqb-true, eqb-false, ne_eqb}
-use Rattle.std.proofs.lemmas.List.{length-map, get_or-map, take_more}
-use Rattle.std.proofs.lemmas.List.Elements.{All-map, All-push}
-use Rattle.std.proofs.lemmas.List.FromFn.{length-map-range_with_len, get_or-map-range_with_len, get_or-range_with_len, length-range_with_len}
-use Rattle.cell_core.specs.declared.cell.Label.{Label}
-use Rattle.cell_core.specs.declared.cell.Label.TheVariants.{Na}
-use Rattle.index_core.specs.Labels.{same_number}
-use Rattle.row_keys.specs.Keys.{same_pair}
-use Rattle.row_keys.specs.Numbers.{StandFor}
+use Rattle.{
+  std.{proofs.{Common.{◌≡◌, ◌<◌, ◌≤◌, ◌+◌, ◌*◌, ◌==◌, ◌&&◌, true, false, ℕ, List, [], ◌∷◌, ◌++◌, map, take, max, refl, sym, ap, subst, ◌∙◌, length, slice_index_or, arith, All}, Math.Nat.{mul-le-mul_right}, lemmas.{Nat.{same_from_place}, Bool.{eq-eqb, eqb-true, eqb-false, ne_eqb}, List.{length-map, get_or-map, take_more, Elements.{All-map, All-push}, FromFn.{length-map-range_with_len, get_or-map-range_with_len, get_or-range_with_len, length-range_with_len}}}}, specs.{Prelude.{slice_index}, List.{range_with_len}}},
+  cell_core.specs.declared.cell.Label.{Label, TheVariants.{Na}},
+  index_core.specs.Labels.{same_number},
+  row_keys.specs.{Keys.{same_pair}, Numbers.{StandFor}},
+}
 
 -- two packed numbers are equal exactly where both parts are
 pub packed_tell : (s a b c d : ℕ) → b < s → d < s → ((a == c) && (b == d)) ≡ (a * s + b == c * s + d)

@@ -1,19 +1,11 @@
 -- The codes of two sides that are numbered together, and the partners of a key by its code.
-use Rattle.std.proofs.Common.{◌≡◌, ◌∙◌, ◌<◌, ◌++◌, ℕ, List, [], map, take, drop, length, ap, sym, subst, slice_index_or, All}
-use Rattle.std.specs.Cmp.{IsEquivalence}
-use Rattle.std.specs.Cmp.Lexicographic.{lists_equiv}
-use Rattle.std.proofs.lemmas.List.{length-map}
-use Rattle.std.proofs.lemmas.List.FromFn.{length-map-range_with_len}
-use Rattle.std.proofs.lemmas.Simd.{map-map}
-use Rattle.cell_core.specs.declared.cell.Label.{Label}
-use Rattle.cell_core.specs.contracts.cell.LabelEq.TheImpl.Laws.{laws-law}
-use Rattle.meaning.specs.Reduce.{distinct}
-use Rattle.multi_index.proofs.LevelLaws.{maps_alike}
-use Rattle.row_keys.specs.Keys.{same_tuple, place_among, codes_of, first_rows}
-use Rattle.row_keys.specs.Buckets.{rows_of_code, buckets_of}
-use Rattle.row_keys.specs.Partners.{rows_with, rows_coded, AreCodesBelow}
-use Rattle.row_keys.proofs.KeyLaws.{position_in}
-use Rattle.row_keys.proofs.JoinLaws.{rank, count, IsKnown, left_codes, right_codes, left_known, right_known, codes_below, bucket_of_key}
+use Rattle.{
+  std.{proofs.{Common.{◌≡◌, ◌∙◌, ◌<◌, ◌++◌, ℕ, List, [], map, take, drop, length, ap, sym, subst, slice_index_or, All}, lemmas.{List.{length-map, FromFn.{length-map-range_with_len}}, Simd.{map-map}}}, specs.Cmp.{IsEquivalence, Lexicographic.{lists_equiv}}},
+  cell_core.specs.{declared.cell.Label.{Label}, contracts.cell.LabelEq.TheImpl.Laws.{laws-law}},
+  meaning.specs.Reduce.{distinct},
+  multi_index.proofs.LevelLaws.{maps_alike},
+  row_keys.{specs.{Keys.{same_tuple, place_among, codes_of, first_rows}, Buckets.{rows_of_code, buckets_of}, Partners.{rows_with, rows_coded, AreCodesBelow}}, proofs.{KeyLaws.{position_in}, JoinLaws.{rank, count, IsKnown, left_codes, right_codes, left_known, right_known, codes_below, bucket_of_key}}},
+}
 
 pub tuple_laws : IsEquivalence same_tuple
 tuple_laws = lists_equiv laws-law

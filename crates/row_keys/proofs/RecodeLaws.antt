@@ -1,16 +1,10 @@
 -- Codes depend on which rows are equal alone.
-use Rattle.std.proofs.Common.{◌≡◌, ◌+◌, ◌&&◌, ◌<◌, Bool, true, false, not, cond, ℕ, zero, suc, List, [], ◌∷◌, map, drop, refl, sym, ap, subst, ◌∙◌, length, slice_index_or, nat_eq, arith}
-use Rattle.std.specs.Bool.{Decides}
-use Rattle.std.proofs.lemmas.List.{get_or-map, length-map, drop_more, drop_all, map-id}
-use Rattle.std.proofs.lemmas.List.Sums.{passes_at_first, position_or_len_is}
-use Rattle.pick_meaning.proofs.OrderLaws.{not_so}
-use Rattle.std.specs.List.{position_or_len, list_any, filter, All, zip}
-use Rattle.std.specs.Cmp.{IsEquivalence}
-use Rattle.std.specs.Cmp.Lexicographic.{pointwise, lists_equiv}
-use Rattle.std.proofs.lemmas.List.Elements.{All-cons, All-nil, All-head, All-tail, All-filter, All-map}
-use Rattle.meaning.specs.Reduce.{distinct}
-use Rattle.row_keys.specs.Keys.{place_among, codes_of, first_rows, same_pair}
-use Rattle.row_keys.proofs.KeyLaws.{place_tells, all_known, position_in, any_at}
+use Rattle.{
+  std.{proofs.{Common.{◌≡◌, ◌+◌, ◌&&◌, ◌<◌, Bool, true, false, not, cond, ℕ, zero, suc, List, [], ◌∷◌, map, drop, refl, sym, ap, subst, ◌∙◌, length, slice_index_or, nat_eq, arith}, lemmas.List.{get_or-map, length-map, drop_more, drop_all, map-id, Sums.{passes_at_first, position_or_len_is}, Elements.{All-cons, All-nil, All-head, All-tail, All-filter, All-map}}}, specs.{Bool.{Decides}, List.{position_or_len, list_any, filter, All, zip}, Cmp.{IsEquivalence, Lexicographic.{pointwise, lists_equiv}}}},
+  pick_meaning.proofs.OrderLaws.{not_so},
+  meaning.specs.Reduce.{distinct},
+  row_keys.{specs.Keys.{place_among, codes_of, first_rows, same_pair}, proofs.KeyLaws.{place_tells, all_known, position_in, any_at}},
+}
 
 -- on elements that pass P
 module _ {Z : Type 0} (P : Z → Type 0) where

@@ -1,11 +1,8 @@
 -- Numbers that stand for keys are numbered as the keys are.
-use Rattle.std.proofs.Common.{◌≡◌, ◌+◌, ◌<◌, Bool, ℕ, List, [], ◌∷◌, ◌++◌, map, refl, sym, ap, subst, ◌∙◌, length, slice_index_or, nat_eq, arith}
-use Rattle.std.specs.Prelude.{slice_index}
-use Rattle.std.specs.List.{range_with_len, All}
-use Rattle.std.proofs.lemmas.List.FromFn.{fill_by_all, get_or-range_with_len, length-range_with_len, map-range_with_len_more}
-use Rattle.row_keys.specs.Keys.{codes_of, first_rows}
-use Rattle.row_keys.specs.Numbers.{StandFor}
-use Rattle.row_keys.proofs.RecodeLaws.{AreNumbers, renumbered}
+use Rattle.{
+  std.{proofs.{Common.{◌≡◌, ◌+◌, ◌<◌, Bool, ℕ, List, [], ◌∷◌, ◌++◌, map, refl, sym, ap, subst, ◌∙◌, length, slice_index_or, nat_eq, arith}, lemmas.List.FromFn.{fill_by_all, get_or-range_with_len, length-range_with_len, map-range_with_len_more}}, specs.{Prelude.{slice_index}, List.{range_with_len, All}}},
+  row_keys.{specs.{Keys.{codes_of, first_rows}, Numbers.{StandFor}}, proofs.RecodeLaws.{AreNumbers, renumbered}},
+}
 
 rows_within : (n : ℕ) → All (λ i. i < n) (range_with_len 0 n)
 rows_within n k d lt =

@@ -1,19 +1,11 @@
 -- Labels of one class have equal numbers exactly where they are equal.
-use Rattle.std.proofs.Common.{◌≡◌, ◌<◌, ◌≤◌, ◌+◌, ◌==◌, ◌^◌, Bool, true, false, cond, ℕ, ℤ, pos, Option, Some, None, List, [], ◌∷◌, ◌++◌, map, take, refl, sym, ap, subst, ◌∙◌, length, slice_index_or, nat_lt, arith, All}
-use Rattle.std.specs.Prelude.{slice_index, ◌+ℤ◌, ◌-ℤ◌, ◌≤ℤ◌}
-use Rattle.std.specs.Int.RustNames.{unsigned_abs}
-use Rattle.std.specs.Ordering.{int_eq}
-use Rattle.std.proofs.lemmas.Bool.{ne_eqb}
-use Rattle.std.proofs.lemmas.Int.{ints}
-use Rattle.std.proofs.lemmas.List.{length-map, get_or-map, map-append, take_more, take_all}
-use Rattle.std.proofs.lemmas.List.Elements.{All-map, All-push}
-use Rattle.cell_core.specs.declared.cell.Label.{Label}
+use Rattle.{
+  std.{proofs.{Common.{◌≡◌, ◌<◌, ◌≤◌, ◌+◌, ◌==◌, ◌^◌, Bool, true, false, cond, ℕ, ℤ, pos, Option, Some, None, List, [], ◌∷◌, ◌++◌, map, take, refl, sym, ap, subst, ◌∙◌, length, slice_index_or, nat_lt, arith, All}, lemmas.{Bool.{ne_eqb}, Int.{ints}, List.{length-map, get_or-map, map-append, take_more, take_all, Elements.{All-map, All-push}}}}, specs.{Prelude.{slice_index, ◌+ℤ◌, ◌-ℤ◌, ◌≤ℤ◌}, Int.RustNames.{unsigned_abs}, Ordering.{int_eq}}},
+  cell_core.specs.declared.cell.Label.{Label},
+  index_core.specs.Labels.{same_number},
+  row_keys.specs.{Numbers.{StandFor}, Values.{truth_value, text_value, value_in, IsBetween, IsSpanned, number_from, number_in}, declared.values.Class.{Class, TheVariants.{Truths, Whole, Texts}}},
+}
 use Rattle.cell_core.specs.declared.cell.Label.TheVariants as label
-use Rattle.index_core.specs.Labels.{same_number}
-use Rattle.row_keys.specs.Numbers.{StandFor}
-use Rattle.row_keys.specs.Values.{truth_value, text_value, value_in, IsBetween, IsSpanned, number_from, number_in}
-use Rattle.row_keys.specs.declared.values.Class.{Class}
-use Rattle.row_keys.specs.declared.values.Class.TheVariants.{Truths, Whole, Texts}
 
 further : (a b : ℤ) → a ≤ℤ b → b ≡ a +ℤ pos (unsigned_abs (b -ℤ a))
 further a b le = grind (arith, ints)

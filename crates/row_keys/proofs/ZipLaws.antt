@@ -1,9 +1,8 @@
 -- Two lists side by side.
-use Rattle.std.proofs.Common.{◌≡◌, ◌<◌, ◌+◌, ℕ, zero, suc, List, [], ◌∷◌, ◌++◌, map, take, length, refl, ap, sym, ◌∙◌, slice_index_or, slice_get, Some, unwrap_or, min, arith}
-use Rattle.std.specs.List.{zip, All}
-use Rattle.std.proofs.lemmas.List.{get_or-map, length-map, take_more, map-append}
-use Rattle.row_keys.proofs.DistinctLaws.{get_is}
-use Rattle.std.proofs.lemmas.List.Elements.{All-cons, All-nil, All-head, All-tail}
+use Rattle.{
+  std.{proofs.{Common.{◌≡◌, ◌<◌, ◌+◌, ℕ, zero, suc, List, [], ◌∷◌, ◌++◌, map, take, length, refl, ap, sym, ◌∙◌, slice_index_or, slice_get, Some, unwrap_or, min, arith}, lemmas.List.{get_or-map, length-map, take_more, map-append, Elements.{All-cons, All-nil, All-head, All-tail}}}, specs.List.{zip, All}},
+  row_keys.proofs.DistinctLaws.{get_is},
+}
 
 module _ {A B : Type 0} where
   pub length_zip : (a : List A) (b : List B) → length (zip a b) ≡ min (length a) (length b)

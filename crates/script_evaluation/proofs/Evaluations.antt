@@ -1,33 +1,17 @@
 -- Evaluations one after the other.
-use Rattle.std.proofs.Common.{◌≡◌, Bool, true, List, Option, Some, None, refl, sym, ◌∙◌, ap, subst}
-use Rattle.std.specs.Prelude.{Result, Ok, Err, IfOk, IfErr, IsErrAnd}
-use Rattle.meaning.specs.Text.{Text}
-use Rattle.cell_core.specs.declared.code.Code.TheVariants.{NotBuilt}
-use Rattle.meaning.specs.Fault.{FaultValue, not_built}
-use Rattle.table_meaning.specs.Value.{Entry}
-use Rattle.frame_store.specs.declared.arguments.Value.{Value}
-use Rattle.frame_store.specs.declared.fault.OpFault.{OpFault}
-use Rattle.script_meaning.specs.Reading.{Files, Reads, at_once, gives, then_read}
-use Rattle.script_meaning.specs.State.{State}
-use Rattle.script_meaning.specs.Expression.{named_by, value_of, value_of_name, where_named}
-use Rattle.script_tree.specs.declared.tree.Expr.{Expr}
-use Rattle.script_tree.specs.View.{expr_of}
-use Rattle.script_work.specs.Bindings.{value_at, IsOf}
-use Rattle.script_evaluation.specs.Evaluates.{Moment, IsValue, Evaluates}
-use Rattle.script_work.specs.Faults.{IsNoAttribute, IsNoName, evaluated}
-use Rattle.fault_laws.specs.FormFault.{HasFormFault}
-use Rattle.outside_io.specs.Files.{FilesValue}
-use Rattle.script_work.specs.Reads.{Halts, files_in}
-use Rattle.frame_store.specs.World.{World, Keeps, IsKnownValue, entry_in, Forms}
-use Rattle.script_work.specs.Work.{names_in, world_of, state_in}
-use Rattle.script_work.specs.declared.file_names.FileName.{FileName}
-use Rattle.script_work.specs.declared.fault.EvalFault.{EvalFault}
-use Rattle.script_work.specs.declared.fault.EvalFault.TheVariants.{Refused, NoMemory}
-use Rattle.script_work.specs.declared.work.Work.{Work}
-use Rattle.script_work.proofs.Naming.{form_unnamed}
-use Rattle.script_work.proofs.Rides.{serves_self, serves_both, goes_same, goes_to, goes_value, spends_none, halts_first, reaches_by, reaches_both, form_reads, evaluated_if, unknown_fault, name_reads, made_reads}
-use Rattle.script_work.proofs.States.{state_kept}
-use Rattle.script_work.proofs.Worlds.{keeps_both, keeps_same, form_keeps, form_known}
+use Rattle.{
+  std.{proofs.Common.{◌≡◌, Bool, true, List, Option, Some, None, refl, sym, ◌∙◌, ap, subst}, specs.Prelude.{Result, Ok, Err, IfOk, IfErr, IsErrAnd}},
+  meaning.specs.{Text.{Text}, Fault.{FaultValue, not_built}},
+  cell_core.specs.declared.code.Code.TheVariants.{NotBuilt},
+  table_meaning.specs.Value.{Entry},
+  frame_store.specs.{declared.{arguments.Value.{Value}, fault.OpFault.{OpFault}}, World.{World, Keeps, IsKnownValue, entry_in, Forms}},
+  script_meaning.specs.{Reading.{Files, Reads, at_once, gives, then_read}, State.{State}, Expression.{named_by, value_of, value_of_name, where_named}},
+  script_tree.specs.{declared.tree.Expr.{Expr}, View.{expr_of}},
+  script_work.{specs.{Bindings.{value_at, IsOf}, Faults.{IsNoAttribute, IsNoName, evaluated}, Reads.{Halts, files_in}, Work.{names_in, world_of, state_in}, declared.{file_names.FileName.{FileName}, fault.EvalFault.{EvalFault, TheVariants.{Refused, NoMemory}}, work.Work.{Work}}}, proofs.{Naming.{form_unnamed}, Rides.{serves_self, serves_both, goes_same, goes_to, goes_value, spends_none, halts_first, reaches_by, reaches_both, form_reads, evaluated_if, unknown_fault, name_reads, made_reads}, States.{state_kept}, Worlds.{keeps_both, keeps_same, form_keeps, form_known}}},
+  script_evaluation.specs.Evaluates.{Moment, IsValue, Evaluates},
+  fault_laws.specs.FormFault.{HasFormFault},
+  outside_io.specs.Files.{FilesValue},
+}
 
 -- the names, the objects and the files as they were
 abbrev pub moment_of : Work → FilesValue → Moment

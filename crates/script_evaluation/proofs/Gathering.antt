@@ -1,21 +1,13 @@
 -- Lists whose parts are evaluated one after the other.
-use Rattle.std.proofs.Common.{◌≡◌, List, sym, ◌∙◌, ap, subst}
-use Rattle.std.specs.Prelude.{Result, Ok, Err, IsErrAnd}
-use Rattle.meaning.specs.Text.{Contents}
-use Rattle.script_meaning.specs.Reading.{Files, Reads, gives}
-use Rattle.script_meaning.specs.State.{State}
-use Rattle.script_evaluation.specs.Evaluates.{Moment, Evaluates}
-use Rattle.outside_io.specs.Files.{Serves}
-use Rattle.script_work.specs.Reads.{Goes, Halts, files_in}
-use Rattle.frame_store.specs.World.{World, Keeps}
-use Rattle.script_work.specs.Work.{names_in, world_of, state_in}
-use Rattle.script_work.specs.declared.file_names.FileName.{FileName}
-use Rattle.script_work.specs.declared.fault.EvalFault.{EvalFault}
-use Rattle.script_work.specs.declared.fault.EvalFault.TheVariants.{NoMemory}
-use Rattle.script_work.specs.declared.work.Work.{Work}
-use Rattle.script_work.proofs.Rides.{serves_both, goes_by, goes_to, ahead, joined, loop_next, loop_fault, loop_end, loop_spends}
-use Rattle.script_work.proofs.States.{state_kept}
-use Rattle.script_work.proofs.Worlds.{keeps_both}
+use Rattle.{
+  std.{proofs.Common.{◌≡◌, List, sym, ◌∙◌, ap, subst}, specs.Prelude.{Result, Ok, Err, IsErrAnd}},
+  meaning.specs.Text.{Contents},
+  script_meaning.specs.{Reading.{Files, Reads, gives}, State.{State}},
+  script_evaluation.specs.Evaluates.{Moment, Evaluates},
+  outside_io.specs.Files.{Serves},
+  script_work.{specs.{Reads.{Goes, Halts, files_in}, Work.{names_in, world_of, state_in}, declared.{file_names.FileName.{FileName}, fault.EvalFault.{EvalFault, TheVariants.{NoMemory}}, work.Work.{Work}}}, proofs.{Rides.{serves_both, goes_by, goes_to, ahead, joined, loop_next, loop_fault, loop_end, loop_spends}, States.{state_kept}, Worlds.{keeps_both}}},
+  frame_store.specs.World.{World, Keeps},
+}
 
 -- the parts so far are joined to what the rest gives
 pub record Gathers {L : Type 0} (paths : List FileName) (join : L → L → L) (whole rest : Files → State → Reads L) (so_far : L) (old new : Moment) : Type 0 where

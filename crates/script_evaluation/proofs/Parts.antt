@@ -1,24 +1,15 @@
 -- Lists of parts, pairs and arguments that grow by one.
-use Rattle.std.proofs.Common.{◌≡◌, List, [], ◌∷◌, ◌++◌, refl, sym, ◌∙◌, ap, append_assoc, subst}
 use mathlib.Core.Former.{Count}
-use Rattle.cell_core.specs.declared.cell.Label.{Label}
-use Rattle.meaning.specs.Text.{Text}
-use Rattle.meaning.specs.Cell.{label_datum}
-use Rattle.table_meaning.specs.Settled.{IsSettled}
+use Rattle.{
+  std.proofs.Common.{◌≡◌, List, [], ◌∷◌, ◌++◌, refl, sym, ◌∙◌, ap, append_assoc, subst},
+  cell_core.specs.declared.cell.Label.{Label},
+  meaning.specs.{Text.{Text}, Cell.{label_datum}},
+  table_meaning.specs.{Settled.{IsSettled}, Value.{GivenList, GivenPairs, NamedGiven, no_given, more_given, no_entries, more_entries}},
+  frame_store.{specs.{Objects.{Tables}, Arguments.{item_of, items_of, argument_of, entries_of, named_of, arguments_of, IsLiveItem, IsLiveRow, AreLiveItems, IsLiveArgument, AreLiveEntries, AreLivePairs, AreLive}, declared.arguments.{Argument.{Argument, Table, Table', Row_of-Entries-pairs-2, end_of-Entries-pairs-2, more_of-Entries-pairs-2, items-the_row-Entries-pairs-2, items_hidden-the_row-Entries-pairs-2-0}, Item.{Item, One as OneItem, Row, Row', Row_of-Item, end_of-Item, more_of-Item, items-the_row-Item, items_hidden-the_row-Item-0}, Items.{Items}, Entries.{Entries}, Named.{Named}, Value.{Value}}, World.{World, IsKnownValue, IsKnownItem, AreKnownItems, IsKnownArgument, AreKnownPairs, AreKnownArguments, IsKnownSubscript}}, proofs.RowLaws.{item_of-Row, argument_of-Table}},
+}
 use Rattle.table_meaning.specs.Value as value
-use Rattle.table_meaning.specs.Value.{GivenList, GivenPairs, NamedGiven, no_given, more_given, no_entries, more_entries}
-use Rattle.frame_store.specs.Objects.{Tables}
-use Rattle.frame_store.specs.Arguments.{item_of, items_of, argument_of, entries_of, named_of, arguments_of, IsLiveItem, IsLiveRow, AreLiveItems, IsLiveArgument, AreLiveEntries, AreLivePairs, AreLive}
-use Rattle.frame_store.specs.declared.arguments.Argument.{Argument, Table, Table', Row_of-Entries-pairs-2, end_of-Entries-pairs-2, more_of-Entries-pairs-2, items-the_row-Entries-pairs-2, items_hidden-the_row-Entries-pairs-2-0}
 use Rattle.frame_store.specs.declared.arguments.Argument.TheVariants as argument
-use Rattle.frame_store.specs.declared.arguments.Item.{Item, One as OneItem, Row, Row', Row_of-Item, end_of-Item, more_of-Item, items-the_row-Item, items_hidden-the_row-Item-0}
-use Rattle.frame_store.specs.declared.arguments.Items.{Items}
-use Rattle.frame_store.specs.declared.arguments.Entries.{Entries}
-use Rattle.frame_store.specs.declared.arguments.Named.{Named}
 use Rattle.frame_store.specs.declared.arguments.Subscript.TheVariants as subscript
-use Rattle.frame_store.specs.declared.arguments.Value.{Value}
-use Rattle.frame_store.proofs.RowLaws.{item_of-Row, argument_of-Table}
-use Rattle.frame_store.specs.World.{World, IsKnownValue, IsKnownItem, AreKnownItems, IsKnownArgument, AreKnownPairs, AreKnownArguments, IsKnownSubscript}
 
 -- parts behind parts
 abbrev pub join_parts : GivenList → GivenList → GivenList

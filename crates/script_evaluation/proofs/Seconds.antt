@@ -1,21 +1,13 @@
 -- Parts that may be left out, where they stand.
-use Rattle.std.proofs.Common.{List, Option, Some, refl}
-use Rattle.std.specs.Prelude.{Ok, Err, option_map, IfSome}
-use Rattle.meaning.specs.Text.{Text}
-use Rattle.table_meaning.specs.Value.{Entry, GivenSub, one}
-use Rattle.frame_store.specs.declared.arguments.Argument.TheVariants.{One}
-use Rattle.frame_store.specs.declared.arguments.Subscript.{Subscript}
-use Rattle.frame_store.specs.declared.arguments.Value.{Value}
-use Rattle.script_meaning.specs.Reading.{Files, Reads, gives, then_read}
-use Rattle.script_meaning.specs.State.{State}
-use Rattle.script_evaluation.specs.Evaluates.{Moment, IsValue, Evaluates, argument_in, subscript_in}
-use Rattle.frame_store.specs.World.{World, IsKnownArgument, IsKnownSubscript, entry_in}
-use Rattle.script_work.specs.Work.{world_of}
-use Rattle.script_work.specs.declared.file_names.FileName.{FileName}
-use Rattle.script_work.specs.declared.fault.EvalFault.{EvalFault}
-use Rattle.script_work.specs.declared.work.Work.{Work}
-use Rattle.script_evaluation.proofs.Evaluations.{stops, makes}
-use Rattle.script_evaluation.proofs.Parts.{argument_known}
+use Rattle.{
+  std.{proofs.Common.{List, Option, Some, refl}, specs.Prelude.{Ok, Err, option_map, IfSome}},
+  meaning.specs.Text.{Text},
+  table_meaning.specs.Value.{Entry, GivenSub, one},
+  frame_store.specs.{declared.arguments.{Argument.TheVariants.{One}, Subscript.{Subscript}, Value.{Value}}, World.{World, IsKnownArgument, IsKnownSubscript, entry_in}},
+  script_meaning.specs.{Reading.{Files, Reads, gives, then_read}, State.{State}},
+  script_evaluation.{specs.Evaluates.{Moment, IsValue, Evaluates, argument_in, subscript_in}, proofs.{Evaluations.{stops, makes}, Parts.{argument_known}}},
+  script_work.specs.{Work.{world_of}, declared.{file_names.FileName.{FileName}, fault.EvalFault.{EvalFault}, work.Work.{Work}}},
+}
 
 abbrev is_second : Work → Option Subscript → Type 0
 is_second w s = IfSome s (IsKnownSubscript (world_of w))

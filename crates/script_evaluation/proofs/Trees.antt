@@ -1,17 +1,14 @@
 -- Trees, as their parts.
-use Rattle.std.proofs.Common.{◌≡◌, ℕ, zero, suc, ◌+◌, ◌≤◌, length, List, [], ◌∷◌, drop, slice_get, Option, Some, None, refl, ◌∙◌, ap, arith}
-use Rattle.meaning.specs.Text.{Text}
+use Rattle.{
+  std.proofs.Common.{◌≡◌, ℕ, zero, suc, ◌+◌, ◌≤◌, length, List, [], ◌∷◌, drop, slice_get, Option, Some, None, refl, ◌∙◌, ap, arith},
+  meaning.specs.Text.{Text},
+  language_meaning.specs.{Tree.{arg_list, named_args, arg_pairs}, Depth.{arg_depth, list_depth, args_depth, pairs_depth}},
+  script_tree.specs.{declared.{literal.Accessor.{Accessor}, tree.{Sub.{Sub}, Arg.{Arg}, Expr.{Expr}}}, View.{step_of, sub_of, accessor_of, optional_arg}},
+  script_evaluation.specs.Parts.{optional_sub, optional_expr},
+}
 use Rattle.language_meaning.specs.Tree as tree
-use Rattle.language_meaning.specs.Tree.{arg_list, named_args, arg_pairs}
-use Rattle.language_meaning.specs.Depth.{arg_depth, list_depth, args_depth, pairs_depth}
-use Rattle.script_tree.specs.declared.literal.Accessor.{Accessor}
-use Rattle.script_tree.specs.declared.tree.Sub.{Sub}
 use Rattle.script_tree.specs.declared.tree.Sub.TheVariants as sub
 use Rattle.script_tree.specs.declared.tree.Step.TheVariants as step
-use Rattle.script_tree.specs.declared.tree.Arg.{Arg}
-use Rattle.script_tree.specs.declared.tree.Expr.{Expr}
-use Rattle.script_tree.specs.View.{step_of, sub_of, accessor_of, optional_arg}
-use Rattle.script_evaluation.specs.Parts.{optional_sub, optional_expr}
 
 pub step_of-Access : (by : Accessor) (first : Sub) (second : Option Sub) → step_of (step.Access by first second) ≡ tree.access (accessor_of by) (sub_of first) (optional_sub second)
 step_of-Access by first None = refl

@@ -1,27 +1,15 @@
 -- What a run means by the file that its path holds.
-use Rattle.std.proofs.Common.{◌≡◌, ◌≤◌, ◌<◌, ℕ, List, [], ◌∷◌, length, Option, Some, None, refl, sym, ◌∙◌, subst, arith, codes, inl, inr, ◌⊎◌}
-use Rattle.std.specs.Prelude.{IfSome}
-use Rattle.std.specs.FinMap.{get}
-use Rattle.outside_io.specs.Count.{HasRisen}
-use Rattle.outside_io.specs.Sink.{appended, AppendsFront}
-use Rattle.outside_io.proofs.Appended.{appended-nil}
-use Rattle.meaning.specs.Text.{Text, Contents}
-use Rattle.language_meaning.specs.Tree.{Statement}
-use Rattle.language_meaning.specs.Script.{most_bytes}
-use Rattle.script_meaning.specs.Reading.{Files}
-use Rattle.script_meaning.specs.State.{no_names}
-use Rattle.script_meaning.specs.Run.{RunResult, RunWords, IsScriptResult, IsFileResult, IsWordsResult, after_step, fetched, statements_result, with_line, too_large_line, syntax_line, not_found_line, syntax, usage}
-use Rattle.script_syntax.specs.Parsed.{IsTheScript, IsTheSyntaxLine}
-use Rattle.script_work.specs.Reads.{count_after}
-use Rattle.script_steps.specs.Ends.{Outside, Ends, EndsByMeaning, EndsWithLine, Is}
-use Rattle.script_run.specs.OneResult.{IsOne}
-use Rattle.script_steps.specs.Steps.{Does}
-use Rattle.script_steps.proofs.StepLaws.{does_one}
-use Rattle.script_steps.proofs.RunLaws.{early_none, ends_after, ends_other, unread_first}
-use Rattle.script_steps.proofs.Options.{some-weaker}
-use Rattle.script_run.proofs.OneResult.{file_one}
-use Rattle.script_steps.specs.declared.status.Status.{Status}
-use Rattle.script_steps.specs.declared.status.Status.TheVariants.{Done, Fault, Usage, Syntax, Input, Output, Memory}
+use Rattle.{
+  std.{proofs.Common.{◌≡◌, ◌≤◌, ◌<◌, ℕ, List, [], ◌∷◌, length, Option, Some, None, refl, sym, ◌∙◌, subst, arith, codes, inl, inr, ◌⊎◌}, specs.{Prelude.{IfSome}, FinMap.{get}}},
+  outside_io.{specs.{Count.{HasRisen}, Sink.{appended, AppendsFront}}, proofs.Appended.{appended-nil}},
+  meaning.specs.Text.{Text, Contents},
+  language_meaning.specs.{Tree.{Statement}, Script.{most_bytes}},
+  script_meaning.specs.{Reading.{Files}, State.{no_names}, Run.{RunResult, RunWords, IsScriptResult, IsFileResult, IsWordsResult, after_step, fetched, statements_result, with_line, too_large_line, syntax_line, not_found_line, syntax, usage}},
+  script_syntax.specs.Parsed.{IsTheScript, IsTheSyntaxLine},
+  script_work.specs.Reads.{count_after},
+  script_steps.{specs.{Ends.{Outside, Ends, EndsByMeaning, EndsWithLine, Is}, Steps.{Does}, declared.status.Status.{Status, TheVariants.{Done, Fault, Usage, Syntax, Input, Output, Memory}}}, proofs.{StepLaws.{does_one}, RunLaws.{early_none, ends_after, ends_other, unread_first}, Options.{some-weaker}}},
+  script_run.{specs.OneResult.{IsOne}, proofs.OneResult.{file_one}},
+}
 
 module _ (files : Files) (status : Status) (old new : Outside) where
   -- the bytes are one script, whose statements were run

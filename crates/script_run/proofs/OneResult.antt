@@ -1,14 +1,12 @@
 -- A run has exactly one result.
-use Rattle.std.proofs.Common.{◌≡◌, ◌≤◌, ◌<◌, ◌⊎◌, ℕ, zero, suc, List, length, Option, Some, None, refl, ◌∙◌, ap, arith, inl, inr}
-use Rattle.std.specs.FinMap.{get}
-use Rattle.meaning.specs.Text.{Text, Contents}
-use Rattle.language_meaning.specs.Script.{most_bytes}
-use Rattle.script_syntax.specs.OneReading.{HasOneReading}
-use Rattle.script_syntax.proofs.OneReading.{one_reading}
-use Rattle.script_meaning.specs.Reading.{Files}
-use Rattle.script_meaning.specs.State.{no_names}
-use Rattle.script_meaning.specs.Run.{RunResult, RunWords, IsScriptResult, IsFileResult, IsWordsResult, run_in, statements_result, after_step, fetched, with_line, syntax_line, too_large_line, not_found_line, usage_line, syntax, usage}
-use Rattle.script_run.specs.OneResult.{IsOne, HasOneResult}
+use Rattle.{
+  std.{proofs.Common.{◌≡◌, ◌≤◌, ◌<◌, ◌⊎◌, ℕ, zero, suc, List, length, Option, Some, None, refl, ◌∙◌, ap, arith, inl, inr}, specs.FinMap.{get}},
+  meaning.specs.Text.{Text, Contents},
+  language_meaning.specs.Script.{most_bytes},
+  script_syntax.{specs.OneReading.{HasOneReading}, proofs.OneReading.{one_reading}},
+  script_meaning.specs.{Reading.{Files}, State.{no_names}, Run.{RunResult, RunWords, IsScriptResult, IsFileResult, IsWordsResult, run_in, statements_result, after_step, fetched, with_line, syntax_line, too_large_line, not_found_line, usage_line, syntax, usage}},
+  script_run.specs.OneResult.{IsOne, HasOneResult},
+}
 
 few_or_more : (n m : ℕ) → (n < m) ⊎ (m ≤ n)
 few_or_more n zero = inr (omega arith)

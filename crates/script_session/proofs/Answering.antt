@@ -1,44 +1,16 @@
 -- What statements answer.
-use Rattle.std.proofs.Common.{◌≡◌, ℕ, Bool, true, false, nat_eq, List, [], ◌∷◌, Option, Some, None, refl, sym, ◌∙◌, ap, subst, IsSome}
-use Rattle.std.specs.Prelude.{if◌then◌else◌, ◌||◌, option_map, Result, Ok, Err, OnErr}
-use Rattle.meaning.specs.Text.{Text, same_text}
-use Rattle.meaning.specs.Cell.{datum}
-use Rattle.meaning.specs.Fault.{FaultValue}
-use Rattle.meaning.specs.FaultOf.{fault_of}
-use Rattle.table_meaning.specs.Settled.{IsSettled}
-use Rattle.table_meaning.specs.Table.{Table, table_value}
+use Rattle.{
+  std.{proofs.Common.{◌≡◌, ℕ, Bool, true, false, nat_eq, List, [], ◌∷◌, Option, Some, None, refl, sym, ◌∙◌, ap, subst, IsSome}, specs.Prelude.{if◌then◌else◌, ◌||◌, option_map, Result, Ok, Err, OnErr}},
+  meaning.specs.{Text.{Text, same_text}, Cell.{datum}, Fault.{FaultValue}, FaultOf.{fault_of}},
+  table_meaning.specs.{Settled.{IsSettled}, Table.{Table, table_value}, Value.{Entry}},
+  frame_store.{specs.{Shown.{Shown, table_in}, declared.{object.ObjId.{ObjId}, arguments.Value.{Value, TheVariants.{Object, Scalar}}, fault.OpFault.{OpFault, TheVariants.{Refused as OpRefused, NoMemory as OpNoMemory}}}, World.{World, objects_of, entry_in, Keeps, Sets}}, proofs.Settling.{seen_later}},
+  script_meaning.specs.{State.{State}, Reading.{Files, Reading, at_once}, Expression.{value_of_name}, Statement.{Answer, done, refused, then_answer, set_answer, is_chained}},
+  script_session.specs.{declared.fault.{Outcome.{Outcome}, StepFault.{StepFault, TheVariants.{Refused, Input, NoMemory}}}, Faults.{IsStepFault, Performs, PerformsOnce, step_fault, marked_fault}},
+  script_work.{specs.{declared.{fault.EvalFault.{EvalFault, TheVariants.{Refused as EvalRefused, Input as EvalInput, NoMemory as EvalNoMemory}}, work.Work.{Work}}, Reads.{Goes, Halts, absent_name}, Work.{names_in, world_of, state_in}, Bindings.{Bindings, value_at, is_named, one_object, state_over, IsOf, KeepNamed, AreGiven, AreNamed}, Faults.{IsNoName}}, proofs.{Numbers.{nat_same, nat_eq_self, true_false, same_congr}, Bindings.{named_object}, States.{same_state, state_kept, state_swept}, Worlds.{entry_seen, some_shown}, Rides.{goes_same, goes_to, halts_first, then_gives, uncaused, fault_uncaused, unnamed_fault, goes_spends, spends_none}}},
+  fault_laws.specs.FormFault.{HasFormFault},
+  outside_io.specs.Files.{FilesValue},
+}
 use Rattle.table_meaning.specs.Value as value
-use Rattle.table_meaning.specs.Value.{Entry}
-use Rattle.frame_store.specs.Shown.{Shown, table_in}
-use Rattle.frame_store.specs.declared.object.ObjId.{ObjId}
-use Rattle.frame_store.specs.declared.arguments.Value.{Value}
-use Rattle.frame_store.specs.declared.arguments.Value.TheVariants.{Object, Scalar}
-use Rattle.frame_store.specs.declared.fault.OpFault.{OpFault}
-use Rattle.frame_store.specs.declared.fault.OpFault.TheVariants.{Refused as OpRefused, NoMemory as OpNoMemory}
-use Rattle.frame_store.proofs.Settling.{seen_later}
-use Rattle.script_meaning.specs.State.{State}
-use Rattle.script_meaning.specs.Reading.{Files, Reading, at_once}
-use Rattle.script_meaning.specs.Expression.{value_of_name}
-use Rattle.script_meaning.specs.Statement.{Answer, done, refused, then_answer, set_answer, is_chained}
-use Rattle.script_session.specs.declared.fault.Outcome.{Outcome}
-use Rattle.script_session.specs.declared.fault.StepFault.{StepFault}
-use Rattle.script_session.specs.declared.fault.StepFault.TheVariants.{Refused, Input, NoMemory}
-use Rattle.script_work.specs.declared.fault.EvalFault.{EvalFault}
-use Rattle.script_work.specs.declared.fault.EvalFault.TheVariants.{Refused as EvalRefused, Input as EvalInput, NoMemory as EvalNoMemory}
-use Rattle.fault_laws.specs.FormFault.{HasFormFault}
-use Rattle.outside_io.specs.Files.{FilesValue}
-use Rattle.script_work.specs.Reads.{Goes, Halts, absent_name}
-use Rattle.frame_store.specs.World.{World, objects_of, entry_in, Keeps, Sets}
-use Rattle.script_work.specs.declared.work.Work.{Work}
-use Rattle.script_work.specs.Work.{names_in, world_of, state_in}
-use Rattle.script_work.specs.Bindings.{Bindings, value_at, is_named, one_object, state_over, IsOf, KeepNamed, AreGiven, AreNamed}
-use Rattle.script_work.specs.Faults.{IsNoName}
-use Rattle.script_session.specs.Faults.{IsStepFault, Performs, PerformsOnce, step_fault, marked_fault}
-use Rattle.script_work.proofs.Numbers.{nat_same, nat_eq_self, true_false, same_congr}
-use Rattle.script_work.proofs.Bindings.{named_object}
-use Rattle.script_work.proofs.States.{same_state, state_kept, state_swept}
-use Rattle.script_work.proofs.Worlds.{entry_seen, some_shown}
-use Rattle.script_work.proofs.Rides.{goes_same, goes_to, halts_first, then_gives, uncaused, fault_uncaused, unnamed_fault, goes_spends, spends_none}
 
 -- a fault of an expression is the statement's
 abbrev pub refusal : FaultValue → Answer

@@ -1,16 +1,12 @@
 -- A setting and a removal change one object alone.
-use Rattle.std.proofs.Common.{◌≡◌, Bool, Option, Some, None, refl, ◌∙◌, ap, subst}
-use Rattle.std.specs.Prelude.{if◌then◌else◌, ◌||◌, Result, Ok, Err, OnOk}
-use Rattle.meaning.specs.Text.{Text}
-use Rattle.meaning.specs.Fault.{FaultValue}
+use Rattle.{
+  std.{proofs.Common.{◌≡◌, Bool, Option, Some, None, refl, ◌∙◌, ap, subst}, specs.Prelude.{if◌then◌else◌, ◌||◌, Result, Ok, Err, OnOk}},
+  meaning.specs.{Text.{Text}, Fault.{FaultValue}},
+  table_meaning.specs.{Table.{Table}, Value.{table}},
+  script_meaning.specs.{State.{State}, Statement.{Answer, done, refused, with_set, set_answer, is_chained}},
+  script_session.specs.{declared.fault.{Outcome.{Outcome}, StepFault.{StepFault}}, Apart.{IsSetApart, ChangesOneObject}},
+}
 use Rattle.language_meaning.specs.Tree as tree
-use Rattle.table_meaning.specs.Table.{Table}
-use Rattle.table_meaning.specs.Value.{table}
-use Rattle.script_meaning.specs.State.{State}
-use Rattle.script_meaning.specs.Statement.{Answer, done, refused, with_set, set_answer, is_chained}
-use Rattle.script_session.specs.declared.fault.Outcome.{Outcome}
-use Rattle.script_session.specs.declared.fault.StepFault.{StepFault}
-use Rattle.script_session.specs.Apart.{IsSetApart, ChangesOneObject}
 
 with_set-apart : (s : State) (o : Option Text) (t : Table) → IsSetApart o s (with_set s o t)
 with_set-apart s None t = refl

@@ -1,22 +1,14 @@
 -- What a run leaves on the errors.
-use Rattle.std.proofs.Common.{◌≡◌, ◌≢◌, ◌≤◌, ℕ, Bool, true, false, List, [], ◌∷◌, ◌++◌, Option, refl, sym, ◌∙◌, ap, subst, append_assoc, arith, codes, inl, inr, ◌⊎◌}
-use Rattle.std.proofs.lemmas.List.{append-nil}
-use Rattle.cell_core.specs.declared.code.Code.{Code}
+use Rattle.{
+  std.proofs.{Common.{◌≡◌, ◌≢◌, ◌≤◌, ℕ, Bool, true, false, List, [], ◌∷◌, ◌++◌, Option, refl, sym, ◌∙◌, ap, subst, append_assoc, arith, codes, inl, inr, ◌⊎◌}, lemmas.List.{append-nil}},
+  cell_core.specs.declared.code.Code.{Code},
+  outside_io.{specs.{Count.{HasRisen}, Files.{FilesValue}, Sink.{appended, AppendsFront}}, proofs.Appended.{appended-appended, appended-nil}},
+  meaning.specs.{Text.{Text}, Fault.{FaultValue}, FaultOf.{fault_of}, FaultText.{fault_text}},
+  script_meaning.specs.Run.{warning_line, line_about},
+  script_work.specs.Reads.{IsCaused, absent_name},
+  script_steps.specs.{Errors.{warning_lines, Warns, IsOfGivenFiles, Fails, SaysUnread, StatementsLeave, RunLeaves}, Ends.{EndsWithLine}, declared.status.Status.{Status, TheVariants.{Done, Fault, Usage, Syntax, Input, Output, Memory}}},
+}
 use Rattle.cell_core.specs.declared.code.Code.TheVariants as code
-use Rattle.outside_io.specs.Count.{HasRisen}
-use Rattle.outside_io.specs.Files.{FilesValue}
-use Rattle.outside_io.specs.Sink.{appended, AppendsFront}
-use Rattle.outside_io.proofs.Appended.{appended-appended, appended-nil}
-use Rattle.meaning.specs.Text.{Text}
-use Rattle.meaning.specs.Fault.{FaultValue}
-use Rattle.meaning.specs.FaultOf.{fault_of}
-use Rattle.meaning.specs.FaultText.{fault_text}
-use Rattle.script_meaning.specs.Run.{warning_line, line_about}
-use Rattle.script_work.specs.Reads.{IsCaused, absent_name}
-use Rattle.script_steps.specs.Errors.{warning_lines, Warns, IsOfGivenFiles, Fails, SaysUnread, StatementsLeave, RunLeaves}
-use Rattle.script_steps.specs.Ends.{EndsWithLine}
-use Rattle.script_steps.specs.declared.status.Status.{Status}
-use Rattle.script_steps.specs.declared.status.Status.TheVariants.{Done, Fault, Usage, Syntax, Input, Output, Memory}
 
 pub warns_same : (old new : Option (List ℕ)) → new ≡ old → Warns old new
 warns_same old new same = record { warned = []; errors = same ∙ sym (appended-nil old) }

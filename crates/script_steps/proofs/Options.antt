@@ -1,6 +1,5 @@
 -- What follows for values that may be there.
-use Rattle.std.proofs.Common.{◌≡◌, Option, Some, None, refl, subst}
-use Rattle.std.specs.Prelude.{IfNone, IfSome}
+use Rattle.std.{proofs.Common.{◌≡◌, Option, Some, None, refl, subst}, specs.Prelude.{IfNone, IfSome}}
 
 pub some-weaker : {T : Type 0} (o : Option T) (P Q : T → Type 0) → IfSome o P → ((x : T) → P x → Q x) → IfSome o Q
 some-weaker None P Q p f = tt

@@ -1,26 +1,13 @@
 -- What one statement of a run, its lines and its failures make of the run.
-use Rattle.std.proofs.Common.{◌≡◌, ◌≢◌, ℕ, zero, suc, ◌+◌, ◌<◌, ◌≤◌, length, List, [], ◌∷◌, ◌++◌, drop, Option, Some, refl, sym, ◌∙◌, ap, subst, append_assoc, length-append, add-zero, arith, inl, inr, ◌⊎◌, codes}
-use Rattle.std.specs.Prelude.{slice_get, Bool}
-use Rattle.std.proofs.Math.ListN.{drop_of_length-le}
-use Rattle.std.proofs.lemmas.List.{append-nil}
-use Rattle.outside_io.specs.Count.{HasRisen}
-use Rattle.outside_io.specs.Files.{FilesValue}
-use Rattle.outside_io.specs.Sink.{appended, AppendsFront, AppendsPart}
-use Rattle.outside_io.proofs.Appended.{appended-appended, appended-nil}
-use Rattle.meaning.specs.Text.{Text, Contents}
-use Rattle.language_meaning.specs.Tree.{Statement}
-use Rattle.meaning.specs.Fault.{FaultValue}
-use Rattle.meaning.specs.FaultText.{fault_text}
-use Rattle.script_meaning.specs.Reading.{Files, Reading, at_once}
-use Rattle.script_meaning.specs.State.{State}
-use Rattle.script_meaning.specs.Statement.{Answer, done, refused, statement_result}
-use Rattle.script_meaning.specs.Run.{RunStep, RunResult, Ending, finished, fault, usage, syntax, output_of, errors_of, fetches_of, before_fetch, before_byte, after_step, after_answer, after_reading, statements_result, warning_line, line_about, with_line}
-use Rattle.script_work.specs.Reads.{Goes, Stuck, Holds, count_after}
-use Rattle.script_steps.specs.Ends.{Outside, Ends, EndsAs, EndsEarly, EndsUnwritten, EndsUnread, EndsWithLine, Is, status_of}
-use Rattle.script_steps.specs.Steps.{Does, ComesTo, GoesOn, Stops, after_steps}
-use Rattle.script_steps.proofs.StepLaws.{output_of-append, errors_of-append, fetches_of-append, before_fetch-append, before_byte-append, before_fetch-first, before_byte-first, silent-before, count_after-add, does_none, does_one, does_more, out_more, err_more, fetches_more}
-use Rattle.script_steps.specs.declared.status.Status.{Status}
-use Rattle.script_steps.specs.declared.status.Status.TheVariants.{Done, Fault, Usage, Syntax, Input, Output, Memory}
+use Rattle.{
+  std.{proofs.{Common.{◌≡◌, ◌≢◌, ℕ, zero, suc, ◌+◌, ◌<◌, ◌≤◌, length, List, [], ◌∷◌, ◌++◌, drop, Option, Some, refl, sym, ◌∙◌, ap, subst, append_assoc, length-append, add-zero, arith, inl, inr, ◌⊎◌, codes}, Math.ListN.{drop_of_length-le}, lemmas.List.{append-nil}}, specs.Prelude.{slice_get, Bool}},
+  outside_io.{specs.{Count.{HasRisen}, Files.{FilesValue}, Sink.{appended, AppendsFront, AppendsPart}}, proofs.Appended.{appended-appended, appended-nil}},
+  meaning.specs.{Text.{Text, Contents}, Fault.{FaultValue}, FaultText.{fault_text}},
+  language_meaning.specs.Tree.{Statement},
+  script_meaning.specs.{Reading.{Files, Reading, at_once}, State.{State}, Statement.{Answer, done, refused, statement_result}, Run.{RunStep, RunResult, Ending, finished, fault, usage, syntax, output_of, errors_of, fetches_of, before_fetch, before_byte, after_step, after_answer, after_reading, statements_result, warning_line, line_about, with_line}},
+  script_work.specs.Reads.{Goes, Stuck, Holds, count_after},
+  script_steps.{specs.{Ends.{Outside, Ends, EndsAs, EndsEarly, EndsUnwritten, EndsUnread, EndsWithLine, Is, status_of}, Steps.{Does, ComesTo, GoesOn, Stops, after_steps}, declared.status.Status.{Status, TheVariants.{Done, Fault, Usage, Syntax, Input, Output, Memory}}}, proofs.StepLaws.{output_of-append, errors_of-append, fetches_of-append, before_fetch-append, before_byte-append, before_fetch-first, before_byte-first, silent-before, count_after-add, does_none, does_one, does_more, out_more, err_more, fetches_more}},
+}
 
 -- nothing was written yet
 pub nothing_yet : (old new : Option (List ℕ)) (whole : Text) → new ≡ old → AppendsFront old new whole

@@ -1,16 +1,11 @@
 -- What steps print and fetch, one after another.
-use Rattle.std.proofs.Common.{◌≡◌, ℕ, zero, suc, ◌+◌, ◌-◌, ◌<◌, ◌≤◌, List, [], ◌∷◌, ◌++◌, length, Bool, true, false, Option, refl, sym, ◌∙◌, ap, arith, zero-add, add-zero, add_assoc, length-append}
-use Rattle.std.specs.Prelude.{nat_lt, if◌then◌else◌}
-use Rattle.std.proofs.lemmas.Bool.{lt-ltb, le-ltb}
-use Rattle.std.proofs.lemmas.List.{append-nil}
-use Rattle.std.proofs.lemmas.List.Concat.{flat_map-append}
-use Rattle.outside_io.specs.Count.{raised}
-use Rattle.outside_io.specs.Sink.{appended}
-use Rattle.outside_io.proofs.Appended.{appended-appended, appended-nil}
-use Rattle.script_meaning.specs.Run.{RunStep, output_of, errors_of, fetches_of, before_fetch, before_byte}
-use Rattle.script_work.specs.Reads.{count_after}
-use Rattle.script_steps.specs.Ends.{Outside}
-use Rattle.script_steps.specs.Steps.{Does}
+use Rattle.{
+  std.{proofs.{Common.{◌≡◌, ℕ, zero, suc, ◌+◌, ◌-◌, ◌<◌, ◌≤◌, List, [], ◌∷◌, ◌++◌, length, Bool, true, false, Option, refl, sym, ◌∙◌, ap, arith, zero-add, add-zero, add_assoc, length-append}, lemmas.{Bool.{lt-ltb, le-ltb}, List.{append-nil, Concat.{flat_map-append}}}}, specs.Prelude.{nat_lt, if◌then◌else◌}},
+  outside_io.{specs.{Count.{raised}, Sink.{appended}}, proofs.Appended.{appended-appended, appended-nil}},
+  script_meaning.specs.Run.{RunStep, output_of, errors_of, fetches_of, before_fetch, before_byte},
+  script_work.specs.Reads.{count_after},
+  script_steps.specs.{Ends.{Outside}, Steps.{Does}},
+}
 
 pub output_of-append : (a b : List RunStep) → output_of (a ++ b) ≡ output_of a ++ output_of b
 output_of-append a b = flat_map-append (λ (step : RunStep). step.output) a b

@@ -1,18 +1,11 @@
 -- What is in the grammar is read.
-use Rattle.std.proofs.Common.{◌≡◌, ℕ, zero, suc, ◌≤◌, max, Bool, true, false, List, ◌∷◌, length, Option, Some, None, is_some, refl, sym, ap, subst, ◌∙◌, arith, inl, inr}
-use Rattle.std.specs.Prelude.{codes}
-use Rattle.meaning.specs.Text.{Text}
-use Rattle.language_meaning.specs.Token.{Token, word, op, mark, Mark, equals, dot, comma, colon, tilde, open_paren, close_paren, open_bracket, close_bracket, open_brace, close_brace}
+use Rattle.{
+  std.{proofs.Common.{◌≡◌, ℕ, zero, suc, ◌≤◌, max, Bool, true, false, List, ◌∷◌, length, Option, Some, None, is_some, refl, sym, ap, subst, ◌∙◌, arith, inl, inr}, specs.Prelude.{codes}},
+  meaning.specs.Text.{Text},
+  language_meaning.specs.{Token.{Token, word, op, mark, Mark, equals, dot, comma, colon, tilde, open_paren, close_paren, open_bracket, close_bracket, open_brace, close_brace}, Tree.{Unary, Binary, Accessor, Literal, Expr, Step, Sub, OptionalSub, OptionalArg, OptionalExpr, Arg, ArgList, Args, ArgPairs, name, literal, unary, binary, after, len, make, paren, item, access, method, group, rolling, expanding, key, span, no_sub, some_sub, no_arg, some_arg, no_expr, some_expr, expr, many, row, table, nothing, no_args, more_args, no_named, more_named, no_pairs, more_pairs}, Depth.{depth, step_depth, sub_depth, optional_sub_depth, optional_arg_depth, optional_expr_depth, arg_depth, list_depth, args_depth, pairs_depth}, Grammar.{level, left_level, accessor_word, IsItem, IsMethodName, MayFollow, SpellsLiteral, SpellsKeyword, SpellsExpr, SpellsStep, SpellsSecond, SpellsBrackets, SpellsSub, SpellsBound, SpellsStride, SpellsArg, SpellsRow, SpellsItems, SpellsMoreItems, SpellsArgs, SpellsMoreArgs, SpellsPairs, SpellsMorePairs}},
+  script_syntax.{specs.Reading.{Reader, and_then, or_else, pick, after_mark, name_at, operator_at, sign_at, begins_step, ends_bound, Call, plain, grouped, rolled, expanded, past_comma, keyword_at, keyword_for, key_at, item_at, bracketed, enclosed, items, named_at, arguments, entry_at, pairs, all_arguments, atom, bound, stride, span_after, sub_from, sub_at, second, subscripts, brackets, named_call, called, call, dotted, step_from, step, steps, postfix, signed, operators, expr_with, expr_from, unparted, opened, argument_with, expr_at, argument_at, word_at}, proofs.{Takes.{mark_same, CallIs, no_operator, level_small, not_zero, left_is, left_one, tilde_reads, mark_takes}, Sound.{FirstFollows}, Shorter.{expr_shorter, step_shorter, arg_shorter, keyword_shorter, literal_shorter}, Gives.{word_same, other_mark, name_reads, reserved_is_none, target_reads, dotted_reads, call_reads, operator_reads, operator_below, none_above, minus_reads, guard_reads, literal_reads, len_reads, maker_reads, word_no_mark, no_len, literal_plain, accessor_reads, call_of_reads, item_yes, as_item_reads, past_comma_reads, at_close_reads, follow_yes}, Starts.{StartsExpr, expr_starts, arg_starts, arg_no_mark, arg_no_bracket, arg_no_brace, no_none, arg_no_end, expr_no_end, literal_no_mark, arg_no_target, Ends, close_paren_ends, close_bracket_ends, comma_ends, colon_ends, Closes, paren_closes, bracket_closes, more_items_end, more_args_end, more_pairs_end, EndsSub, comma_ends_sub, bracket_ends_sub, stride_ends}}},
+}
 use Rattle.language_meaning.specs.Tree as tree
-use Rattle.language_meaning.specs.Tree.{Unary, Binary, sub, Accessor, loc, iloc, at, iat, Literal, Expr, Step, Sub, OptionalSub, OptionalArg, OptionalExpr, Arg, ArgList, Args, ArgPairs, name, literal, unary, binary, after, len, make, paren, item, access, method, group, rolling, expanding, key, span, no_sub, some_sub, no_arg, some_arg, no_expr, some_expr, expr, many, row, table, nothing, no_args, more_args, no_named, more_named, no_pairs, more_pairs}
-use Rattle.language_meaning.specs.Depth.{depth, step_depth, sub_depth, optional_sub_depth, optional_arg_depth, optional_expr_depth, arg_depth, list_depth, args_depth, pairs_depth}
-use Rattle.language_meaning.specs.Grammar.{level, left_level, accessor_word, IsItem, IsMethodName, MayFollow, SpellsLiteral, SpellsKeyword, SpellsExpr, SpellsStep, SpellsSecond, SpellsBrackets, SpellsSub, SpellsBound, SpellsStride, SpellsArg, SpellsRow, SpellsItems, SpellsMoreItems, SpellsArgs, SpellsMoreArgs, SpellsPairs, SpellsMorePairs}
-use Rattle.script_syntax.specs.Reading.{Reader, and_then, or_else, pick, after_mark, name_at, operator_at, sign_at, begins_step, ends_bound, Call, plain, grouped, rolled, expanded, past_comma, keyword_at, keyword_for, key_at, item_at, bracketed, enclosed, items, named_at, arguments, entry_at, pairs, all_arguments, atom, bound, stride, span_after, sub_from, sub_at, second, subscripts, brackets, named_call, called, call, dotted, step_from, step, steps, postfix, signed, operators, expr_with, expr_from, unparted, opened, argument_with, expr_at, argument_at, word_at}
-use Rattle.script_syntax.proofs.Takes.{mark_same, CallIs, no_operator, level_small, not_zero, left_is, left_one, tilde_reads, mark_takes}
-use Rattle.script_syntax.proofs.Sound.{FirstFollows}
-use Rattle.script_syntax.proofs.Shorter.{expr_shorter, step_shorter, arg_shorter, keyword_shorter, literal_shorter}
-use Rattle.script_syntax.proofs.Gives.{word_same, other_mark, name_reads, reserved_is_none, target_reads, dotted_reads, call_reads, operator_reads, operator_below, none_above, minus_reads, guard_reads, literal_reads, len_reads, maker_reads, word_no_mark, no_len, literal_plain, accessor_reads, call_of_reads, item_yes, as_item_reads, past_comma_reads, at_close_reads, follow_yes}
-use Rattle.script_syntax.proofs.Starts.{StartsExpr, expr_starts, arg_starts, arg_no_mark, arg_no_bracket, arg_no_brace, no_none, arg_no_end, expr_no_end, literal_no_mark, arg_no_target, Ends, close_paren_ends, close_bracket_ends, comma_ends, colon_ends, Closes, paren_closes, bracket_closes, more_items_end, more_args_end, more_pairs_end, EndsSub, comma_ends_sub, bracket_ends_sub, stride_ends}
 
 -- ---- what is proved of each part
 

@@ -1,9 +1,9 @@
 -- The pieces of a text, joined and one by one.
-use Rattle.std.proofs.Common.{◌≡◌, ℕ, ◌+◌, Bool, true, false, List, [], ◌∷◌, ◌++◌, refl, sym, ◌∙◌, ap, subst, leb, eqb}
-use Rattle.std.specs.List.{concat}
-use Rattle.std.proofs.lemmas.Bool.{eqb-true}
-use Rattle.language_meaning.specs.Pieces.{Mode, plain, mode_after, opens, closes, choose, into_first, cut}
-use Rattle.script_syntax.specs.Cut.{is_closed, IsPieceFrom, IsEnded, AreCutFrom, IsCut}
+use Rattle.{
+  std.{proofs.{Common.{◌≡◌, ℕ, ◌+◌, Bool, true, false, List, [], ◌∷◌, ◌++◌, refl, sym, ◌∙◌, ap, subst, leb, eqb}, lemmas.Bool.{eqb-true}}, specs.List.{concat}},
+  language_meaning.specs.Pieces.{Mode, plain, mode_after, opens, closes, choose, into_first, cut},
+  script_syntax.specs.Cut.{is_closed, IsPieceFrom, IsEnded, AreCutFrom, IsCut},
+}
 
 concat_into : (b : ℕ) (ps : List (List ℕ)) → concat (into_first b ps) ≡ b ∷ concat ps
 concat_into b [] = refl

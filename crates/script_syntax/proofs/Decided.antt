@@ -1,18 +1,11 @@
 -- Bytes are made of tokens, or they are not.
-use Rattle.std.proofs.Common.{◌≡◌, ◌≢◌, ◌⊎◌, inl, inr, ◌∙◌, sym, ap, subst, refl, ℕ, zero, suc, ◌≤◌, ◌^◌, Bool, true, false, ◌&&◌, leb, eqb, List, [], ◌∷◌, ◌++◌, Option, Some, None, length, take, drop, decimal, arith}
-use Rattle.std.specs.Str.Parse.{digits_value}
-use Rattle.std.proofs.lemmas.Bool.{eqb-true, leb-true}
-use Rattle.std.proofs.lemmas.Bool.Decides.{nat_tests}
-use Rattle.std.proofs.lemmas.Fmt.{decimal_is_IsNumeral}
-use Rattle.std.specs.List.{prefix_len}
-use Rattle.meaning.specs.Text.{Text, same_text}
-use Rattle.language_meaning.specs.Tree.{Binary, add, sub, mul, floor_div, mod_, eq, ne, lt, le, gt, ge, and, or, xor}
-use Rattle.language_meaning.specs.Token.{Token, word, int, text, op, mark, Mark, equals, dot, comma, colon, tilde, open_paren, close_paren, open_bracket, close_bracket, open_brace, close_brace, byte_of, spelling_of, may_grow, is_digit, begins_word, continues_word, begins_with, IsRun, escaped, IsQuoted, IsQuote, IsToken, Lexes, skip}
-use Rattle.script_tokens.specs.Absent.{BeginsNoToken}
-use Rattle.script_tokens.proofs.Runs.{true_or_false, not_both, run_of_length, IsRun-unique}
-use Rattle.script_tokens.proofs.TokenLaws.{IsToken-unique, IsToken-shorter}
-use Rattle.script_tokens.proofs.LexLaws.{length-skip}
-use Rattle.script_syntax.proofs.Tools.{text_is, text_same}
+use Rattle.{
+  std.{proofs.{Common.{◌≡◌, ◌≢◌, ◌⊎◌, inl, inr, ◌∙◌, sym, ap, subst, refl, ℕ, zero, suc, ◌≤◌, ◌^◌, Bool, true, false, ◌&&◌, leb, eqb, List, [], ◌∷◌, ◌++◌, Option, Some, None, length, take, drop, decimal, arith}, lemmas.{Bool.{eqb-true, leb-true, Decides.{nat_tests}}, Fmt.{decimal_is_IsNumeral}}}, specs.{Str.Parse.{digits_value}, List.{prefix_len}}},
+  meaning.specs.Text.{Text, same_text},
+  language_meaning.specs.{Tree.{Binary, add, sub, mul, floor_div, mod_, eq, ne, lt, le, gt, ge, and, or, xor}, Token.{Token, word, int, text, op, mark, Mark, equals, dot, comma, colon, tilde, open_paren, close_paren, open_bracket, close_bracket, open_brace, close_brace, byte_of, spelling_of, may_grow, is_digit, begins_word, continues_word, begins_with, IsRun, escaped, IsQuoted, IsQuote, IsToken, Lexes, skip}},
+  script_tokens.{specs.Absent.{BeginsNoToken}, proofs.{Runs.{true_or_false, not_both, run_of_length, IsRun-unique}, TokenLaws.{IsToken-unique, IsToken-shorter}, LexLaws.{length-skip}}},
+  script_syntax.proofs.Tools.{text_is, text_same},
+}
 
 abbrev Decided : Type 0 → Type 0
 Decided P = P ⊎ (P → ⊥)

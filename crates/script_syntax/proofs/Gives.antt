@@ -1,17 +1,11 @@
 -- What the small readers give.
-use Rattle.std.proofs.Common.{◌≡◌, ℕ, ◌^◌, ◌<◌, ◌≤◌, Bool, true, false, ◌||◌, List, [], ◌∷◌, Option, Some, None, refl, arith, inl, inr}
-use Rattle.std.specs.Prelude.{pos, neg_ℤ, codes, nat_eq}
-use Rattle.std.specs.List.{list_any}
-use Rattle.std.proofs.lemmas.Bool.{leb-false, le-leb, lt-ltb, eqb-true}
-use Rattle.meaning.specs.Text.{Text, same_text}
-use Rattle.language_meaning.specs.Token.{Token, word, int, text, op, mark, Mark, equals, dot, comma, open_paren, close_paren, byte_of}
+use Rattle.{
+  std.{proofs.{Common.{◌≡◌, ℕ, ◌^◌, ◌<◌, ◌≤◌, Bool, true, false, ◌||◌, List, [], ◌∷◌, Option, Some, None, refl, arith, inl, inr}, lemmas.Bool.{leb-false, le-leb, lt-ltb, eqb-true}}, specs.{Prelude.{pos, neg_ℤ, codes, nat_eq}, List.{list_any}}},
+  meaning.specs.Text.{Text, same_text},
+  language_meaning.specs.{Token.{Token, word, int, text, op, mark, Mark, equals, dot, comma, open_paren, close_paren, byte_of}, Tree.{minus, Binary, sub, Accessor, loc, iloc, at, iat, Literal, Expr, Step, Arg, expr, many, row, table, nothing, item, access, after}, Depth.{depth}, Grammar.{reserved_words, form_words, IsName, IsMethodName, accessor_word, level, begins_int, begins_paren, SpellsLiteral, IsItem, MayFollow, IsTarget, SpellsEnd}},
+  script_syntax.{specs.Reading.{and_then, or_else, pick, after_mark, after_word, word_at, text_at, ended, is_reserved, is_method_name, name_at, target_at, dotted_at, call_at, len_at, maker_at, operator_at, sign_at, positive, negative, na_at, constant_at, negative_at, literal_at, accessor_at, Call, plain, grouped, rolled, expanded, call_of, is_item, as_item, past_comma, may_follow, is_target, split, guard, closed, end_at}, proofs.{Tools.{chosen, le_false, same_mark, text_same}, Takes.{mark_same, CallIs}}},
+}
 use Rattle.language_meaning.specs.Tree as tree
-use Rattle.language_meaning.specs.Tree.{Unary, minus, invert, Binary, sub, Accessor, loc, iloc, at, iat, Literal, Expr, Step, Arg, expr, many, row, table, nothing, item, access, after}
-use Rattle.language_meaning.specs.Depth.{depth}
-use Rattle.language_meaning.specs.Grammar.{reserved_words, form_words, IsName, IsMethodName, accessor_word, level, begins_int, begins_paren, SpellsLiteral, IsItem, MayFollow, IsTarget, SpellsEnd}
-use Rattle.script_syntax.specs.Reading.{and_then, or_else, pick, after_mark, after_word, word_at, text_at, ended, is_reserved, is_method_name, name_at, target_at, dotted_at, call_at, len_at, maker_at, operator_at, sign_at, positive, negative, na_at, constant_at, negative_at, literal_at, accessor_at, Call, plain, grouped, rolled, expanded, call_of, is_item, as_item, past_comma, may_follow, is_target, split, guard, closed, end_at}
-use Rattle.script_syntax.proofs.Tools.{chosen, le_false, same_mark, text_same}
-use Rattle.script_syntax.proofs.Takes.{mark_same, CallIs}
 
 pub word_same : (w : Text) (us : List Token) → after_word w (word w ∷ us) ≡ Some us
 unfolding after_word pick

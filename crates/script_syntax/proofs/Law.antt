@@ -1,18 +1,10 @@
 -- A statement is read exactly where it is in the grammar and no deeper than the limit.
-use Rattle.std.proofs.Common.{◌≡◌, ◌≤◌, List, [], ◌∷◌, Some, None, refl, ap, subst, ◌∙◌, arith, inl, inr}
-use Rattle.std.specs.Prelude.{codes}
-use Rattle.meaning.specs.Text.{Text}
-use Rattle.language_meaning.specs.Token.{Token, word, int, text, op, mark, equals, open_paren, close_paren, open_bracket, close_bracket}
-use Rattle.language_meaning.specs.Tree.{Expr, Step, Arg, after, Form, import_pandas, bind, put, drop_name, drop_column, print}
-use Rattle.language_meaning.specs.Depth.{depth}
-use Rattle.language_meaning.specs.Grammar.{IsName, SpellsExpr, SpellsArg, SpellsEnd, SpellsForm, IsShallow, most_depth}
-use Rattle.script_syntax.specs.Reading.{and_then, or_else, pick, after_mark, after_word, ended, imported, deleted, printed, bound_to, set, assigned, form_read}
-use Rattle.script_syntax.proofs.Tools.{bind_some, or_cases, other, moved}
-use Rattle.script_syntax.proofs.Takes.{mark_takes, word_takes, ended_is, name_takes, target_takes, split_takes, end_takes, mark_same, no_operator}
-use Rattle.script_syntax.proofs.Sound.{expr_sound, argument_sound}
-use Rattle.script_syntax.proofs.Gives.{word_same, other_word, unreserved, name_reads, target_reads, split_reads, end_reads}
-use Rattle.script_syntax.proofs.Starts.{StartsExpr, expr_starts, Ends, nil_ends, close_paren_ends, close_bracket_ends, comma_ends, equals_ends, put_no_target}
-use Rattle.script_syntax.proofs.Complete.{expr_is_read, arg_is_read}
+use Rattle.{
+  std.{proofs.Common.{◌≡◌, ◌≤◌, List, [], ◌∷◌, Some, None, refl, ap, subst, ◌∙◌, arith, inl, inr}, specs.Prelude.{codes}},
+  meaning.specs.Text.{Text},
+  language_meaning.specs.{Token.{Token, word, int, text, op, mark, equals, open_paren, close_paren, open_bracket, close_bracket}, Tree.{Expr, Step, Arg, after, Form, import_pandas, bind, put, drop_name, drop_column, print}, Depth.{depth}, Grammar.{IsName, SpellsExpr, SpellsArg, SpellsEnd, SpellsForm, IsShallow, most_depth}},
+  script_syntax.{specs.Reading.{and_then, or_else, pick, after_mark, after_word, ended, imported, deleted, printed, bound_to, set, assigned, form_read}, proofs.{Tools.{bind_some, or_cases, other, moved}, Takes.{mark_takes, word_takes, ended_is, name_takes, target_takes, split_takes, end_takes, mark_same, no_operator}, Sound.{expr_sound, argument_sound}, Gives.{word_same, other_word, unreserved, name_reads, target_reads, split_reads, end_reads}, Starts.{StartsExpr, expr_starts, Ends, nil_ends, close_paren_ends, close_bracket_ends, comma_ends, equals_ends, put_no_target}, Complete.{expr_is_read, arg_is_read}}},
+}
 
 -- ---- what is read
 

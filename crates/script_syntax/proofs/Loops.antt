@@ -1,18 +1,12 @@
 -- The loops of the parser, turn by turn.
-use Rattle.std.proofs.Common.{◌≡◌, ℕ, suc, length, ◌+◌, ◌<◌, ◌≤◌, max, Bool, true, false, List, [], ◌∷◌, ◌++◌, Option, Some, None, is_some, Err, refl, ap, sym, subst, ◌∙◌, arith}
-use Rattle.meaning.specs.Text.{Text}
-use Rattle.language_meaning.specs.Token.{Token, Mark, comma, close_paren, close_brace}
-use Rattle.language_meaning.specs.Tree.{Binary, Literal, Expr, Step, Arg, ArgList, Args, ArgPairs, binary, after, row, no_args, more_args, no_named, more_named, no_pairs, more_pairs, arg_list, named_args, arg_pairs}
-use Rattle.language_meaning.specs.Depth.{depth, arg_depth, list_depth, args_depth, pairs_depth}
-use Rattle.language_meaning.specs.Grammar.{level}
-use Rattle.script_syntax.specs.declared.refusal.Refusal.{Refusal}
+use Rattle.{
+  std.proofs.Common.{◌≡◌, ℕ, suc, length, ◌+◌, ◌<◌, ◌≤◌, max, Bool, true, false, List, [], ◌∷◌, ◌++◌, Option, Some, None, is_some, Err, refl, ap, sym, subst, ◌∙◌, arith},
+  meaning.specs.Text.{Text},
+  language_meaning.specs.{Token.{Token, Mark, comma, close_paren, close_brace}, Tree.{Binary, Literal, Expr, Step, Arg, ArgList, Args, ArgPairs, binary, after, row, no_args, more_args, no_named, more_named, no_pairs, more_pairs, arg_list, named_args, arg_pairs}, Depth.{depth, arg_depth, list_depth, args_depth, pairs_depth}, Grammar.{level}},
+  script_syntax.{specs.{declared.refusal.Refusal.{Refusal}, Found.{Fails, IsBuilt, before_items, before_args, before_pairs, after_items, after_args, after_pairs}, Reading.{Read, and_then, or_else, pick, guard, after_mark, past_comma, is_item, as_item, begins_step, operator_at, key_at, item_at, entry_at, steps, operators, items, arguments, all_arguments, pairs, opened, expr_at, argument_at}}, proofs.{Tools.{le_false, first, some_same}, Takes.{not_zero}, Gives.{guard_reads}}},
+}
 use Rattle.script_syntax.specs.declared.refusal.Refusal.TheVariants as refusal
-use Rattle.script_syntax.specs.Found.{Fails, IsBuilt, before_items, before_args, before_pairs, after_items, after_args, after_pairs}
-use Rattle.script_syntax.specs.Reading.{Read, and_then, or_else, pick, guard, after_mark, past_comma, is_item, as_item, begins_step, operator_at, key_at, item_at, entry_at, steps, operators, items, arguments, all_arguments, pairs, opened, expr_at, argument_at}
 use Rattle.script_syntax.specs.At as at
-use Rattle.script_syntax.proofs.Tools.{le_false, first, some_same}
-use Rattle.script_syntax.proofs.Takes.{not_zero}
-use Rattle.script_syntax.proofs.Gives.{guard_reads}
 
 guard_fails : (room : ℕ) (x : Expr) (ts : List Token) → room < depth x → guard room x ts ≡ None
 unfolding guard pick

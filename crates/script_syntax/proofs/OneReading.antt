@@ -1,18 +1,10 @@
 -- A text is a script, or it has a syntax line.
-use Rattle.std.proofs.Common.{◌≡◌, ◌⊎◌, inl, inr, ℕ, zero, suc, ◌-◌, ◌+◌, List, [], ◌∷◌, Option, Some, None, refl, arith}
-use Rattle.std.specs.Str.{IsUtf8, is_utf8}
-use Rattle.std.proofs.lemmas.Str.{IsUtf8-from_is_utf8, is_utf8-from_IsUtf8}
-use Rattle.language_meaning.specs.Token.{Token, Lexes, skip}
-use Rattle.language_meaning.specs.Tree.{Form, Statement}
-use Rattle.language_meaning.specs.Pieces.{pieces, cut}
-use Rattle.language_meaning.specs.Script.{IsBlank, IsStatement, IsRight, most_statements, line_ends}
-use Rattle.script_tokens.proofs.Runs.{true_or_false, not_both}
-use Rattle.script_syntax.specs.Reading.{form_read}
-use Rattle.script_syntax.specs.PieceRead.{Reads, IsOneStatement}
-use Rattle.script_syntax.specs.OneReading.{HasOneReading}
-use Rattle.script_syntax.proofs.Decided.{lexed}
-use Rattle.script_syntax.proofs.PieceLaws.{blank_is_none, no_statement, one_statement}
-use Rattle.script_syntax.proofs.ScriptLaws.{reads_nothing, reads_blank, reads_statement, reads_wrong, reads_all}
+use Rattle.{
+  std.{proofs.{Common.{◌≡◌, ◌⊎◌, inl, inr, ℕ, zero, suc, ◌-◌, ◌+◌, List, [], ◌∷◌, Option, Some, None, refl, arith}, lemmas.Str.{IsUtf8-from_is_utf8, is_utf8-from_IsUtf8}}, specs.Str.{IsUtf8, is_utf8}},
+  language_meaning.specs.{Token.{Token, Lexes, skip}, Tree.{Form, Statement}, Pieces.{pieces, cut}, Script.{IsBlank, IsStatement, IsRight, most_statements, line_ends}},
+  script_tokens.proofs.Runs.{true_or_false, not_both},
+  script_syntax.{specs.{Reading.{form_read}, PieceRead.{Reads, IsOneStatement}, OneReading.{HasOneReading}}, proofs.{Decided.{lexed}, PieceLaws.{blank_is_none, no_statement, one_statement}, ScriptLaws.{reads_nothing, reads_blank, reads_statement, reads_wrong, reads_all}}},
+}
 
 pub data PieceKind (piece : List ℕ) : Type 0 where
   blank : IsUtf8 piece → IsBlank piece → PieceKind piece

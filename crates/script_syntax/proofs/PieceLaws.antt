@@ -1,17 +1,10 @@
 -- A piece is blank, or it is one statement, or neither.
-use Rattle.std.proofs.Common.{◌≡◌, ◌↔◌, ℕ, Bool, false, List, [], ◌∷◌, Option, Some, None, subst, arith}
-use Rattle.std.specs.Prelude.{IsTrue, MatchOption}
-use Rattle.std.specs.Str.{IsUtf8}
-use Rattle.language_meaning.specs.Token.{Token, mark, equals, Lexes}
-use Rattle.language_meaning.specs.Tree.{Form, after, import_pandas, bind, put, drop_name, drop_column, print}
-use Rattle.language_meaning.specs.Grammar.{SpellsForm}
-use Rattle.language_meaning.specs.Script.{IsBlank, IsStatement}
-use Rattle.script_tokens.proofs.BlankLaws.{Lexes-blank}
-use Rattle.script_tokens.proofs.LexLaws.{Lexes-unique}
-use Rattle.script_syntax.specs.Reading.{form_read}
-use Rattle.script_syntax.specs.PieceRead.{IsOneStatement}
-use Rattle.script_syntax.proofs.Shorter.{expr_shorter}
-use Rattle.script_syntax.proofs.Law.{form_sound, form_complete}
+use Rattle.{
+  std.{proofs.Common.{◌≡◌, ◌↔◌, ℕ, Bool, false, List, [], ◌∷◌, Option, Some, None, subst, arith}, specs.{Prelude.{IsTrue, MatchOption}, Str.{IsUtf8}}},
+  language_meaning.specs.{Token.{Token, mark, equals, Lexes}, Tree.{Form, after, import_pandas, bind, put, drop_name, drop_column, print}, Grammar.{SpellsForm}, Script.{IsBlank, IsStatement}},
+  script_tokens.proofs.{BlankLaws.{Lexes-blank}, LexLaws.{Lexes-unique}},
+  script_syntax.{specs.{Reading.{form_read}, PieceRead.{IsOneStatement}}, proofs.{Shorter.{expr_shorter}, Law.{form_sound, form_complete}}},
+}
 
 no_form : (form : Form) → SpellsForm form [] → ⊥
 no_form import_pandas s = absurd cc

@@ -1,14 +1,12 @@
 -- What is read within a depth, by what is read one depth lower.
-use Rattle.std.proofs.Common.{◌≡◌, ℕ, suc, length, List, Option, Some, None, Result, Ok, Err, refl, ◌∙◌, arith}
-use Rattle.std.specs.Borrow.{Bor}
+use Rattle.{
+  std.{proofs.Common.{◌≡◌, ℕ, suc, length, List, Option, Some, None, Result, Ok, Err, refl, ◌∙◌, arith}, specs.Borrow.{Bor}},
+  language_meaning.specs.{Token.{open_paren, open_bracket, close_bracket}, Tree.{ArgList, many}},
+  script_tokens.specs.declared.token.Token.{Token},
+  script_syntax.specs.{declared.refusal.Refusal.{Refusal}, Found.{Fails, Finds}, Reading.{and_then, or_else, after_mark, argument_with, expr_at, argument_at}},
+}
 use Rattle.language_meaning.specs.Token as spec
-use Rattle.language_meaning.specs.Token.{Mark, open_paren, open_bracket, close_bracket, open_brace}
-use Rattle.language_meaning.specs.Tree.{ArgList, many}
-use Rattle.script_tokens.specs.declared.token.Token.{Token}
-use Rattle.script_syntax.specs.declared.refusal.Refusal.{Refusal}
 use Rattle.script_syntax.specs.declared.refusal.Refusal.TheVariants as refusal
-use Rattle.script_syntax.specs.Found.{Fails, Finds}
-use Rattle.script_syntax.specs.Reading.{and_then, or_else, after_mark, argument_with, expr_at, argument_at}
 use Rattle.script_syntax.specs.At as at
 
 pub finds_as : {X Y : Type 0} (view : X → Y) (deep : Y → ℕ) (m n : ℕ) (r : Result (X × ℕ × Bor (List Token)) Refusal) (one two : Option (Y × List spec.Token)) → m ≡ n → two ≡ one → Finds view deep m r one → Finds view deep n r two

@@ -1,18 +1,11 @@
 -- A script read piece by piece.
-use Rattle.std.proofs.Common.{◌≡◌, ℕ, suc, ◌+◌, ◌-◌, ◌<◌, List, [], ◌∷◌, ◌++◌, refl, sym, ◌∙◌, ap, subst, append_assoc, arith, inl, inr, ◌≤◌, length, take, drop, Ok, Err, true, false, nat_eq as eqb}
-use Rattle.std.proofs.lemmas.List.{append-nil}
-use Rattle.std.proofs.lemmas.Bool.Decides.{nat_tests}
-use Rattle.std.specs.Str.{IsUtf8}
+use Rattle.{
+  std.{proofs.{Common.{◌≡◌, ℕ, suc, ◌+◌, ◌-◌, ◌<◌, List, [], ◌∷◌, ◌++◌, refl, sym, ◌∙◌, ap, subst, append_assoc, arith, inl, inr, ◌≤◌, length, take, drop, Ok, Err, true, false, nat_eq as eqb}, lemmas.{List.{append-nil}, Bool.Decides.{nat_tests}}}, specs.Str.{IsUtf8}},
+  language_meaning.specs.{Pieces.{pieces, cut}, Script.{IsBlank, IsStatement, IsRight, ArePieces, IsFirstWrong, most_bytes, most_statements, line_ends}},
+  script_tree.specs.View.{form_of},
+  script_syntax.specs.{PieceRead.{Reads, IsOneStatement, IsPieceRead, IsSettled}, declared.pieces.{PieceRead.{PieceRead, TheVariants.{Blank, Statement, Wrong}}, ParseFault.{ParseFault, TheVariants.{SyntaxAt, TooLarge, NoMemory}}}, Parsed.{IsParsed, IsTheScript, IsTheSyntaxLine}},
+}
 use Rattle.language_meaning.specs.Tree as tree
-use Rattle.language_meaning.specs.Pieces.{pieces, cut}
-use Rattle.language_meaning.specs.Script.{IsBlank, IsStatement, IsRight, ArePieces, IsFirstWrong, most_bytes, most_statements, line_ends}
-use Rattle.script_tree.specs.View.{form_of}
-use Rattle.script_syntax.specs.PieceRead.{Reads, IsOneStatement, IsPieceRead, IsSettled}
-use Rattle.script_syntax.specs.declared.pieces.PieceRead.{PieceRead}
-use Rattle.script_syntax.specs.declared.pieces.PieceRead.TheVariants.{Blank, Statement, Wrong}
-use Rattle.script_syntax.specs.declared.pieces.ParseFault.{ParseFault}
-use Rattle.script_syntax.specs.declared.pieces.ParseFault.TheVariants.{SyntaxAt, TooLarge, NoMemory}
-use Rattle.script_syntax.specs.Parsed.{IsParsed, IsTheScript, IsTheSyntaxLine}
 
 pub reads_nothing : (all : List (List ℕ)) → Reads [] most_statements 1 all all
 reads_nothing all = record { there = λ more is. is; back = λ ss is. (ss, refl, is); wrong = λ at is. is; wrong_back = λ at is. is }

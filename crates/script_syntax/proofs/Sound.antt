@@ -1,17 +1,11 @@
 -- What is read is in the grammar, and no deeper than was allowed.
-use Rattle.std.proofs.Common.{◌≡◌, ℕ, zero, suc, ◌<◌, ◌≤◌, Bool, false, List, [], ◌∷◌, length, Option, Some, None, is_some, refl, ap, subst, ◌∙◌, arith, inl, inr}
-use Rattle.std.specs.Prelude.{codes}
-use Rattle.std.proofs.lemmas.Bool.{leb-false, eqb-true}
-use Rattle.meaning.specs.Text.{Text}
-use Rattle.language_meaning.specs.Token.{Token, word, op, mark, Mark, dot, comma, colon, open_paren, close_paren, open_bracket, close_bracket, open_brace, close_brace}
+use Rattle.{
+  std.{proofs.{Common.{◌≡◌, ℕ, zero, suc, ◌<◌, ◌≤◌, Bool, false, List, [], ◌∷◌, length, Option, Some, None, is_some, refl, ap, subst, ◌∙◌, arith, inl, inr}, lemmas.Bool.{leb-false, eqb-true}}, specs.Prelude.{codes}},
+  meaning.specs.Text.{Text},
+  language_meaning.specs.{Token.{Token, word, op, mark, Mark, dot, comma, colon, open_paren, close_paren, open_bracket, close_bracket, open_brace, close_brace}, Tree.{Unary, Binary, Accessor, Literal, Expr, Step, Sub, OptionalSub, OptionalArg, OptionalExpr, Arg, ArgList, Args, ArgPairs, unary, paren, no_arg, some_arg, expr, no_args, more_args, no_named, more_named, no_pairs, more_pairs}, Depth.{depth, step_depth, sub_depth, optional_sub_depth, optional_arg_depth, optional_expr_depth, arg_depth, list_depth, args_depth, pairs_depth}, Grammar.{level, left_level, accessor_word, IsItem, IsMethodName, MayFollow, SpellsLiteral, SpellsKeyword, SpellsExpr, SpellsStep, SpellsSecond, SpellsBrackets, SpellsSub, SpellsBound, SpellsStride, SpellsArg, SpellsItems, SpellsMoreItems, SpellsArgs, SpellsMoreArgs, SpellsPairs, SpellsMorePairs}},
+  script_syntax.{specs.Reading.{Reader, after_mark, operator_at, Call, plain, grouped, rolled, expanded, past_comma, item_at, bracketed, enclosed, items, named_at, arguments, entry_at, pairs, all_arguments, atom, bound, stride, span_after, sub_from, sub_at, second, subscripts, brackets, named_call, called, call, dotted, step_from, step, steps, postfix, signed, operators, expr_with, expr_from, unparted, opened, argument_with, expr_at, argument_at}, proofs.{Tools.{bind_some, or_cases, chosen, first, some_same, moved, guard_some}, Takes.{mark_takes, word_takes, name_takes, dotted_takes, call_takes, len_takes, maker_takes, operator_takes, SignIs, sign_takes, literal_takes, accessor_takes, CallIs, call_of_takes, item_is, as_item_takes, comma_takes, keyword_for_takes, key_takes, no_operator, level_small, left_within, mark_reads, above}, Shorter.{expr_shorter, lower}}},
+}
 use Rattle.language_meaning.specs.Tree as tree
-use Rattle.language_meaning.specs.Tree.{Unary, Binary, sub, Accessor, Literal, Expr, Step, Sub, OptionalSub, OptionalArg, OptionalExpr, Arg, ArgList, Args, ArgPairs, name, literal, unary, binary, after, len, make, paren, item, access, method, group, rolling, expanding, key, span, no_sub, some_sub, no_arg, some_arg, no_expr, some_expr, expr, many, row, table, nothing, no_args, more_args, no_named, more_named, no_pairs, more_pairs}
-use Rattle.language_meaning.specs.Depth.{depth, step_depth, sub_depth, optional_sub_depth, optional_arg_depth, optional_expr_depth, arg_depth, list_depth, args_depth, pairs_depth}
-use Rattle.language_meaning.specs.Grammar.{level, left_level, accessor_word, IsItem, IsMethodName, MayFollow, SpellsLiteral, SpellsKeyword, SpellsExpr, SpellsStep, SpellsSecond, SpellsBrackets, SpellsSub, SpellsBound, SpellsStride, SpellsArg, SpellsItems, SpellsMoreItems, SpellsArgs, SpellsMoreArgs, SpellsPairs, SpellsMorePairs}
-use Rattle.script_syntax.specs.Reading.{Reader, after_mark, operator_at, Call, plain, grouped, rolled, expanded, past_comma, item_at, bracketed, enclosed, items, named_at, arguments, entry_at, pairs, all_arguments, atom, bound, stride, span_after, sub_from, sub_at, second, subscripts, brackets, named_call, called, call, dotted, step_from, step, steps, postfix, signed, operators, expr_with, expr_from, unparted, opened, argument_with, expr_at, argument_at}
-use Rattle.script_syntax.proofs.Tools.{bind_some, or_cases, chosen, first, some_same, moved, guard_some}
-use Rattle.script_syntax.proofs.Takes.{mark_takes, word_takes, name_takes, dotted_takes, call_takes, len_takes, maker_takes, operator_takes, SignIs, sign_takes, literal_takes, accessor_takes, CallIs, call_of_takes, item_is, as_item_takes, comma_takes, keyword_for_takes, key_takes, no_operator, level_small, left_within, mark_reads, above}
-use Rattle.script_syntax.proofs.Shorter.{expr_shorter, lower}
 
 -- what a reader found
 abbrev pub IsExpr : ℕ → ℕ → List Token → Expr × List Token → Type 0

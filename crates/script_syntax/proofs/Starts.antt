@@ -1,13 +1,11 @@
 -- What parts of a statement begin with, and what may follow them.
-use Rattle.std.proofs.Common.{◌≡◌, ℕ, Bool, true, false, List, [], ◌∷◌, None, refl, ap, inl, inr}
-use Rattle.std.specs.Prelude.{codes}
-use Rattle.meaning.specs.Text.{Text, same_text}
-use Rattle.language_meaning.specs.Token.{Token, word, int, text, op, mark, Mark, equals, dot, comma, colon, tilde, open_paren, close_paren, open_bracket, close_bracket, open_brace, close_brace}
+use Rattle.{
+  std.{proofs.Common.{◌≡◌, ℕ, Bool, true, false, List, [], ◌∷◌, None, refl, ap, inl, inr}, specs.Prelude.{codes}},
+  meaning.specs.Text.{Text, same_text},
+  language_meaning.specs.{Token.{Token, word, int, text, op, mark, Mark, equals, dot, comma, colon, tilde, open_paren, close_paren, open_bracket, close_bracket, open_brace, close_brace}, Tree.{Literal, Expr, Step, OptionalExpr, Arg, ArgList, Args, ArgPairs, name, literal, unary, binary, after, len, make, paren, item, access, method, group, rolling, expanding, no_expr, some_expr, expr, many, row, table, nothing, no_args, more_args, no_named, more_named, no_pairs, more_pairs}, Grammar.{left_level, IsName, SpellsLiteral, SpellsExpr, SpellsStep, SpellsStride, SpellsArg, SpellsMoreItems, SpellsMoreArgs, SpellsMorePairs}},
+  script_syntax.{specs.Reading.{and_then, pick, after_mark, after_word, name_at, target_at, operator_at, begins_step, ends_bound, word_at}, proofs.Gives.{other_mark, unreserved, no_target, reserved_no_target}},
+}
 use Rattle.language_meaning.specs.Tree as tree
-use Rattle.language_meaning.specs.Tree.{Binary, sub, Literal, Expr, Step, Sub, OptionalSub, OptionalArg, OptionalExpr, Arg, ArgList, Args, ArgPairs, name, literal, unary, binary, after, len, make, paren, item, access, method, group, rolling, expanding, key, span, no_sub, some_sub, no_arg, some_arg, no_expr, some_expr, expr, many, row, table, nothing, no_args, more_args, no_named, more_named, no_pairs, more_pairs}
-use Rattle.language_meaning.specs.Grammar.{left_level, IsName, SpellsLiteral, SpellsExpr, SpellsStep, SpellsStride, SpellsArg, SpellsMoreItems, SpellsMoreArgs, SpellsMorePairs}
-use Rattle.script_syntax.specs.Reading.{and_then, pick, after_mark, after_word, name_at, target_at, operator_at, begins_step, ends_bound, word_at}
-use Rattle.script_syntax.proofs.Gives.{other_mark, unreserved, no_target, reserved_no_target}
 
 -- ---- what an expression, an argument and a literal begin with
 

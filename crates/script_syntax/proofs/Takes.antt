@@ -1,15 +1,11 @@
 -- What the small readers take.
-use Rattle.std.proofs.Common.{◌≡◌, ℕ, zero, suc, ◌≤◌, Bool, true, false, List, [], ◌∷◌, Option, Some, None, refl, sym, ap, subst, ◌∙◌, arith, inl, inr, ◌⊎◌}
-use Rattle.std.specs.Prelude.{codes, nat_eq}
-use Rattle.std.proofs.lemmas.Bool.{leb-true, ltb-true, eqb-true, eq-eqb}
-use Rattle.std.proofs.lemmas.Bool.Decides.{eqb_tells}
-use Rattle.meaning.specs.Text.{Text}
-use Rattle.language_meaning.specs.Token.{Token, word, int, text, op, mark, Mark, equals, dot, comma, colon, tilde, open_paren, close_paren, byte_of}
+use Rattle.{
+  std.{proofs.{Common.{◌≡◌, ℕ, zero, suc, ◌≤◌, Bool, true, false, List, [], ◌∷◌, Option, Some, None, refl, sym, ap, subst, ◌∙◌, arith, inl, inr, ◌⊎◌}, lemmas.Bool.{leb-true, ltb-true, eqb-true, eq-eqb, Decides.{eqb_tells}}}, specs.Prelude.{codes, nat_eq}},
+  meaning.specs.Text.{Text},
+  language_meaning.specs.{Token.{Token, word, int, text, op, mark, Mark, equals, dot, comma, colon, tilde, open_paren, close_paren, byte_of}, Tree.{Unary, minus, invert, Binary, add, sub, mul, floor_div, mod_, eq, ne, lt, le, gt, ge, and, or, xor, Accessor, Literal, Expr, Step, Arg, expr, many, row, table, nothing, item, access, after}, Grammar.{IsName, IsMethodName, accessor_word, level, left_level, begins_int, SpellsLiteral, IsItem, MayFollow, SpellsKeyword, IsTarget, SpellsEnd}},
+  script_syntax.{specs.Reading.{or_else, pick, after_mark, after_word, word_at, text_at, ended, is_reserved, is_method_name, name_at, target_at, dotted_at, call_at, len_at, maker_at, operator_at, sign_at, positive, negative, na_at, constant_at, negative_at, literal_at, accessor_at, Call, plain, grouped, rolled, expanded, call_of, is_item, as_item, past_comma, keyword_at, may_follow, keyword_for, key_at, is_target, split, closed, end_at}, proofs.Tools.{bind_some, or_cases, chosen, first, other, some_same, moved, le_false, same_mark, text_is}},
+}
 use Rattle.language_meaning.specs.Tree as tree
-use Rattle.language_meaning.specs.Tree.{Unary, minus, invert, Binary, add, sub, mul, floor_div, mod_, eq, ne, lt, le, gt, ge, and, or, xor, Accessor, Literal, Expr, Step, Arg, expr, many, row, table, nothing, item, access, after}
-use Rattle.language_meaning.specs.Grammar.{IsName, IsMethodName, accessor_word, level, left_level, begins_int, SpellsLiteral, IsItem, MayFollow, SpellsKeyword, IsTarget, SpellsEnd}
-use Rattle.script_syntax.specs.Reading.{or_else, pick, after_mark, after_word, word_at, text_at, ended, is_reserved, is_method_name, name_at, target_at, dotted_at, call_at, len_at, maker_at, operator_at, sign_at, positive, negative, na_at, constant_at, negative_at, literal_at, accessor_at, Call, plain, grouped, rolled, expanded, call_of, is_item, as_item, past_comma, keyword_at, may_follow, keyword_for, key_at, is_target, split, closed, end_at}
-use Rattle.script_syntax.proofs.Tools.{bind_some, or_cases, chosen, first, other, some_same, moved, le_false, same_mark, text_is}
 
 pub mark_takes : (m : Mark) (ts us : List Token) → after_mark m ts ≡ Some us → ts ≡ mark m ∷ us
 unfolding after_mark

@@ -1,15 +1,10 @@
 -- Taking readers apart.
-use Rattle.std.proofs.Common.{◌≡◌, ℕ, ◌<◌, ◌≤◌, Bool, true, false, List, Option, Some, None, refl, sym, ap, subst, ◌∙◌, arith, inl, inr, ◌⊎◌}
-use Rattle.std.specs.Prelude.{nat_eq}
-use Rattle.std.proofs.Math.Dec.{leb}
-use Rattle.std.proofs.lemmas.Bool.{leb-true}
-use Rattle.std.proofs.lemmas.Bool.Decides.{leb_tells}
-use Rattle.std.proofs.lemmas.Slice.Eq.{bytes_eq-Decides}
-use Rattle.meaning.specs.Text.{Text, same_text}
-use Rattle.language_meaning.specs.Token.{Token, Mark, equals, dot, comma, colon, tilde, open_paren, close_paren, open_bracket, close_bracket, open_brace, close_brace, byte_of}
-use Rattle.language_meaning.specs.Tree.{Expr}
-use Rattle.language_meaning.specs.Depth.{depth}
-use Rattle.script_syntax.specs.Reading.{and_then, or_else, pick, guard}
+use Rattle.{
+  std.{proofs.{Common.{◌≡◌, ℕ, ◌<◌, ◌≤◌, Bool, true, false, List, Option, Some, None, refl, sym, ap, subst, ◌∙◌, arith, inl, inr, ◌⊎◌}, Math.Dec.{leb}, lemmas.{Bool.{leb-true, Decides.{leb_tells}}, Slice.Eq.{bytes_eq-Decides}}}, specs.Prelude.{nat_eq}},
+  meaning.specs.Text.{Text, same_text},
+  language_meaning.specs.{Token.{Token, Mark, equals, dot, comma, colon, tilde, open_paren, close_paren, open_bracket, close_bracket, open_brace, close_brace, byte_of}, Tree.{Expr}, Depth.{depth}},
+  script_syntax.specs.Reading.{and_then, or_else, pick, guard},
+}
 
 pub bind_some : {A B : Type 0} (r : Option A) (f : A → Option B) (y : B) → and_then r f ≡ Some y → (x : A) × (r ≡ Some x) × (f x ≡ Some y)
 unfolding and_then

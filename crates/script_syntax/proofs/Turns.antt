@@ -1,8 +1,8 @@
 -- The turns of the parser's loops, of which there are as many as tokens.
-use Rattle.std.proofs.Common.{◌≡◌, ◌+◌, ◌-◌, ◌≤◌, ◌<◌, length, ℕ, suc, List, arith}
-use Rattle.std.proofs.lemmas.List.{length-map}
-use Rattle.script_tokens.specs.declared.token.Token.{Token}
-use Rattle.script_tokens.specs.View.{token_of, tokens_of}
+use Rattle.{
+  std.proofs.{Common.{◌≡◌, ◌+◌, ◌-◌, ◌≤◌, ◌<◌, length, ℕ, suc, List, arith}, lemmas.List.{length-map}},
+  script_tokens.specs.{declared.token.Token.{Token}, View.{token_of, tokens_of}},
+}
 
 -- the turns that are left, before one of them and where there is none
 pub turn : (tokens : List Token) (i : ℕ) → i < length tokens → length (tokens_of tokens) - i ≡ suc (length (tokens_of tokens) - (i + 1))

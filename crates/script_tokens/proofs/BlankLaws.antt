@@ -1,10 +1,9 @@
 -- A blank piece has no token.
-use Rattle.std.proofs.Common.{◌≡◌, ◌∙◌, sym, ap, refl, ℕ, Bool, true, false, ◌||◌, List, [], ◌∷◌, inl, inr, get_or, length, eqb, arith}
-use Rattle.std.proofs.lemmas.Bool.Decides.{nat_tests}
-use Rattle.language_meaning.specs.Tree.{Binary, add}
-use Rattle.language_meaning.specs.Token.{Token, word, int, text, op, mark, Mark, equals, byte_of, spelling_of, begins_word, is_digit, begins_with, ends_line, IsQuote, IsToken, Lexes, skip}
-use Rattle.language_meaning.specs.Script.{IsBlank}
-use Rattle.script_tokens.proofs.TokenLaws.{IsToken-some, word_begins, int_begins, operator_first}
+use Rattle.{
+  std.proofs.{Common.{◌≡◌, ◌∙◌, sym, ap, refl, ℕ, Bool, true, false, ◌||◌, List, [], ◌∷◌, inl, inr, get_or, length, eqb, arith}, lemmas.Bool.Decides.{nat_tests}},
+  language_meaning.specs.{Tree.{Binary, add}, Token.{Token, word, int, text, op, mark, Mark, equals, byte_of, spelling_of, begins_word, is_digit, begins_with, ends_line, IsQuote, IsToken, Lexes, skip}, Script.{IsBlank}},
+  script_tokens.proofs.TokenLaws.{IsToken-some, word_begins, int_begins, operator_first},
+}
 
 -- a byte with which what is skipped may begin
 separates : ℕ → Bool

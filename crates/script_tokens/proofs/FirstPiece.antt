@@ -1,6 +1,8 @@
 -- The first piece, by its length, and the pieces after it.
-use Rattle.std.proofs.Common.{◌≡◌, ℕ, suc, ◌+◌, ◌<◌, Bool, true, false, List, [], ◌∷◌, length, take, drop, refl, ap, arith, leb, eqb}
-use Rattle.language_meaning.specs.Pieces.{Mode, plain, mode_after, opens, closes, choose, into_first, cut, pieces}
+use Rattle.{
+  std.proofs.Common.{◌≡◌, ℕ, suc, ◌+◌, ◌<◌, Bool, true, false, List, [], ◌∷◌, length, take, drop, refl, ap, arith, leb, eqb},
+  language_meaning.specs.Pieces.{Mode, plain, mode_after, opens, closes, choose, into_first, cut, pieces},
+}
 
 -- how long the rest of a piece is, of whose brackets so many were opened and closed
 unfoldable pub rest_len : Mode → ℕ → ℕ → List ℕ → ℕ

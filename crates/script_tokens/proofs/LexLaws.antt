@@ -1,18 +1,10 @@
 -- A piece is read token by token.
-use Rattle.std.proofs.Common.{◌≡◌, ◌⊎◌, ◌∙◌, sym, ap, subst, refl, ℕ, ◌≤◌, ◌<◌, true, false, cond, ◌||◌, List, [], ◌∷◌, ◌++◌, Option, Some, None, length, get_or, eqb, append_assoc, arith, inl, inr}
-use Rattle.std.specs.Prelude.{MatchOption}
-use Rattle.std.specs.Str.{IsUtf8}
-use Rattle.std.proofs.lemmas.Bool.Decides.{nat_tests}
-use Rattle.std.proofs.lemmas.Str.{IsUtf8-nil}
-use Rattle.std.proofs.lemmas.List.{append-nil, map-append}
-use Rattle.language_meaning.specs.Token.{Token, text, op, mark, begins_word, is_digit, ends_line, IsQuote, IsQuoted, IsToken, Lexes, skip, skip_comment}
+use Rattle.{
+  std.{proofs.{Common.{◌≡◌, ◌⊎◌, ◌∙◌, sym, ap, subst, refl, ℕ, ◌≤◌, ◌<◌, true, false, cond, ◌||◌, List, [], ◌∷◌, ◌++◌, Option, Some, None, length, get_or, eqb, append_assoc, arith, inl, inr}, lemmas.{Bool.Decides.{nat_tests}, Str.{IsUtf8-nil}, List.{append-nil, map-append}}}, specs.{Prelude.{MatchOption}, Str.{IsUtf8}}},
+  language_meaning.specs.Token.{Token, text, op, mark, begins_word, is_digit, ends_line, IsQuote, IsQuoted, IsToken, Lexes, skip, skip_comment},
+  script_tokens.{specs.{View.{token_of, tokens_of}, Absent.{BeginsNoToken, BeginsNoSign}, Quoted.{EndsNoText}}, proofs.{Runs.{true_or_false}, TokenLaws.{kind_at, kind_of, IsToken-kind, kind_of_quote, IsToken-unique, IsToken-shorter, IsToken-some, IsUtf8-after_token}, Texts.{IsUtf8-after_ascii}}},
+}
 use Rattle.script_tokens.specs.declared.token.Token as code
-use Rattle.script_tokens.specs.View.{token_of, tokens_of}
-use Rattle.script_tokens.specs.Absent.{BeginsNoToken, BeginsNoSign}
-use Rattle.script_tokens.specs.Quoted.{EndsNoText}
-use Rattle.script_tokens.proofs.Runs.{true_or_false}
-use Rattle.script_tokens.proofs.TokenLaws.{kind_at, kind_of, IsToken-kind, kind_of_quote, IsToken-unique, IsToken-shorter, IsToken-some, IsUtf8-after_token}
-use Rattle.script_tokens.proofs.Texts.{IsUtf8-after_ascii}
 
 -- ---- one token
 

@@ -1,9 +1,8 @@
 -- The longest front of bytes that pass a test.
-use Rattle.std.proofs.Common.{◌≡◌, ◌∙◌, sym, ap, refl, ℕ, zero, suc, ◌+◌, ◌<◌, ◌≤◌, Bool, true, false, ◌&&◌, List, [], ◌∷◌, ◌++◌, length, take, drop, inl, inr, ◌⊎◌, arith}
-use Rattle.std.specs.List.{list_all, prefix_len}
-use Rattle.std.specs.Str.{IsAscii, IsUtf8}
-use Rattle.std.proofs.lemmas.Str.{IsUtf8-from_ascii}
-use Rattle.language_meaning.specs.Token.{IsRun, begins_with}
+use Rattle.{
+  std.{proofs.{Common.{◌≡◌, ◌∙◌, sym, ap, refl, ℕ, zero, suc, ◌+◌, ◌<◌, ◌≤◌, Bool, true, false, ◌&&◌, List, [], ◌∷◌, ◌++◌, length, take, drop, inl, inr, ◌⊎◌, arith}, lemmas.Str.{IsUtf8-from_ascii}}, specs.{List.{list_all, prefix_len}, Str.{IsAscii, IsUtf8}}},
+  language_meaning.specs.Token.{IsRun, begins_with},
+}
 
 pub true_or_false : (b : Bool) → (b ≡ true) ⊎ (b ≡ false)
 true_or_false true = inl refl

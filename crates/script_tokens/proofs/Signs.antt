@@ -1,10 +1,9 @@
 -- Bytes begin with an operator or a mark.
-use Rattle.std.proofs.Common.{◌≡◌, ◌⊎◌, ◌∙◌, sym, ap, refl, ℕ, ◌-◌, ◌<◌, Bool, false, ◌&&◌, if◌then◌else◌, Option, Some, None, eqb, List, [], ◌∷◌, ◌++◌, length, take, drop, get_or, arith, inl, inr}
-use Rattle.std.proofs.lemmas.Bool.Decides.{eqb_tells}
-use Rattle.std.proofs.lemmas.Grind.{common_steps}
-use Rattle.language_meaning.specs.Tree.{Binary, add, sub, mul, floor_div, mod_, eq, ne, lt, le, gt, ge, and, or, xor}
-use Rattle.language_meaning.specs.Token.{Token, op, mark, Mark, equals, dot, comma, colon, tilde, open_paren, close_paren, open_bracket, close_bracket, open_brace, close_brace, byte_of, spelling_of, may_grow, begins_with, IsToken}
-use Rattle.script_tokens.specs.Absent.{BeginsNoLongOperator, BeginsNoSign}
+use Rattle.{
+  std.proofs.{Common.{◌≡◌, ◌⊎◌, ◌∙◌, sym, ap, refl, ℕ, ◌-◌, ◌<◌, Bool, false, ◌&&◌, if◌then◌else◌, Option, Some, None, eqb, List, [], ◌∷◌, ◌++◌, length, take, drop, get_or, arith, inl, inr}, lemmas.{Bool.Decides.{eqb_tells}, Grind.{common_steps}}},
+  language_meaning.specs.{Tree.{Binary, add, sub, mul, floor_div, mod_, eq, ne, lt, le, gt, ge, and, or, xor}, Token.{Token, op, mark, Mark, equals, dot, comma, colon, tilde, open_paren, close_paren, open_bracket, close_bracket, open_brace, close_brace, byte_of, spelling_of, may_grow, begins_with, IsToken}},
+  script_tokens.specs.Absent.{BeginsNoLongOperator, BeginsNoSign},
+}
 
 -- the first byte, and what follows it
 pub first_and_rest : (bytes : List ℕ) → 0 < length bytes → bytes ≡ get_or bytes 0 0 ∷ take (length bytes - 1) (drop 1 bytes)

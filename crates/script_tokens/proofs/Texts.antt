@@ -1,15 +1,10 @@
 -- A text between quotes is read part by part.
-use Rattle.std.proofs.Common.{◌≡◌, ◌≢◌, ◌⊎◌, ◌∙◌, sym, ap, subst, refl, ℕ, ◌+◌, ◌<◌, true, false, List, [], ◌∷◌, ◌++◌, Some, length, length-append, append_assoc, get_or, arith, inl, inr}
-use Rattle.std.specs.List.{list_all}
-use Rattle.std.specs.Str.{IsUtf8}
-use Rattle.std.proofs.lemmas.Bool.Decides.{nat_tests}
-use Rattle.std.proofs.lemmas.List.{append-nil}
-use Rattle.std.proofs.Math.Seq.{get_or-append_seam, drop-append_seam, drop-append-add, take-append_seam}
-use Rattle.std.proofs.lemmas.Str.{IsUtf8-nil, IsUtf8-take, IsUtf8-drop, IsCharBoundary-before_ascii, IsCharBoundary-after_ascii}
-use Rattle.meaning.specs.Text.{Text}
-use Rattle.language_meaning.specs.Token.{escaped, begins_with, IsRun, IsQuoted, IsQuote}
-use Rattle.script_tokens.specs.Quoted.{is_plain, IsEscape, BeginsNoEscape, EndsNoText}
-use Rattle.script_tokens.proofs.Runs.{both_true}
+use Rattle.{
+  std.{proofs.{Common.{◌≡◌, ◌≢◌, ◌⊎◌, ◌∙◌, sym, ap, subst, refl, ℕ, ◌+◌, ◌<◌, true, false, List, [], ◌∷◌, ◌++◌, Some, length, length-append, append_assoc, get_or, arith, inl, inr}, lemmas.{Bool.Decides.{nat_tests}, List.{append-nil}, Str.{IsUtf8-nil, IsUtf8-take, IsUtf8-drop, IsCharBoundary-before_ascii, IsCharBoundary-after_ascii}}, Math.Seq.{get_or-append_seam, drop-append_seam, drop-append-add, take-append_seam}}, specs.{List.{list_all}, Str.{IsUtf8}}},
+  meaning.specs.Text.{Text},
+  language_meaning.specs.Token.{escaped, begins_with, IsRun, IsQuoted, IsQuote},
+  script_tokens.{specs.Quoted.{is_plain, IsEscape, BeginsNoEscape, EndsNoText}, proofs.Runs.{both_true}},
+}
 
 pub is_plain-true : (quote b : ℕ) → is_plain quote b ≡ true → (b ≢ quote) × (b ≢ 92) × (b ≢ 10)
 is_plain-true quote b e = (grind (arith, nat_tests), grind (arith, nat_tests), grind (arith, nat_tests))

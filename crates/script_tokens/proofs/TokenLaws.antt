@@ -1,17 +1,10 @@
 -- Bytes begin with one token.
-use Rattle.std.proofs.Common.{◌≡◌, ◌≢◌, ◌∙◌, sym, ap, refl, ℕ, zero, suc, ◌≤◌, ◌<◌, ◌^◌, Bool, true, false, ◌||◌, eqb, ltb, if◌then◌else◌, subst, List, [], ◌∷◌, ◌++◌, length, length-append, get_or, Some, decimal, Result, Ok, arith, rules, inl, inr}
-use Rattle.std.specs.Str.Parse.{ParsesUnsigned, digits_value}
-use Rattle.std.specs.List.{list_all}
-use Rattle.std.specs.Str.{IsUtf8}
-use Rattle.std.proofs.lemmas.Bool.Decides.{nat_tests}
-use Rattle.std.proofs.lemmas.Fmt.{decimal_nonempty, decimal_injective, decimal_digit, first_decimal, decimal-digits_value, parse-decimal}
-use Rattle.std.proofs.lemmas.Str.Parse.{IsNumeralModel, numerals_by_value, parse_digits}
-use Rattle.meaning.specs.Text.{Text}
-use Rattle.language_meaning.specs.Tree.{Binary, add}
-use Rattle.language_meaning.specs.Token.{Token, word, int, text, op, mark, Mark, equals, byte_of, spelling_of, is_digit, begins_word, continues_word, begins_with, IsRun, escaped, IsTextByte, IsQuote, IsQuoted, IsToken}
-use Rattle.script_tokens.proofs.Runs.{both_true, not_both, IsRun-unique}
-use Rattle.script_tokens.proofs.Signs.{operator_reads, mark_reads, same_sign}
-use Rattle.script_tokens.proofs.Texts.{no_backslash, quoted_ends, IsUtf8-after_ascii}
+use Rattle.{
+  std.{proofs.{Common.{◌≡◌, ◌≢◌, ◌∙◌, sym, ap, refl, ℕ, zero, suc, ◌≤◌, ◌<◌, ◌^◌, Bool, true, false, ◌||◌, eqb, ltb, if◌then◌else◌, subst, List, [], ◌∷◌, ◌++◌, length, length-append, get_or, Some, decimal, Result, Ok, arith, rules, inl, inr}, lemmas.{Bool.Decides.{nat_tests}, Fmt.{decimal_nonempty, decimal_injective, decimal_digit, first_decimal, decimal-digits_value, parse-decimal}, Str.Parse.{IsNumeralModel, numerals_by_value, parse_digits}}}, specs.{Str.{IsUtf8, Parse.{ParsesUnsigned, digits_value}}, List.{list_all}}},
+  meaning.specs.Text.{Text},
+  language_meaning.specs.{Tree.{Binary, add}, Token.{Token, word, int, text, op, mark, Mark, equals, byte_of, spelling_of, is_digit, begins_word, continues_word, begins_with, IsRun, escaped, IsTextByte, IsQuote, IsQuoted, IsToken}},
+  script_tokens.proofs.{Runs.{both_true, not_both, IsRun-unique}, Signs.{operator_reads, mark_reads, same_sign}, Texts.{no_backslash, quoted_ends, IsUtf8-after_ascii}},
+}
 
 run_begins : (p q : ℕ → Bool) (front bytes rest : List ℕ) → IsRun p front bytes rest → begins_with q front ≡ true → begins_with q bytes ≡ true
 run_begins p q [] bytes rest run e = absurd cc

@@ -1,29 +1,14 @@
 -- What stands after a name got a value or left it.
-use Rattle.std.proofs.Common.{◌≡◌, ℕ, Bool, true, false, not, nat_eq, List, [], ◌∷◌, ◌++◌, map, filter, Option, Some, None, IsSome, refl, sym, ◌∙◌, ap, subst, string_bytes}
-use Rattle.std.specs.Prelude.{if◌then◌else◌, option_map}
-use Rattle.std.specs.declared.string.String.{String}
-use Rattle.std.specs.String.{string_eq}
-use Rattle.std.specs.List.{IsDistinct, AllByRecursion}
-use Rattle.std.specs.Map.{keys_of}
-use Rattle.cell_core.specs.declared.cell.Cell.{Cell}
-use Rattle.meaning.specs.Text.{Text, same_text}
-use Rattle.meaning.specs.Cell.{CellValue, na_cell, datum}
-use Rattle.table_meaning.specs.Settled.{IsSettled}
-use Rattle.table_meaning.specs.Table.{NumberedTable, table_value}
+use Rattle.{
+  std.{proofs.Common.{◌≡◌, ℕ, Bool, true, false, not, nat_eq, List, [], ◌∷◌, ◌++◌, map, filter, Option, Some, None, IsSome, refl, sym, ◌∙◌, ap, subst, string_bytes}, specs.{Prelude.{if◌then◌else◌, option_map}, declared.string.String.{String}, String.{string_eq}, List.{IsDistinct, AllByRecursion}, Map.{keys_of}}},
+  cell_core.specs.declared.cell.Cell.{Cell},
+  meaning.specs.{Text.{Text, same_text}, Cell.{CellValue, na_cell, datum}},
+  table_meaning.specs.{Settled.{IsSettled}, Table.{NumberedTable, table_value}, Value.{Entry}},
+  frame_store.specs.{Objects.{Tables, with_object}, Shown.{shown}, declared.{object.ObjId.{ObjId}, arguments.Value.{Value, TheVariants.{Object, Scalar}}}, World.{World, entry_in, IsKnownValue}},
+  script_meaning.specs.State.{without_name},
+  script_work.{specs.Bindings.{Bindings, bindings_of, bound, unbound, value_at, is_named, is_object, one_object, state_over, contains, released, noted_old, AreLive, AreGiven, AreNoted, AreNamed, KeepNamed}, proofs.{Numbers.{nat_same, true_false, some_none, same_congr, same_sym}, Bindings.{value_at-bound, named_object}, LiveObjects.{or_right, or_map, contains_last, contains_more, named_when_none_noted}, States.{same_state}}},
+}
 use Rattle.table_meaning.specs.Value as value
-use Rattle.table_meaning.specs.Value.{Entry}
-use Rattle.frame_store.specs.Objects.{Tables, with_object}
-use Rattle.frame_store.specs.Shown.{shown}
-use Rattle.frame_store.specs.declared.object.ObjId.{ObjId}
-use Rattle.frame_store.specs.declared.arguments.Value.{Value}
-use Rattle.frame_store.specs.declared.arguments.Value.TheVariants.{Object, Scalar}
-use Rattle.script_meaning.specs.State.{without_name}
-use Rattle.frame_store.specs.World.{World, entry_in, IsKnownValue}
-use Rattle.script_work.specs.Bindings.{Bindings, bindings_of, bound, unbound, value_at, is_named, is_object, one_object, state_over, contains, released, noted_old, AreLive, AreGiven, AreNoted, AreNamed, KeepNamed}
-use Rattle.script_work.proofs.Numbers.{nat_same, true_false, some_none, same_congr, same_sym}
-use Rattle.script_work.proofs.Bindings.{value_at-bound, named_object}
-use Rattle.script_work.proofs.LiveObjects.{or_right, or_map, contains_last, contains_more, named_when_none_noted}
-use Rattle.script_work.proofs.States.{same_state}
 
 -- what is bound to known values is live, and its texts are given
 pub bound_live : (bs : Bindings) (x : Text) (v : Value) (w : World) → IsKnownValue w v → AreLive bs w.tables → AreLive (bound bs x v) w.tables

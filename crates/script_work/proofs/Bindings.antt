@@ -1,17 +1,12 @@
 -- Names that get values and lose them.
-use Rattle.std.proofs.Common.{◌≡◌, Bool, true, false, List, [], ◌∷◌, map, Option, Some, None, refl, sym, ◌∙◌, ap, string_bytes}
-use Rattle.std.specs.Prelude.{if◌then◌else◌}
-use Rattle.std.specs.declared.string.String.{String}
-use Rattle.std.specs.String.{string_eq}
-use Rattle.std.specs.Map.{lookup}
-use Rattle.indexmap.specs.IndexMap.{insert_entry, shift_remove_entry}
-use Rattle.meaning.specs.Text.{Text, same_text}
-use Rattle.script_meaning.specs.State.{with_name}
-use Rattle.frame_store.specs.declared.object.ObjId.{ObjId}
-use Rattle.frame_store.specs.declared.arguments.Value.{Value}
-use Rattle.frame_store.specs.declared.arguments.Value.TheVariants.{Object}
-use Rattle.script_work.specs.Bindings.{Bindings, bindings_of, bound, unbound, value_at, is_named, is_object}
-use Rattle.script_work.proofs.Numbers.{true_false, same_congr, same_sym, nat_eq_self}
+use Rattle.{
+  std.{proofs.Common.{◌≡◌, Bool, true, false, List, [], ◌∷◌, map, Option, Some, None, refl, sym, ◌∙◌, ap, string_bytes}, specs.{Prelude.{if◌then◌else◌}, declared.string.String.{String}, String.{string_eq}, Map.{lookup}}},
+  indexmap.specs.IndexMap.{insert_entry, shift_remove_entry},
+  meaning.specs.Text.{Text, same_text},
+  script_meaning.specs.State.{with_name},
+  frame_store.specs.declared.{object.ObjId.{ObjId}, arguments.Value.{Value, TheVariants.{Object}}},
+  script_work.{specs.Bindings.{Bindings, bindings_of, bound, unbound, value_at, is_named, is_object}, proofs.Numbers.{true_false, same_congr, same_sym, nat_eq_self}},
+}
 
 pub bindings_of-insert_entry : {Y : Type 0} (es : List (String Y × Value)) (k : String Y) (v : Value) → bindings_of (insert_entry string_eq es k v) ≡ bound (bindings_of es) (string_bytes k) v
 bindings_of-insert_entry [] k v = refl

@@ -1,32 +1,17 @@
 -- The file of a name, as it is fetched.
-use Rattle.std.proofs.Common.{◌≡◌, ◌<◌, ◌^◌, ◌+◌, ℕ, Bool, true, false, List, [], ◌∷◌, length, Option, Some, None, refl, sym, ◌∙◌, ap, subst, arith, inl, inr}
-use Rattle.std.specs.Prelude.{Result, Ok, Err, nat_lt, if◌then◌else◌}
-use Rattle.std.specs.FinMap.{get}
-use Rattle.std.specs.Str.Lossy.{utf8_valid_len}
-use Rattle.csv.specs.Reading.{records, default_config, strip_bom}
-use Rattle.outside_io.specs.Count.{HasRisen, raised}
-use Rattle.outside_io.specs.Whole.{IsWholeFile, IsLonger, IsAbsent}
-use Rattle.meaning.specs.Text.{Text, Contents}
-use Rattle.meaning.specs.Fault.{FaultValue, limit}
-use Rattle.meaning.specs.FaultOf.{fault_of}
-use Rattle.table_meaning.specs.Settled.{IsSettled}
-use Rattle.table_meaning.specs.Value.{Given, NamedGiven, dict_in}
-use Rattle.form_meaning.specs.declared.Function.TheVariants.{ReadCsv}
-use Rattle.std.proofs.lemmas.Bool.Decides.{nat_tests}
-use Rattle.cell_core.specs.declared.cell.Kind.{Kind}
-use Rattle.form_meaning.specs.declared.Parameter.{Parameter}
-use Rattle.form_meaning.specs.Signature.{function_parameters}
-use Rattle.form_meaning.specs.Binding.{Bound, not_taken, not_listed, bound, fit, none_missing, are_listed, argument_at, arguments_from, on_bound}
-use Rattle.csv_meaning.specs.CsvRead.{beyond_limits, not_utf8, columns_of_file, columns_of_records}
-use Rattle.method_meaning.specs.Readers.{name_of_bound, file_name_of, csv_result, read_result, frame_or_fault, kinds_given}
-use Rattle.script_meaning.specs.Reading.{Reads, at_once, after, path_of_name, of_bytes, of_path, of_file}
-use Rattle.script_work.specs.declared.file_names.FileName.{FileName}
-use Rattle.script_work.specs.declared.fault.EvalFault.{EvalFault}
-use Rattle.script_work.specs.declared.fault.EvalFault.TheVariants.{Refused, Input, NoMemory}
-use Rattle.script_work.specs.Faults.{IsNoFile}
-use Rattle.outside_io.specs.Files.{FilesValue}
-use Rattle.script_work.specs.Reads.{Holds, Goes, Stuck, Spends, Halts, RefusesLong, IsCaused, absent_name, paths_of, files_in}
-use Rattle.script_work.proofs.Rides.{goes_same, spends_none}
+use Rattle.{
+  std.{proofs.{Common.{◌≡◌, ◌<◌, ◌^◌, ◌+◌, ℕ, Bool, true, false, List, [], ◌∷◌, length, Option, Some, None, refl, sym, ◌∙◌, ap, subst, arith, inl, inr}, lemmas.Bool.Decides.{nat_tests}}, specs.{Prelude.{Result, Ok, Err, nat_lt, if◌then◌else◌}, FinMap.{get}, Str.Lossy.{utf8_valid_len}}},
+  csv.specs.Reading.{records, default_config, strip_bom},
+  outside_io.specs.{Count.{HasRisen, raised}, Whole.{IsWholeFile, IsLonger, IsAbsent}, Files.{FilesValue}},
+  meaning.specs.{Text.{Text, Contents}, Fault.{FaultValue, limit}, FaultOf.{fault_of}},
+  table_meaning.specs.{Settled.{IsSettled}, Value.{Given, NamedGiven, dict_in}},
+  form_meaning.specs.{declared.{Function.TheVariants.{ReadCsv}, Parameter.{Parameter}}, Signature.{function_parameters}, Binding.{Bound, not_taken, not_listed, bound, fit, none_missing, are_listed, argument_at, arguments_from, on_bound}},
+  cell_core.specs.declared.cell.Kind.{Kind},
+  csv_meaning.specs.CsvRead.{beyond_limits, not_utf8, columns_of_file, columns_of_records},
+  method_meaning.specs.Readers.{name_of_bound, file_name_of, csv_result, read_result, frame_or_fault, kinds_given},
+  script_meaning.specs.Reading.{Reads, at_once, after, path_of_name, of_bytes, of_path, of_file},
+  script_work.{specs.{declared.{file_names.FileName.{FileName}, fault.EvalFault.{EvalFault, TheVariants.{Refused, Input, NoMemory}}}, Faults.{IsNoFile}, Reads.{Holds, Goes, Stuck, Spends, Halts, RefusesLong, IsCaused, absent_name, paths_of, files_in}}, proofs.Rides.{goes_same, spends_none}},
+}
 
 module _ {A : Type 0} (texts : List Text) (names : List FileName) (held : Contents) (name : Text) (go : List ℕ → Result A FaultValue) where
   abbrev whole : Reads A

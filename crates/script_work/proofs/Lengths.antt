@@ -1,18 +1,12 @@
 -- The number of rows as a whole number of 64 bits.
-use Rattle.std.proofs.Common.{◌≡◌, ℕ, ℤ, pos, length, Some, Ok, sym, ◌∙◌, ap, ◌<◌, w64, to_z, of_z}
-use Rattle.std.specs.Int.{int_wrap, cast_signed}
-use Rattle.std.proofs.lemmas.Int.{of_z-to_z}
-use Rattle.std.proofs.lemmas.List.{length-map}
 use native.Mathlib.Nat.{mod-eq_of_lt}
-use Rattle.meaning.specs.Cell.{int_cell}
-use Rattle.table_meaning.specs.Table.{NumberedTable, table_value, tuple_value}
-use Rattle.table_meaning.specs.Value.{cell, table}
-use Rattle.form_meaning.specs.Select.{length_result}
-use Rattle.frame_store.specs.Objects.{table_or}
-use Rattle.frame_store.specs.declared.object.ObjId.{ObjId}
-use Rattle.frame_store.specs.declared.arguments.Value.{Value}
-use Rattle.frame_store.specs.declared.arguments.Value.TheVariants.{Object}
-use Rattle.frame_store.specs.World.{World, entry_in}
+use Rattle.{
+  std.{proofs.{Common.{◌≡◌, ℕ, ℤ, pos, length, Some, Ok, sym, ◌∙◌, ap, ◌<◌, w64, to_z, of_z}, lemmas.{Int.{of_z-to_z}, List.{length-map}}}, specs.Int.{int_wrap, cast_signed}},
+  meaning.specs.Cell.{int_cell},
+  table_meaning.specs.{Table.{NumberedTable, table_value, tuple_value}, Value.{cell, table}},
+  form_meaning.specs.Select.{length_result},
+  frame_store.specs.{Objects.{table_or}, declared.{object.ObjId.{ObjId}, arguments.Value.{Value, TheVariants.{Object}}}, World.{World, entry_in}},
+}
 
 wrapped : (n : ℕ) → n < 18446744073709551616 → int_wrap w64 (pos n) ≡ cast_signed w64 n
 unfolding int_wrap

@@ -1,11 +1,10 @@
 -- Objects that are made, kept and ended.
-use Rattle.std.proofs.Common.{◌≡◌, ℕ, Bool, true, false, nat_eq, List, [], ◌∷◌, ◌++◌, None, refl, ◌∙◌, ap, subst, IsSome}
-use Rattle.std.specs.Prelude.{if◌then◌else◌}
-use Rattle.table_meaning.specs.Table.{NumberedTable}
-use Rattle.frame_store.specs.Objects.{Tables, with_object}
-use Rattle.frame_store.specs.declared.object.ObjId.{ObjId}
-use Rattle.script_work.specs.Bindings.{Bindings, is_named, contains, AreNoted, AreNamed, KeepNamed}
-use Rattle.script_work.proofs.Numbers.{nat_same, true_false, some_none}
+use Rattle.{
+  std.{proofs.Common.{◌≡◌, ℕ, Bool, true, false, nat_eq, List, [], ◌∷◌, ◌++◌, None, refl, ◌∙◌, ap, subst, IsSome}, specs.Prelude.{if◌then◌else◌}},
+  table_meaning.specs.Table.{NumberedTable},
+  frame_store.specs.{Objects.{Tables, with_object}, declared.object.ObjId.{ObjId}},
+  script_work.{specs.Bindings.{Bindings, is_named, contains, AreNoted, AreNamed, KeepNamed}, proofs.Numbers.{nat_same, true_false, some_none}},
+}
 
 pub or_right : (n c : Bool) → c ≡ true → (if n then true else c) ≡ true
 or_right true c e = refl

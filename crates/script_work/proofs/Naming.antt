@@ -1,25 +1,11 @@
 -- A name stands for each object that is named.
-use Rattle.std.proofs.Common.{◌≡◌, ◌↔◌, ℕ, zero, suc, Bool, true, false, List, [], ◌∷◌, Some, None, Option, IsSome, refl, sym, ◌∙◌, ap, subst, string_bytes}
-use Rattle.std.specs.Prelude.{slice_get, if◌then◌else◌, Result, Ok, Err, IfOk}
-use Rattle.std.specs.declared.string.String.{String}
-use Rattle.std.specs.String.{string_eq, string_eq_equiv}
-use Rattle.std.specs.List.{IsDistinct}
-use Rattle.std.specs.Map.{keys_of}
-use Rattle.std.proofs.lemmas.Map.Entries.{lookup_from_place}
-use Rattle.meaning.specs.Text.{Text}
-use Rattle.meaning.specs.Fault.{FaultValue}
-use Rattle.table_meaning.specs.Table.{NumberedTable}
-use Rattle.table_meaning.specs.Value.{Entry}
-use Rattle.frame_store.specs.Objects.{Tables}
-use Rattle.frame_store.specs.declared.object.ObjId.{ObjId}
-use Rattle.frame_store.specs.declared.arguments.Value.{Value}
-use Rattle.frame_store.specs.declared.arguments.Value.TheVariants.{Object, Scalar}
-use Rattle.frame_store.specs.declared.fault.OpFault.{OpFault}
-use Rattle.frame_store.specs.World.{World, objects_of, Forms}
-use Rattle.script_work.specs.Bindings.{Bindings, bindings_of, value_at, is_named, is_object, AreLive, AreNamed, IsOf}
-use Rattle.script_work.proofs.Numbers.{nat_same, some_none}
-use Rattle.script_work.proofs.Bindings.{value_at-bindings_of}
-use Rattle.script_work.proofs.Worlds.{some_shown, none_shown}
+use Rattle.{
+  std.{proofs.{Common.{◌≡◌, ◌↔◌, ℕ, zero, suc, Bool, true, false, List, [], ◌∷◌, Some, None, Option, IsSome, refl, sym, ◌∙◌, ap, subst, string_bytes}, lemmas.Map.Entries.{lookup_from_place}}, specs.{Prelude.{slice_get, if◌then◌else◌, Result, Ok, Err, IfOk}, declared.string.String.{String}, String.{string_eq, string_eq_equiv}, List.{IsDistinct}, Map.{keys_of}}},
+  meaning.specs.{Text.{Text}, Fault.{FaultValue}},
+  table_meaning.specs.{Table.{NumberedTable}, Value.{Entry}},
+  frame_store.specs.{Objects.{Tables}, declared.{object.ObjId.{ObjId}, arguments.Value.{Value, TheVariants.{Object, Scalar}}, fault.OpFault.{OpFault}}, World.{World, objects_of, Forms}},
+  script_work.{specs.Bindings.{Bindings, bindings_of, value_at, is_named, is_object, AreLive, AreNamed, IsOf}, proofs.{Numbers.{nat_same, some_none}, Bindings.{value_at-bindings_of}, Worlds.{some_shown, none_shown}}},
+}
 
 is_object_same : (v : Value) (id : ObjId) → is_object v id.0 ≡ true → v ≡ Object id
 is_object_same (Object o) id e = ap (λ k. Object (record { 0 = k })) (nat_same o.0 id.0 e)

@@ -1,8 +1,8 @@
 -- Tests of numbers and texts.
-use Rattle.std.proofs.Common.{◌≡◌, ℕ, Bool, true, false, nat_eq, Option, Some, None, arith, IsSome}
-use Rattle.std.proofs.lemmas.Bool.Decides.{nat_tests}
-use Rattle.std.specs.Cmp.Lexicographic.{nat_list_eq_equiv}
-use Rattle.meaning.specs.Text.{Text, same_text}
+use Rattle.{
+  std.{proofs.{Common.{◌≡◌, ℕ, Bool, true, false, nat_eq, Option, Some, None, arith, IsSome}, lemmas.Bool.Decides.{nat_tests}}, specs.Cmp.Lexicographic.{nat_list_eq_equiv}},
+  meaning.specs.Text.{Text, same_text},
+}
 
 pub nat_same : (a b : ℕ) → nat_eq a b ≡ true → a ≡ b
 nat_same a b e = grind (arith, nat_tests)

@@ -1,29 +1,16 @@
 -- Readings one after the other, and how far they have come.
-use Rattle.std.proofs.Common.{◌≡◌, ◌≤◌, ◌+◌, ℕ, zero, suc, Bool, List, Option, Some, None, refl, sym, ◌∙◌, ap, subst, arith, inl, inr}
-use Rattle.std.specs.Prelude.{Result, Ok, Err, IfOk, IfErr, option_map}
-use Rattle.cell_core.specs.declared.code.Code.{Code}
+use Rattle.{
+  std.{proofs.Common.{◌≡◌, ◌≤◌, ◌+◌, ℕ, zero, suc, Bool, List, Option, Some, None, refl, sym, ◌∙◌, ap, subst, arith, inl, inr}, specs.Prelude.{Result, Ok, Err, IfOk, IfErr, option_map}},
+  cell_core.specs.declared.code.Code.{Code},
+  outside_io.specs.{Count.{raised}, Files.{FilesValue, Serves}},
+  meaning.specs.{Text.{Text, Contents}, Fault.{FaultValue}, FaultOf.{fault_of}},
+  table_meaning.specs.{Settled.{IsSettled}, Value.{Entry}},
+  frame_store.specs.{declared.{arguments.Value.{Value}, fault.OpFault.{OpFault, TheVariants.{Refused as OpRefused, NoMemory as OpNoMemory}}}, World.{World, entry_in, Forms}},
+  script_meaning.specs.{Reading.{Files, Reading, Reads, at_once, gives, after, goes_on, then_or, then_read}, Expression.{where_named, value_of_name}},
+  script_work.{specs.{Bindings.{Bindings, value_at}, declared.fault.EvalFault.{EvalFault, TheVariants.{Refused, Input, NoMemory}}, Faults.{IsNoAttribute, IsNoName, evaluated}, Reads.{both_of, Holds, Goes, Stuck, Spends, Halts, Reaches, ReachesBytes, IsCaused, absent_name, count_after}}, proofs.Worlds.{entry_seen}},
+  fault_laws.specs.FormFault.{IsOfForm, HasFormFault},
+}
 use Rattle.cell_core.specs.declared.code.Code.TheVariants as code
-use Rattle.outside_io.specs.Count.{raised}
-use Rattle.meaning.specs.Text.{Text, Contents}
-use Rattle.meaning.specs.Fault.{FaultValue}
-use Rattle.meaning.specs.FaultOf.{fault_of}
-use Rattle.table_meaning.specs.Settled.{IsSettled}
-use Rattle.table_meaning.specs.Value.{Entry}
-use Rattle.frame_store.specs.declared.arguments.Value.{Value}
-use Rattle.frame_store.specs.declared.fault.OpFault.{OpFault}
-use Rattle.frame_store.specs.declared.fault.OpFault.TheVariants.{Refused as OpRefused, NoMemory as OpNoMemory}
-use Rattle.script_meaning.specs.Reading.{Files, Reading, Reads, at_once, gives, after, goes_on, then_or, then_read}
-use Rattle.script_meaning.specs.Expression.{where_named, value_of_name}
-use Rattle.script_work.specs.Bindings.{Bindings, value_at}
-use Rattle.fault_laws.specs.FormFault.{IsOfForm, HasFormFault}
-use Rattle.script_work.specs.declared.fault.EvalFault.{EvalFault}
-use Rattle.script_work.specs.declared.fault.EvalFault.TheVariants.{Refused, Input, NoMemory}
-use Rattle.script_work.specs.Faults.{IsNoAttribute, IsNoName, evaluated}
-use Rattle.script_work.specs.Reads.{both_of}
-use Rattle.outside_io.specs.Files.{FilesValue, Serves}
-use Rattle.script_work.specs.Reads.{Holds, Goes, Stuck, Spends, Halts, Reaches, ReachesBytes, IsCaused, absent_name, count_after}
-use Rattle.frame_store.specs.World.{World, entry_in, Forms}
-use Rattle.script_work.proofs.Worlds.{entry_seen}
 
 -- counts of fetches
 none_more : (n : ℕ) → 0 + n ≡ n

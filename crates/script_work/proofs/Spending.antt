@@ -1,28 +1,13 @@
 -- Settings that may end an object that no name stands for.
-use Rattle.std.proofs.Common.{◌≡◌, ℕ, Bool, true, false, nat_eq, List, Option, Some, None, refl, sym, subst, IsSome}
-use Rattle.std.specs.Prelude.{◌&&◌, not, if◌then◌else◌, option_map, option_copied, ⊤, Result, Ok, Err, IfSome}
-use Rattle.std.specs.Borrow.{Bor}
-use Rattle.meaning.specs.Text.{Text}
-use Rattle.table_meaning.specs.Table.{NumberedTable}
-use Rattle.table_meaning.specs.Value.{GivenSub}
-use Rattle.table_laws.specs.Validity.{AreValid}
-use Rattle.frame_store.specs.Objects.{Tables, with_object}
-use Rattle.frame_store.specs.Arguments.{IsLive}
-use Rattle.frame_store.specs.Shown.{shown, spent}
-use Rattle.frame_store.specs.World.{World}
-use Rattle.frame_store.specs.declared.object.ObjId.{ObjId}
-use Rattle.frame_store.specs.declared.arguments.Argument.{Argument}
-use Rattle.frame_store.specs.declared.arguments.Subscript.{Subscript}
-use Rattle.frame_store.specs.declared.arguments.Value.{Value}
-use Rattle.frame_store.specs.declared.arguments.Value.TheVariants.{Object, Scalar}
-use Rattle.frame_store.specs.declared.fault.OpFault.{OpFault}
-use Rattle.settings.specs.Assigned.{without, IsOther}
-use Rattle.script_work.specs.Bindings.{Bindings, is_named, is_spare, state_over, AreNoted, KeepNamed}
-use Rattle.script_work.specs.Work.{IsUnnamedValue}
-use Rattle.script_work.proofs.Numbers.{nat_same, true_false, some_none}
-use Rattle.script_work.proofs.LiveObjects.{kept_ended}
-use Rattle.script_work.proofs.States.{state_swept}
-use Rattle.script_work.proofs.Validity.{without_valid}
+use Rattle.{
+  std.{proofs.Common.{◌≡◌, ℕ, Bool, true, false, nat_eq, List, Option, Some, None, refl, sym, subst, IsSome}, specs.{Prelude.{◌&&◌, not, if◌then◌else◌, option_map, option_copied, ⊤, Result, Ok, Err, IfSome}, Borrow.{Bor}}},
+  meaning.specs.Text.{Text},
+  table_meaning.specs.{Table.{NumberedTable}, Value.{GivenSub}},
+  table_laws.specs.Validity.{AreValid},
+  frame_store.specs.{Objects.{Tables, with_object}, Arguments.{IsLive}, Shown.{shown, spent}, World.{World}, declared.{object.ObjId.{ObjId}, arguments.{Argument.{Argument}, Subscript.{Subscript}, Value.{Value, TheVariants.{Object, Scalar}}}, fault.OpFault.{OpFault}}},
+  settings.specs.Assigned.{without, IsOther},
+  script_work.{specs.{Bindings.{Bindings, is_named, is_spare, state_over, AreNoted, KeepNamed}, Work.{IsUnnamedValue}}, proofs.{Numbers.{nat_same, true_false, some_none}, LiveObjects.{kept_ended}, States.{state_swept}, Validity.{without_valid}}},
+}
 
 -- an object without a name, and a value with one
 first_is : (a b : Bool) → (a && not b) ≡ true → a ≡ true

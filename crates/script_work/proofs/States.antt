@@ -1,25 +1,14 @@
 -- What changes of names, objects and texts do to the state.
-use Rattle.std.proofs.Common.{◌≡◌, Bool, true, false, nat_eq, Option, Some, None, refl, sym, ◌∙◌, ap, subst}
-use Rattle.std.specs.Prelude.{if◌then◌else◌, option_map, ◌&&◌}
-use Rattle.cell_core.specs.declared.cell.Cell.{Cell}
-use Rattle.meaning.specs.Text.{Text, same_text}
-use Rattle.meaning.specs.Cell.{datum}
-use Rattle.table_meaning.specs.Table.{table_value}
+use Rattle.{
+  std.{proofs.Common.{◌≡◌, Bool, true, false, nat_eq, Option, Some, None, refl, sym, ◌∙◌, ap, subst}, specs.Prelude.{if◌then◌else◌, option_map, ◌&&◌}},
+  cell_core.specs.declared.cell.Cell.{Cell},
+  meaning.specs.{Text.{Text, same_text}, Cell.{datum}},
+  table_meaning.specs.{Table.{table_value}, Value.{Entry, is_table}},
+  frame_store.specs.{Objects.{table_or}, declared.{object.ObjId.{ObjId}, arguments.Value.{Value, TheVariants.{Object, Scalar}}}, World.{World, entry_in, IsSettledWorld, Keeps, IsKnownValue}},
+  script_meaning.specs.{State.{State, with_new, with_object}, Statement.{with_value}},
+  script_work.{specs.{Bindings.{Bindings, bound, value_at, is_named, is_object, one_object, state_over, AreLive, AreGiven, KeepNamed, IsOf}, Work.{names_in, world_of, state_in}, declared.work.Work.{Work}}, proofs.{Numbers.{nat_same, nat_eq_self, true_false}, Bindings.{names-bound, value_at-bound, named_object}, Worlds.{object_known, value_seen}}},
+}
 use Rattle.table_meaning.specs.Value as value
-use Rattle.table_meaning.specs.Value.{Entry, is_table}
-use Rattle.frame_store.specs.Objects.{table_or}
-use Rattle.frame_store.specs.declared.object.ObjId.{ObjId}
-use Rattle.frame_store.specs.declared.arguments.Value.{Value}
-use Rattle.frame_store.specs.declared.arguments.Value.TheVariants.{Object, Scalar}
-use Rattle.script_meaning.specs.State.{State, with_new, with_object}
-use Rattle.script_meaning.specs.Statement.{with_value}
-use Rattle.frame_store.specs.World.{World, entry_in, IsSettledWorld, Keeps, IsKnownValue}
-use Rattle.script_work.specs.Bindings.{Bindings, bound, value_at, is_named, is_object, one_object, state_over, AreLive, AreGiven, KeepNamed, IsOf}
-use Rattle.script_work.specs.Work.{names_in, world_of, state_in}
-use Rattle.script_work.specs.declared.work.Work.{Work}
-use Rattle.script_work.proofs.Numbers.{nat_same, nat_eq_self, true_false}
-use Rattle.script_work.proofs.Bindings.{names-bound, value_at-bound, named_object}
-use Rattle.script_work.proofs.Worlds.{object_known, value_seen}
 
 -- two states that answer alike are one
 pub same_state : (s t : State) → s.names ≡ t.names → ((n : Text) → s.value n ≡ t.value n) → ((a b : Text) → s.paired a b ≡ t.paired a b) → s ≡ t

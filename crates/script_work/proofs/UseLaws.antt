@@ -1,15 +1,10 @@
 -- How many names stand for an object, as names get values and lose them.
-use Rattle.std.proofs.Common.{◌≡◌, ◌<◌, ◌≤◌, ℕ, suc, Bool, true, false, [], ◌∷◌, Option, Some, None, refl, sym, ◌∙◌, ap, arith, IsSome}
-use Rattle.std.specs.Prelude.{if◌then◌else◌, cond, nat_lt, Result, Ok, Err, OnOk, OnErr}
-use Rattle.std.proofs.lemmas.Bool.Decides.{nat_tests}
-use Rattle.meaning.specs.Text.{Text, same_text}
-use Rattle.frame_store.specs.declared.object.ObjId.{ObjId}
-use Rattle.frame_store.specs.declared.arguments.Value.{Value}
-use Rattle.frame_store.specs.declared.arguments.Value.TheVariants.{Object, Scalar}
-use Rattle.script_work.specs.Bindings.{Bindings, bound, unbound, value_at, is_named, is_object, uses_of}
-use Rattle.script_work.specs.Uses.{or_none, with_one, with_left, CanTake}
-use Rattle.script_work.proofs.Bindings.{named_object}
-use Rattle.script_work.proofs.Numbers.{some_none}
+use Rattle.{
+  std.{proofs.{Common.{◌≡◌, ◌<◌, ◌≤◌, ℕ, suc, Bool, true, false, [], ◌∷◌, Option, Some, None, refl, sym, ◌∙◌, ap, arith, IsSome}, lemmas.Bool.Decides.{nat_tests}}, specs.Prelude.{if◌then◌else◌, cond, nat_lt, Result, Ok, Err, OnOk, OnErr}},
+  meaning.specs.Text.{Text, same_text},
+  frame_store.specs.declared.{object.ObjId.{ObjId}, arguments.Value.{Value, TheVariants.{Object, Scalar}}},
+  script_work.{specs.{Bindings.{Bindings, bound, unbound, value_at, is_named, is_object, uses_of}, Uses.{or_none, with_one, with_left, CanTake}}, proofs.{Bindings.{named_object}, Numbers.{some_none}}},
+}
 
 -- counts in another order
 bools_swap : (p q : Bool) (n : ℕ) → (if p then suc (if q then suc n else n) else (if q then suc n else n)) ≡ (if q then suc (if p then suc n else n) else (if p then suc n else n))

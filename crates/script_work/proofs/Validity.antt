@@ -1,30 +1,13 @@
 -- The tables of live objects stay valid.
-use Rattle.std.proofs.Common.{◌≡◌, ℕ, Bool, true, false, nat_eq, List, Option, Some, None, refl, sym, ap, subst, IsSome}
-use Rattle.std.specs.Prelude.{if◌then◌else◌, option_map, ⊤, Result, Ok, Err, IfOk, IfSome, List, [], ◌∷◌, All}
-use Rattle.meaning.specs.Cell.{IsLonger}
-use Rattle.meaning.specs.Text.{Text}
-use Rattle.meaning.specs.Fault.{FaultValue}
-use Rattle.table_meaning.specs.Settled.{IsSettled}
-use Rattle.table_meaning.specs.Table.{NumberedTable, Table, table_value}
-use Rattle.table_meaning.specs.Valid.{IsValid}
-use Rattle.table_meaning.specs.Value.{Entry, scalar_in, NamedGiven}
-use Rattle.table_laws.specs.Validity.{IsHeldCell, IsValidObject, IsValidEntry, IsValidGiven, AreValid, IsValidArgument, AreValidArguments}
-use Rattle.frame_store.specs.Objects.{Tables, table_or, with_object}
-use Rattle.frame_store.specs.Arguments.{argument_of, IsLive, IsLiveArgument, item_of, items_of, named_of, arguments_of, IsLiveItem, AreLiveItems, AreLive}
-use Rattle.frame_store.specs.declared.arguments.Argument.{Argument, Nothing, One, Row, Many, Table'}
-use Rattle.frame_store.specs.Shown.{Shown, shown, with_shown, table_in, FormAnswers, Changes}
-use Rattle.frame_store.specs.declared.arguments.Value.{Value}
-use Rattle.frame_store.specs.declared.arguments.Value.TheVariants.{Object, Scalar}
-use Rattle.frame_store.specs.declared.fault.OpFault.{OpFault}
-use Rattle.frame_store.specs.declared.fault.OpFault.TheVariants.{Refused, NoMemory}
-use Rattle.frame_store.proofs.Settling.{seen_later}
-use Rattle.frame_store.specs.World.{World, objects_of, entry_in, Forms, Sets, arguments_in, AreKnownArguments}
-use Rattle.script_work.specs.Bindings.{Bindings, is_named, released, AreNamed, KeepNamed}
-use Rattle.std.proofs.lemmas.List.Elements.{All-nil, All-cons}
-use Rattle.method_meaning.specs.Concat.{tables_of}
-use Rattle.table_laws.proofs.ArgumentLaws.{more_valid}
-use Rattle.frame_store.specs.declared.arguments.Item.{Item, One as OneItem, Row' as RowItem'}
-use Rattle.frame_store.specs.declared.arguments.Named.{Named}
+use Rattle.{
+  std.{proofs.{Common.{◌≡◌, ℕ, Bool, true, false, nat_eq, List, Option, Some, None, refl, sym, ap, subst, IsSome}, lemmas.List.Elements.{All-nil, All-cons}}, specs.Prelude.{if◌then◌else◌, option_map, ⊤, Result, Ok, Err, IfOk, IfSome, List, [], ◌∷◌, All}},
+  meaning.specs.{Cell.{IsLonger}, Text.{Text}, Fault.{FaultValue}},
+  table_meaning.specs.{Settled.{IsSettled}, Table.{NumberedTable, Table, table_value}, Valid.{IsValid}, Value.{Entry, scalar_in, NamedGiven}},
+  table_laws.{specs.Validity.{IsHeldCell, IsValidObject, IsValidEntry, IsValidGiven, AreValid, IsValidArgument, AreValidArguments}, proofs.ArgumentLaws.{more_valid}},
+  frame_store.{specs.{Objects.{Tables, table_or, with_object}, Arguments.{argument_of, IsLive, IsLiveArgument, item_of, items_of, named_of, arguments_of, IsLiveItem, AreLiveItems, AreLive}, declared.{arguments.{Argument.{Argument, Nothing, One, Row, Many, Table'}, Value.{Value, TheVariants.{Object, Scalar}}, Item.{Item, One as OneItem, Row' as RowItem'}, Named.{Named}}, fault.OpFault.{OpFault, TheVariants.{Refused, NoMemory}}}, Shown.{Shown, shown, with_shown, table_in, FormAnswers, Changes}, World.{World, objects_of, entry_in, Forms, Sets, arguments_in, AreKnownArguments}}, proofs.Settling.{seen_later}},
+  script_work.specs.Bindings.{Bindings, is_named, released, AreNamed, KeepNamed},
+  method_meaning.specs.Concat.{tables_of},
+}
 
 -- the same by cases
 abbrev Each : Shown → Type 0

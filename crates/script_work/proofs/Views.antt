@@ -1,20 +1,12 @@
 -- What is made of values is seen as before where their objects are.
-use Rattle.std.proofs.Common.{◌≡◌, ℕ, List, [], ◌∷◌, refl, ap, IsSome}
 use mathlib.Core.Former.{Count}
-use Rattle.cell_core.specs.declared.cell.Label.{Label}
-use Rattle.meaning.specs.Text.{Text}
-use Rattle.meaning.specs.Cell.{label_datum}
+use Rattle.{
+  std.proofs.Common.{◌≡◌, ℕ, List, [], ◌∷◌, refl, ap, IsSome},
+  cell_core.specs.declared.cell.Label.{Label},
+  meaning.specs.{Text.{Text}, Cell.{label_datum}},
+  frame_store.specs.{Objects.{Tables}, Arguments.{object_value, entry_of, item_of, items_row, items_of, argument_of, entries_row, entries_of, arguments_of, subscript_of, IsLive, IsLiveItem, IsLiveRow, AreLiveItems, IsLiveArgument, AreLiveEntries, AreLivePairs, AreLive, IsLiveSubscript}, declared.{object.ObjId.{ObjId}, arguments.{Value.{Value, TheVariants.{Object, Scalar}}, Argument.{Argument, Nothing, One, Row, Many, Table', Row_of-Entries-pairs-2, end_of-Entries-pairs-2, more_of-Entries-pairs-2}, Item.{Item, One as OneItem, Row' as RowItem', Row_of-Item, end_of-Item, more_of-Item}, Named.{Named}, Subscript.{Subscript, TheVariants.{Key, Span}}}}},
+}
 use Rattle.table_meaning.specs.Value as value
-use Rattle.frame_store.specs.Objects.{Tables}
-use Rattle.frame_store.specs.Arguments.{object_value, entry_of, item_of, items_row, items_of, argument_of, entries_row, entries_of, arguments_of, subscript_of, IsLive, IsLiveItem, IsLiveRow, AreLiveItems, IsLiveArgument, AreLiveEntries, AreLivePairs, AreLive, IsLiveSubscript}
-use Rattle.frame_store.specs.declared.object.ObjId.{ObjId}
-use Rattle.frame_store.specs.declared.arguments.Value.{Value}
-use Rattle.frame_store.specs.declared.arguments.Value.TheVariants.{Object, Scalar}
-use Rattle.frame_store.specs.declared.arguments.Argument.{Argument, Nothing, One, Row, Many, Table', Row_of-Entries-pairs-2, end_of-Entries-pairs-2, more_of-Entries-pairs-2}
-use Rattle.frame_store.specs.declared.arguments.Item.{Item, One as OneItem, Row' as RowItem', Row_of-Item, end_of-Item, more_of-Item}
-use Rattle.frame_store.specs.declared.arguments.Named.{Named}
-use Rattle.frame_store.specs.declared.arguments.Subscript.{Subscript}
-use Rattle.frame_store.specs.declared.arguments.Subscript.TheVariants.{Key, Span}
 
 -- live objects have the same tables
 pub SameObjects : List Text → Tables → Tables → Type 0

@@ -1,32 +1,13 @@
 -- What forms do to the objects and the texts.
-use Rattle.std.proofs.Common.{◌≡◌, ℕ, Bool, true, false, nat_eq, List, [], ◌∷◌, ◌++◌, Option, Some, None, refl, sym, ◌∙◌, ap, subst, IsSome}
-use Rattle.std.specs.Prelude.{if◌then◌else◌, option_map, ⊤, Result, Ok, Err, IfOk, IfSome}
-use Rattle.cell_core.specs.declared.cell.Label.{Label}
-use Rattle.meaning.specs.Cell.{IsLonger, datum}
-use Rattle.meaning.specs.Text.{Text}
-use Rattle.meaning.specs.Fault.{FaultValue}
-use Rattle.table_meaning.specs.Settled.{IsSettled}
-use Rattle.table_meaning.specs.Table.{NumberedTable, Table, table_value}
+use Rattle.{
+  std.{proofs.Common.{◌≡◌, ℕ, Bool, true, false, nat_eq, List, [], ◌∷◌, ◌++◌, Option, Some, None, refl, sym, ◌∙◌, ap, subst, IsSome}, specs.Prelude.{if◌then◌else◌, option_map, ⊤, Result, Ok, Err, IfOk, IfSome}},
+  cell_core.specs.declared.cell.Label.{Label},
+  meaning.specs.{Cell.{IsLonger, datum}, Text.{Text}, Fault.{FaultValue}},
+  table_meaning.specs.{Settled.{IsSettled}, Table.{NumberedTable, Table, table_value}, Value.{Entry}},
+  frame_store.{specs.{Objects.{Tables, table_or}, Arguments.{object_value, entry_of, items_of, argument_of, entries_of, arguments_of, subscript_of, IsLive, AreLiveItems, IsLiveArgument, AreLivePairs, AreLive as AreLiveArguments, IsLiveSubscript}, Shown.{Shown, shown, with_shown, table_in, seen, FormAnswers}, declared.{object.ObjId.{ObjId}, arguments.{Value.{Value, TheVariants.{Object, Scalar}}, Item.{Item}, Argument.{Argument}, Named.{Named}, Subscript.{Subscript}}, fault.OpFault.{OpFault, TheVariants.{Refused, NoMemory}}}, World.{World, objects_of, entry_in, argument_in, IsSettledWorld, Keeps, IsKnown, IsKnownValue, AreKnownItems, IsKnownArgument, AreKnownPairs, AreKnownArguments, IsKnownSubscript, Forms, Sets}}, proofs.Settling.{settled_later, seen_later, longer_self, longer_twice}},
+  script_work.{specs.Bindings.{Bindings, is_named, contains, noted, AreLive, AreGiven, AreNoted}, proofs.{Numbers.{nat_same, some_none}, LiveObjects.{or_right, or_map, contains_last, contains_more}, Views.{entry_same, items_same, argument_same, pairs_same, arguments_same, subscript_same, value_later, items_later, argument_later, pairs_later, arguments_later, subscript_later}}},
+}
 use Rattle.table_meaning.specs.Value as value
-use Rattle.table_meaning.specs.Value.{Entry}
-use Rattle.frame_store.specs.Objects.{Tables, table_or}
-use Rattle.frame_store.specs.Arguments.{object_value, entry_of, items_of, argument_of, entries_of, arguments_of, subscript_of, IsLive, AreLiveItems, IsLiveArgument, AreLivePairs, AreLive as AreLiveArguments, IsLiveSubscript}
-use Rattle.frame_store.specs.Shown.{Shown, shown, with_shown, table_in, seen, FormAnswers}
-use Rattle.frame_store.specs.declared.object.ObjId.{ObjId}
-use Rattle.frame_store.specs.declared.arguments.Value.{Value}
-use Rattle.frame_store.specs.declared.arguments.Value.TheVariants.{Object, Scalar}
-use Rattle.frame_store.specs.declared.arguments.Item.{Item}
-use Rattle.frame_store.specs.declared.arguments.Argument.{Argument}
-use Rattle.frame_store.specs.declared.arguments.Named.{Named}
-use Rattle.frame_store.specs.declared.arguments.Subscript.{Subscript}
-use Rattle.frame_store.specs.declared.fault.OpFault.{OpFault}
-use Rattle.frame_store.specs.declared.fault.OpFault.TheVariants.{Refused, NoMemory}
-use Rattle.frame_store.proofs.Settling.{settled_later, seen_later, longer_self, longer_twice}
-use Rattle.frame_store.specs.World.{World, objects_of, entry_in, argument_in, IsSettledWorld, Keeps, IsKnown, IsKnownValue, AreKnownItems, IsKnownArgument, AreKnownPairs, AreKnownArguments, IsKnownSubscript, Forms, Sets}
-use Rattle.script_work.specs.Bindings.{Bindings, is_named, contains, noted, AreLive, AreGiven, AreNoted}
-use Rattle.script_work.proofs.Numbers.{nat_same, some_none}
-use Rattle.script_work.proofs.LiveObjects.{or_right, or_map, contains_last, contains_more}
-use Rattle.script_work.proofs.Views.{entry_same, items_same, argument_same, pairs_same, arguments_same, subscript_same, value_later, items_later, argument_later, pairs_later, arguments_later, subscript_later}
 
 -- an object and its table with texts
 some_of_map : {A B : Type 0} (f : A → B) (o : Option A) → IsSome (option_map f o) → IsSome o

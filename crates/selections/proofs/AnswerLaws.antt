@@ -1,21 +1,12 @@
 -- What a form answers with a new object.
-use Rattle.std.proofs.Common.{◌≡◌, ◌∙◌, ℕ, true, List, ap, sym, subst, arith, nat_eq, if◌then◌else◌, Option, Some, None, option_map, Result, Ok}
-use Rattle.std.specs.Prelude.{is_some, IsSome}
-use Rattle.std.proofs.lemmas.Bool.Decides.{nat_tests}
-use Rattle.std.proofs.Math.ListN.{get_or-map}
-use Rattle.cell_core.specs.declared.cell.Cell.{Cell}
-use Rattle.meaning.specs.Text.{Text}
-use Rattle.meaning.specs.Fault.{FaultValue}
-use Rattle.table_meaning.specs.Settled.{IsSettled}
-use Rattle.table_meaning.specs.Table.{ColumnOf, NumberedTable, table_value, heading_value, column_value, column_at, no_column}
+use Rattle.{
+  std.{proofs.{Common.{◌≡◌, ◌∙◌, ℕ, true, List, ap, sym, subst, arith, nat_eq, if◌then◌else◌, Option, Some, None, option_map, Result, Ok}, lemmas.Bool.Decides.{nat_tests}, Math.ListN.{get_or-map}}, specs.Prelude.{is_some, IsSome}},
+  cell_core.specs.declared.cell.Cell.{Cell},
+  meaning.specs.{Text.{Text}, Fault.{FaultValue}},
+  table_meaning.specs.{Settled.{IsSettled}, Table.{ColumnOf, NumberedTable, table_value, heading_value, column_value, column_at, no_column}, Value.{Entry}},
+  frame_store.{specs.{declared.{arguments.Value.TheVariants.{Object}, object.ObjId.{ObjId}}, Parts.{HeadingList}, Objects.{Tables, with_object, table_or}, Shown.{Shown, shown, with_shown, table_in, headings_value, columns_value, FormAnswers}}, proofs.Settling.{longer_self, shown_with, object_settled, columns_name_part, headings_part}},
+}
 use Rattle.table_meaning.specs.Value as value
-use Rattle.table_meaning.specs.Value.{Entry}
-use Rattle.frame_store.specs.declared.arguments.Value.TheVariants.{Object}
-use Rattle.frame_store.specs.declared.object.ObjId.{ObjId}
-use Rattle.frame_store.specs.Parts.{HeadingList}
-use Rattle.frame_store.specs.Objects.{Tables, with_object, table_or}
-use Rattle.frame_store.specs.Shown.{Shown, shown, with_shown, table_in, headings_value, columns_value, FormAnswers}
-use Rattle.frame_store.proofs.Settling.{longer_self, shown_with, object_settled, columns_name_part, headings_part}
 
 nat_eq_self : (n : ℕ) → nat_eq n n ≡ true
 nat_eq_self n = grind (arith, nat_tests)

@@ -1,32 +1,17 @@
 -- What brackets take.
-use Rattle.std.proofs.Common.{◌≡◌, ◌∙◌, refl, ap, sym, subst, ℕ, ◌<◌, Bool, true, false, List, [], ◌∷◌, map, length, All, ◌++◌, Option, Some, None, Result, Ok, Err, if◌then◌else◌}
-use Rattle.std.specs.List.{range_with_len}
-use Rattle.std.proofs.lemmas.List.{length-map}
-use Rattle.std.proofs.lemmas.List.Elements.{All-nil, All-cons}
-use Rattle.cell_core.specs.declared.cell.Cell.{Cell}
-use Rattle.cell_core.specs.declared.grid.Shape.TheVariants.{Frame}
-use Rattle.meaning.specs.Text.{Text}
-use Rattle.meaning.specs.Cell.{CellValue, na_cell, datum, LabelValue}
-use Rattle.meaning.specs.Operator.{cell_label}
-use Rattle.meaning.specs.Fault.{FaultValue, wrong_kind, then_value}
-use Rattle.table_meaning.specs.Settled.{IsSettled}
-use Rattle.table_meaning.specs.Table.{NumberedTable, Table, table_value, tuple_value}
-use Rattle.table_meaning.specs.Value.{Entry, cell, table, GivenList, GivenSub, one, many, key_given, no_given}
-use Rattle.form_meaning.specs.Binding.{each, is_scalar}
+use Rattle.{
+  std.{proofs.{Common.{◌≡◌, ◌∙◌, refl, ap, sym, subst, ℕ, ◌<◌, Bool, true, false, List, [], ◌∷◌, map, length, All, ◌++◌, Option, Some, None, Result, Ok, Err, if◌then◌else◌}, lemmas.List.{length-map, Elements.{All-nil, All-cons}}}, specs.List.{range_with_len}},
+  cell_core.specs.declared.{cell.Cell.{Cell}, grid.Shape.TheVariants.{Frame}},
+  meaning.specs.{Text.{Text}, Cell.{CellValue, na_cell, datum, LabelValue}, Operator.{cell_label}, Fault.{FaultValue, wrong_kind, then_value}},
+  table_meaning.specs.{Settled.{IsSettled}, Table.{NumberedTable, Table, table_value, tuple_value}, Value.{Entry, cell, table, GivenList, GivenSub, one, many, key_given, no_given}},
+  form_meaning.specs.{Binding.{each, is_scalar}, Select.{cells_of, labels_of}},
+  frame_store.specs.{declared.arguments.{Item.{Item}, Value.TheVariants.{Scalar}}, Objects.{Tables}, Arguments.{entry_of, items_of}, Shown.{cells_value}},
+  pick_meaning.specs.Keys.{listed_pick, single_pick},
+  select_meaning.specs.{Keys.{Reach, all_rows_of}, Select.{column_reach, columns_reach, list_reach, picked_result, shown_as, cut, without_leading}},
+  selections.specs.{Selected.{scalars_in}, Plans.{rows_in, TakesAll, has_single_row, has_single_column, reach_of_plan, IsPlanFor}, declared.planning.Plan.{Plan}},
+}
 use Rattle.form_meaning.specs.Select as form
-use Rattle.form_meaning.specs.Select.{cells_of, labels_of}
-use Rattle.frame_store.specs.declared.arguments.Item.{Item}
-use Rattle.frame_store.specs.declared.arguments.Value.TheVariants.{Scalar}
-use Rattle.frame_store.specs.Objects.{Tables}
-use Rattle.frame_store.specs.Arguments.{entry_of, items_of}
-use Rattle.frame_store.specs.Shown.{cells_value}
-use Rattle.pick_meaning.specs.Keys.{listed_pick, single_pick}
-use Rattle.select_meaning.specs.Keys.{Reach, all_rows_of}
-use Rattle.select_meaning.specs.Select.{column_reach, columns_reach, list_reach, picked_result, shown_as, cut, without_leading}
-use Rattle.selections.specs.Selected.{scalars_in}
-use Rattle.selections.specs.Plans.{rows_in, TakesAll, has_single_row, has_single_column, reach_of_plan, IsPlanFor}
 use Rattle.selections.specs.declared.planning.Form.TheVariants as answer
-use Rattle.selections.specs.declared.planning.Plan.{Plan}
 
 -- the scalars of a settled list
 abbrev cells_or : Option (List CellValue) → List CellValue

@@ -1,38 +1,15 @@
 -- What a plan answers, and a selection with it.
-use Rattle.std.proofs.Common.{◌≡◌, ◌∙◌, refl, ap, sym, subst, arith, ℕ, ◌<◌, List, [], ◌∷◌, length, slice_index_or, All, Option, Some, None, Result, Ok, Err}
-use Rattle.std.proofs.Math.ListN.{get_or-map}
-use Rattle.cell_core.specs.declared.cell.Cell.{Cell}
-use Rattle.cell_core.specs.declared.cell.Cell.TheVariants.{Na}
-use Rattle.cell_core.specs.declared.cell.Label.{Label}
-use Rattle.meaning.specs.Text.{Text}
-use Rattle.meaning.specs.Cell.{CellValue, na_cell, datum}
-use Rattle.meaning.specs.Fault.{FaultValue, then_value}
-use Rattle.table_meaning.specs.Table.{ColumnOf, NumberedTable, Table, table_value, column_at}
+use Rattle.{
+  std.proofs.{Common.{◌≡◌, ◌∙◌, refl, ap, sym, subst, arith, ℕ, ◌<◌, List, [], ◌∷◌, length, slice_index_or, All, Option, Some, None, Result, Ok, Err}, Math.ListN.{get_or-map}},
+  cell_core.specs.declared.cell.{Cell.{Cell, TheVariants.{Na}}, Label.{Label}},
+  meaning.specs.{Text.{Text}, Cell.{CellValue, na_cell, datum}, Fault.{FaultValue, then_value}},
+  table_meaning.specs.{Table.{ColumnOf, NumberedTable, Table, table_value, column_at}, Value.{Entry, GivenSub}},
+  select_meaning.specs.Select.{cut, without_leading, first_cell, shown_as, picked_result, Way, way_reach, select_result},
+  frame_store.{specs.{Objects.{Tables, tables}, Arguments.{entry_of, object_value}, Parts.{HeadingList}, World.{World, world, entry_in, IsSettledWorld, Forms}, declared.{arguments.Value.{Value, TheVariants.{Object, Scalar}}, fault.OpFault.{OpFault, TheVariants.{Refused, NoMemory}}, object.ObjId.{ObjId}, store.Store.{Store}}}, proofs.Settling.{longer_self, settled_by, object_settled}},
+  selections.{specs.{Selected.{headings_at}, Plans.{rows_in, levels_lost, AreTakenFrom, has_single_row, has_single_column, reach_of_plan, PlansBy}, declared.planning.{Taken.{Taken, TheVariants.{Slice, Listed, Under}}, Form.{Form}, Plan.{Plan}}}, proofs.{AnswerLaws.{column_seen}, CutLaws.{headings_with}, PickedLaws.{read_is}, PlanLaws.{spaced_below, without_none}}},
+}
 use Rattle.table_meaning.specs.Value as value
-use Rattle.table_meaning.specs.Value.{Entry, GivenSub}
-use Rattle.select_meaning.specs.Select.{cut, without_leading, first_cell, shown_as, picked_result, Way, way_reach, select_result}
-use Rattle.frame_store.specs.Objects.{Tables, tables}
-use Rattle.frame_store.specs.Arguments.{entry_of, object_value}
-use Rattle.frame_store.specs.Parts.{HeadingList}
-use Rattle.frame_store.specs.World.{World, world, entry_in, IsSettledWorld, Forms}
-use Rattle.frame_store.specs.declared.arguments.Value.{Value}
-use Rattle.frame_store.specs.declared.arguments.Value.TheVariants.{Object, Scalar}
-use Rattle.frame_store.specs.declared.fault.OpFault.{OpFault}
-use Rattle.frame_store.specs.declared.fault.OpFault.TheVariants.{Refused, NoMemory}
-use Rattle.frame_store.specs.declared.object.ObjId.{ObjId}
-use Rattle.frame_store.specs.declared.store.Store.{Store}
-use Rattle.frame_store.proofs.Settling.{longer_self, settled_by, object_settled}
-use Rattle.selections.specs.Selected.{headings_at}
-use Rattle.selections.specs.Plans.{rows_in, levels_lost, AreTakenFrom, has_single_row, has_single_column, reach_of_plan, PlansBy}
-use Rattle.selections.specs.declared.planning.Taken.{Taken}
-use Rattle.selections.specs.declared.planning.Taken.TheVariants.{Slice, Listed, Under}
-use Rattle.selections.specs.declared.planning.Form.{Form}
 use Rattle.selections.specs.declared.planning.Form.TheVariants as answer
-use Rattle.selections.specs.declared.planning.Plan.{Plan}
-use Rattle.selections.proofs.AnswerLaws.{column_seen}
-use Rattle.selections.proofs.CutLaws.{headings_with}
-use Rattle.selections.proofs.PickedLaws.{read_is}
-use Rattle.selections.proofs.PlanLaws.{spaced_below, without_none}
 
 -- the only row is one of the table's
 pub row_inside : (taken : Taken) (t : NumberedTable) (row : ℕ) → AreTakenFrom t taken → rows_in taken ≡ row ∷ [] → row < length t.labels

@@ -1,45 +1,14 @@
 -- Rows and columns that are cut from a table, as they are seen.
-use Rattle.std.proofs.Common.{◌≡◌, ◌∙◌, refl, ap, sym, subst, arith, ℕ, suc, ◌+◌, ◌<◌, List, [], ◌∷◌, map, length, slice_index_or, All, Option, Some, None, Result, Err}
-use Rattle.std.specs.Prelude.{IsSome}
-use Rattle.std.specs.List.{range_with_len}
-use Rattle.std.proofs.lemmas.List.{length-map}
-use Rattle.std.proofs.lemmas.List.Elements.{All-nil, All-cons}
-use Rattle.cell_core.specs.Texts.{AreDistinct}
-use Rattle.cell_core.specs.declared.cell.Cell.{Cell}
-use Rattle.cell_core.specs.declared.cell.Cell.TheVariants.{Na}
-use Rattle.cell_core.specs.declared.cell.Label.{Label}
-use Rattle.cell_core.specs.declared.grid.Shape.{Shape}
-use Rattle.cell_core.specs.declared.grid.Shape.TheVariants.{Series, Frame}
-use Rattle.meaning.specs.Text.{Text}
-use Rattle.meaning.specs.Cell.{CellValue, na_cell, datum, LabelValue}
-use Rattle.meaning.specs.FaultOf.{fault_of}
-use Rattle.meaning.specs.Fault.{FaultValue}
-use Rattle.table_meaning.specs.Settled.{IsSettled}
-use Rattle.table_meaning.specs.Table.{ColumnOf, NumberedTable, Table, table_value, tuple_value, heading_value, column_at, no_column}
-use Rattle.table_meaning.specs.Valid.{AreHeadings, IsWhole}
-use Rattle.table_meaning.specs.Value.{Entry}
-use Rattle.form_meaning.specs.Finish.{first_repeated, unless_repeated, limited, finished}
-use Rattle.form_meaning.specs.Select.{heading_at, columns_frame}
-use Rattle.select_meaning.specs.Select.{column_rows, cut, without_leading, as_series}
-use Rattle.frame_store.specs.Parts.{HeadingList, table_with}
-use Rattle.frame_store.specs.Shown.{headings_value}
-use Rattle.frame_store.specs.World.{world, IsSettledWorld, Forms}
-use Rattle.frame_store.specs.declared.store.Store.{Store}
-use Rattle.frame_store.specs.declared.fault.OpFault.{OpFault}
-use Rattle.frame_store.specs.declared.fault.OpFault.TheVariants.{Refused, NoMemory}
-use Rattle.frame_store.proofs.Settling.{longer_self, columns_name_part, headings_part}
-use Rattle.selections.specs.Selected.{heading_of, headings_at}
-use Rattle.selections.specs.Headings.{NamesRepeated, repeated_heading}
-use Rattle.selections.specs.Chosen.{cells_at, chosen, AreSettledHeadings}
-use Rattle.selections.specs.Picked.{headed_by}
-use Rattle.selections.specs.Plans.{rows_in, levels_lost, AreTakenFrom, taken_table, CanTake}
-use Rattle.selections.specs.declared.planning.Taken.{Taken}
-use Rattle.selections.proofs.AnswerLaws.{column_seen, own_name, own_labels}
-use Rattle.selections.proofs.HeadingLaws.{repeated_seen, different}
-use Rattle.selections.proofs.PickedLaws.{list_is, places_inside, places_count}
-use Rattle.selections.proofs.PlaceLaws.{heading_seen, heading_settled}
-use Rattle.selections.proofs.RefusalLaws.{repeated_settled}
-use Rattle.selections.proofs.TakenLaws.{labels_seen, columns_seen, taken_seen}
+use Rattle.{
+  std.{proofs.{Common.{◌≡◌, ◌∙◌, refl, ap, sym, subst, arith, ℕ, suc, ◌+◌, ◌<◌, List, [], ◌∷◌, map, length, slice_index_or, All, Option, Some, None, Result, Err}, lemmas.List.{length-map, Elements.{All-nil, All-cons}}}, specs.{Prelude.{IsSome}, List.{range_with_len}}},
+  cell_core.specs.{Texts.{AreDistinct}, declared.{cell.{Cell.{Cell, TheVariants.{Na}}, Label.{Label}}, grid.Shape.{Shape, TheVariants.{Series, Frame}}}},
+  meaning.specs.{Text.{Text}, Cell.{CellValue, na_cell, datum, LabelValue}, FaultOf.{fault_of}, Fault.{FaultValue}},
+  table_meaning.specs.{Settled.{IsSettled}, Table.{ColumnOf, NumberedTable, Table, table_value, tuple_value, heading_value, column_at, no_column}, Valid.{AreHeadings, IsWhole}, Value.{Entry}},
+  form_meaning.specs.{Finish.{first_repeated, unless_repeated, limited, finished}, Select.{heading_at, columns_frame}},
+  select_meaning.specs.Select.{column_rows, cut, without_leading, as_series},
+  frame_store.{specs.{Parts.{HeadingList, table_with}, Shown.{headings_value}, World.{world, IsSettledWorld, Forms}, declared.{store.Store.{Store}, fault.OpFault.{OpFault, TheVariants.{Refused, NoMemory}}}}, proofs.Settling.{longer_self, columns_name_part, headings_part}},
+  selections.{specs.{Selected.{heading_of, headings_at}, Headings.{NamesRepeated, repeated_heading}, Chosen.{cells_at, chosen, AreSettledHeadings}, Picked.{headed_by}, Plans.{rows_in, levels_lost, AreTakenFrom, taken_table, CanTake}, declared.planning.Taken.{Taken}}, proofs.{AnswerLaws.{column_seen, own_name, own_labels}, HeadingLaws.{repeated_seen, different}, PickedLaws.{list_is, places_inside, places_count}, PlaceLaws.{heading_seen, heading_settled}, RefusalLaws.{repeated_settled}, TakenLaws.{labels_seen, columns_seen, taken_seen}}},
+}
 
 -- the headings of columns
 headings_seen : (texts : List Text) (t : NumberedTable) (places : List ℕ) → headings_value texts (headings_at t places) ≡ map (heading_at (table_value texts t)) places

@@ -1,23 +1,16 @@
 -- Headings that are told apart by the numbers of their texts.
-use Rattle.std.proofs.Common.{◌≡◌, ◌∙◌, ◌<◌, ◌+◌, refl, ap, sym, ℕ, zero, suc, Bool, true, false, not, ◌||◌, cond, List, [], ◌∷◌, ◌++◌, map, length, drop, slice_index_or, Option, Some, None, All, if◌then◌else◌, arith, rules}
-use Rattle.std.specs.Prelude.{◌≢◌, IsSome, AllPairs}
-use Rattle.std.specs.Bool.{Decides}
-use Rattle.std.specs.List.{list_any, position_from}
-use Rattle.std.specs.Map.{lookup}
-use Rattle.std.proofs.Math.Seq.{drop-cons}
-use Rattle.std.proofs.lemmas.Bool.Decides.{same_from_decides}
-use Rattle.std.proofs.lemmas.List.Folds.{list_any-append}
-use Rattle.indexmap.specs.IndexSet.{insert_key}
-use Rattle.cell_core.specs.declared.cell.Label.{Label}
-use Rattle.cell_core.specs.Texts.{AreDistinct}
-use Rattle.meaning.specs.Text.{Text}
-use Rattle.table_meaning.specs.Settled.{IsSettled}
-use Rattle.table_meaning.specs.Table.{heading_value}
+use Rattle.{
+  std.{proofs.{Common.{◌≡◌, ◌∙◌, ◌<◌, ◌+◌, refl, ap, sym, ℕ, zero, suc, Bool, true, false, not, ◌||◌, cond, List, [], ◌∷◌, ◌++◌, map, length, drop, slice_index_or, Option, Some, None, All, if◌then◌else◌, arith, rules}, Math.Seq.{drop-cons}, lemmas.{Bool.Decides.{same_from_decides}, List.Folds.{list_any-append}}}, specs.{Prelude.{◌≢◌, IsSome, AllPairs}, Bool.{Decides}, List.{list_any, position_from}, Map.{lookup}}},
+  indexmap.specs.IndexSet.{insert_key},
+  cell_core.specs.{declared.cell.Label.{Label}, Texts.{AreDistinct}},
+  meaning.specs.Text.{Text},
+  table_meaning.specs.{Settled.{IsSettled}, Table.{heading_value}},
+  form_meaning.specs.Finish.{first_repeated},
+  form_parts.proofs.LabelLaws.{same_by_number, heading_label},
+  frame_store.specs.Shown.{headings_value},
+  selections.specs.Headings.{same_number, same_heading, repeated_heading, HaveFirstPlaces},
+}
 use Rattle.form_meaning.specs.Finish as finish
-use Rattle.form_meaning.specs.Finish.{first_repeated}
-use Rattle.form_parts.proofs.LabelLaws.{same_by_number, heading_label}
-use Rattle.frame_store.specs.Shown.{headings_value}
-use Rattle.selections.specs.Headings.{same_number, same_heading, repeated_heading, HaveFirstPlaces}
 
 pub label_decides : (a b : Label) → Decides (same_number a b) (a ≡ b)
 label_decides a b = search rules

@@ -1,35 +1,16 @@
 -- Keys that are read of lists.
-use Rattle.std.proofs.Common.{◌≡◌, ◌∙◌, ap, refl, sym, subst, arith, ℕ, suc, ◌+◌, ◌<◌, ◌≤◌, ◌&&◌, ℤ, nat_eq, nat_lt, nat_le, Bool, true, false, List, [], ◌∷◌, ◌++◌, length, map, drop, get_or, append_assoc, append-nil, if◌then◌else◌, Option, Some, None, Result, Ok, Err}
-use Rattle.std.specs.Prelude.{◌≢◌, slice_get}
-use Rattle.std.specs.Option.{option_map}
-use Rattle.std.proofs.lemmas.Bool.Decides.{nat_tests}
-use Rattle.std.proofs.lemmas.List.{length-map, map-append}
-use Rattle.std.proofs.Math.Seq.{drop-cons, drop-length}
-use Rattle.cell_core.specs.declared.cell.Cell.{Cell}
+use Rattle.{
+  std.{proofs.{Common.{◌≡◌, ◌∙◌, ap, refl, sym, subst, arith, ℕ, suc, ◌+◌, ◌<◌, ◌≤◌, ◌&&◌, ℤ, nat_eq, nat_lt, nat_le, Bool, true, false, List, [], ◌∷◌, ◌++◌, length, map, drop, get_or, append_assoc, append-nil, if◌then◌else◌, Option, Some, None, Result, Ok, Err}, lemmas.{Bool.Decides.{nat_tests}, List.{length-map, map-append}}, Math.Seq.{drop-cons, drop-length}}, specs.{Prelude.{◌≢◌, slice_get}, Option.{option_map}}},
+  cell_core.specs.declared.cell.{Cell.{Cell}, Label.{Label}},
+  meaning.specs.{Text.{Text}, Cell.{CellValue, LabelValue, na_cell, datum, label_datum}, Operator.{cell_label}, Fault.{FaultValue, wrong_kind, then_value}},
+  table_meaning.specs.{Table.{tuple_value}, Value.{GivenList, row, scalar_in}},
+  form_meaning.specs.{Binding.{each, is_scalar, count_of}, Finish.{try_all}, Select.{cells_of, labels_of}},
+  select_meaning.specs.Keys.{tuple_label, whole_item, whole_items, whole_cell, positions_in},
+  form_parts.specs.{Labels.{label_of}, Makes.{MakesBy}},
+  frame_store.specs.{declared.{fault.OpFault.{OpFault}, arguments.Item.{Item}}, Objects.{Tables}, Arguments.{item_of, items_of}, Shown.{cells_value}},
+  selections.{specs.{Reaches.{tuples_value, labels_in, scalar_tuple, label_alone, full_tuple}, Selected.{scalars_in}}, proofs.{PlaceLaws.{made_after, one_more, one_refused, all_made, cell_seen}, ReachLaws.{refused_then}, SubscriptLaws.{with_scalar, scalars_more}}},
+}
 use Rattle.cell_core.specs.declared.cell.Cell.TheVariants as variant
-use Rattle.cell_core.specs.declared.cell.Label.{Label}
-use Rattle.meaning.specs.Text.{Text}
-use Rattle.meaning.specs.Cell.{CellValue, LabelValue, na_cell, datum, label_datum}
-use Rattle.meaning.specs.Operator.{cell_label}
-use Rattle.meaning.specs.Fault.{FaultValue, wrong_kind, then_value}
-use Rattle.table_meaning.specs.Table.{tuple_value}
-use Rattle.table_meaning.specs.Value.{GivenList, row, scalar_in}
-use Rattle.form_meaning.specs.Binding.{each, is_scalar, count_of}
-use Rattle.form_meaning.specs.Finish.{try_all}
-use Rattle.form_meaning.specs.Select.{cells_of, labels_of}
-use Rattle.select_meaning.specs.Keys.{tuple_label, whole_item, whole_items, whole_cell, positions_in}
-use Rattle.form_parts.specs.Labels.{label_of}
-use Rattle.form_parts.specs.Makes.{MakesBy}
-use Rattle.frame_store.specs.declared.fault.OpFault.{OpFault}
-use Rattle.frame_store.specs.declared.arguments.Item.{Item}
-use Rattle.frame_store.specs.Objects.{Tables}
-use Rattle.frame_store.specs.Arguments.{item_of, items_of}
-use Rattle.frame_store.specs.Shown.{cells_value}
-use Rattle.selections.specs.Reaches.{tuples_value, labels_in, scalar_tuple, label_alone, full_tuple}
-use Rattle.selections.specs.Selected.{scalars_in}
-use Rattle.selections.proofs.PlaceLaws.{made_after, one_more, one_refused, all_made, cell_seen}
-use Rattle.selections.proofs.ReachLaws.{refused_then}
-use Rattle.selections.proofs.SubscriptLaws.{with_scalar, scalars_more}
 
 -- what numbers say to tests
 eq_so : (m n : ℕ) → m ≡ n → nat_eq m n ≡ true

@@ -1,12 +1,10 @@
 -- Rows and places of another table.
-use Rattle.std.proofs.Common.{◌≡◌, ◌∙◌, ℕ, suc, zero, ◌+◌, ◌<◌, pos, List, [], ◌∷◌, length, map, refl, ap, sym, subst, arith, All, Option, Some, ◌++◌}
-use Rattle.std.specs.Prelude.{slice_index_or}
-use Rattle.std.specs.List.{range_with_len}
-use Rattle.std.proofs.lemmas.List.FromFn.{get_or-range_with_len, length-range_with_len}
-use Rattle.cell_core.specs.Grids.{AreRowsBelow}
-use Rattle.cell_core.specs.declared.grid.Rows.{Rows}
-use Rattle.table_meaning.specs.Table.{NumberedTable}
-use Rattle.frame_store.specs.Objects.{table_or}
+use Rattle.{
+  std.{proofs.{Common.{◌≡◌, ◌∙◌, ℕ, suc, zero, ◌+◌, ◌<◌, pos, List, [], ◌∷◌, length, map, refl, ap, sym, subst, arith, All, Option, Some, ◌++◌}, lemmas.List.FromFn.{get_or-range_with_len, length-range_with_len}}, specs.{Prelude.{slice_index_or}, List.{range_with_len}}},
+  cell_core.specs.{Grids.{AreRowsBelow}, declared.grid.Rows.{Rows}},
+  table_meaning.specs.Table.{NumberedTable},
+  frame_store.specs.Objects.{table_or},
+}
 
 -- a list of a function of the place
 pub list_is : {C : Type 0} (f : ℕ → C) (xs : List C) (a : ℕ) (d : C) → ((k : ℕ) → k < length xs → f (a + k) ≡ slice_index_or xs k d) → map f (range_with_len a (length xs)) ≡ xs

@@ -1,33 +1,15 @@
 -- Columns by their labels.
-use Rattle.std.proofs.Common.{◌≡◌, ◌∙◌, ℕ, suc, ◌+◌, ◌<◌, Bool, true, false, cond, List, [], ◌∷◌, ◌++◌, length, take, drop, map, refl, ap, sym, subst, arith, if◌then◌else◌, All, append_assoc, append-nil, Option, Some, None, Result, Ok, Err}
-use Rattle.std.specs.Prelude.{◌≢◌, slice_index_or, slice_get}
-use Rattle.std.specs.Option.{option_map}
-use Rattle.std.specs.List.{position_from}
-use Rattle.std.specs.Map.{lookup}
-use Rattle.std.proofs.lemmas.List.{length-map, map-append, take_more}
-use Rattle.std.proofs.lemmas.List.Elements.{All-cons, All-nil}
-use Rattle.std.proofs.Math.ListN.{get_or-map}
-use Rattle.std.proofs.Math.Seq.{drop-cons, drop-length}
-use Rattle.std.proofs.lemmas.Option.{get_or_from_slice_get}
-use Rattle.cell_core.specs.declared.cell.Cell.{Cell}
-use Rattle.cell_core.specs.declared.cell.Cell.TheVariants.{Na}
-use Rattle.cell_core.specs.declared.cell.Label.{Label}
-use Rattle.cell_core.specs.Texts.{AreDistinct}
-use Rattle.meaning.specs.Text.{Text}
-use Rattle.meaning.specs.Cell.{na_cell, LabelValue, na, datum, label_datum}
-use Rattle.meaning.specs.Operator.{cell_label}
-use Rattle.meaning.specs.Fault.{FaultValue, then_value}
-use Rattle.table_meaning.specs.Settled.{IsSettled}
-use Rattle.table_meaning.specs.Table.{NumberedTable, Table, table_value, heading_value}
-use Rattle.table_meaning.specs.Valid.{IsWhole}
-use Rattle.form_meaning.specs.Finish.{same_heading, try_all}
-use Rattle.form_meaning.specs.Select.{place_of_label, found, column_place}
-use Rattle.form_parts.proofs.LabelLaws.{value_decides, label_given, label_one, heading_label}
-use Rattle.frame_store.specs.Shown.{headings_value, cells_value}
-use Rattle.selections.specs.Selected.{heading_of, headings_at}
+use Rattle.{
+  std.{proofs.{Common.{◌≡◌, ◌∙◌, ℕ, suc, ◌+◌, ◌<◌, Bool, true, false, cond, List, [], ◌∷◌, ◌++◌, length, take, drop, map, refl, ap, sym, subst, arith, if◌then◌else◌, All, append_assoc, append-nil, Option, Some, None, Result, Ok, Err}, lemmas.{List.{length-map, map-append, take_more, Elements.{All-cons, All-nil}}, Option.{get_or_from_slice_get}}, Math.{ListN.{get_or-map}, Seq.{drop-cons, drop-length}}}, specs.{Prelude.{◌≢◌, slice_index_or, slice_get}, Option.{option_map}, List.{position_from}, Map.{lookup}}},
+  cell_core.specs.{declared.cell.{Cell.{Cell, TheVariants.{Na}}, Label.{Label}}, Texts.{AreDistinct}},
+  meaning.specs.{Text.{Text}, Cell.{na_cell, LabelValue, na, datum, label_datum}, Operator.{cell_label}, Fault.{FaultValue, then_value}},
+  table_meaning.specs.{Settled.{IsSettled}, Table.{NumberedTable, Table, table_value, heading_value}, Valid.{IsWhole}},
+  form_meaning.specs.{Finish.{same_heading, try_all}, Select.{place_of_label, found, column_place}},
+  form_parts.proofs.LabelLaws.{value_decides, label_given, label_one, heading_label},
+  frame_store.specs.Shown.{headings_value, cells_value},
+  selections.{specs.{Selected.{heading_of, headings_at}, Headings.{HaveFirstPlaces}}, proofs.HeadingLaws.{head_settled, rest_settled, same_seen, position_inside}},
+}
 use Rattle.selections.specs.Headings as numbered
-use Rattle.selections.specs.Headings.{HaveFirstPlaces}
-use Rattle.selections.proofs.HeadingLaws.{head_settled, rest_settled, same_seen, position_inside}
 
 -- a heading as it is seen
 pub heading_seen : (texts : List Text) (headings : List (Option Label)) (place : ℕ) → slice_index_or (headings_value texts headings) place None ≡ heading_value texts (slice_index_or headings place None)

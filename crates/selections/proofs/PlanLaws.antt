@@ -1,33 +1,16 @@
 -- Plans of selections.
-use Rattle.std.proofs.Common.{◌≡◌, ◌∙◌, refl, ap, sym, subst, arith, ℕ, suc, ◌+◌, ◌-◌, ◌*◌, ◌<◌, ◌≤◌, ℤ, pos, negsuc, List, [], ◌∷◌, map, drop, length, slice_index_or, All, Option, Some, Result, Ok}
-use Rattle.std.specs.Prelude.{IfSome, is_some, slice_get}
-use Rattle.std.specs.List.{range_with_len}
-use Rattle.std.proofs.lemmas.List.{length-map}
-use Rattle.std.proofs.lemmas.List.FromFn.{length-range_with_len}
-use Rattle.std.proofs.lemmas.Option.{get_or_from_slice_get}
-use Rattle.cell_core.specs.Grids.{AreRowsBelow, place_from}
-use Rattle.cell_core.specs.declared.cell.Label.{Label}
-use Rattle.cell_core.specs.declared.grid.Rows.{Rows}
-use Rattle.column_core.proofs.MoveLaws.{get_or-tabulate}
-use Rattle.indexers.specs.Picks.{AreSpan}
-use Rattle.indexers.specs.declared.keys.Picked.{Picked}
-use Rattle.indexers.proofs.SpanLaws.{all_listed}
-use Rattle.multi_index.specs.Axes.{AxisValue, taken_axis}
-use Rattle.pick_meaning.specs.Rows.{rows_of}
-use Rattle.meaning.specs.Text.{Text}
-use Rattle.meaning.specs.Cell.{LabelValue}
-use Rattle.meaning.specs.Fault.{FaultValue, then_value}
-use Rattle.table_meaning.specs.Table.{NumberedTable, Table, table_value}
-use Rattle.select_meaning.specs.Keys.{Reach}
-use Rattle.select_meaning.specs.Select.{picked_result, shown_as, cut, without_leading}
-use Rattle.selections.specs.Plans.{TakesPicked, has_single_row, has_single_column, reach_of_plan, IsPlanFor}
-use Rattle.selections.specs.declared.reaching.Reach.{Reach as CodeReach}
-use Rattle.selections.specs.declared.planning.Taken.{Taken}
-use Rattle.selections.specs.declared.planning.Taken.TheVariants.{Slice, Listed, Under}
-use Rattle.selections.specs.declared.planning.Form.{Form}
-use Rattle.selections.specs.declared.planning.Plan.{Plan}
-use Rattle.selections.specs.Reaches.{PicksBelow, ReachesWithin, reach_value}
-use Rattle.selections.proofs.PickedLaws.{list_is}
+use Rattle.{
+  std.{proofs.{Common.{◌≡◌, ◌∙◌, refl, ap, sym, subst, arith, ℕ, suc, ◌+◌, ◌-◌, ◌*◌, ◌<◌, ◌≤◌, ℤ, pos, negsuc, List, [], ◌∷◌, map, drop, length, slice_index_or, All, Option, Some, Result, Ok}, lemmas.{List.{length-map, FromFn.{length-range_with_len}}, Option.{get_or_from_slice_get}}}, specs.{Prelude.{IfSome, is_some, slice_get}, List.{range_with_len}}},
+  cell_core.specs.{Grids.{AreRowsBelow, place_from}, declared.{cell.Label.{Label}, grid.Rows.{Rows}}},
+  column_core.proofs.MoveLaws.{get_or-tabulate},
+  indexers.{specs.{Picks.{AreSpan}, declared.keys.Picked.{Picked}}, proofs.SpanLaws.{all_listed}},
+  multi_index.specs.Axes.{AxisValue, taken_axis},
+  pick_meaning.specs.Rows.{rows_of},
+  meaning.specs.{Text.{Text}, Cell.{LabelValue}, Fault.{FaultValue, then_value}},
+  table_meaning.specs.Table.{NumberedTable, Table, table_value},
+  select_meaning.specs.{Keys.{Reach}, Select.{picked_result, shown_as, cut, without_leading}},
+  selections.{specs.{Plans.{TakesPicked, has_single_row, has_single_column, reach_of_plan, IsPlanFor}, declared.{reaching.Reach.{Reach as CodeReach}, planning.{Taken.{Taken, TheVariants.{Slice, Listed, Under}}, Form.{Form}, Plan.{Plan}}}, Reaches.{PicksBelow, ReachesWithin, reach_value}}, proofs.PickedLaws.{list_is}},
+}
 
 -- a table that loses no level
 pub without_none : (t : Table) → without_leading 0 t ≡ t

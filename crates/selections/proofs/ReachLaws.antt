@@ -1,57 +1,23 @@
 -- The rows and columns that keys reach are those that are meant.
-use Rattle.std.proofs.Common.{◌≡◌, ◌∙◌, refl, ap, sym, subst, arith, ℕ, suc, ◌+◌, ◌<◌, pos, Bool, true, false, not, ◌&&◌, nat_eq, List, [], ◌∷◌, ◌++◌, map, take, length, slice_index_or, All, Option, Some, None, Result, Ok, Err, if◌then◌else◌, unwrap_or}
-use Rattle.std.specs.Prelude.{slice_get, IsSome}
-use Rattle.std.specs.List.{range_with_len}
-use Rattle.std.specs.Option.{is_some}
-use Rattle.cell_core.specs.declared.grid.Shape.{Shape}
-use Rattle.cell_core.specs.declared.grid.Shape.TheVariants.{Series, Frame}
-use Rattle.meaning.specs.Symbol.{Accessor}
-use Rattle.std.specs.Cmp.Lexicographic.{pointwise}
-use Rattle.std.proofs.lemmas.List.{length-map, map-append, take_more}
-use Rattle.std.proofs.lemmas.Simd.{map-map}
-use Rattle.std.proofs.lemmas.List.Elements.{All-nil, All-cons}
-use Rattle.std.proofs.lemmas.List.FromFn.{length-range_with_len}
-use Rattle.std.proofs.lemmas.Option.{get_or_from_slice_get}
-use Rattle.std.proofs.Math.ListN.{get_or-map}
-use Rattle.std.proofs.Math.Seq.{take-length}
-use Rattle.cell_core.specs.declared.cell.Cell.{Cell}
+use Rattle.{
+  std.{proofs.{Common.{◌≡◌, ◌∙◌, refl, ap, sym, subst, arith, ℕ, suc, ◌+◌, ◌<◌, pos, Bool, true, false, not, ◌&&◌, List, [], ◌∷◌, ◌++◌, map, take, length, slice_index_or, All, Option, Some, None, Result, Ok, Err, if◌then◌else◌, unwrap_or}, lemmas.{List.{length-map, map-append, take_more, Elements.{All-nil, All-cons}, FromFn.{length-range_with_len}}, Simd.{map-map}, Option.{get_or_from_slice_get}}, Math.{ListN.{get_or-map}, Seq.{take-length}}}, specs.{Prelude.{slice_get, IsSome}, List.{range_with_len}, Option.{is_some}, Cmp.Lexicographic.{pointwise}}},
+  cell_core.specs.{declared.{grid.Shape.{Shape, TheVariants.{Series, Frame}}, cell.{Cell.{Cell}, Kind.TheVariants.{Boolean}, Label.{Label}}}, Texts.{AreDistinct}},
+  meaning.specs.{Symbol.{Accessor}, Text.{Text}, Cell.{CellValue, na_cell, datum, LabelValue, int}, Fault.{FaultValue, wrong_kind, bad_value, repeated, then_value}},
+  column_core.specs.Columns.{CellColumn},
+  table_meaning.specs.{Settled.{IsSettled}, Table.{ColumnOf, NumberedTable, Table, table_value, tuple_value, heading_value, column_value, column_at, no_column, row_of}, Value.{GivenSub, key_given, span_given, nothing, one, row, many, entries, cell, table}},
+  form_meaning.specs.{Binding.{is_frame}, Finish.{column_labels}, Infix.{same_tuple, is_boolean}},
+  form_parts.specs.Makes.{MakesBy},
+  frame_store.specs.{Parts.{axis_of}, Shown.{headings_value, columns_value}, declared.fault.OpFault.{OpFault, TheVariants.{Refused, NoMemory}}},
+  index_core.specs.{Labels.{same_number}, Picks.{as_it_is}},
+  indexers.specs.{Masks.{is_true}, Picks.{PicksBy, pick_of}, declared.keys.{LocKey.{LocKey}, Picked.{Picked}, KeyFault.{KeyFault}}},
+  multi_index.specs.Axes.{AxisValue, HaveLevels},
+  pick_meaning.{specs.{Keys.{one_key, Pick, listed_pick, single_pick}, Masks.{is_kept, masked_rows}}, proofs.SeenLaws.{masked_rows-map}},
+  select_meaning.specs.Keys.{found_pick, found_labels, once, Reach},
+  selections.{specs.Reaches.{label_key_value, tuples_value, pick_value, found_result, object_key, heading_tuple, columns_axis, is_row, is_series}, proofs.{AnswerLaws.{column_seen}, PickedLaws.{list_is}, SeenKeys.{IsGivenTuple, tuples_given, tuples_same, mask_in, found_seen}}},
+}
 use Rattle.cell_core.specs.declared.cell.Cell.TheVariants as code_cell
-use Rattle.cell_core.specs.declared.cell.Kind.TheVariants.{Boolean}
-use Rattle.cell_core.specs.declared.cell.Label.{Label}
-use Rattle.cell_core.specs.Texts.{AreDistinct}
-use Rattle.meaning.specs.Text.{Text}
-use Rattle.meaning.specs.Cell.{CellValue, na_cell, datum, LabelValue, int}
-use Rattle.meaning.specs.Fault.{FaultValue, wrong_kind, not_built, bad_value, repeated, then_value}
-use Rattle.column_core.specs.Columns.{CellColumn}
-use Rattle.table_meaning.specs.Settled.{IsSettled}
-use Rattle.table_meaning.specs.Table.{ColumnOf, NumberedTable, Table, table_value, tuple_value, heading_value, column_value, column_at, no_column, row_of}
-use Rattle.table_meaning.specs.Value.{GivenSub, key_given, span_given, nothing, one, row, many, entries, cell, table}
-use Rattle.form_meaning.specs.Binding.{is_frame}
-use Rattle.form_meaning.specs.Finish.{column_labels}
-use Rattle.form_meaning.specs.Infix.{same_tuple, is_boolean}
-use Rattle.form_parts.specs.Makes.{MakesBy}
-use Rattle.frame_store.specs.Parts.{axis_of}
-use Rattle.frame_store.specs.Shown.{headings_value, columns_value}
-use Rattle.frame_store.specs.declared.fault.OpFault.{OpFault}
-use Rattle.frame_store.specs.declared.fault.OpFault.TheVariants.{Refused, NoMemory}
-use Rattle.index_core.specs.Labels.{same_number}
-use Rattle.index_core.specs.Picks.{as_it_is}
-use Rattle.indexers.specs.Masks.{is_true}
-use Rattle.indexers.specs.Picks.{PicksBy, pick_of}
-use Rattle.indexers.specs.declared.keys.LocKey.{LocKey}
 use Rattle.indexers.specs.declared.keys.LocKey.TheVariants as key
-use Rattle.indexers.specs.declared.keys.Picked.{Picked}
-use Rattle.indexers.specs.declared.keys.KeyFault.{KeyFault}
-use Rattle.multi_index.specs.Axes.{AxisValue, HaveLevels}
-use Rattle.pick_meaning.specs.Keys.{one_key, Pick, listed_pick, single_pick}
-use Rattle.pick_meaning.specs.Masks.{is_kept, masked_rows}
-use Rattle.pick_meaning.proofs.SeenLaws.{masked_rows-map}
 use Rattle.select_meaning.specs.Keys as meant
-use Rattle.select_meaning.specs.Keys.{found_pick, found_labels, once, Reach}
-use Rattle.selections.specs.Reaches.{label_key_value, tuples_value, pick_value, found_result, object_key, heading_tuple, columns_axis, is_row, is_series, CanSelect}
-use Rattle.selections.proofs.AnswerLaws.{column_seen}
-use Rattle.selections.proofs.PickedLaws.{list_is}
-use Rattle.selections.proofs.SeenKeys.{IsGivenTuple, tuples_given, tuples_same, mask_in, found_seen}
 
 -- a refusal before the last step
 pub refused_then : {X Y A B : Type 0} (v : List Text → X → A) (w : List Text → Y → B) (texts : List Text) (why : OpFault) (m : Result A FaultValue) (go : A → Result B FaultValue)

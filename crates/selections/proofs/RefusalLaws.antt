@@ -1,20 +1,13 @@
 -- Refusals that name a label whose text was given its number.
-use Rattle.std.proofs.Common.{◌≡◌, Bool, true, false, List, [], ◌∷◌, ap, sym, subst, refl, if◌then◌else◌, Option, Some}
-use Rattle.std.specs.List.{list_any}
-use Rattle.cell_core.specs.declared.cell.Label.{Label}
-use Rattle.cell_core.specs.declared.code.Code.{Code}
-use Rattle.cell_core.specs.declared.code.Code.TheVariants.{NoKey, BadValue}
-use Rattle.cell_core.specs.declared.code.Reason.TheVariants.{Repeated}
-use Rattle.meaning.specs.Text.{Text}
-use Rattle.meaning.specs.Cell.{label_datum}
-use Rattle.meaning.specs.Fault.{no_key, bad_value, repeated}
-use Rattle.meaning.specs.FaultOf.{fault_of}
-use Rattle.table_meaning.specs.Settled.{IsSettled}
-use Rattle.table_meaning.specs.Table.{heading_value}
-use Rattle.form_parts.proofs.LabelLaws.{heading_label}
-use Rattle.frame_store.specs.Shown.{headings_value}
-use Rattle.selections.specs.Headings.{same_heading, repeated_heading}
-use Rattle.selections.proofs.HeadingLaws.{head_settled, rest_settled}
+use Rattle.{
+  std.{proofs.Common.{◌≡◌, Bool, true, false, List, [], ◌∷◌, ap, sym, subst, refl, if◌then◌else◌, Option, Some}, specs.List.{list_any}},
+  cell_core.specs.declared.{cell.Label.{Label}, code.{Code.{Code, TheVariants.{NoKey, BadValue}}, Reason.TheVariants.{Repeated}}},
+  meaning.specs.{Text.{Text}, Cell.{label_datum}, Fault.{no_key, bad_value, repeated}, FaultOf.{fault_of}},
+  table_meaning.specs.{Settled.{IsSettled}, Table.{heading_value}},
+  form_parts.proofs.LabelLaws.{heading_label},
+  frame_store.specs.Shown.{headings_value},
+  selections.{specs.Headings.{same_heading, repeated_heading}, proofs.HeadingLaws.{head_settled, rest_settled}},
+}
 
 -- a key that isn't there
 pub no_key_settled : (texts : List Text) (label : Label) → IsSettled label_datum texts label → IsSettled fault_of texts (NoKey (label ∷ []))

@@ -1,25 +1,14 @@
 -- A row across columns.
-use Rattle.std.proofs.Common.{◌≡◌, ◌∙◌, refl, ap, sym, subst, arith, ℕ, zero, suc, ◌+◌, ◌<◌, Bool, true, false, ◌&&◌, List, [], ◌∷◌, ◌++◌, map, take, drop, length, slice_index_or, Result, Ok, Err, Some, if◌then◌else◌}
-use Rattle.std.specs.Prelude.{slice_get, ◌≢◌}
-use Rattle.std.specs.List.{list_all}
-use Rattle.std.proofs.lemmas.List.{map-append, take_more}
-use Rattle.std.proofs.lemmas.List.Elements.{All-nil, All-cons}
-use Rattle.std.proofs.lemmas.Option.{get_or_from_slice_get}
-use Rattle.std.proofs.Math.Seq.{drop-cons, drop-length, take-length}
-use Rattle.cell_core.specs.declared.cell.Kind.{Kind}
-use Rattle.cell_core.specs.declared.cell.Kind.TheVariants.{Int64, Boolean, Text as string}
-use Rattle.cell_core.specs.declared.cell.Cell.{Cell}
-use Rattle.cell_core.specs.declared.cell.Cell.TheVariants.{Na}
-use Rattle.meaning.specs.Text.{Text}
-use Rattle.meaning.specs.Cell.{CellValue}
-use Rattle.meaning.specs.Fault.{FaultValue, wrong_kind}
-use Rattle.column_core.specs.Columns.{CellColumn}
-use Rattle.table_meaning.specs.Table.{ColumnOf, NumberedTable, table_value, column_at}
-use Rattle.table_meaning.proofs.KindLaws.{kind_is, kind_itself}
-use Rattle.form_meaning.specs.Finish.{same_kind}
-use Rattle.select_meaning.specs.Select.{kind_across, one_kind}
-use Rattle.selections.specs.Across.{HaveKind, cell_across, cells_across}
-use Rattle.selections.proofs.AnswerLaws.{column_seen}
+use Rattle.{
+  std.{proofs.{Common.{◌≡◌, ◌∙◌, refl, ap, sym, subst, arith, ℕ, zero, suc, ◌+◌, ◌<◌, Bool, true, false, ◌&&◌, List, [], ◌∷◌, ◌++◌, map, take, drop, length, slice_index_or, Result, Ok, Err, Some, if◌then◌else◌}, lemmas.{List.{map-append, take_more, Elements.{All-nil, All-cons}}, Option.{get_or_from_slice_get}}, Math.Seq.{drop-cons, drop-length, take-length}}, specs.{Prelude.{slice_get, ◌≢◌}, List.{list_all}}},
+  cell_core.specs.declared.cell.{Kind.{Kind, TheVariants.{Int64}}, Cell.{Cell, TheVariants.{Na}}},
+  meaning.specs.{Text.{Text}, Cell.{CellValue}, Fault.{FaultValue, wrong_kind}},
+  column_core.specs.Columns.{CellColumn},
+  table_meaning.{specs.Table.{ColumnOf, NumberedTable, table_value, column_at}, proofs.KindLaws.{kind_is, kind_itself}},
+  form_meaning.specs.Finish.{same_kind},
+  select_meaning.specs.Select.{kind_across, one_kind},
+  selections.{specs.Across.{HaveKind, cell_across, cells_across}, proofs.AnswerLaws.{column_seen}},
+}
 
 -- the kinds of columns
 abbrev pub kind_at : NumberedTable → ℕ → Kind

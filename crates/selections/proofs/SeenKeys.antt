@@ -1,56 +1,22 @@
 -- Keys pick by texts what they pick by numbers, and a fault names a label whose text was given its number.
-use Rattle.std.proofs.Common.{◌≡◌, ◌∙◌, refl, ap, sym, subst, arith, ◌<◌, ◌≤◌, ◌==◌, ℕ, ℤ, pos, negsuc, zero, suc, ◌+◌, Bool, true, false, ◌&&◌, nat_eq, nat_lt, List, [], ◌∷◌, ◌++◌, map, length, All, Option, Some, None, Result, Ok, Err, if◌then◌else◌}
-use Rattle.std.specs.Prelude.{IfSome, IfOk}
-use Rattle.std.specs.List.{range_with_len}
-use Rattle.std.specs.Option.{option_map}
-use Rattle.std.specs.Ordering.{is_eq, ordering_then}
-use Rattle.std.specs.declared.cmp.Ordering.{Ordering}
-use Rattle.std.specs.Cmp.Lexicographic.{pointwise}
-use Rattle.std.proofs.lemmas.Bool.Decides.{nat_tests}
-use Rattle.std.proofs.lemmas.List.{length-map}
-use Rattle.std.proofs.lemmas.List.Elements.{All-nil, All-cons}
-use Rattle.std.proofs.lemmas.List.FromFn.{length-range_with_len, get_or-range_with_len}
-use Rattle.cell_core.specs.Grids.{AreRowsBelow}
-use Rattle.indexers.proofs.SpanLaws.{all_listed}
-use Rattle.meaning.specs.Place.{place_of}
-use Rattle.selections.proofs.PickedLaws.{all_rows_below}
-use Rattle.cell_core.specs.declared.cell.Label.{Label}
-use Rattle.cell_core.specs.Texts.{AreDistinct}
-use Rattle.meaning.specs.Text.{Text}
-use Rattle.meaning.specs.Cell.{LabelValue, label_datum, label_cmp}
-use Rattle.meaning.specs.Fault.{FaultValue, no_key}
+use Rattle.{
+  std.{proofs.{Common.{◌≡◌, ◌∙◌, refl, ap, sym, subst, arith, ◌<◌, ◌≤◌, ◌==◌, ℕ, ℤ, pos, negsuc, zero, suc, ◌+◌, Bool, true, false, ◌&&◌, nat_eq, nat_lt, List, [], ◌∷◌, ◌++◌, map, length, All, Option, Some, None, Result, Ok, Err, if◌then◌else◌}, lemmas.{Bool.Decides.{nat_tests}, List.{length-map, Elements.{All-nil, All-cons}, FromFn.{length-range_with_len, get_or-range_with_len}}}}, specs.{Prelude.{IfSome, IfOk}, List.{range_with_len}, Option.{option_map}, Ordering.{is_eq, ordering_then}, declared.cmp.Ordering.{Ordering}, Cmp.Lexicographic.{pointwise}}},
+  cell_core.specs.{Grids.{AreRowsBelow}, declared.{cell.Label.{Label}, grid.Rows.{Rows}}, Texts.{AreDistinct}},
+  indexers.{proofs.SpanLaws.{all_listed}, specs.{Picks.{PicksBy, pick_of, IsSpanned}, declared.keys.{PosKey.{PosKey}, Picked.{Picked}, LocKey.{LocKey}, KeyFault.{KeyFault}}, Keys.{label_key, place_key}}},
+  meaning.specs.{Place.{place_of}, Text.{Text}, Cell.{LabelValue, label_datum, label_cmp}, Fault.{FaultValue, no_key, then_value}},
+  selections.{proofs.{PickedLaws.{all_rows_below}, HeadingLaws.{label_decides, head_settled, rest_settled}}, specs.Reaches.{label_key_value, tuples_value, pick_value, found_result, PicksBelow}},
+  table_meaning.specs.{Settled.{IsSettled}, Table.{tuple_value}},
+  form_meaning.specs.{Binding.{same_label}, Infix.{same_tuple}},
+  form_parts.{specs.Makes.{MakesBy}, proofs.LabelLaws.{same_by_number}},
+  index_core.specs.Labels.{same_number, order_in},
+  frame_store.specs.declared.fault.OpFault.{OpFault},
+  pick_meaning.{specs.{Faults.{PickFault, not_there, bound_not_unique, out_of_range, no_mask_label, step_zero, then_pick, pick_seen}, Rows.{rows_where, rows_between, only_row, rows_of}, Positions.{row_or_fault, row_at, rows_at, slice_with_step, step_or_one, position_slice}, Leading.{leads, leading_cmp}, Labels.{unless_none, rows_of_key, rows_of_keys}, Slices.{is_in_order, sorted_slice, one_row, row_of_bound, first_row, end_row, unsorted_slice, label_slice, unfound_slice, leading_slice, slice_on}, Masks.{cell_or_fault, cell_of_label, kept_by_label, kept_rows, masked_rows}, Keys.{LabelKey, one_key, each_key, between, Pick, has_one, listed_pick, sliced_pick, single_pick, key_pick, picked_by_label, PlaceKey, one_place, each_place, place_slice, picked_by_place}}, proofs.SeenLaws.{then_seen, rows_of_key-map, rows_of_keys-map, slice_on-map}},
+  select_meaning.specs.Keys.{found_pick, found_labels},
+}
 use Rattle.meaning.specs.Fault as meant
-use Rattle.table_meaning.specs.Settled.{IsSettled}
-use Rattle.table_meaning.specs.Table.{tuple_value}
-use Rattle.form_meaning.specs.Binding.{same_label}
-use Rattle.form_meaning.specs.Infix.{same_tuple}
-use Rattle.form_parts.specs.Makes.{MakesBy}
-use Rattle.form_parts.proofs.LabelLaws.{same_by_number}
-use Rattle.index_core.specs.Labels.{same_number, order_in}
-use Rattle.indexers.specs.Picks.{PicksBy, pick_of, IsSpanned}
 use Rattle.indexers.specs.declared.keys.PosKey.TheVariants as position
-use Rattle.indexers.specs.declared.keys.PosKey.{PosKey}
-use Rattle.indexers.specs.declared.keys.Picked.{Picked}
-use Rattle.frame_store.specs.declared.fault.OpFault.{OpFault}
-use Rattle.meaning.specs.Fault.{then_value}
-use Rattle.indexers.specs.Keys.{label_key, place_key}
-use Rattle.indexers.specs.declared.keys.LocKey.{LocKey}
 use Rattle.indexers.specs.declared.keys.LocKey.TheVariants as key
-use Rattle.indexers.specs.declared.keys.KeyFault.{KeyFault}
 use Rattle.indexers.specs.declared.keys.KeyFault.TheVariants as fault
-use Rattle.pick_meaning.specs.Faults.{PickFault, not_there, bound_not_unique, out_of_range, no_mask_label, step_zero, then_pick, pick_seen}
-use Rattle.pick_meaning.specs.Rows.{rows_where, rows_between, only_row, rows_of}
-use Rattle.pick_meaning.specs.Positions.{row_or_fault, row_at, rows_at, slice_with_step, step_or_one, position_slice}
-use Rattle.cell_core.specs.declared.grid.Rows.{Rows}
-use Rattle.pick_meaning.specs.Leading.{leads, leading_cmp}
-use Rattle.pick_meaning.specs.Labels.{unless_none, rows_of_key, rows_of_keys}
-use Rattle.pick_meaning.specs.Slices.{is_in_order, sorted_slice, one_row, row_of_bound, first_row, end_row, unsorted_slice, label_slice, unfound_slice, leading_slice, slice_on}
-use Rattle.pick_meaning.specs.Masks.{cell_or_fault, cell_of_label, kept_by_label, kept_rows, masked_rows}
-use Rattle.pick_meaning.specs.Keys.{LabelKey, one_key, each_key, between, Pick, has_one, listed_pick, sliced_pick, single_pick, key_pick, picked_by_label, PlaceKey, one_place, each_place, place_slice, picked_by_place}
-use Rattle.pick_meaning.proofs.SeenLaws.{then_seen, rows_of_key-map, rows_of_keys-map, slice_on-map}
-use Rattle.select_meaning.specs.Keys.{found_pick, found_labels}
-use Rattle.selections.specs.Reaches.{label_key_value, tuples_value, pick_value, found_result, PicksBelow}
-use Rattle.selections.proofs.HeadingLaws.{label_decides, head_settled, rest_settled}
 
 -- a fault's key, where it has one
 abbrev pub KeyIn : {K : Type 0} → (K → Type 0) → PickFault K → Type 0

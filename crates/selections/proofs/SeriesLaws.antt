@@ -1,36 +1,17 @@
 -- A row across columns as a Series.
-use Rattle.std.proofs.Common.{◌≡◌, ◌∙◌, refl, ap, sym, arith, ℕ, suc, ◌<◌, pos, Bool, true, false, ◌&&◌, List, [], ◌∷◌, map, length, slice_index_or, All, Option, Some, None, Ok, Err, if◌then◌else◌, unwrap_or}
-use Rattle.std.specs.Prelude.{◌≢◌, IsSome, slice_get, option_and_then}
-use Rattle.std.specs.List.{list_all}
-use Rattle.std.proofs.lemmas.List.{length-map}
-use Rattle.std.proofs.Math.ListN.{get_or-map}
-use Rattle.std.proofs.lemmas.Option.{get_or_from_slice_get}
-use Rattle.cell_core.specs.declared.cell.Kind.{Kind}
-use Rattle.cell_core.specs.declared.cell.Cell.TheVariants.{Na}
-use Rattle.cell_core.specs.declared.cell.Label.{Label}
+use Rattle.{
+  std.{proofs.{Common.{◌≡◌, ◌∙◌, refl, ap, sym, arith, ℕ, suc, ◌<◌, pos, Bool, true, false, ◌&&◌, List, [], ◌∷◌, map, length, slice_index_or, All, Option, Some, None, Ok, Err, if◌then◌else◌, unwrap_or}, lemmas.{List.{length-map}, Option.{get_or_from_slice_get}}, Math.ListN.{get_or-map}}, specs.{Prelude.{◌≢◌, IsSome, slice_get, option_and_then}, List.{list_all}}},
+  cell_core.specs.declared.{cell.{Kind.{Kind}, Cell.TheVariants.{Na}, Label.{Label}}, grid.Shape.TheVariants.{Series}},
+  meaning.specs.{Text.{Text}, Cell.{CellValue, na_cell, datum, label_datum, int}, Fault.{wrong_kind, limit, then_value}},
+  table_meaning.specs.{Settled.{IsSettled}, Table.{ColumnOf, NumberedTable, table_value, tuple_value, heading_value, column_at}},
+  form_meaning.specs.{Finish.{same_kind, limited, within_limits}, Select.{heading_at}},
+  select_meaning.specs.Select.{kind_across, one_kind, column_rows, cut, first_cell, row_name, row_series, row_result},
+  form_parts.specs.Makes.{MakesBy},
+  frame_store.{specs.{Parts.{HeadingList, table_with}, Shown.{Makes}, declared.fault.OpFault.{OpFault, TheVariants.{Refused, NoMemory}}}, proofs.Settling.{settled_by}},
+  selections.{specs.{Across.{cell_across}, Reaches.{columns_axis, heading_tuple, tuples_value}, Selected.{as_it_is}}, proofs.{AnswerLaws.{column_seen}, PlaceLaws.{heading_seen}}},
+}
 use Rattle.cell_core.specs.declared.cell.Label.TheVariants as label
-use Rattle.cell_core.specs.declared.grid.Shape.TheVariants.{Series}
-use Rattle.meaning.specs.Text.{Text}
-use Rattle.meaning.specs.Cell.{CellValue, na_cell, datum, label_datum, int}
-use Rattle.meaning.specs.Fault.{wrong_kind, limit, then_value}
-use Rattle.table_meaning.specs.Settled.{IsSettled}
-use Rattle.table_meaning.specs.Table.{ColumnOf, NumberedTable, table_value, tuple_value, heading_value, column_at}
 use Rattle.table_meaning.specs.Value as value
-use Rattle.table_meaning.specs.Value.{Entry}
-use Rattle.form_meaning.specs.Finish.{same_kind, limited, within_limits}
-use Rattle.form_meaning.specs.Select.{heading_at}
-use Rattle.select_meaning.specs.Select.{kind_across, one_kind, column_rows, cut, first_cell, row_name, row_series, row_result}
-use Rattle.form_parts.specs.Makes.{MakesBy}
-use Rattle.frame_store.specs.Parts.{HeadingList, table_with}
-use Rattle.frame_store.specs.Shown.{Makes}
-use Rattle.frame_store.specs.declared.fault.OpFault.{OpFault}
-use Rattle.frame_store.specs.declared.fault.OpFault.TheVariants.{Refused, NoMemory}
-use Rattle.frame_store.proofs.Settling.{settled_by}
-use Rattle.selections.specs.Across.{cell_across}
-use Rattle.selections.specs.Reaches.{columns_axis, heading_tuple, tuples_value}
-use Rattle.selections.specs.Selected.{as_it_is}
-use Rattle.selections.proofs.AnswerLaws.{column_seen}
-use Rattle.selections.proofs.PlaceLaws.{heading_seen}
 
 -- rows have the kinds of their columns
 kinds_all : (rows : List ℕ) (kind : Kind) (cs : List (ColumnOf CellValue)) → list_all (λ c. same_kind c.kind kind) (map (column_rows rows) cs) ≡ list_all (λ c. same_kind c.kind kind) cs

@@ -1,25 +1,14 @@
 -- What is read of subscripts and lists.
-use Rattle.std.proofs.Common.{◌≡◌, ◌∙◌, ℕ, suc, ◌+◌, ◌-◌, ◌<◌, ◌≤◌, Bool, true, false, ◌&&◌, List, [], ◌∷◌, ◌++◌, length, take, drop, get_or, refl, ap, sym, arith, if◌then◌else◌, append-nil, append_assoc, Option, Some, None}
-use Rattle.std.specs.Prelude.{slice_get, nat_lt}
-use Rattle.std.specs.Option.{option_map}
-use Rattle.std.specs.List.{list_all}
-use Rattle.std.proofs.lemmas.List.{length-map, map-append, take_rest}
-use Rattle.std.proofs.Math.Seq.{drop-cons, drop-length}
-use Rattle.std.proofs.lemmas.Bool.Decides.{nat_tests}
-use Rattle.std.proofs.lemmas.Option.{get_or_from_slice_get}
-use Rattle.cell_core.specs.declared.cell.Cell.{Cell}
-use Rattle.cell_core.specs.declared.cell.Cell.TheVariants.{Na}
-use Rattle.meaning.specs.Text.{Text}
-use Rattle.meaning.specs.Cell.{CellValue, datum}
-use Rattle.table_meaning.specs.Value.{Given, GivenList, cell, table, nothing, one, row, many, entries, more_given, scalar_in}
-use Rattle.form_meaning.specs.Binding.{is_truth, each, is_scalar}
-use Rattle.form_meaning.specs.Select.{cells_of}
-use Rattle.select_meaning.specs.Select.{are_truths}
-use Rattle.frame_store.specs.Objects.{Tables}
-use Rattle.frame_store.specs.Arguments.{item_of, items_of}
-use Rattle.frame_store.specs.declared.arguments.Item.{Item}
-use Rattle.frame_store.specs.Shown.{cells_value}
-use Rattle.selections.specs.Selected.{scalars_in}
+use Rattle.{
+  std.{proofs.{Common.{◌≡◌, ◌∙◌, ℕ, suc, ◌+◌, ◌-◌, ◌<◌, ◌≤◌, Bool, true, false, ◌&&◌, List, [], ◌∷◌, ◌++◌, length, take, drop, get_or, refl, ap, sym, arith, if◌then◌else◌, append-nil, append_assoc, Option, Some, None}, lemmas.{List.{length-map, map-append, take_rest}, Bool.Decides.{nat_tests}, Option.{get_or_from_slice_get}}, Math.Seq.{drop-cons, drop-length}}, specs.{Prelude.{slice_get, nat_lt}, Option.{option_map}, List.{list_all}}},
+  cell_core.specs.declared.cell.Cell.{Cell, TheVariants.{Na}},
+  meaning.specs.{Text.{Text}, Cell.{CellValue, datum}},
+  table_meaning.specs.Value.{Given, GivenList, cell, table, nothing, one, row, many, entries, more_given, scalar_in},
+  form_meaning.specs.{Binding.{is_truth, each, is_scalar}, Select.{cells_of}},
+  select_meaning.specs.Select.{are_truths},
+  frame_store.specs.{Objects.{Tables}, Arguments.{item_of, items_of}, declared.arguments.Item.{Item}, Shown.{cells_value}},
+  selections.specs.Selected.{scalars_in},
+}
 
 -- what stands after the first part
 abbrev pub after : {X : Type 0} → List X → List X

@@ -1,23 +1,13 @@
 -- Rows that are taken from a column.
-use Rattle.std.proofs.Common.{◌≡◌, ◌∙◌, ℕ, ◌+◌, ◌<◌, ap, refl, sym, subst, arith, List, [], ◌∷◌, ◌++◌, length, map, take, drop, slice_index_or, Option, Some, All}
-use Rattle.std.specs.Prelude.{slice_index, slice_get}
-use Rattle.std.proofs.lemmas.List.{get_or-map, length-map, map-append, take_more}
-use Rattle.std.proofs.lemmas.List.Elements.{All-nil, All-cons, All-push}
-use Rattle.std.proofs.lemmas.Option.{get_or_from_slice_get}
-use Rattle.std.proofs.lemmas.List.FromFn.{fill_by_all}
-use Rattle.cell_core.specs.declared.cell.Kind.{Kind}
-use Rattle.cell_core.specs.declared.cell.Cell.{Cell}
-use Rattle.cell_core.specs.declared.cell.Cell.TheVariants.{Na}
-use Rattle.meaning.specs.Column.{tabulate}
-use Rattle.column_core.specs.Columns.{CellColumn, column_with}
-use Rattle.column_core.proofs.CellRows.{range-same}
-use Rattle.column_core.proofs.MoveLaws.{get_or-tabulate}
-use Rattle.column_core.specs.Blocks.{CellBlock}
-use Rattle.cell_core.specs.declared.grid.Shape.{Shape}
-use Rattle.table_meaning.specs.Table.{ColumnOf, NumberedTable, column_at}
-use Rattle.table_meaning.specs.Valid.{IsWhole, AreHeadings}
-use Rattle.frame_store.specs.Parts.{HeadingList, block_column, IsSingle}
-use Rattle.selections.specs.Chosen.{cells_by_place, cells_at, columns_at, chosen, chosen_under}
+use Rattle.{
+  std.{proofs.{Common.{◌≡◌, ◌∙◌, ℕ, ◌+◌, ◌<◌, ap, refl, sym, subst, arith, List, [], ◌∷◌, ◌++◌, length, map, take, drop, slice_index_or, Option, Some, All}, lemmas.{List.{get_or-map, length-map, map-append, take_more, Elements.{All-nil, All-cons, All-push}, FromFn.{fill_by_all}}, Option.{get_or_from_slice_get}}}, specs.Prelude.{slice_index, slice_get}},
+  cell_core.specs.declared.{cell.{Kind.{Kind}, Cell.{Cell, TheVariants.{Na}}}, grid.Shape.{Shape}},
+  meaning.specs.Column.{tabulate},
+  column_core.{specs.{Columns.{CellColumn, column_with}, Blocks.{CellBlock}}, proofs.{CellRows.{range-same}, MoveLaws.{get_or-tabulate}}},
+  table_meaning.specs.{Table.{ColumnOf, NumberedTable, column_at}, Valid.{IsWhole, AreHeadings}},
+  frame_store.specs.Parts.{HeadingList, block_column, IsSingle},
+  selections.specs.Chosen.{cells_by_place, cells_at, columns_at, chosen, chosen_under},
+}
 
 -- the rows at these places are the cells there
 pub chosen_seen : {T : Type 0} (kind : Kind) (cell : Option T → Cell) (n : ℕ) (row : ℕ → Option T) (places : List ℕ) → All (λ place. place < n) places

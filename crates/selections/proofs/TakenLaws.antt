@@ -1,41 +1,17 @@
 -- Rows that are taken from a table.
-use Rattle.std.proofs.Common.{◌≡◌, ◌∙◌, refl, ap, sym, arith, ℕ, ◌+◌, Bool, true, List, [], ◌∷◌, ◌++◌, length, map, drop, slice_index_or, Some, None, Ok, Err, if◌then◌else◌}
-use Rattle.std.specs.Prelude.{IsSome}
-use Rattle.std.proofs.Math.ListN.{get_or-map}
-use Rattle.cell_core.specs.declared.cell.Label.{Label}
-use Rattle.meaning.specs.Text.{Text}
-use Rattle.meaning.specs.Cell.{CellValue, na_cell, datum, label_datum}
-use Rattle.meaning.specs.Fault.{limit, then_value}
-use Rattle.table_meaning.specs.Settled.{IsSettled}
+use Rattle.{
+  std.{proofs.{Common.{◌≡◌, ◌∙◌, refl, ap, sym, arith, ℕ, ◌+◌, Bool, true, List, [], ◌∷◌, ◌++◌, length, map, drop, slice_index_or, Some, None, Ok, Err, if◌then◌else◌}, Math.ListN.{get_or-map}, lemmas.{List.{length-map, drop-map}, Simd.{map-map}}}, specs.{Prelude.{IsSome}, List.{range_with_len}}},
+  cell_core.specs.{declared.{cell.{Label.{Label}, Cell.{Cell, TheVariants.{Na}}}, grid.{Rows.{Rows}, Shape.{Shape}}}, Grids.{place_from}},
+  meaning.specs.{Text.{Text}, Cell.{CellValue, na_cell, datum, label_datum}, Fault.{limit, then_value}},
+  table_meaning.specs.{Settled.{IsSettled}, Table.{ColumnOf, NumberedTable, Table, column_at, no_column, table_value, heading_value, tuple_value, column_value}, Change.{strided_column, cut_columns}},
+  form_meaning.specs.Finish.{limited, within_limits},
+  select_meaning.specs.Select.{column_rows, rows_taken, without_leading},
+  frame_store.{specs.{Objects.{tables, table_at, with_object}, World.{world, IsSettledWorld, Forms}, declared.{arguments.Value.TheVariants.{Object}, object.ObjId.{ObjId}, store.Store.{Store}}, Parts.{HeadingList, table_with, axis_of}}, proofs.Settling.{longer_self, settled_with, table_settled, level_names_part, labels_part, columns_part}},
+  selections.{proofs.{AnswerLaws.{column_seen, new_answers, table_is_settled}, PickedLaws.{list_is}, PlanLaws.{span_count, without_none}}, specs.{Chosen.{cells_at, columns_at, chosen, chosen_under, AreSettledHeadings}, Plans.{rows_in, levels_lost, taken_table}, declared.planning.Taken.{Taken, TheVariants.{Slice, Listed, Under}}}},
+  multi_index.specs.Axes.{AxisValue, taken_axis},
+  pick_meaning.specs.Rows.{rows_of},
+}
 use Rattle.table_meaning.specs.Value as value
-use Rattle.form_meaning.specs.Finish.{limited, within_limits}
-use Rattle.select_meaning.specs.Select.{column_rows, rows_taken, without_leading}
-use Rattle.frame_store.specs.Objects.{tables, table_at, with_object}
-use Rattle.frame_store.specs.World.{world, IsSettledWorld, Forms}
-use Rattle.frame_store.specs.declared.arguments.Value.TheVariants.{Object}
-use Rattle.frame_store.specs.declared.object.ObjId.{ObjId}
-use Rattle.frame_store.specs.declared.store.Store.{Store}
-use Rattle.frame_store.proofs.Settling.{longer_self, settled_with, table_settled, level_names_part, labels_part, columns_part}
-use Rattle.selections.proofs.AnswerLaws.{column_seen, new_answers, table_is_settled}
-use Rattle.std.specs.List.{range_with_len}
-use Rattle.std.proofs.lemmas.List.{length-map, drop-map}
-use Rattle.std.proofs.lemmas.Simd.{map-map}
-use Rattle.cell_core.specs.declared.cell.Cell.{Cell}
-use Rattle.cell_core.specs.declared.cell.Cell.TheVariants.{Na}
-use Rattle.cell_core.specs.declared.grid.Rows.{Rows}
-use Rattle.cell_core.specs.declared.grid.Shape.{Shape}
-use Rattle.cell_core.specs.Grids.{place_from}
-use Rattle.multi_index.specs.Axes.{AxisValue, taken_axis}
-use Rattle.pick_meaning.specs.Rows.{rows_of}
-use Rattle.table_meaning.specs.Table.{ColumnOf, NumberedTable, Table, column_at, no_column, table_value, heading_value, tuple_value, column_value}
-use Rattle.table_meaning.specs.Change.{strided_column, cut_columns}
-use Rattle.frame_store.specs.Parts.{HeadingList, table_with, axis_of}
-use Rattle.selections.specs.Chosen.{cells_at, columns_at, chosen, chosen_under, AreSettledHeadings}
-use Rattle.selections.specs.Plans.{rows_in, levels_lost, taken_table}
-use Rattle.selections.specs.declared.planning.Taken.{Taken}
-use Rattle.selections.specs.declared.planning.Taken.TheVariants.{Slice, Listed, Under}
-use Rattle.selections.proofs.PickedLaws.{list_is}
-use Rattle.selections.proofs.PlanLaws.{span_count, without_none}
 
 column_cut : (rows : Rows) (c : ColumnOf Cell) → strided_column Na rows c ≡ cells_at (rows_of rows) c
 column_cut rows c =

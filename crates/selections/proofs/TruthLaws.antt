@@ -1,22 +1,15 @@
 -- Lists of truth values.
-use Rattle.std.proofs.Common.{◌≡◌, ◌∙◌, refl, ap, sym, arith, ℕ, suc, ◌+◌, ◌<◌, Bool, true, false, ◌&&◌, List, [], ◌∷◌, drop, length, Option, Some, None}
-use Rattle.std.specs.Prelude.{nat_lt, slice_index_or}
-use Rattle.std.specs.Option.{option_map}
-use Rattle.std.specs.List.{list_all}
-use Rattle.std.proofs.Math.Seq.{drop-cons, drop-length}
-use Rattle.std.proofs.lemmas.Bool.Decides.{nat_tests}
-use Rattle.cell_core.specs.declared.cell.Cell.{Cell}
+use Rattle.{
+  std.{proofs.{Common.{◌≡◌, ◌∙◌, refl, ap, sym, arith, ℕ, suc, ◌+◌, ◌<◌, Bool, true, false, ◌&&◌, List, [], ◌∷◌, drop, length, Option, Some, None}, Math.Seq.{drop-cons, drop-length}, lemmas.Bool.Decides.{nat_tests}}, specs.{Prelude.{nat_lt, slice_index_or}, Option.{option_map}, List.{list_all}}},
+  cell_core.specs.declared.cell.Cell.{Cell},
+  meaning.specs.{Text.{Text}, Cell.{CellValue, datum}},
+  table_meaning.specs.Value.{cell, table, Given, GivenList, nothing, one, row, many, entries, no_given, more_given, scalar_in},
+  form_meaning.specs.{Binding.{each, is_scalar, is_truth}, Select.{cells_of}},
+  select_meaning.specs.Select.{are_truths},
+  frame_store.specs.{declared.arguments.Item.{Item}, Objects.{Tables}, Arguments.{items_of, item_of}},
+  selections.specs.Selected.{each_truth, is_truth_part},
+}
 use Rattle.cell_core.specs.declared.cell.Cell.TheVariants as code_cell
-use Rattle.meaning.specs.Text.{Text}
-use Rattle.meaning.specs.Cell.{CellValue, datum}
-use Rattle.table_meaning.specs.Value.{cell, table, Given, GivenList, nothing, one, row, many, entries, no_given, more_given, scalar_in}
-use Rattle.form_meaning.specs.Binding.{each, is_scalar, is_truth}
-use Rattle.form_meaning.specs.Select.{cells_of}
-use Rattle.select_meaning.specs.Select.{are_truths}
-use Rattle.frame_store.specs.declared.arguments.Item.{Item}
-use Rattle.frame_store.specs.Objects.{Tables}
-use Rattle.frame_store.specs.Arguments.{items_of, item_of}
-use Rattle.selections.specs.Selected.{each_truth, is_truth_part}
 
 -- a part by its scalar
 abbrev pub is_truth_scalar : Option CellValue → Bool

@@ -1,47 +1,21 @@
 -- Series that are aligned to labels: by their numbers as by their texts.
-use Rattle.std.proofs.Common.{◌≡◌, ◌∙◌, ap, refl, sym, subst, arith, ℕ, suc, ◌+◌, ◌<◌, Bool, true, false, ◌&&◌, List, [], ◌∷◌, ◌++◌, map, length, take, nat_eq, if◌then◌else◌, All, Option, Some, None, Result, Ok, Err}
-use Rattle.std.specs.Prelude.{◌≢◌, ◌||◌, slice_get, slice_index_or, IfOk}
-use Rattle.std.specs.List.{range_with_len}
-use Rattle.std.specs.Cmp.Lexicographic.{pointwise}
-use Rattle.std.proofs.lemmas.Bool.{false≢true}
-use Rattle.std.proofs.lemmas.Bool.Decides.{same_from_decides, nat_tests}
-use Rattle.std.proofs.Math.ListN.{get_or-map}
-use Rattle.std.proofs.lemmas.List.{length-map, map-append, take_more}
-use Rattle.std.proofs.lemmas.Option.{get_or_from_slice_get}
-use Rattle.std.proofs.lemmas.List.FromFn.{fill_by_all}
-use Rattle.std.proofs.lemmas.List.Elements.{All-nil, All-map, All-weaker}
-use Rattle.cell_core.specs.declared.cell.Cell.{Cell}
-use Rattle.cell_core.specs.declared.cell.Cell.TheVariants.{Na}
-use Rattle.cell_core.specs.declared.cell.Label.{Label}
-use Rattle.cell_core.specs.Texts.{AreDistinct}
-use Rattle.meaning.specs.Text.{Text}
-use Rattle.meaning.specs.Cell.{na_cell, LabelValue, datum, IsGiven, AreGiven}
-use Rattle.meaning.specs.Column.{gap_cell, taken}
-use Rattle.meaning.specs.Fault.{FaultValue, bad_value, repeated, levels, then_value}
-use Rattle.column_core.specs.Moves.{IsPlaceOf}
-use Rattle.multi_index.specs.Axes.{AxisValue, HaveLevels}
-use Rattle.table_meaning.specs.Settled.{IsSettled}
-use Rattle.table_meaning.specs.Table.{NumberedTable, Table, table_value, tuple_value, heading_value, column_at}
-use Rattle.form_meaning.specs.Binding.{same_label}
-use Rattle.form_meaning.specs.Infix.{same_tuple, same_tuples}
-use Rattle.align_meaning.specs.Faults.{AlignRefusal, met_rows}
-use Rattle.align_meaning.specs.Targets.{first_repeated, unless_repeated, rows_of_targets, reindexed}
-use Rattle.align_meaning.proofs.SeenLaws.{gaps_seen, reindexed_seen}
-use Rattle.align_meaning.proofs.FoundLaws.{reindexed_count, reindexed_below, repeat_given}
+use Rattle.{
+  std.{proofs.{Common.{◌≡◌, ◌∙◌, ap, refl, sym, subst, arith, ℕ, suc, ◌+◌, ◌<◌, Bool, true, false, ◌&&◌, List, [], ◌∷◌, ◌++◌, map, length, take, nat_eq, if◌then◌else◌, All, Option, Some, None, Result, Ok, Err}, lemmas.{Bool.{false≢true, Decides.{same_from_decides, nat_tests}}, List.{length-map, map-append, take_more, FromFn.{fill_by_all}, Elements.{All-nil, All-map, All-weaker}}, Option.{get_or_from_slice_get}}, Math.ListN.{get_or-map}}, specs.{Prelude.{◌≢◌, ◌||◌, slice_get, slice_index_or, IfOk}, List.{range_with_len}, Cmp.Lexicographic.{pointwise}}},
+  cell_core.specs.{declared.cell.{Cell.{Cell, TheVariants.{Na}}, Label.{Label}}, Texts.{AreDistinct}},
+  meaning.specs.{Text.{Text}, Cell.{na_cell, LabelValue, datum, IsGiven, AreGiven}, Column.{gap_cell, taken}, Fault.{FaultValue, bad_value, repeated, levels, then_value}},
+  column_core.specs.Moves.{IsPlaceOf},
+  multi_index.specs.Axes.{AxisValue, HaveLevels},
+  table_meaning.specs.{Settled.{IsSettled}, Table.{NumberedTable, Table, table_value, tuple_value, heading_value, column_at}},
+  form_meaning.specs.{Binding.{same_label}, Infix.{same_tuple, same_tuples}},
+  align_meaning.{specs.{Faults.{AlignRefusal, met_rows}, Targets.{first_repeated, unless_repeated, rows_of_targets, reindexed}}, proofs.{SeenLaws.{gaps_seen, reindexed_seen}, FoundLaws.{reindexed_count, reindexed_below, repeat_given}}},
+  label_align.specs.{Answers.{AlignsBy, as_it_is as as_rows}, declared.fault.AlignFault.{AlignFault, TheVariants.{DuplicateLabels, TooLarge, NoMemory}}},
+  select_meaning.specs.Set.{aligned_rows, column_at_rows, aligned_column},
+  frame_store.specs.{Parts.{axis_of}, Shown.{labels_value, cells_value}, declared.fault.OpFault.{OpFault}},
+  form_parts.{specs.{Makes.{MakesBy}, Faults.{align_refusal}}, proofs.{LabelLaws.{value_decides}, RowLaws.{tuple_by_number, tuples_settled}}},
+  selections.specs.Selected.{as_it_is},
+}
 use Rattle.row_keys.specs.Keys as numbers
-use Rattle.label_align.specs.Answers.{AlignsBy, as_it_is as as_rows}
-use Rattle.label_align.specs.declared.fault.AlignFault.{AlignFault}
-use Rattle.label_align.specs.declared.fault.AlignFault.TheVariants.{DuplicateLabels, TooLarge, NoMemory}
-use Rattle.select_meaning.specs.Set.{aligned_rows, column_at_rows, aligned_column}
-use Rattle.frame_store.specs.Parts.{axis_of}
-use Rattle.frame_store.specs.Shown.{labels_value, cells_value}
-use Rattle.frame_store.specs.declared.fault.OpFault.{OpFault}
 use Rattle.frame_store.specs.declared.fault.OpFault.TheVariants as op
-use Rattle.form_parts.specs.Makes.{MakesBy}
-use Rattle.form_parts.proofs.LabelLaws.{value_decides}
-use Rattle.form_parts.specs.Faults.{align_refusal}
-use Rattle.form_parts.proofs.RowLaws.{tuple_by_number, tuples_settled}
-use Rattle.selections.specs.Selected.{as_it_is}
 
 module _ (texts : List Text) (distinct : AreDistinct texts) (keys targets : List (List Label)) (given : IsSettled labels_value texts keys) (asked : IsSettled labels_value texts targets) where
   -- rows that are found by numbers are those by texts

@@ -1,34 +1,15 @@
 -- Cells that are set: the table that a target grows, with the values.
-use Rattle.std.proofs.Common.{◌≡◌, ◌∙◌, ℕ, zero, suc, ◌+◌, ◌<◌, ◌%◌, ◌/◌, Bool, true, false, ◌&&◌, List, [], ◌∷◌, ◌++◌, length, map, replicate, refl, ap, sym, subst, arith, if◌then◌else◌, Option, Some, None, option_map, Result, Ok, Err}
-use Rattle.std.specs.Prelude.{slice_set, slice_index, slice_index_or, is_some, not, nat_lt, IfOk}
-use Rattle.std.proofs.lemmas.Bool.Decides.{nat_tests}
-use Rattle.std.proofs.Math.ListN.{get_or-map}
-use Rattle.std.proofs.lemmas.List.{length-map, length-set, map-append, map-set, get_or_push}
-use Rattle.cell_core.specs.declared.cell.Cell.{Cell}
-use Rattle.cell_core.specs.declared.cell.Cell.TheVariants.{Na}
-use Rattle.cell_core.specs.declared.cell.Kind.{Kind}
-use Rattle.cell_core.specs.declared.cell.Label.{Label}
-use Rattle.meaning.specs.Text.{Text}
-use Rattle.meaning.specs.Cell.{CellValue, LabelValue, na_cell, datum, label_datum, holds, AreGiven}
-use Rattle.meaning.specs.Symbol.{Accessor}
-use Rattle.meaning.specs.Fault.{FaultValue, bad_value, no_columns, wrong_kind, limit, then_value}
-use Rattle.table_meaning.specs.Settled.{IsSettled}
-use Rattle.table_meaning.specs.Table.{ColumnOf, NumberedTable, Table, table_value, heading_value, tuple_value, column_value, column_at}
-use Rattle.table_meaning.specs.Change.{with_cell, with_cell_at, with_column, with_values, with_values_from}
-use Rattle.form_meaning.specs.Finish.{within_limits, limited_table}
-use Rattle.form_meaning.specs.Finish.{missing_column as missing_value}
+use Rattle.{
+  std.{proofs.{Common.{◌≡◌, ◌∙◌, ℕ, zero, suc, ◌+◌, ◌<◌, ◌%◌, ◌/◌, Bool, true, false, ◌&&◌, List, [], ◌∷◌, ◌++◌, length, map, replicate, refl, ap, sym, subst, arith, if◌then◌else◌, Option, Some, None, option_map, Result, Ok, Err}, lemmas.{Bool.Decides.{nat_tests}, List.{length-map, length-set, map-append, map-set, get_or_push}}, Math.ListN.{get_or-map}}, specs.Prelude.{slice_set, slice_index, slice_index_or, is_some, not, nat_lt, IfOk}},
+  cell_core.specs.declared.cell.{Cell.{Cell, TheVariants.{Na}}, Kind.{Kind}, Label.{Label}},
+  meaning.specs.{Text.{Text}, Cell.{CellValue, LabelValue, na_cell, datum, label_datum, holds, AreGiven}, Symbol.{Accessor}, Fault.{FaultValue, bad_value, no_columns, wrong_kind, limit, then_value}},
+  table_meaning.specs.{Settled.{IsSettled}, Table.{ColumnOf, NumberedTable, Table, table_value, heading_value, tuple_value, column_value, column_at}, Change.{with_cell, with_cell_at, with_column, with_values, with_values_from}},
+  form_meaning.specs.Finish.{within_limits, limited_table, missing_column as missing_value},
+  frame_store.{specs.{Shown.{cells_value, columns_value, labels_value}, Parts.{axis_of}}, proofs.{ColumnLaws.{map-put_at}, Settling.{cells_settled, columns_part}}},
+  multi_index.specs.Axes.{AxisValue, nameless_axis, tuples_at, taken_axis},
+  settings.{specs.{declared.targets.{Reached.{Reached}, Target.{Target}}, Grown.{column_added, columns_with_gap, grown_table, missing_column, reached_tuples, row_added, with_gap}, Values.{AddsOnOne, ArePlacesOf, HasKinds, IsReachedOf, columns_after, count_with, kind_added, kind_there, reached_value, rows_after, target_value}}, proofs.{ColumnLaws.{map-replicate}, GrowLaws.{adds_one, grown_columns, grown_rows, reached_below, put_last}}},
+}
 use Rattle.select_meaning.specs.Set as meant
-use Rattle.frame_store.specs.Shown.{cells_value, columns_value, labels_value}
-use Rattle.frame_store.proofs.ColumnLaws.{map-put_at}
-use Rattle.frame_store.proofs.Settling.{cells_settled, columns_part}
-use Rattle.multi_index.specs.Axes.{AxisValue, nameless_axis, tuples_at, taken_axis}
-use Rattle.frame_store.specs.Parts.{axis_of}
-use Rattle.settings.specs.declared.targets.Reached.{Reached}
-use Rattle.settings.specs.declared.targets.Target.{Target}
-use Rattle.settings.specs.Grown.{column_added, columns_with_gap, grown_table, missing_column, reached_tuples, row_added, with_gap}
-use Rattle.settings.specs.Values.{AddsOnOne, ArePlacesOf, HasKinds, IsReachedOf, columns_after, count_with, kind_added, kind_there, reached_value, rows_after, target_value}
-use Rattle.settings.proofs.ColumnLaws.{map-replicate}
-use Rattle.settings.proofs.GrowLaws.{adds_one, grown_columns, grown_rows, reached_below, put_last}
 
 -- columns and cells with texts
 seen_column : (texts : List Text) (columns : List (ColumnOf Cell)) (place : ℕ) → column_at (columns_value texts columns) place ≡ column_value texts (column_at columns place)

@@ -1,26 +1,14 @@
 -- Columns of scalars.
-use Rattle.std.proofs.Common.{◌≡◌, ◌∙◌, ℕ, zero, suc, ◌+◌, ◌<◌, Bool, true, false, ◌&&◌, List, [], ◌∷◌, ◌++◌, length, take, drop, map, replicate, refl, ap, sym, arith, if◌then◌else◌, Option, Some, None, Result, Ok, Err}
-use Rattle.std.specs.Prelude.{slice_get, slice_index_or, unwrap_or}
-use Rattle.std.specs.List.{list_all}
-use Rattle.std.proofs.lemmas.List.{map-append, take_more}
-use Rattle.std.proofs.Math.Seq.{drop-cons, drop-length}
-use Rattle.std.proofs.lemmas.Option.{get_or_from_slice_get}
-use Rattle.cell_core.specs.declared.cell.Cell.{Cell}
-use Rattle.cell_core.specs.declared.cell.Cell.TheVariants.{Na}
-use Rattle.cell_core.specs.declared.cell.Kind.{Kind}
-use Rattle.cell_core.specs.declared.cell.Kind.TheVariants.{Int64}
-use Rattle.meaning.specs.Text.{Text}
-use Rattle.meaning.specs.Cell.{CellValue, datum, holds}
-use Rattle.meaning.specs.Block.{filled_with}
-use Rattle.meaning.specs.Fault.{FaultValue, wrong_kind}
-use Rattle.column_core.specs.Blocks.{CellBlock}
-use Rattle.column_core.specs.Columns.{CellColumn}
-use Rattle.table_meaning.specs.Table.{ColumnOf, column_at, no_column}
-use Rattle.form_meaning.specs.Set.{first_kind, list_column}
-use Rattle.frame_store.specs.Parts.{block_column, single_block, IsSingle}
-use Rattle.frame_store.specs.Shown.{cells_value}
-use Rattle.frame_store.proofs.PartLaws.{single_made, column_made}
-use Rattle.settings.specs.Assigned.{column_seen, missing_cells}
+use Rattle.{
+  std.{proofs.{Common.{◌≡◌, ◌∙◌, ℕ, zero, suc, ◌+◌, ◌<◌, Bool, true, false, ◌&&◌, List, [], ◌∷◌, ◌++◌, length, take, drop, map, replicate, refl, ap, sym, arith, if◌then◌else◌, Option, Some, None, Result, Ok, Err}, lemmas.{List.{map-append, take_more}, Option.{get_or_from_slice_get}}, Math.Seq.{drop-cons, drop-length}}, specs.{Prelude.{slice_get, slice_index_or, unwrap_or}, List.{list_all}}},
+  cell_core.specs.declared.cell.{Cell.{Cell, TheVariants.{Na}}, Kind.{Kind, TheVariants.{Int64}}},
+  meaning.specs.{Text.{Text}, Cell.{CellValue, datum, holds}, Block.{filled_with}, Fault.{FaultValue, wrong_kind}},
+  column_core.specs.{Blocks.{CellBlock}, Columns.{CellColumn}},
+  table_meaning.specs.Table.{ColumnOf, column_at, no_column},
+  form_meaning.specs.Set.{first_kind, list_column},
+  frame_store.{specs.{Parts.{block_column, single_block, IsSingle}, Shown.{cells_value}}, proofs.PartLaws.{single_made, column_made}},
+  settings.specs.Assigned.{column_seen, missing_cells},
+}
 
 -- the kind of the first cell that is present
 abbrev pub kind_from : List Text → List Cell → ℕ → Kind

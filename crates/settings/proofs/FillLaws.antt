@@ -1,30 +1,18 @@
 -- Values for the cells that a setting reaches.
-use Rattle.std.proofs.Common.{◌≡◌, ◌∙◌, ℕ, zero, suc, ◌+◌, ◌*◌, ◌^◌, ◌<◌, ◌%◌, Bool, true, false, ◌&&◌, List, [], ◌∷◌, ◌++◌, length, take, drop, replicate, refl, ap, sym, arith, nat_eq, if◌then◌else◌, Some, Result, Ok, Err}
-use Rattle.std.specs.Prelude.{slice_get, slice_index, slice_index_or, nat_le, nat_lt, min, IfOk, IsOk}
-use Rattle.std.proofs.lemmas.Bool.Decides.{nat_tests}
-use Rattle.std.proofs.lemmas.List.{take_more}
-use Rattle.std.proofs.Math.Seq.{drop-cons, drop-length}
-use Rattle.std.proofs.lemmas.Option.{get_or_from_slice_get}
-use Rattle.cell_core.specs.declared.cell.Cell.{Cell}
-use Rattle.cell_core.specs.declared.cell.Cell.TheVariants.{Na}
-use Rattle.cell_core.specs.declared.cell.Kind.{Kind}
-use Rattle.cell_core.specs.declared.cell.Label.{Label}
+use Rattle.{
+  std.{proofs.{Common.{◌≡◌, ◌∙◌, ℕ, zero, suc, ◌+◌, ◌*◌, ◌^◌, ◌<◌, ◌%◌, Bool, true, false, ◌&&◌, List, [], ◌∷◌, ◌++◌, length, take, drop, replicate, refl, ap, sym, arith, nat_eq, if◌then◌else◌, Some, Result, Ok, Err}, lemmas.{Bool.Decides.{nat_tests}, List.{take_more}, Option.{get_or_from_slice_get}}, Math.Seq.{drop-cons, drop-length}}, specs.Prelude.{slice_get, slice_index, slice_index_or, nat_le, nat_lt, min, IfOk, IsOk}},
+  cell_core.specs.declared.cell.{Cell.{Cell, TheVariants.{Na}}, Kind.{Kind}, Label.{Label}},
+  multi_index.specs.Axes.{HaveLevels},
+  meaning.specs.{Text.{Text}, Cell.{CellValue, datum, holds}, Fault.{FaultValue, bad_value, length_of, then_value}},
+  table_meaning.specs.Table.{ColumnOf, NumberedTable, Table, column_at},
+  form_meaning.specs.{Finish.{within_limits}, Set.{of_length}},
+  select_meaning.specs.Set.{fit_from, listed_values},
+  form_parts.specs.Makes.{MakesBy},
+  frame_store.specs.{declared.fault.OpFault.{OpFault, TheVariants.{Refused, NoMemory}}, Shown.{cells_value}},
+  selections.specs.Selected.{as_it_is},
+  settings.specs.{Assigned.{column_listed}, Values.{kind_there, HasKinds}},
+}
 use Rattle.cell_core.specs.declared.cell.Label.TheVariants as label
-use Rattle.multi_index.specs.Axes.{HaveLevels}
-use Rattle.meaning.specs.Text.{Text}
-use Rattle.meaning.specs.Cell.{CellValue, datum, holds}
-use Rattle.meaning.specs.Fault.{FaultValue, bad_value, length_of, then_value}
-use Rattle.table_meaning.specs.Table.{ColumnOf, NumberedTable, Table, column_at}
-use Rattle.form_meaning.specs.Finish.{within_limits}
-use Rattle.form_meaning.specs.Set.{of_length}
-use Rattle.select_meaning.specs.Set.{fit_from, listed_values}
-use Rattle.form_parts.specs.Makes.{MakesBy}
-use Rattle.frame_store.specs.declared.fault.OpFault.{OpFault}
-use Rattle.frame_store.specs.declared.fault.OpFault.TheVariants.{Refused, NoMemory}
-use Rattle.frame_store.specs.Shown.{cells_value}
-use Rattle.selections.specs.Selected.{as_it_is}
-use Rattle.settings.specs.Assigned.{column_listed}
-use Rattle.settings.specs.Values.{kind_there, HasKinds}
 
 -- cells so far
 pub replicate_more : (n : ℕ) (c : Cell) → replicate n c ++ c ∷ [] ≡ replicate (n + 1) c

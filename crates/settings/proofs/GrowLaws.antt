@@ -1,35 +1,14 @@
 -- Tables that get a row or a column.
-use Rattle.std.proofs.Common.{◌≡◌, ◌∙◌, ℕ, zero, suc, ◌+◌, ◌<◌, ◌%◌, ◌/◌, false, List, [], ◌∷◌, ◌++◌, length, take, drop, map, refl, ap, sym, subst, arith, All, Option, Some, None}
-use Rattle.std.specs.Prelude.{slice_index_or, slice_get, slice_set, IfSome}
-use Rattle.std.proofs.lemmas.List.{length-map, length-append, length-set, map-append, take_more}
-use Rattle.std.proofs.lemmas.List.Elements.{All-push, All-cons, All-nil}
-use Rattle.cell_core.specs.declared.cell.Cell.{Cell}
-use Rattle.cell_core.specs.declared.cell.Cell.TheVariants.{Na}
-use Rattle.cell_core.specs.declared.cell.Kind.{Kind}
-use Rattle.cell_core.specs.declared.cell.Label.{Label}
-use Rattle.cell_core.specs.declared.grid.Shape.{Shape}
-use Rattle.column_core.specs.Blocks.{CellBlock}
-use Rattle.column_core.specs.Columns.{CellColumn}
-use Rattle.multi_index.specs.Axes.{AxisValue, HaveLevels, nameless_axis, with_name}
-use Rattle.table_meaning.specs.Table.{ColumnOf, NumberedTable, column_at, no_column}
-use Rattle.table_meaning.specs.Valid.{IsWhole}
-use Rattle.frame_store.specs.Parts.{HeadingList, HaveRows, block_column, single_block, IsSingle, table_with}
-use Rattle.frame_store.proofs.PartLaws.{column_made, single_made, singles_more}
-use Rattle.meaning.specs.Block.{filled_with}
-use Rattle.meaning.specs.Block.{with_cell as with_block_cell}
-use Rattle.table_meaning.specs.Change.{with_cell_at, with_values_from}
-use Rattle.frame_store.proofs.ValueLaws.{all_put, one_more_put}
-use Rattle.std.proofs.lemmas.Bool.Decides.{nat_tests}
-use Rattle.std.specs.Prelude.{nat_lt, slice_index, if◌then◌else◌}
-use Rattle.table_meaning.specs.Change.{put_at, with_cell, with_column, with_values}
-use Rattle.table_meaning.specs.Valid.{AreHeadings}
-use Rattle.frame_store.specs.Parts.{AreHeld, IsHeld}
-use Rattle.settings.specs.declared.targets.Target.{Target}
-use Rattle.settings.specs.Grown.{column_added, grown_table, row_added}
-use Rattle.settings.specs.Values.{count_with, rows_after, columns_after, ArePlacesOf, IsFreshIn}
-use Rattle.settings.proofs.PutLaws.{put_headed}
-use Rattle.settings.specs.Grown.{axis_with, columns_with_gap, missing_column, new_column, with_gap, with_row}
-use Rattle.settings.proofs.PutLaws.{own_headings}
+use Rattle.{
+  std.{proofs.{Common.{◌≡◌, ◌∙◌, ℕ, zero, suc, ◌+◌, ◌<◌, ◌%◌, ◌/◌, false, List, [], ◌∷◌, ◌++◌, length, take, drop, map, refl, ap, sym, subst, arith, All, Option, Some, None}, lemmas.{List.{length-map, length-append, length-set, map-append, take_more, Elements.{All-push, All-cons, All-nil}}, Bool.Decides.{nat_tests}}}, specs.Prelude.{slice_index_or, slice_get, slice_set, IfSome, nat_lt, slice_index, if◌then◌else◌}},
+  cell_core.specs.declared.{cell.{Cell.{Cell, TheVariants.{Na}}, Kind.{Kind}, Label.{Label}}, grid.Shape.{Shape}},
+  column_core.specs.{Blocks.{CellBlock}, Columns.{CellColumn}},
+  multi_index.specs.Axes.{AxisValue, HaveLevels, nameless_axis, with_name},
+  table_meaning.specs.{Table.{ColumnOf, NumberedTable, column_at, no_column}, Valid.{IsWhole, AreHeadings}, Change.{with_cell_at, with_values_from, put_at, with_cell, with_column, with_values}},
+  frame_store.{specs.Parts.{HeadingList, HaveRows, block_column, single_block, IsSingle, table_with, AreHeld, IsHeld}, proofs.{PartLaws.{column_made, single_made, singles_more}, ValueLaws.{all_put, one_more_put}}},
+  meaning.specs.Block.{filled_with, with_cell as with_block_cell},
+  settings.{specs.{declared.targets.Target.{Target}, Grown.{column_added, grown_table, row_added, axis_with, columns_with_gap, missing_column, new_column, with_gap, with_row}, Values.{count_with, rows_after, columns_after, ArePlacesOf, IsFreshIn}}, proofs.PutLaws.{put_headed, own_headings}},
+}
 
 -- the axis with one more label
 only_name : (names : List (Option Label)) → length names ≡ 1 → slice_index_or names 0 None ∷ [] ≡ names

@@ -1,30 +1,15 @@
 -- Columns that move, with which a Series ends.
-use Rattle.std.proofs.Common.{◌≡◌, ◌∙◌, ℕ, Bool, true, false, List, length, refl, ap, sym, nat_eq, if◌then◌else◌, Option, Some, None, Ok, Err}
-use Rattle.std.specs.Prelude.{is_some, IsSome, IfSome}
-use Rattle.cell_core.specs.declared.grid.Shape.{Shape}
-use Rattle.cell_core.specs.declared.grid.Shape.TheVariants.{Series, Frame}
-use Rattle.cell_core.specs.declared.cell.Cell.{Cell}
-use Rattle.cell_core.specs.declared.cell.Label.{Label}
-use Rattle.meaning.specs.Text.{Text}
-use Rattle.meaning.specs.Cell.{LabelValue, CellValue, label_datum}
-use Rattle.meaning.specs.Fault.{wrong_kind, then_value}
-use Rattle.column_core.specs.Columns.{CellColumn}
-use Rattle.table_meaning.specs.Settled.{IsSettled}
-use Rattle.table_meaning.specs.Table.{ColumnOf, NumberedTable, Table, table_value, column_at, no_column}
-use Rattle.table_meaning.specs.Change.{with_column}
-use Rattle.table_meaning.specs.Valid.{IsWhole}
-use Rattle.table_meaning.specs.Value.{one, table}
-use Rattle.form_meaning.specs.Binding.{is_frame}
-use Rattle.form_meaning.specs.Infix.{same_tuples}
-use Rattle.select_meaning.specs.Set.{SetValue, aligned, column_set, put_result, series_set, set_value}
-use Rattle.frame_store.specs.Objects.{Tables, with_object}
-use Rattle.frame_store.specs.Shown.{labels_value, headings_value}
-use Rattle.frame_store.specs.declared.object.ObjId.{ObjId}
-use Rattle.frame_store.proofs.Settling.{columns_given, columns_part}
-use Rattle.settings.specs.Assigned.{put_place}
-use Rattle.settings.specs.Changes.{ended, MayEnd}
-use Rattle.settings.proofs.PutCases.{first_column, has_column, series_fits}
-use Rattle.settings.proofs.PutLaws.{kept_there, nat_same, put_meant, put_refused_of, put_settled, put_there}
+use Rattle.{
+  std.{proofs.Common.{◌≡◌, ◌∙◌, ℕ, Bool, true, false, List, length, refl, ap, sym, nat_eq, if◌then◌else◌, Option, Some, None, Ok, Err}, specs.Prelude.{is_some, IsSome, IfSome}},
+  cell_core.specs.declared.{grid.Shape.{Shape, TheVariants.{Series, Frame}}, cell.{Cell.{Cell}, Label.{Label}}},
+  meaning.specs.{Text.{Text}, Cell.{LabelValue, CellValue, label_datum}, Fault.{wrong_kind, then_value}},
+  column_core.specs.Columns.{CellColumn},
+  table_meaning.specs.{Settled.{IsSettled}, Table.{ColumnOf, NumberedTable, Table, table_value, column_at, no_column}, Change.{with_column}, Valid.{IsWhole}, Value.{one, table}},
+  form_meaning.specs.{Binding.{is_frame}, Infix.{same_tuples}},
+  select_meaning.specs.Set.{SetValue, aligned, column_set, put_result, series_set, set_value},
+  frame_store.{specs.{Objects.{Tables, with_object}, Shown.{labels_value, headings_value}, declared.object.ObjId.{ObjId}}, proofs.Settling.{columns_given, columns_part}},
+  settings.{specs.{Assigned.{put_place}, Changes.{ended, MayEnd}}, proofs.{PutCases.{first_column, has_column, series_fits}, PutLaws.{kept_there, nat_same, put_meant, put_refused_of, put_settled, put_there}}},
+}
 
 -- what a Series is as a value
 series_if : (shape : Shape) (s : Table) (v : SetValue) → (if is_frame shape then Err wrong_kind else Ok (aligned s)) ≡ Ok v → (shape ≡ Series) × (v ≡ aligned s)

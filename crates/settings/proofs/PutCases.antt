@@ -1,43 +1,18 @@
 -- Columns for the rows of a frame, and rows that a frame gets with a column.
-use Rattle.std.proofs.Common.{◌≡◌, ◌∙◌, ℕ, zero, suc, pos, ◌<◌, Bool, true, false, ◌&&◌, List, [], ◌∷◌, ◌++◌, length, map, replicate, refl, ap, sym, subst, arith, nat_eq, if◌then◌else◌, Option, Some, None, Result, Ok, Err}
-use Rattle.std.specs.Prelude.{◌≢◌, not, IfOk}
-use Rattle.std.specs.List.{range_with_len}
-use Rattle.std.proofs.lemmas.Bool.Decides.{nat_tests}
-use Rattle.std.proofs.lemmas.List.{length-map}
-use Rattle.std.proofs.lemmas.List.FromFn.{length-map-range_with_len}
-use Rattle.std.proofs.lemmas.List.Elements.{All-cons, All-nil}
-use Rattle.cell_core.specs.declared.cell.Cell.{Cell}
-use Rattle.cell_core.specs.declared.cell.Cell.TheVariants.{Na}
-use Rattle.meaning.specs.Column.{taken}
-use Rattle.cell_core.specs.declared.cell.Label.{Label}
-use Rattle.meaning.specs.Text.{Text}
-use Rattle.meaning.specs.Cell.{CellValue, LabelValue, int, datum, label_datum, na_cell, IsGiven, AreGiven}
-use Rattle.meaning.specs.Fault.{FaultValue, bad_value, length_of, then_value}
-use Rattle.multi_index.specs.Axes.{AxisValue, range_axis}
-use Rattle.column_core.specs.Columns.{CellColumn}
-use Rattle.table_meaning.specs.Settled.{IsSettled}
-use Rattle.table_meaning.specs.Table.{ColumnOf, NumberedTable, Table, table_value, heading_value, tuple_value, column_value, column_at, no_column}
-use Rattle.table_meaning.specs.Change.{with_column}
-use Rattle.table_meaning.specs.Valid.{IsWhole}
-use Rattle.form_meaning.specs.Finish.{default_labels}
-use Rattle.form_meaning.specs.Infix.{same_tuple, same_tuples}
-use Rattle.form_meaning.specs.Set.{of_length}
-use Rattle.select_meaning.specs.Set.{put_result, with_rows, has_none, list_set, column_at_rows, aligned_column, series_set}
-use Rattle.frame_store.specs.Parts.{axis_of}
-use Rattle.form_parts.proofs.LabelLaws.{default_seen}
-use Rattle.frame_store.specs.Shown.{labels_value, headings_value, columns_value, cells_value}
-use Rattle.frame_store.proofs.Settling.{cell_given, cells_given, columns_given, columns_part}
-use Rattle.cell_core.specs.declared.grid.Shape.TheVariants.{Series}
+use Rattle.{
+  std.{proofs.{Common.{◌≡◌, ◌∙◌, ℕ, zero, suc, pos, ◌<◌, Bool, true, false, ◌&&◌, List, [], ◌∷◌, ◌++◌, length, map, replicate, refl, ap, sym, subst, arith, nat_eq, if◌then◌else◌, Option, Some, None, Result, Ok, Err}, lemmas.{Bool.Decides.{nat_tests}, List.{length-map, FromFn.{length-map-range_with_len}, Elements.{All-cons, All-nil}}}}, specs.Prelude.{◌≢◌, not, IfOk}},
+  cell_core.specs.declared.{cell.{Cell.{Cell, TheVariants.{Na}}, Label.{Label}}, grid.Shape.TheVariants.{Series}},
+  meaning.specs.{Column.{taken}, Text.{Text}, Cell.{CellValue, LabelValue, int, datum, label_datum, na_cell, IsGiven, AreGiven}, Fault.{FaultValue, bad_value, length_of, then_value}},
+  multi_index.specs.Axes.{AxisValue, range_axis},
+  column_core.specs.Columns.{CellColumn},
+  table_meaning.specs.{Settled.{IsSettled}, Table.{ColumnOf, NumberedTable, Table, table_value, heading_value, tuple_value, column_value, column_at, no_column}, Change.{with_column}, Valid.{IsWhole}},
+  form_meaning.specs.{Finish.{default_labels}, Infix.{same_tuple, same_tuples}, Set.{of_length}},
+  select_meaning.specs.Set.{put_result, with_rows, has_none, list_set, column_at_rows, aligned_column, series_set},
+  frame_store.{specs.{Parts.{axis_of}, Shown.{labels_value, headings_value, columns_value, cells_value}, Objects.{Tables}, declared.fault.OpFault.{OpFault}}, proofs.Settling.{cell_given, cells_given, columns_given, columns_part}},
+  form_parts.proofs.LabelLaws.{default_seen},
+  settings.{specs.{declared.values.SetValue.{SetValue, TheVariants.{Same, Listed}}, Values.{value_in}, Aligned.{aligned_set}, Assigned.{table_column, column_seen, put_place, with_axis}}, proofs.{AlignLaws.{own_column, taken_seen}, PutLaws.{put_by, put_there, put_settled, rows_seen, rows_settled, column_put}}},
+}
 use Rattle.select_meaning.specs.Set as meant
-use Rattle.frame_store.specs.Objects.{Tables}
-use Rattle.frame_store.specs.declared.fault.OpFault.{OpFault}
-use Rattle.settings.specs.declared.values.SetValue.{SetValue}
-use Rattle.settings.specs.declared.values.SetValue.TheVariants.{Same, Listed}
-use Rattle.settings.specs.Values.{value_in}
-use Rattle.settings.specs.Aligned.{aligned_set}
-use Rattle.settings.specs.Assigned.{table_column, column_seen, put_place, with_axis}
-use Rattle.settings.proofs.AlignLaws.{own_column, taken_seen}
-use Rattle.settings.proofs.PutLaws.{put_by, put_there, put_settled, rows_seen, rows_settled, column_put}
 
 -- the cells of a column were given
 pub column_is_given : (texts : List Text) (t : NumberedTable) (place : ℕ) (c copy : CellColumn) → IsSettled table_value texts t → place < length t.columns → column_at t.columns place ≡ record { kind = c.kind; cells = c.cells } → copy ≡ c → AreGiven texts copy.cells

@@ -1,34 +1,16 @@
 -- Columns that are put into a frame.
-use Rattle.std.proofs.Common.{◌≡◌, ◌∙◌, ℕ, zero, suc, ◌+◌, ◌*◌, ◌^◌, ◌<◌, ◌≤◌, Bool, true, false, ◌&&◌, List, [], ◌∷◌, ◌++◌, length, map, refl, ap, sym, subst, arith, nat_eq, nat_lt, if◌then◌else◌, All, Option, Some, None, Result, Ok, Err}
-use Rattle.std.specs.Prelude.{◌≢◌, is_some, IsSome, IfSome, IfNone, nat_le, slice_index_or, slice_set, unwrap_or}
-use Rattle.std.proofs.lemmas.Bool.Decides.{nat_tests}
-use Rattle.std.proofs.lemmas.List.{length-map, length-set, length-append}
-use Rattle.std.proofs.lemmas.List.Elements.{All-push, All-cons, All-nil}
-use Rattle.std.proofs.lemmas.List.Quantifiers.{all_pairs_push}
-use Rattle.cell_core.specs.declared.grid.Shape.{Shape}
-use Rattle.cell_core.specs.declared.grid.Shape.TheVariants.{Series, Frame}
-use Rattle.cell_core.specs.declared.cell.Cell.{Cell}
-use Rattle.cell_core.specs.declared.cell.Cell.TheVariants.{Na}
-use Rattle.cell_core.specs.declared.cell.Label.{Label}
-use Rattle.meaning.specs.Text.{Text}
-use Rattle.meaning.specs.Cell.{CellValue, LabelValue, label_datum, AreGiven}
-use Rattle.meaning.specs.Fault.{FaultValue, limit, then_value}
-use Rattle.multi_index.specs.Axes.{AxisValue}
-use Rattle.column_core.specs.Columns.{CellColumn}
-use Rattle.table_meaning.specs.Settled.{IsSettled}
-use Rattle.table_meaning.specs.Table.{ColumnOf, NumberedTable, Table, table_value, heading_value, tuple_value, column_value}
-use Rattle.table_meaning.specs.Change.{put_at, with_column}
-use Rattle.table_meaning.specs.Valid.{AreHeadings, IsWhole}
-use Rattle.form_meaning.specs.Finish.{within_limits, missing_column}
-use Rattle.form_meaning.specs.Select.{place_of_label}
-use Rattle.select_meaning.specs.Set.{put_result, with_rows}
-use Rattle.frame_store.specs.Parts.{HeadingList, HaveRows, table_with}
-use Rattle.frame_store.specs.Objects.{Tables, with_object, table_or}
-use Rattle.frame_store.specs.Shown.{labels_value, headings_value, columns_value}
-use Rattle.frame_store.proofs.ColumnLaws.{map-put_at}
-use Rattle.frame_store.proofs.Settling.{table_settled, columns_name_part, level_names_part, labels_part, headings_part, columns_part, column_settled}
-use Rattle.settings.specs.Assigned.{table_column, column_seen, count_after, put_place, missing_cells, with_axis}
-use Rattle.settings.proofs.ColumnLaws.{map-replicate, length-replicate}
+use Rattle.{
+  std.{proofs.{Common.{◌≡◌, ◌∙◌, ℕ, zero, suc, ◌+◌, ◌*◌, ◌^◌, ◌<◌, ◌≤◌, Bool, true, false, ◌&&◌, List, [], ◌∷◌, ◌++◌, length, map, refl, ap, sym, subst, arith, nat_eq, nat_lt, if◌then◌else◌, All, Option, Some, None, Result, Ok, Err}, lemmas.{Bool.Decides.{nat_tests}, List.{length-map, length-set, length-append, Elements.{All-push, All-cons, All-nil}, Quantifiers.{all_pairs_push}}}}, specs.Prelude.{◌≢◌, is_some, IsSome, IfSome, IfNone, nat_le, slice_index_or, slice_set, unwrap_or}},
+  cell_core.specs.declared.{grid.Shape.{Shape, TheVariants.{Series, Frame}}, cell.{Cell.{Cell, TheVariants.{Na}}, Label.{Label}}},
+  meaning.specs.{Text.{Text}, Cell.{CellValue, LabelValue, label_datum, AreGiven}, Fault.{FaultValue, limit, then_value}},
+  multi_index.specs.Axes.{AxisValue},
+  column_core.specs.Columns.{CellColumn},
+  table_meaning.specs.{Settled.{IsSettled}, Table.{ColumnOf, NumberedTable, Table, table_value, heading_value, tuple_value, column_value}, Change.{put_at, with_column}, Valid.{AreHeadings, IsWhole}},
+  form_meaning.specs.{Finish.{within_limits, missing_column}, Select.{place_of_label}},
+  select_meaning.specs.Set.{put_result, with_rows},
+  frame_store.{specs.{Parts.{HeadingList, HaveRows, table_with}, Objects.{Tables, with_object, table_or}, Shown.{labels_value, headings_value, columns_value}}, proofs.{ColumnLaws.{map-put_at}, Settling.{table_settled, columns_name_part, level_names_part, labels_part, headings_part, columns_part, column_settled}}},
+  settings.{specs.Assigned.{table_column, column_seen, count_after, put_place, missing_cells, with_axis}, proofs.ColumnLaws.{map-replicate, length-replicate}},
+}
 
 -- the limits with one more column
 no_room : (columns : ℕ) → nat_lt columns (2 ^ 16) ≡ false → nat_le (columns + 1) (2 ^ 16) ≡ false

@@ -1,52 +1,16 @@
 -- What settings make of the table of an object.
-use Rattle.std.proofs.Common.{◌≡◌, ◌∙◌, ℕ, ◌<◌, Bool, true, false, List, ◌++◌, length, refl, ap, sym, subst, arith, nat_eq, if◌then◌else◌, Option, Some, None, Result, Ok, Err}
-use Rattle.std.specs.Prelude.{◌≢◌, is_some, option_map, IsSome, IfSome}
-use Rattle.std.proofs.lemmas.Bool.Decides.{nat_tests}
-use Rattle.std.proofs.lemmas.List.Quantifiers.{all_pairs_remove}
-use Rattle.cell_core.specs.declared.grid.Shape.TheVariants.{Series, Frame}
-use Rattle.cell_core.specs.declared.cell.Cell.{Cell}
-use Rattle.cell_core.specs.declared.cell.Label.{Label}
-use Rattle.meaning.specs.Text.{Text}
-use Rattle.meaning.specs.Cell.{CellValue, na_cell, LabelValue, datum, label_datum}
-use Rattle.meaning.specs.Operator.{cell_label}
-use Rattle.meaning.specs.Fault.{FaultValue, wrong_kind, then_value}
-use Rattle.table_meaning.specs.Settled.{IsSettled}
-use Rattle.table_meaning.specs.Table.{NumberedTable, Table, table_value, heading_value, column_value}
-use Rattle.table_meaning.specs.Change.{without_column}
-use Rattle.table_meaning.specs.Valid.{AreHeadings, IsWhole}
-use Rattle.table_meaning.specs.Value.{Entry, cell, table}
-use Rattle.form_meaning.specs.Binding.{is_frame}
-use Rattle.form_meaning.specs.Select.{column_place}
-use Rattle.select_meaning.specs.Set.{removal_result}
-use Rattle.form_parts.specs.Makes.{MakesBy}
-use Rattle.frame_store.specs.declared.arguments.Value.{Value}
-use Rattle.frame_store.specs.declared.arguments.Value.TheVariants.{Object, Scalar}
-use Rattle.frame_store.specs.declared.object.ObjId.{ObjId}
-use Rattle.frame_store.specs.declared.fault.OpFault.{OpFault}
-use Rattle.frame_store.specs.declared.fault.OpFault.TheVariants.{Refused, NoMemory}
-use Rattle.frame_store.specs.Objects.{Tables, with_object, table_or, table_at}
-use Rattle.frame_store.specs.Arguments.{entry_of}
-use Rattle.frame_store.specs.Shown.{Shown, shown, with_shown, table_in, Changes}
-use Rattle.frame_store.specs.World.{World, Sets}
-use Rattle.frame_store.proofs.ColumnLaws.{map-remove, All-remove}
-use Rattle.frame_store.proofs.Settling.{longer_self, shown_with, settled_by, settled_with, object_settled}
-use Rattle.selections.proofs.PlaceLaws.{label_settled}
-use Rattle.cell_core.specs.declared.code.Code.{Code}
-use Rattle.meaning.specs.FaultOf.{fault_of}
-use Rattle.settings.specs.declared.changes.Change.{Change}
-use Rattle.settings.specs.declared.changes.Setting.{Setting}
-use Rattle.settings.specs.declared.values.NewValue.{NewValue}
-use Rattle.settings.specs.declared.values.NewValue.TheVariants.{Copied, Moved}
-use Rattle.std.proofs.lemmas.List.{length-map}
-use Rattle.meaning.specs.Symbol.{Accessor, loc}
-use Rattle.meaning.specs.Cell.{na}
-use Rattle.table_meaning.specs.Value.{Given, GivenSub, key_given, span_given, nothing, one, row, many, entries}
-use Rattle.select_meaning.specs.Select.{Way}
-use Rattle.select_meaning.specs.Set.{SetValue, access_set, added_label, assign_result, column_set, frame_set, set_value, table_set, target_by, target_set}
-use Rattle.frame_store.specs.Arguments.{subscript_of}
-use Rattle.frame_store.specs.declared.arguments.Subscript.{Subscript}
-use Rattle.settings.specs.Assigned.{moved_object, without, IsLiveNew, IsOther}
-use Rattle.settings.specs.Changes.{ended, table_after, ChangesBy, GivesBy, RefusesBy, SetsBy, MayEnd, changed as changed_by}
+use Rattle.{
+  std.{proofs.{Common.{◌≡◌, ◌∙◌, ℕ, ◌<◌, Bool, true, false, List, ◌++◌, length, refl, ap, sym, subst, arith, nat_eq, if◌then◌else◌, Option, Some, None, Result, Ok, Err}, lemmas.{Bool.Decides.{nat_tests}, List.Quantifiers.{all_pairs_remove}}}, specs.Prelude.{◌≢◌, is_some, option_map, IsSome, IfSome}},
+  cell_core.specs.declared.{grid.Shape.TheVariants.{Series, Frame}, cell.{Cell.{Cell}, Label.{Label}}, code.Code.{Code}},
+  meaning.specs.{Text.{Text}, Cell.{CellValue, na_cell, LabelValue, datum, label_datum, na}, Operator.{cell_label}, Fault.{FaultValue, wrong_kind, then_value}, FaultOf.{fault_of}, Symbol.{Accessor, loc}},
+  table_meaning.specs.{Settled.{IsSettled}, Table.{NumberedTable, Table, table_value, heading_value, column_value}, Change.{without_column}, Valid.{AreHeadings, IsWhole}, Value.{Entry, cell, table, Given, GivenSub, key_given, span_given, nothing, one, row, many, entries}},
+  form_meaning.specs.{Binding.{is_frame}, Select.{column_place}},
+  select_meaning.specs.{Set.{removal_result, SetValue, access_set, added_label, assign_result, column_set, frame_set, set_value, table_set, target_by, target_set}, Select.{Way}},
+  form_parts.specs.Makes.{MakesBy},
+  frame_store.{specs.{declared.{arguments.{Value.{Value, TheVariants.{Object, Scalar}}, Subscript.{Subscript}}, object.ObjId.{ObjId}, fault.OpFault.{OpFault, TheVariants.{Refused, NoMemory}}}, Objects.{Tables, with_object, table_or, table_at}, Arguments.{entry_of, subscript_of}, Shown.{Shown, shown, with_shown, table_in, Changes}, World.{World, Sets}}, proofs.{ColumnLaws.{map-remove, All-remove}, Settling.{longer_self, shown_with, settled_by, settled_with, object_settled}}},
+  selections.proofs.PlaceLaws.{label_settled},
+  settings.specs.{declared.{changes.{Change.{Change}, Setting.{Setting}}, values.NewValue.{NewValue, TheVariants.{Copied, Moved}}}, Assigned.{moved_object, without, IsLiveNew, IsOther}, Changes.{ended, table_after, ChangesBy, GivesBy, RefusesBy, SetsBy, MayEnd, changed as changed_by}},
+}
 
 nat_eq_self : (n : ℕ) → nat_eq n n ≡ true
 nat_eq_self n = grind (arith, nat_tests)

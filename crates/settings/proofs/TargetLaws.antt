@@ -1,46 +1,19 @@
 -- What a setting reaches: keys whose label isn't there.
-use Rattle.std.proofs.Common.{◌≡◌, ◌∙◌, ℕ, suc, ◌+◌, pos, Bool, true, false, ◌&&◌, List, [], ◌∷◌, ◌++◌, length, map, refl, ap, sym, subst, arith, if◌then◌else◌, All, Option, Some, None, option_map, Result, Ok, Err}
-use Rattle.std.specs.Prelude.{◌||◌, ◌≢◌, nat_eq, not, unwrap_or, IfOk, IfSome}
-use Rattle.std.specs.List.{list_any}
-use Rattle.std.proofs.lemmas.Bool.Decides.{nat_tests}
-use Rattle.std.proofs.lemmas.List.{length-map}
-use Rattle.std.proofs.lemmas.List.Elements.{All-nil, All-cons}
-use Rattle.cell_core.specs.declared.cell.Label.{Label}
-use Rattle.meaning.specs.Text.{Text}
-use Rattle.meaning.specs.Cell.{LabelValue, int, label_datum}
-use Rattle.meaning.specs.Operator.{cell_label}
-use Rattle.meaning.specs.Symbol.{Accessor, loc, iloc, at, iat}
-use Rattle.meaning.specs.Fault.{FaultValue, no_key, bad_value, repeated, then_value}
-use Rattle.multi_index.specs.Axes.{HaveLevels}
-use Rattle.table_meaning.specs.Table.{NumberedTable, Table, table_value, tuple_value, heading_value}
-use Rattle.table_meaning.specs.Value.{GivenSub, key_given, span_given, nothing, one, row, many, entries, cell, table}
-use Rattle.form_meaning.specs.Binding.{same_label}
-use Rattle.form_meaning.specs.Finish.{column_labels}
-use Rattle.form_meaning.specs.Infix.{same_tuple}
-use Rattle.pick_meaning.specs.Faults.{then_pick}
-use Rattle.pick_meaning.specs.Keys.{Pick, key_pick, one_key}
-use Rattle.pick_meaning.specs.Labels.{unless_none}
-use Rattle.pick_meaning.specs.Leading.{leads}
-use Rattle.pick_meaning.specs.Rows.{rows_where, are_some}
-use Rattle.select_meaning.specs.Keys.{found_pick, rows_by, columns_by, joined_key, once, whole_key, found_labels}
-use Rattle.select_meaning.specs.Set.{Reached, picked, added_label, row_to_add, or_added, rows_set}
-use Rattle.frame_store.specs.Shown.{labels_value, headings_value}
-use Rattle.cell_core.specs.declared.grid.Shape.TheVariants.{Frame}
-use Rattle.cell_core.specs.declared.code.Code.TheVariants.{NoKey}
-use Rattle.table_meaning.specs.Valid.{IsWhole}
-use Rattle.form_parts.specs.Makes.{MakesBy}
-use Rattle.form_parts.proofs.LabelLaws.{value_decides}
-use Rattle.frame_store.specs.declared.fault.OpFault.{OpFault}
-use Rattle.frame_store.specs.declared.fault.OpFault.TheVariants.{Refused}
-use Rattle.indexers.specs.declared.keys.Picked.{Picked as CodePicked}
-use Rattle.selections.specs.Reaches.{pick_value}
-use Rattle.selections.proofs.ReachLaws.{refused_then}
-use Rattle.settings.specs.declared.targets.Reached.{Reached as CodeReached}
-use Rattle.table_meaning.specs.Settled.{IsSettled}
-use Rattle.frame_store.specs.Arguments.{subscript_of}
-use Rattle.frame_store.specs.Objects.{Tables}
-use Rattle.frame_store.specs.declared.arguments.Subscript.{Subscript}
-use Rattle.settings.specs.Values.{reached_value, target_value, rows_of_pair, is_no_key, AddsOnOne, IsFreshIn, TellsAbsence}
+use Rattle.{
+  std.{proofs.{Common.{◌≡◌, ◌∙◌, ℕ, suc, ◌+◌, pos, Bool, true, false, ◌&&◌, List, [], ◌∷◌, ◌++◌, length, map, refl, ap, sym, subst, arith, if◌then◌else◌, All, Option, Some, None, option_map, Result, Ok, Err}, lemmas.{Bool.Decides.{nat_tests}, List.{length-map, Elements.{All-nil, All-cons}}}}, specs.{Prelude.{◌||◌, ◌≢◌, nat_eq, not, unwrap_or, IfOk, IfSome}, List.{list_any}}},
+  cell_core.specs.declared.{cell.Label.{Label}, grid.Shape.TheVariants.{Frame}, code.Code.TheVariants.{NoKey}},
+  meaning.specs.{Text.{Text}, Cell.{LabelValue, int, label_datum}, Operator.{cell_label}, Symbol.{Accessor, loc, iloc, at, iat}, Fault.{FaultValue, no_key, bad_value, repeated, then_value}},
+  multi_index.specs.Axes.{HaveLevels},
+  table_meaning.specs.{Table.{NumberedTable, Table, table_value, tuple_value, heading_value}, Value.{GivenSub, key_given, span_given, nothing, one, row, many, entries, cell, table}, Valid.{IsWhole}, Settled.{IsSettled}},
+  form_meaning.specs.{Binding.{same_label}, Finish.{column_labels}, Infix.{same_tuple}},
+  pick_meaning.specs.{Faults.{then_pick}, Keys.{Pick, key_pick, one_key}, Labels.{unless_none}, Leading.{leads}, Rows.{rows_where, are_some}},
+  select_meaning.specs.{Keys.{found_pick, rows_by, columns_by, joined_key, once, whole_key, found_labels}, Set.{Reached, picked, added_label, row_to_add, or_added, rows_set}},
+  frame_store.specs.{Shown.{labels_value, headings_value}, declared.{fault.OpFault.{OpFault, TheVariants.{Refused}}, arguments.Subscript.{Subscript}}, Arguments.{subscript_of}, Objects.{Tables}},
+  form_parts.{specs.Makes.{MakesBy}, proofs.LabelLaws.{value_decides}},
+  indexers.specs.declared.keys.Picked.{Picked as CodePicked},
+  selections.{specs.Reaches.{pick_value}, proofs.ReachLaws.{refused_then}},
+  settings.specs.{declared.targets.Reached.{Reached as CodeReached}, Values.{reached_value, target_value, rows_of_pair, is_no_key, AddsOnOne, IsFreshIn, TellsAbsence}},
+}
 
 -- a row is found where a label stands
 any_row : {X : Type 0} (p : X → Bool) (first : ℕ) (xs : List X) → are_some (rows_where p first xs) ≡ list_any p xs

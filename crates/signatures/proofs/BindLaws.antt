@@ -1,12 +1,10 @@
 -- Whether arguments fit, by the first of them.
-use Rattle.std.proofs.Common.{◌≡◌, ◌≤◌, ◌-◌, ◌∙◌, ℕ, Bool, true, false, List, [], ◌∷◌, length, take, drop, get_or, ap, sym, arith, if◌then◌else◌}
-use Rattle.std.proofs.lemmas.List.{take_rest}
-use Rattle.meaning.specs.Text.{Text}
-use Rattle.form_meaning.specs.declared.Parameter.{Parameter}
-use Rattle.form_meaning.specs.Binding.{fits, fit, counted}
-use Rattle.frame_store.specs.declared.arguments.Named.{Named}
-use Rattle.frame_store.specs.Objects.{Tables}
-use Rattle.frame_store.specs.Arguments.{named_of, arguments_of}
+use Rattle.{
+  std.proofs.{Common.{◌≡◌, ◌≤◌, ◌-◌, ◌∙◌, ℕ, Bool, true, false, List, [], ◌∷◌, length, take, drop, get_or, ap, sym, arith, if◌then◌else◌}, lemmas.List.{take_rest}},
+  meaning.specs.Text.{Text},
+  form_meaning.specs.{declared.Parameter.{Parameter}, Binding.{fits, fit, counted}},
+  frame_store.specs.{declared.arguments.Named.{Named}, Objects.{Tables}, Arguments.{named_of, arguments_of}},
+}
 
 abbrev pub after : List Named → List Named
 after gs = take (length gs - 1) (drop 1 gs)

@@ -1,13 +1,11 @@
 -- What is seen of a list of parts.
-use Rattle.std.proofs.Common.{◌≡◌, ◌∙◌, ◌+◌, ◌&&◌, Bool, refl, ap, sym, zero, suc, List, [], ◌∷◌, length, arith}
-use Rattle.std.specs.Prelude.{◌↔◌, IsTrue, true, false}
-use Rattle.std.specs.List.{All}
-use Rattle.meaning.specs.Text.{Text}
-use Rattle.table_meaning.specs.Value.{Given}
-use Rattle.form_meaning.specs.Binding.{each, count_of}
-use Rattle.frame_store.specs.Objects.{Tables}
-use Rattle.frame_store.specs.Arguments.{item_of, items_of}
-use Rattle.frame_store.specs.declared.arguments.Item.{Item}
+use Rattle.{
+  std.{proofs.Common.{◌≡◌, ◌∙◌, ◌+◌, ◌&&◌, Bool, refl, ap, sym, zero, suc, List, [], ◌∷◌, length, arith}, specs.{Prelude.{◌↔◌, IsTrue, true, false}, List.{All}}},
+  meaning.specs.Text.{Text},
+  table_meaning.specs.Value.{Given},
+  form_meaning.specs.Binding.{each, count_of},
+  frame_store.specs.{Objects.{Tables}, Arguments.{item_of, items_of}, declared.arguments.Item.{Item}},
+}
 
 pub count_is : (live : Tables) (texts : List Text) (items : List Item) → count_of (items_of live texts items) ≡ length items
 count_is live texts [] = refl

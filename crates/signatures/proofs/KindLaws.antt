@@ -1,9 +1,9 @@
 -- The kind that a text names.
-use Rattle.std.proofs.Common.{◌≡◌, refl, Option, Some, None}
-use Rattle.std.specs.Option.{option_map}
-use Rattle.meaning.specs.Cell.{CellValue, na_cell, int_cell, truth_cell, text_cell}
-use Rattle.form_meaning.specs.Binding.{text_of}
-use Rattle.form_meaning.specs.Make.{kind_named, kind_given}
+use Rattle.{
+  std.{proofs.Common.{◌≡◌, refl, Option, Some, None}, specs.Option.{option_map}},
+  meaning.specs.Cell.{CellValue, na_cell, int_cell, truth_cell, text_cell},
+  form_meaning.specs.{Binding.{text_of}, Make.{kind_named, kind_given}},
+}
 
 pub kind_text : (o : Option CellValue) → option_map kind_named (text_of o) ≡ kind_given o
 kind_text None = refl

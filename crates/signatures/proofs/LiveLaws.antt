@@ -1,8 +1,8 @@
 -- What is live in a list of arguments is live in its parts.
-use Rattle.std.proofs.Common.{◌≤◌, ℕ, zero, suc, List, [], ◌∷◌, length, take, drop, get_or, arith}
-use Rattle.frame_store.specs.declared.arguments.Named.{Named}
-use Rattle.frame_store.specs.Objects.{Tables}
-use Rattle.frame_store.specs.Arguments.{IsLiveArgument, AreLive}
+use Rattle.{
+  std.proofs.Common.{◌≤◌, ℕ, zero, suc, List, [], ◌∷◌, length, take, drop, get_or, arith},
+  frame_store.specs.{declared.arguments.Named.{Named}, Objects.{Tables}, Arguments.{IsLiveArgument, AreLive}},
+}
 
 live_take : (live : Tables) (n : ℕ) (gs : List Named) → AreLive live gs → AreLive live (take n gs)
 live_take live zero gs h = tt

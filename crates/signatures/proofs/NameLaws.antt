@@ -1,13 +1,12 @@
 -- The rows of the code are the names of the definition.
-use Rattle.std.proofs.Common.{◌≡◌, ◌∙◌, refl, ap, sym, Bool, true, false, List, [], ◌∷◌, Option, Some, map, find, cond, Bor}
-use Rattle.std.specs.Prelude.{option_map, option_and_then}
-use Rattle.std.specs.Option.{option_copied}
-use Rattle.cell_core.specs.declared.grid.Shape.{Shape}
-use Rattle.meaning.specs.Text.{Text, same_text}
+use Rattle.{
+  std.{proofs.Common.{◌≡◌, ◌∙◌, refl, ap, sym, Bool, true, false, List, [], ◌∷◌, Option, Some, map, find, cond, Bor}, specs.{Prelude.{option_map, option_and_then}, Option.{option_copied}}},
+  cell_core.specs.declared.grid.Shape.{Shape},
+  meaning.specs.Text.{Text, same_text},
+  form_meaning.specs.Signature.{method_names, method_at, method_named},
+  signatures.specs.{Names.{meant}, declared.table.MethodName.{MethodName}},
+}
 use Rattle.form_meaning.specs.Signature as signature
-use Rattle.form_meaning.specs.Signature.{method_names, method_at, method_named}
-use Rattle.signatures.specs.Names.{meant}
-use Rattle.signatures.specs.declared.table.MethodName.{MethodName}
 
 find_meant : (p : signature.MethodName → Bool) (rows : List MethodName) → find p (map meant rows) ≡ option_map meant (find (λ row. p (meant row)) rows)
 find_meant p [] = refl

@@ -1,18 +1,12 @@
 -- Binding by walks meets its rule.
-use Rattle.std.proofs.Common.{◌≡◌, ◌∙◌, ◌<◌, ◌+◌, ℕ, zero, suc, Bool, true, false, not, cond, List, [], ◌∷◌, length, take, refl, ap, sym, arith, if◌then◌else◌}
-use Rattle.std.specs.Prelude.{slice_get, count_by, nat_lt, nat_eq, Option, Some, None}
-use Rattle.std.proofs.Common.{inl, inr}
-use Rattle.std.proofs.lemmas.Bool.{eqb-true, eqb-false, lt-ltb}
-use Rattle.std.proofs.lemmas.List.Sums.{sum_by-cons}
-use Rattle.std.proofs.lemmas.Option.{slice_get_within}
-use Rattle.meaning.specs.Text.{Text}
-use Rattle.table_meaning.specs.Value.{Given, NamedGiven}
-use Rattle.form_meaning.specs.declared.Parameter.{Parameter}
-use Rattle.form_meaning.specs.declared.Omitted.{Omitted}
+use Rattle.{
+  std.{proofs.{Common.{◌≡◌, ◌∙◌, ◌<◌, ◌+◌, ℕ, zero, suc, Bool, true, false, not, cond, List, [], ◌∷◌, length, take, refl, ap, sym, arith, if◌then◌else◌, inl, inr}, lemmas.{Bool.{eqb-true, eqb-false, lt-ltb}, List.Sums.{sum_by-cons}, Option.{slice_get_within}}}, specs.Prelude.{slice_get, count_by, nat_lt, nat_eq, Option, Some, None}},
+  meaning.specs.Text.{Text},
+  table_meaning.specs.Value.{Given, NamedGiven},
+  form_meaning.specs.{declared.{Parameter.{Parameter}, Omitted.{Omitted}}, Binding.{takes, stands_for, stand_in, or_stand_in, goes_to, counted, given_at, is_given, taken_by, listed_by, fit, are_listed, argument_at, arguments_from, may_be_omitted, none_missing, Bound, not_taken, not_listed, bound, bound_of}},
+  signatures.specs.{Filled.{Fills}, Rule.{is_unnamed, place_after, HasPlace, IsTaken, HasArgument, AreTaken, AreListed, AreInOrder, IsBinding}},
+}
 use Rattle.form_meaning.specs.declared.Omitted.TheVariants as omitted
-use Rattle.form_meaning.specs.Binding.{takes, stands_for, stand_in, or_stand_in, goes_to, counted, given_at, is_given, taken_by, listed_by, fit, are_listed, argument_at, arguments_from, may_be_omitted, none_missing, Bound, not_taken, not_listed, bound, bound_of}
-use Rattle.signatures.specs.Filled.{Fills}
-use Rattle.signatures.specs.Rule.{is_unnamed, place_after, HasPlace, IsTaken, HasArgument, AreTaken, AreListed, AreInOrder, IsBinding}
 
 -- cases
 

@@ -1,17 +1,12 @@
 -- The scalars of a list are the same among any objects.
-use Rattle.std.proofs.Common.{◌≡◌, ◌∙◌, refl, ap, sym, ℕ, List, [], ◌∷◌, ◌++◌, Some, None}
-use Rattle.meaning.specs.Text.{Text}
-use Rattle.table_meaning.specs.Settled.{IsSettled}
-use Rattle.table_meaning.specs.Value.{Given, GivenList, cell, table, nothing, one, row, many, entries, more_given, scalar_in, list_in}
-use Rattle.form_meaning.specs.Select.{cells_of}
-use Rattle.frame_store.specs.declared.arguments.Value.TheVariants.{Object, Scalar}
-use Rattle.frame_store.specs.declared.arguments.Item.{Item, One as OneItem, Row' as RowItem'}
-use Rattle.frame_store.specs.Objects.{Tables}
-use Rattle.frame_store.specs.Arguments.{item_of, items_of, arguments_of}
-use Rattle.signatures.specs.Bound.{Tells}
-use Rattle.signatures.specs.Scalars.{scalars, with_cell}
-use Rattle.signatures.specs.declared.bound.Bound.{Bound}
-use Rattle.signatures.proofs.ToldLaws.{told_settled, some_same}
+use Rattle.{
+  std.proofs.Common.{◌≡◌, ◌∙◌, refl, ap, sym, ℕ, List, [], ◌∷◌, ◌++◌, Some, None},
+  meaning.specs.Text.{Text},
+  table_meaning.specs.{Settled.{IsSettled}, Value.{Given, GivenList, cell, table, nothing, one, row, many, entries, more_given, scalar_in, list_in}},
+  form_meaning.specs.Select.{cells_of},
+  frame_store.specs.{declared.arguments.{Value.TheVariants.{Object, Scalar}, Item.{Item, One as OneItem, Row' as RowItem'}}, Objects.{Tables}, Arguments.{item_of, items_of, arguments_of}},
+  signatures.{specs.{Bound.{Tells}, Scalars.{scalars, with_cell}, declared.bound.Bound.{Bound}}, proofs.ToldLaws.{told_settled, some_same}},
+}
 
 pub cells_of_more : (g : Given) (rest : GivenList) → cells_of (more_given g rest) ≡ with_cell (scalar_in g) (cells_of rest)
 cells_of_more (one (cell c)) rest = refl

@@ -1,14 +1,12 @@
 -- What always stands at a place.
-use Rattle.std.proofs.Common.{◌≡◌, ◌∙◌, refl, ap, sym, subst, Bool, true, false, not, ◌&&◌, ◌||◌, ⊎_elim, Option, Some, None, if◌then◌else◌}
-use Rattle.std.specs.Prelude.{IsSome, is_some}
-use Rattle.std.specs.Option.{option_map}
-use Rattle.meaning.specs.Cell.{na_cell, int_cell, truth_cell, text_cell}
-use Rattle.table_meaning.specs.Value.{Given, cell, table, nothing, one, row, many, entries, scalar_in, object_in, list_in, dict_in}
-use Rattle.form_meaning.specs.declared.Form.{Form}
+use Rattle.{
+  std.{proofs.Common.{◌≡◌, ◌∙◌, refl, ap, sym, subst, Bool, true, false, not, ◌&&◌, ◌||◌, ⊎_elim, Option, Some, None, if◌then◌else◌}, specs.{Prelude.{IsSome, is_some}, Option.{option_map}}},
+  meaning.specs.Cell.{na_cell, int_cell, truth_cell, text_cell},
+  table_meaning.specs.Value.{Given, cell, table, nothing, one, row, many, entries, scalar_in, object_in, list_in, dict_in},
+  form_meaning.specs.{declared.{Form.{Form}, Parameter.{Parameter}}, Binding.{takes, stands_for, may_be_omitted, whole_in, truth_in, text_in}},
+  signatures.specs.Filled.{Fills, is_sure, sure_form},
+}
 use Rattle.form_meaning.specs.declared.Form.TheVariants as form
-use Rattle.form_meaning.specs.declared.Parameter.{Parameter}
-use Rattle.form_meaning.specs.Binding.{takes, stands_for, may_be_omitted, whole_in, truth_in, text_in}
-use Rattle.signatures.specs.Filled.{Fills, is_sure, sure_form}
 
 first_of : (a b : Bool) → (not a && b) ≡ true → a ≡ false
 first_of true b h = cc

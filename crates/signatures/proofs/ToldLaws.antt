@@ -1,20 +1,13 @@
 -- What is read of settled arguments is settled.
-use Rattle.std.proofs.Common.{◌≡◌, ◌∙◌, ap, sym, ℕ, List, ◌++◌, Option, Some}
-use Rattle.std.specs.Option.{option_map}
-use Rattle.cell_core.specs.declared.cell.Cell.{Cell}
-use Rattle.cell_core.specs.declared.cell.Label.{Label}
-use Rattle.meaning.specs.Text.{Text}
-use Rattle.meaning.specs.Cell.{datum, IsGiven}
-use Rattle.meaning.specs.Operator.{cell_label}
-use Rattle.table_meaning.specs.Settled.{IsSettled}
-use Rattle.table_meaning.specs.Table.{heading_value}
-use Rattle.table_meaning.specs.Value.{Given, scalar_in}
-use Rattle.form_meaning.specs.Binding.{argument_at}
-use Rattle.frame_store.specs.Objects.{Tables}
-use Rattle.frame_store.specs.Arguments.{arguments_of}
-use Rattle.frame_store.proofs.Settling.{cell_given}
-use Rattle.signatures.specs.Bound.{Tells}
-use Rattle.signatures.specs.declared.bound.Bound.{Bound}
+use Rattle.{
+  std.{proofs.Common.{◌≡◌, ◌∙◌, ap, sym, ℕ, List, ◌++◌, Option, Some}, specs.Option.{option_map}},
+  cell_core.specs.declared.cell.{Cell.{Cell}, Label.{Label}},
+  meaning.specs.{Text.{Text}, Cell.{datum, IsGiven}, Operator.{cell_label}},
+  table_meaning.specs.{Settled.{IsSettled}, Table.{heading_value}, Value.{Given, scalar_in}},
+  form_meaning.specs.Binding.{argument_at},
+  frame_store.{specs.{Objects.{Tables}, Arguments.{arguments_of}}, proofs.Settling.{cell_given}},
+  signatures.specs.{Bound.{Tells}, declared.bound.Bound.{Bound}},
+}
 
 pub told_settled : {A : Type 0} (b : Bound) (place : ℕ) (read : Given → Option A) (told : Tables → List Text → Option A) (live : Tables) (texts : List Text)
     → Tells b place read told → IsSettled (arguments_of live) texts b.args.now → (more : List Text) → told live (texts ++ more) ≡ told live texts

@@ -14,8 +14,8 @@
 //! ```text
 //! // `s.head(n=3)`: `args` has one argument, the whole number 3 under the name `n`
 //! let method = method_named(Shape::Series, "head");
-//! assert!(rt; method == Some(Method::Head));
-//! let signature = parameters(Method::Head);
+//! assert!(rt; method == Some(Method::Table(TableMethod::Head)));
+//! let signature = parameters(Method::Table(TableMethod::Head));
 //! assert_eq!(rt; bind(&store, &dict, signature, args)?.whole(0), 3);
 //! // without arguments, the default stands there
 //! assert_eq!(rt; bind(&store, &dict, signature, &[])?.whole(0), 5);

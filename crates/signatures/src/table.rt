@@ -7,8 +7,10 @@ ghost use Rattle.form_meaning.specs.Signature as signature;
 ghost use Rattle.signatures.specs.Names.{meant};
 
 use cell_core::{Kind, Shape};
+use form_meaning::Method::{Columns, Labels, Levels, Other, Rows, Summary, Table};
 use form_meaning::{
-    DefaultText, Form, Function, Listed, Method, Omitted, Parameter, ParameterName,
+    ColumnMethod, DefaultText, Form, Function, LabelMethod, LevelMethod, Listed, Method, Omitted,
+    OtherMethod, Parameter, ParameterName, RowMethod, SummaryMethod, TableMethod,
 };
 
 // A parameter that must be given: its name and form, and its listed values.
@@ -100,35 +102,37 @@ pub fn parameters(method: Method) -> &'static [Parameter]
     ensures { result.now ≡ signature.parameters_of method }
 {
     match method {
-        Method::Copy => &[optional!(Deep: Truth = Omitted::Truth(true))],
-        Method::Head | Method::Tail => &[optional!(N: Whole = Omitted::Number(5))],
-        Method::Fillna => &[needed!(Value: Scalar)],
-        Method::Isin => &[needed!(Values: Scalars)],
-        Method::Astype => &[needed!(Dtype: Text in KindNames)],
-        Method::DuplicatedFrame => &[optional!(Subset: Labels = Omitted::None)],
-        Method::Shift => &[optional!(Periods: Whole = Omitted::Number(1))],
-        Method::SortValuesSeries | Method::SortIndex => SORT,
-        Method::SortValuesFrame => SORT_FRAME,
-        Method::ReindexSeries => &[needed!(Index: Keys)],
-        Method::ReindexFrame => REINDEX_FRAME,
-        Method::RenameSeries => &[needed!(Name: ScalarOrNone)],
-        Method::RenameFrame => &[needed!(Columns: Dict)],
-        Method::RenameAxis => &[needed!(Names: Names)],
-        Method::SetIndex => &[needed!(Keys: SomeLabels)],
-        Method::ResetIndex => &[optional!(DropLabels: Truth = Omitted::Truth(false))],
-        Method::DropColumns => &[needed!(Columns: Labels)],
-        Method::Droplevel => &[needed!(Level: Level)],
-        Method::Swaplevel => SWAPLEVEL,
-        Method::Xs => XS,
-        Method::ToCsv => &[optional!(Index: Truth = Omitted::Truth(true))],
-        Method::Groupby => GROUPBY,
-        Method::Rolling => ROLLING,
-        Method::Expanding => &[optional!(MinPeriods: Whole = Omitted::Number(1))],
-        Method::Merge => MERGE,
-        Method::Unstack => &[optional!(Level: Level = Omitted::Number(-1))],
-        Method::Pivot => PIVOT,
-        Method::PivotTable => PIVOT_TABLE,
-        Method::Melt => MELT,
+        Table(TableMethod::Copy) => &[optional!(Deep: Truth = Omitted::Truth(true))],
+        Table(TableMethod::Head) | Table(TableMethod::Tail) => &[
+            optional!(N: Whole = Omitted::Number(5)),
+        ],
+        Columns(ColumnMethod::Fillna) => &[needed!(Value: Scalar)],
+        Columns(ColumnMethod::Isin) => &[needed!(Values: Scalars)],
+        Columns(ColumnMethod::Astype) => &[needed!(Dtype: Text in KindNames)],
+        Rows(RowMethod::DuplicatedFrame) => &[optional!(Subset: Labels = Omitted::None)],
+        Columns(ColumnMethod::Shift) => &[optional!(Periods: Whole = Omitted::Number(1))],
+        Rows(RowMethod::SortValuesSeries) | Rows(RowMethod::SortIndex) => SORT,
+        Rows(RowMethod::SortValuesFrame) => SORT_FRAME,
+        Labels(LabelMethod::ReindexSeries) => &[needed!(Index: Keys)],
+        Labels(LabelMethod::ReindexFrame) => REINDEX_FRAME,
+        Table(TableMethod::RenameSeries) => &[needed!(Name: ScalarOrNone)],
+        Table(TableMethod::RenameFrame) => &[needed!(Columns: Dict)],
+        Levels(LevelMethod::RenameAxis) => &[needed!(Names: Names)],
+        Levels(LevelMethod::SetIndex) => &[needed!(Keys: SomeLabels)],
+        Levels(LevelMethod::ResetIndex) => &[optional!(DropLabels: Truth = Omitted::Truth(false))],
+        Table(TableMethod::DropColumns) => &[needed!(Columns: Labels)],
+        Levels(LevelMethod::Droplevel) => &[needed!(Level: Level)],
+        Levels(LevelMethod::Swaplevel) => SWAPLEVEL,
+        Labels(LabelMethod::Xs) => XS,
+        Table(TableMethod::ToCsv) => &[optional!(Index: Truth = Omitted::Truth(true))],
+        Other(OtherMethod::Groupby) => GROUPBY,
+        Other(OtherMethod::Rolling) => ROLLING,
+        Other(OtherMethod::Expanding) => &[optional!(MinPeriods: Whole = Omitted::Number(1))],
+        Other(OtherMethod::Merge) => MERGE,
+        Other(OtherMethod::Unstack) => &[optional!(Level: Level = Omitted::Number(-1))],
+        Other(OtherMethod::Pivot) => PIVOT,
+        Other(OtherMethod::PivotTable) => PIVOT_TABLE,
+        Other(OtherMethod::Melt) => MELT,
         _ => &[],
     }
 }
@@ -226,85 +230,97 @@ struct MethodName {
 }
 
 macro_rules! either {
-    ($name:literal: $series:ident, $frame:ident) => {
+    ($name:literal: $series:expr, $frame:expr) => {
         MethodName {
             name: $name,
-            series: Some(Method::$series),
-            frame: Some(Method::$frame),
+            series: Some($series),
+            frame: Some($frame),
         }
     };
 }
 
 macro_rules! both {
-    ($name:literal: $method:ident) => {
+    ($name:literal: $method:expr) => {
         either!($name: $method, $method)
     };
 }
 
 macro_rules! series_alone {
-    ($name:literal: $method:ident) => {
+    ($name:literal: $method:expr) => {
         MethodName {
             name: $name,
-            series: Some(Method::$method),
+            series: Some($method),
             frame: None,
         }
     };
 }
 
 macro_rules! frame_alone {
-    ($name:literal: $method:ident) => {
+    ($name:literal: $method:expr) => {
         MethodName {
             name: $name,
             series: None,
-            frame: Some(Method::$method),
+            frame: Some($method),
         }
     };
 }
 
 const METHOD_NAMES: &[MethodName] = &[
-    both!("copy": Copy),
-    both!("head": Head),
-    both!("tail": Tail),
-    both!("isna": Isna),
-    both!("notna": Notna),
-    both!("fillna": Fillna),
-    both!("dropna": Dropna),
-    both!("isin": Isin),
-    both!("astype": Astype),
-    either!("duplicated": DuplicatedSeries, DuplicatedFrame),
-    both!("shift": Shift),
-    both!("cumsum": Cumsum),
-    both!("cummin": Cummin),
-    both!("cummax": Cummax),
-    both!("sum": Sum),
-    both!("min": Min),
-    both!("max": Max),
-    both!("any": Any),
-    both!("all": All),
-    both!("count": Count),
-    both!("nunique": Nunique),
-    either!("sort_values": SortValuesSeries, SortValuesFrame),
-    both!("sort_index": SortIndex),
-    either!("reindex": ReindexSeries, ReindexFrame),
-    either!("rename": RenameSeries, RenameFrame),
-    both!("rename_axis": RenameAxis),
-    frame_alone!("set_index": SetIndex),
-    both!("reset_index": ResetIndex),
-    frame_alone!("drop": DropColumns),
-    both!("droplevel": Droplevel),
-    both!("swaplevel": Swaplevel),
-    both!("xs": Xs),
-    series_alone!("to_frame": ToFrame),
-    both!("to_csv": ToCsv),
-    frame_alone!("groupby": Groupby),
-    both!("rolling": Rolling),
-    both!("expanding": Expanding),
-    frame_alone!("merge": Merge),
-    frame_alone!("stack": Stack),
-    series_alone!("unstack": Unstack),
-    frame_alone!("pivot": Pivot),
-    frame_alone!("pivot_table": PivotTable),
-    frame_alone!("melt": Melt),
+    both!("copy": Table(TableMethod::Copy)),
+    both!("head": Table(TableMethod::Head)),
+    both!("tail": Table(TableMethod::Tail)),
+    both!("isna": Columns(ColumnMethod::Isna)),
+    both!("notna": Columns(ColumnMethod::Notna)),
+    both!("fillna": Columns(ColumnMethod::Fillna)),
+    both!("dropna": Rows(RowMethod::Dropna)),
+    both!("isin": Columns(ColumnMethod::Isin)),
+    both!("astype": Columns(ColumnMethod::Astype)),
+    either!(
+        "duplicated": Rows(RowMethod::DuplicatedSeries),
+        Rows(RowMethod::DuplicatedFrame)
+    ),
+    both!("shift": Columns(ColumnMethod::Shift)),
+    both!("cumsum": Columns(ColumnMethod::Cumsum)),
+    both!("cummin": Columns(ColumnMethod::Cummin)),
+    both!("cummax": Columns(ColumnMethod::Cummax)),
+    both!("sum": Summary(SummaryMethod::Sum)),
+    both!("min": Summary(SummaryMethod::Min)),
+    both!("max": Summary(SummaryMethod::Max)),
+    both!("any": Summary(SummaryMethod::Any)),
+    both!("all": Summary(SummaryMethod::All)),
+    both!("count": Summary(SummaryMethod::Count)),
+    both!("nunique": Summary(SummaryMethod::Nunique)),
+    either!(
+        "sort_values": Rows(RowMethod::SortValuesSeries),
+        Rows(RowMethod::SortValuesFrame)
+    ),
+    both!("sort_index": Rows(RowMethod::SortIndex)),
+    either!(
+        "reindex": Labels(LabelMethod::ReindexSeries),
+        Labels(LabelMethod::ReindexFrame)
+    ),
+    either!(
+        "rename": Table(TableMethod::RenameSeries),
+        Table(TableMethod::RenameFrame)
+    ),
+    both!("rename_axis": Levels(LevelMethod::RenameAxis)),
+    frame_alone!("set_index": Levels(LevelMethod::SetIndex)),
+    both!("reset_index": Levels(LevelMethod::ResetIndex)),
+    frame_alone!("drop": Table(TableMethod::DropColumns)),
+    both!("droplevel": Levels(LevelMethod::Droplevel)),
+    both!("swaplevel": Levels(LevelMethod::Swaplevel)),
+    both!("xs": Labels(LabelMethod::Xs)),
+    series_alone!("to_frame": Table(TableMethod::ToFrame)),
+    both!("to_csv": Table(TableMethod::ToCsv)),
+    frame_alone!("groupby": Other(OtherMethod::Groupby)),
+    both!("rolling": Other(OtherMethod::Rolling)),
+    both!("expanding": Other(OtherMethod::Expanding)),
+    frame_alone!("merge": Other(OtherMethod::Merge)),
+    frame_alone!("stack": Other(OtherMethod::Stack)),
+    series_alone!("unstack": Other(OtherMethod::Unstack)),
+    frame_alone!("pivot": Other(OtherMethod::Pivot)),
+    frame_alone!("pivot_table": Other(OtherMethod::PivotTable)),
+    frame_alone!("melt": Other(OtherMethod::Melt)),
 ];
 
 fn method_names() -> &'static [MethodName]

@@ -1,22 +1,15 @@
 -- Arguments that are bound are valid where those of the call are, and have the form of their parameter.
-use Rattle.std.proofs.Common.{◌≡◌, ◌∙◌, refl, sym, ap, subst, ℕ, List, [], ◌∷◌}
-use Rattle.std.specs.Prelude.{Bool, true, false, slice_get, nat_eq, Option, Some, None, IfSome, Result, IfOk, All, if◌then◌else◌}
-use Rattle.std.proofs.lemmas.Bool.{eqb-true}
-use Rattle.std.proofs.lemmas.List.Elements.{All-cons, All-head, All-tail}
-use Rattle.std.proofs.lemmas.Option.{same_Some}
-use Rattle.cell_core.specs.declared.grid.Shape.{Shape}
-use Rattle.cell_core.specs.declared.grid.Shape.TheVariants.{Series, Frame}
-use Rattle.meaning.specs.Fault.{FaultValue}
-use Rattle.table_meaning.specs.Table.{Table}
-use Rattle.table_meaning.specs.Valid.{IsValid}
-use Rattle.table_meaning.specs.Value.{Entry, cell, table, Given, GivenList, NamedGiven, more_given, nothing, one, row, many, entries, object_in}
+use Rattle.{
+  std.{proofs.{Common.{◌≡◌, ◌∙◌, refl, sym, ap, subst, ℕ, List, [], ◌∷◌}, lemmas.{Bool.{eqb-true}, List.Elements.{All-cons, All-head, All-tail}, Option.{same_Some}}}, specs.Prelude.{Bool, true, false, slice_get, nat_eq, Option, Some, None, IfSome, Result, IfOk, All, if◌then◌else◌}},
+  cell_core.specs.declared.grid.Shape.{Shape, TheVariants.{Series, Frame}},
+  meaning.specs.Fault.{FaultValue},
+  table_meaning.specs.{Table.{Table}, Valid.{IsValid}, Value.{Entry, cell, table, Given, GivenList, NamedGiven, more_given, nothing, one, row, many, entries, object_in}},
+  form_meaning.specs.{declared.{Omitted.{Omitted}, Parameter.{Parameter}}, Binding.{is_frame, object_has, takes, stands_for, or_stand_in, goes_to, counted, given_at, taken_by, fit, none_missing, are_listed, argument_at, arguments_from, not_taken, not_listed, bound, bound_of, on_bound}},
+  method_meaning.specs.Concat.{tables_from, tables_of},
+  table_laws.specs.Validity.{IsValidEntry, IsValidArgument, AreValidArguments},
+}
 use Rattle.form_meaning.specs.declared.Form.TheVariants as form
-use Rattle.form_meaning.specs.declared.Omitted.{Omitted}
 use Rattle.form_meaning.specs.declared.Omitted.TheVariants as omitted
-use Rattle.form_meaning.specs.declared.Parameter.{Parameter}
-use Rattle.form_meaning.specs.Binding.{is_frame, object_has, takes, stands_for, or_stand_in, goes_to, counted, given_at, taken_by, fit, none_missing, are_listed, argument_at, arguments_from, not_taken, not_listed, bound, bound_of, on_bound}
-use Rattle.method_meaning.specs.Concat.{tables_from, tables_of}
-use Rattle.table_laws.specs.Validity.{IsValidEntry, IsValidArgument, AreValidArguments}
 
 -- an argument that goes to a place
 given_valid : (ps : List Parameter) (k : ℕ) (gs : List NamedGiven) (place : ℕ) → AreValidArguments gs → IfSome (given_at ps k gs place) IsValidArgument

@@ -1,30 +1,21 @@
 -- Calls behind values and calls of functions of `pd` make valid tables of valid values and arguments.
-use Rattle.std.proofs.Common.{◌≡◌, refl, ℕ, List}
-use Rattle.std.specs.Prelude.{Bool, true, false, if◌then◌else◌, Option, Some, None, IfOk}
-use Rattle.cell_core.specs.declared.grid.Shape.TheVariants.{Frame}
-use Rattle.meaning.specs.Text.{Text}
-use Rattle.table_meaning.specs.Table.{Table}
-use Rattle.table_meaning.specs.Value.{Entry, cell, table, NamedGiven}
-use Rattle.form_meaning.specs.declared.Method.{Method}
+use Rattle.{
+  std.{proofs.Common.{◌≡◌, refl, ℕ, List}, specs.Prelude.{Bool, true, false, if◌then◌else◌, Option, Some, None, IfOk}},
+  cell_core.specs.declared.grid.Shape.TheVariants.{Frame},
+  meaning.specs.Text.{Text},
+  table_meaning.specs.{Table.{Table}, Value.{Entry, cell, table, NamedGiven}},
+  form_meaning.{specs.{declared.Method.{Method}, Signature.{method_names, method_named, fits_shape, function_named}}, proofs.ShapeLaws.{named_fits, of_frame}},
+  method_meaning.specs.{Calls.{method_result, ChainValue, plain, grouped, through, is_merge, merge_call, plain_result, call_result}, Concat.{concat_call}, Readers.{make_with}, Functions.{is_concat, function_result}},
+  table_laws.{specs.Validity.{IsValidObject, IsValidEntry, AreValidArguments}, proofs.{TableLaws.{shaped}, MethodLaws.{method_result_keeps, chain_result_keeps}, CsvLaws.{make_with_keeps}, MergeLaws.{merge_call_keeps}, ConcatLaws.{concat_call_keeps}}},
+}
 use Rattle.form_meaning.specs.declared.Method.TheVariants as method
-use Rattle.form_meaning.specs.Signature.{method_names, method_named, fits_shape, function_named}
-use Rattle.form_meaning.proofs.ShapeLaws.{named_fits, of_frame}
-use Rattle.method_meaning.specs.Calls.{method_result, ChainValue, plain, grouped, through, is_merge, merge_call, plain_result, call_result}
-use Rattle.method_meaning.specs.Concat.{concat_call}
-use Rattle.method_meaning.specs.Readers.{make_with}
-use Rattle.method_meaning.specs.Functions.{is_concat, function_result}
-use Rattle.table_laws.specs.Validity.{IsValidObject, IsValidEntry, AreValidArguments}
-use Rattle.table_laws.proofs.TableLaws.{shaped}
-use Rattle.table_laws.proofs.MethodLaws.{method_result_keeps, chain_result_keeps}
-use Rattle.table_laws.proofs.CsvLaws.{make_with_keeps}
-use Rattle.table_laws.proofs.MergeLaws.{merge_call_keeps}
-use Rattle.table_laws.proofs.ConcatLaws.{concat_call_keeps}
+use Rattle.form_meaning.specs.declared.OtherMethod.TheVariants as other_method
 
 -- a frame alone has a `merge`
 merge_frame : (t : Table) (o : Option Method) → is_merge o ≡ true → ((m : Method) → o ≡ Some m → fits_shape m t.shape ≡ true) → t.shape ≡ Frame
 unfolding method_names
 merge_frame t None e fits = Prim.cc
-merge_frame t (Some method.Merge) e fits = of_frame method.Merge t.shape refl (fits method.Merge refl)
+merge_frame t (Some (method.Other other_method.Merge)) e fits = of_frame (method.Other other_method.Merge) t.shape refl (fits (method.Other other_method.Merge) refl)
 merge_frame t (Some m) e fits = Prim.cc
 
 plain_result_keeps : (v : Entry) (name : Text) (gs : List NamedGiven) → IsValidObject v → AreValidArguments gs → IfOk (plain_result v name gs) IsValidEntry

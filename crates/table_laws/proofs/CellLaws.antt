@@ -1,25 +1,10 @@
 -- Kinds hold the cells that operators, casts, reductions and cumulations make.
-use Rattle.std.proofs.Common.{◌≡◌, refl, ap, subst, ℕ, suc, ◌+◌, ◌-◌, ◌^◌, ℤ, pos, negsuc, ◌+ℤ◌, List, [], ◌∷◌, ◌++◌, length, arith}
-use Rattle.std.specs.Prelude.{Bool, true, false, ◌&&◌, not, if◌then◌else◌, nat_lt, fold, slice_index_or, option_map, Option, Some, None, IfSome, unwrap_or, All}
-use Rattle.std.specs.Int.{int_wrap, w64}
-use Rattle.std.specs.Int.RustNames.{FitsSigned}
-use Rattle.std.specs.Ordering.{is_lt, is_le, is_gt, is_ge, is_eq, int_eq}
-use Rattle.std.specs.declared.cmp.Ordering.{Ordering}
-use Rattle.std.proofs.lemmas.Bool.{lt-ltb}
-use Rattle.std.proofs.lemmas.Int.{SFits-int_wrap}
-use Rattle.std.proofs.lemmas.List.Elements.{All-nil, All-cons, All-head, All-tail, All-filter, All-append}
-use Rattle.meaning.specs.Text.{Text}
-use Rattle.meaning.specs.Cell.{CellValue, na_cell, int_cell, truth_cell, text_cell, Kind, Int64, Boolean, string, holds, has_64_bits}
-use Rattle.meaning.specs.Column.{shifted_row, shifted}
-use Rattle.meaning.specs.Operator.{scalar_kind, operator_kind, number_kind, sum_kind, comparison_kind, truth_kind, operator_cell, add_cells, number_cells, division_cells, compare_cells, and_cells, or_cells, xor_cells, invert_cell}
-use Rattle.meaning.specs.Symbol.{Binary, add, sub, mul, floor_div, mod_, eq, ne, lt, le, gt, ge, and, or, xor}
-use Rattle.meaning.specs.Cast.{cast_cell, without_spaces, numeral_value, is_numeral, number_of_truth}
-use Rattle.std.specs.Str.Parse.{signed_digits_value}
-use Rattle.meaning.specs.Reduce.{Reduction, sum, min, max, any, all, count, present, lesser, greater, reduction_cell, is_present}
+use Rattle.{
+  std.{proofs.{Common.{◌≡◌, refl, ap, subst, ℕ, suc, ◌+◌, ◌-◌, ◌^◌, ℤ, pos, negsuc, ◌+ℤ◌, List, [], ◌∷◌, ◌++◌, length, arith}, lemmas.{Bool.{lt-ltb}, Int.{SFits-int_wrap}, List.Elements.{All-nil, All-cons, All-head, All-tail, All-filter, All-append}}}, specs.{Prelude.{Bool, true, false, ◌&&◌, not, if◌then◌else◌, nat_lt, fold, slice_index_or, option_map, Option, Some, None, IfSome, unwrap_or, All}, Int.{int_wrap, w64, RustNames.{FitsSigned}}, Ordering.{is_lt, is_le, is_gt, is_ge, is_eq, int_eq}, declared.cmp.Ordering.{Ordering}, Str.Parse.{signed_digits_value}}},
+  meaning.specs.{Text.{Text}, Cell.{CellValue, na_cell, int_cell, truth_cell, text_cell, Kind, Int64, Boolean, string, holds, has_64_bits}, Column.{shifted_row, shifted}, Operator.{scalar_kind, operator_kind, number_kind, sum_kind, comparison_kind, truth_kind, operator_cell, add_cells, number_cells, division_cells, compare_cells, and_cells, or_cells, xor_cells, invert_cell}, Symbol.{Binary, add, sub, mul, floor_div, mod_, eq, ne, lt, le, gt, ge, and, or, xor}, Cast.{cast_cell, without_spaces, numeral_value, is_numeral, number_of_truth}, Reduce.{Reduction, sum, min, max, any, all, count, present, lesser, greater, reduction_cell, is_present}, Cumulate.{Cumulation, cumulation_cell, cumulation_takes, running, unless_missing}},
+  table_laws.{specs.Validity.{IsHeldCell}, proofs.ListLaws.{both_true, at_or, all_tabulated}},
+}
 use Rattle.meaning.specs.Cumulate as cumulation
-use Rattle.meaning.specs.Cumulate.{Cumulation, cumulation_cell, cumulation_takes, running, unless_missing}
-use Rattle.table_laws.specs.Validity.{IsHeldCell}
-use Rattle.table_laws.proofs.ListLaws.{both_true, at_or, all_tabulated}
 
 -- a cell that a column's kind holds
 abbrev pub Held : Kind → CellValue → Type 0

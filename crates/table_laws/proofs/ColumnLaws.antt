@@ -1,24 +1,12 @@
 -- Columns of so many rows whose kinds hold their cells.
-use Rattle.std.proofs.Common.{◌≡◌, ◌∙◌, refl, subst, ℕ, ℤ, List, [], length}
-use Rattle.std.specs.Prelude.{Bool, true, false, if◌then◌else◌, replicate, Option, Some, None, Result, Ok, Err, IfOk, All}
-use Rattle.std.specs.List.{list_all}
-use Rattle.std.proofs.lemmas.List.{length-map, length-replicate}
-use Rattle.std.proofs.lemmas.List.Elements.{All-weaker, All-replicate}
-use Rattle.meaning.specs.Cell.{CellValue, na_cell, int_cell, truth_cell, text_cell, Kind, Int64, Boolean, string, holds}
-use Rattle.meaning.specs.Cast.{cast_cell}
-use Rattle.meaning.specs.Column.{ColumnValue, ColumnFault, column_of, column_if, try_each, try_pairs, zero_division, not_cast, kind_mismatch}
-use Rattle.meaning.specs.Cumulate.{Cumulation, cumulation_takes, cumulation_cell, running}
-use Rattle.meaning.specs.Operator.{operator_kind, operator_cell, scalar_kind, scalar_column, invert_cell, inverted as inverted_value}
-use Rattle.meaning.specs.Symbol.{Binary}
-use Rattle.meaning.specs.Fault.{wrong_kind}
-use Rattle.table_meaning.specs.Table.{ColumnOf}
-use Rattle.form_meaning.specs.Finish.{value_of_column, made_column}
-use Rattle.form_meaning.specs.Infix.{Meeting, met, inverted_column}
-use Rattle.form_meaning.specs.Set.{first_kind, list_column}
-use Rattle.form_meaning.specs.Make.{cast_to}
-use Rattle.method_meaning.specs.Methods.{mapped, filled, filled_column, shifted_column, cast_as, cumulated}
-use Rattle.table_laws.proofs.ListLaws.{all_pass, all_made, all_mapped, each_keeps, pairs_keep, length_tabulate}
-use Rattle.table_laws.proofs.CellLaws.{Held, OfKind, held_of_kind, scalar_of_kind, held_cell, operator_held, cast_held, invert_held, length_running, cumulated_held, shifted_held}
+use Rattle.{
+  std.{proofs.{Common.{◌≡◌, ◌∙◌, refl, subst, ℕ, ℤ, List, [], length}, lemmas.List.{length-map, length-replicate, Elements.{All-weaker, All-replicate}}}, specs.{Prelude.{Bool, true, false, if◌then◌else◌, replicate, Option, Some, None, Result, Ok, Err, IfOk, All}, List.{list_all}}},
+  meaning.specs.{Cell.{CellValue, na_cell, int_cell, truth_cell, text_cell, Kind, Int64, Boolean, string, holds}, Cast.{cast_cell}, Column.{ColumnValue, ColumnFault, column_of, column_if, try_each, try_pairs, zero_division, not_cast, kind_mismatch}, Cumulate.{Cumulation, cumulation_takes, cumulation_cell, running}, Operator.{operator_kind, operator_cell, scalar_kind, scalar_column, invert_cell, inverted as inverted_value}, Symbol.{Binary}, Fault.{FaultValue, wrong_kind, then_value}},
+  table_meaning.specs.Table.{ColumnOf},
+  form_meaning.specs.{Finish.{value_of_column, made_column}, Infix.{Meeting, met, inverted_column}, Set.{first_kind, list_column}, Make.{cast_to}},
+  method_meaning.specs.Methods.{mapped, filled, filled_column, shifted_column, cast_as, cumulated},
+  table_laws.proofs.{ListLaws.{all_pass, all_made, then_keeps, all_mapped, each_keeps, pairs_keep, length_tabulate}, CellLaws.{Held, OfKind, held_of_kind, scalar_of_kind, held_cell, operator_held, cast_held, invert_held, length_running, cumulated_held, shifted_held}},
+}
 
 -- so many cells, which the kind holds
 pub record IsColumnOf (rows : ℕ) (kind : Kind) (cells : List CellValue) : Type 0 where
@@ -112,8 +100,14 @@ cumulated_keeps op rows c h = by (cumulation_takes op c.kind) refl
     by true e = record { filled = length_running (cumulation_cell op) [] c.cells ∙ h.filled; held = cumulated_held op c.kind c.cells e h.held }
     by false e = tt
 
--- what a method makes of each column
-pub ruleset column_answers = (mapped_keeps, filled_keeps, cast_keeps, shifted_keeps, cumulated_keeps)
+pub columns_meet : (rows : ℕ) (a b : ColumnOf CellValue) → IsColumn rows a → IsColumn rows b → IsMeeting rows (value_of_column a, value_of_column b)
+columns_meet rows a b h k = record { first = side rows a.kind a.cells h; second = side rows b.kind b.cells k }
+
+pub column_then_keeps : (rows : ℕ) (r : Result (ColumnOf CellValue) FaultValue) (go : ColumnOf CellValue → Result (ColumnOf CellValue) FaultValue) → IfOk r (IsColumn rows) → ((c : ColumnOf CellValue) → IsColumn rows c → IfOk (go c) (IsColumn rows)) → IfOk (then_value r go) (IsColumn rows)
+column_then_keeps rows r go = then_keeps (IsColumn rows) (IsColumn rows) r go
+
+-- what a method makes of each column, by itself, by operators or one after the other
+pub ruleset column_answers = (mapped_keeps, filled_keeps, cast_keeps, shifted_keeps, cumulated_keeps, column_then_keeps, met_keeps, scalar_meets, columns_meet)
 
 -- the column of a list
 pub list_keeps : (cells : List CellValue) → IfOk (list_column cells) (IsColumn (length cells))

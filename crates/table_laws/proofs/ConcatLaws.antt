@@ -1,48 +1,16 @@
 -- `pd.concat` makes a valid table of valid ones.
-use Rattle.std.proofs.Common.{◌≡◌, ◌≢◌, ◌∙◌, refl, sym, ap, subst, ℕ, suc, ◌+◌, ◌<◌, ◌≤◌, pos, List, [], ◌∷◌, length, map, filter, length-append, arith}
-use Rattle.std.specs.Prelude.{Bool, true, false, not, nat_eq, nat_lt, fold, slice_index_or, unwrap_or, option_map, if◌then◌else◌, Option, Some, None, IsSome, IfSome, Result, Ok, Err, IfOk, All, AllPairs}
-use Rattle.std.specs.Bool.{Decides}
-use Rattle.std.specs.List.{list_all, flat_map, position_or_len, range_with_len}
-use Rattle.std.specs.Cmp.Lexicographic.{pointwise, as_long}
-use Rattle.std.proofs.lemmas.Bool.{eqb-true, false≢true}
-use Rattle.std.proofs.lemmas.Bool.Decides.{nat_tests}
-use Rattle.std.proofs.lemmas.List.{length-map}
-use Rattle.std.proofs.lemmas.List.FromFn.{length-map-range_with_len}
-use Rattle.std.proofs.lemmas.List.Elements.{All-nil, All-cons, All-head, All-tail, All-filter, All-append, All-weaker, filter_passes}
-use Rattle.std.proofs.lemmas.List.Kept.{AllPairs-cons, AllPairs-filter}
-use Rattle.cell_core.specs.declared.cell.Kind.{Kind}
-use Rattle.cell_core.specs.declared.cell.Kind.TheVariants.{Int64}
-use Rattle.cell_core.specs.declared.grid.Shape.{Shape}
-use Rattle.cell_core.specs.declared.grid.Shape.TheVariants.{Series, Frame}
-use Rattle.meaning.specs.Cell.{CellValue, na_cell, LabelValue, int}
-use Rattle.meaning.specs.Column.{ColumnValue}
-use Rattle.meaning.specs.Fault.{FaultValue, wrong_kind, bad_value, levels}
-use Rattle.meaning.specs.Reduce.{distinct}
-use Rattle.align_meaning.specs.Targets.{rows_of_targets}
-use Rattle.align_meaning.proofs.OrderLaws.{all_flat, all_distinct}
-use Rattle.join_meaning.specs.Concat.{same_kind, united, are_equal, repeated_on_any, labels_under}
-use Rattle.table_meaning.specs.Table.{ColumnOf, Table, column_at}
-use Rattle.table_meaning.specs.Valid.{IsValid, AreHeadings}
-use Rattle.table_meaning.specs.Value.{Entry, Given, NamedGiven, nothing, one, row, many, entries, list_in}
-use Rattle.table_meaning.proofs.KindLaws.{kind_is}
+use Rattle.{
+  std.{proofs.{Common.{◌≡◌, ◌≢◌, ◌∙◌, refl, sym, ap, subst, ℕ, suc, ◌+◌, ◌<◌, ◌≤◌, pos, List, [], ◌∷◌, length, map, filter, length-append, arith}, lemmas.{Bool.{eqb-true, false≢true, Decides.{nat_tests}}, List.{length-map, FromFn.{length-map-range_with_len}, Elements.{All-nil, All-cons, All-head, All-tail, All-filter, All-append, All-weaker, filter_passes}, Kept.{AllPairs-cons, AllPairs-filter}}}}, specs.{Prelude.{Bool, true, false, not, nat_eq, nat_lt, fold, slice_index_or, unwrap_or, option_map, if◌then◌else◌, Option, Some, None, IsSome, IfSome, Result, Ok, Err, IfOk, All, AllPairs}, Bool.{Decides}, List.{list_all, flat_map, position_or_len, range_with_len}, Cmp.Lexicographic.{pointwise, as_long}}},
+  cell_core.specs.declared.{cell.Kind.{Kind, TheVariants.{Int64}}, grid.Shape.{Shape, TheVariants.{Series, Frame}}},
+  meaning.specs.{Cell.{CellValue, na_cell, LabelValue, int}, Column.{ColumnValue}, Fault.{FaultValue, wrong_kind, bad_value, levels}, Reduce.{distinct}},
+  align_meaning.{specs.Targets.{rows_of_targets}, proofs.OrderLaws.{all_flat, all_distinct}},
+  join_meaning.specs.Concat.{same_kind, united, are_equal, repeated_on_any, labels_under},
+  table_meaning.{specs.{Table.{ColumnOf, Table, column_at}, Valid.{IsValid, AreHeadings}, Value.{Entry, Given, NamedGiven, nothing, one, row, many, entries, list_in}}, proofs.KindLaws.{kind_is}},
+  form_meaning.specs.{Signature.{function_parameters}, Binding.{argument_at, truth_in}, Finish.{limited, finished, same_heading, value_of_column, column_of_value, missing_column, try_all}, Infix.{same_tuple, common_name}, Make.{on}},
+  method_meaning.specs.Concat.{Concatenation, tables_of, kept_names, level_names_of_all, columns_name_of_all, have_same_levels, labels_of_tables, RowAxis, rows_below, columns_below, column_under, kind_under, column_or_missing, frame_column_below, is_series, table_below, finished_below, series_below, frames_below, are_series, are_frames, below, numbered_from, headings_beside, rows_met, columns_beside, table_beside, unless_label_twice, beside, with_keys, along, concatenated, concat_result, concat_call},
+  table_laws.{specs.Validity.{IsValidEntry, IsValidArgument, AreValidArguments}, proofs.{ListLaws.{both_true, all_pass, all_made, all_any, all_mapped, then_keeps, try_keeps, on_keeps, on_some_keeps, of_length_keeps}, CellLaws.{Held, na_held}, ColumnLaws.{IsColumn, spread_column}, TableLaws.{IsShaped, shaped, limited_keeps, column_of_table, series_heading, frame_headings, one_column}, HeadingLaws.{label_decides}, InfixLaws.{columns_on}, GroupLaws.{AreLabels, frame_keeps}, LevelLaws.{on_levels_keep}, SetLaws.{length_default, default_levels}, ArgumentLaws.{argument_valid, bound_taken}}},
+}
 use Rattle.form_meaning.specs.declared.Function.TheVariants as function
-use Rattle.form_meaning.specs.Signature.{function_parameters}
-use Rattle.form_meaning.specs.Binding.{argument_at, truth_in}
-use Rattle.form_meaning.specs.Finish.{limited, finished, same_heading, value_of_column, column_of_value, missing_column, try_all}
-use Rattle.form_meaning.specs.Infix.{same_tuple, common_name}
-use Rattle.form_meaning.specs.Make.{on}
-use Rattle.method_meaning.specs.Concat.{Concatenation, tables_of, kept_names, level_names_of_all, columns_name_of_all, have_same_levels, labels_of_tables, RowAxis, rows_below, columns_below, column_under, kind_under, column_or_missing, frame_column_below, is_series, table_below, finished_below, series_below, frames_below, are_series, are_frames, below, numbered_from, headings_beside, rows_met, columns_beside, table_beside, unless_label_twice, beside, with_keys, along, concatenated, concat_result, concat_call}
-use Rattle.table_laws.specs.Validity.{IsValidEntry, IsValidArgument, AreValidArguments}
-use Rattle.table_laws.proofs.ListLaws.{both_true, all_pass, all_made, all_any, all_mapped, then_keeps, try_keeps, on_keeps, on_some_keeps, of_length_keeps}
-use Rattle.table_laws.proofs.CellLaws.{Held, na_held}
-use Rattle.table_laws.proofs.ColumnLaws.{IsColumn, spread_column}
-use Rattle.table_laws.proofs.TableLaws.{IsShaped, shaped, limited_keeps, column_of_table, series_heading, frame_headings, one_column}
-use Rattle.table_laws.proofs.HeadingLaws.{label_decides}
-use Rattle.table_laws.proofs.InfixLaws.{columns_on}
-use Rattle.table_laws.proofs.GroupLaws.{AreLabels, frame_keeps}
-use Rattle.table_laws.proofs.LevelLaws.{on_levels_keep}
-use Rattle.table_laws.proofs.SetLaws.{length_default, default_levels}
-use Rattle.table_laws.proofs.ArgumentLaws.{argument_valid, bound_taken}
 
 abbrev Has : ℕ → List LabelValue → Type 0
 Has n tuple = length tuple ≡ n

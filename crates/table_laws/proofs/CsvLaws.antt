@@ -1,37 +1,16 @@
 -- A file of comma-separated values reads as a valid frame.
-use Rattle.std.proofs.Common.{◌≡◌, ◌≢◌, ◌∙◌, refl, ap, sym, subst, subst₂, ℕ, suc, ◌^◌, ◌≤◌, List, [], ◌∷◌, length, map, arith}
-use Rattle.std.specs.Prelude.{Bool, true, false, ◌&&◌, nat_lt, nat_le, if◌then◌else◌, slice_get, unwrap_or, Option, Some, None, IsSome, IfSome, Result, Ok, Err, IfOk, All, AllPairs}
-use Rattle.std.specs.List.{list_any, IsDistinct, AllByRecursion}
-use Rattle.std.specs.Str.Lossy.{utf8_valid_len}
-use Rattle.std.proofs.lemmas.Bool.Decides.{nat_tests}
-use Rattle.std.proofs.lemmas.List.{length-map}
-use Rattle.std.proofs.lemmas.List.Elements.{All-nil, All-cons}
-use Rattle.std.proofs.lemmas.List.Kept.{AllPairs-cons}
-use Rattle.std.proofs.lemmas.Map.Keys.{IsDistinct-head, IsDistinct-tail}
-use Rattle.std.proofs.lemmas.Slice.Eq.{bytes_eq-Decides}
-use Rattle.csv.specs.Reading.{records, default_config, strip_bom}
-use Rattle.cell_core.specs.declared.grid.Shape.TheVariants.{Frame}
-use Rattle.cell_core.specs.Texts.{with_text}
-use Rattle.meaning.specs.Text.{Text, same_text}
-use Rattle.meaning.specs.Cell.{CellValue, na_cell, text_cell, LabelValue, text, Kind}
-use Rattle.meaning.specs.Cast.{cast_cell}
-use Rattle.table_meaning.specs.Valid.{within_limits}
-use Rattle.table_meaning.specs.Value.{Given, NamedGiven, dict_in}
+use Rattle.{
+  std.{proofs.{Common.{◌≡◌, ◌≢◌, ◌∙◌, refl, ap, sym, subst, subst₂, ℕ, suc, ◌^◌, ◌≤◌, List, [], ◌∷◌, length, map, arith}, lemmas.{Bool.Decides.{nat_tests}, List.{length-map, Elements.{All-nil, All-cons}, Kept.{AllPairs-cons}}, Map.Keys.{IsDistinct-head, IsDistinct-tail}, Slice.Eq.{bytes_eq-Decides}}}, specs.{Prelude.{Bool, true, false, ◌&&◌, nat_lt, nat_le, if◌then◌else◌, slice_get, unwrap_or, Option, Some, None, IsSome, IfSome, Result, Ok, Err, IfOk, All, AllPairs}, List.{list_any, IsDistinct, AllByRecursion}, Str.Lossy.{utf8_valid_len}}},
+  csv.specs.Reading.{records, default_config, strip_bom},
+  cell_core.specs.{declared.grid.Shape.TheVariants.{Frame}, Texts.{with_text}},
+  meaning.specs.{Text.{Text, same_text}, Cell.{CellValue, na_cell, text_cell, LabelValue, text, Kind}, Cast.{cast_cell}},
+  table_meaning.specs.{Valid.{within_limits}, Value.{Given, NamedGiven, dict_in}},
+  form_meaning.specs.{Signature.{function_parameters, function_named}, Binding.{bound_of}, Functions.{make_result}},
+  csv_meaning.{specs.CsvRead.{CsvValue, CsvRefusal, not_utf8, not_of_kind, beyond_limits, is_missing, field_cell, cell_of_field, kind_of_fields, column_of_fields, field_in, columns_from, has_misfit, first_long, labels_named, next_label, labels_after, with_texts, different_labels, labels_of, named_kind, labelled_columns, columns_of_rows, columns_under, unless_refused, columns_of_records, columns_of_file}, proofs.DifferentLaws.{labels_differ}},
+  method_meaning.specs.Readers.{kinds_given, frame_of_columns, frame_or_fault, csv_result, reads_file, read_result, make_with},
+  table_laws.{specs.Validity.{IsValidEntry}, proofs.{ListLaws.{both_true, both_ways, all_mapped}, CellLaws.{Held, cast_held}, ColumnLaws.{IsColumn}, TableLaws.{IsShaped, valid, frame_headings}, SetLaws.{length_default, default_levels}, MethodLaws.{on_bound_keeps}, MakeLaws.{make_result_keeps}}},
+}
 use Rattle.form_meaning.specs.declared.Function.TheVariants as function
-use Rattle.form_meaning.specs.Signature.{function_parameters, function_named}
-use Rattle.form_meaning.specs.Binding.{bound_of}
-use Rattle.form_meaning.specs.Functions.{make_result}
-use Rattle.csv_meaning.specs.CsvRead.{CsvValue, CsvRefusal, not_utf8, not_of_kind, beyond_limits, is_missing, field_cell, cell_of_field, kind_of_fields, column_of_fields, field_in, columns_from, has_misfit, first_long, labels_named, next_label, labels_after, with_texts, different_labels, labels_of, named_kind, labelled_columns, columns_of_rows, columns_under, unless_refused, columns_of_records, columns_of_file}
-use Rattle.csv_meaning.proofs.DifferentLaws.{labels_differ}
-use Rattle.method_meaning.specs.Readers.{kinds_given, frame_of_columns, frame_or_fault, csv_result, reads_file, read_result, make_with}
-use Rattle.table_laws.specs.Validity.{IsValidEntry}
-use Rattle.table_laws.proofs.ListLaws.{both_true, both_ways, all_mapped}
-use Rattle.table_laws.proofs.CellLaws.{Held, cast_held}
-use Rattle.table_laws.proofs.ColumnLaws.{IsColumn}
-use Rattle.table_laws.proofs.TableLaws.{IsShaped, valid, frame_headings}
-use Rattle.table_laws.proofs.SetLaws.{length_default, default_levels}
-use Rattle.table_laws.proofs.MethodLaws.{on_bound_keeps}
-use Rattle.table_laws.proofs.MakeLaws.{make_result_keeps}
 
 -- fields
 

@@ -1,47 +1,19 @@
 -- Calls behind `groupby` make valid tables of valid ones.
-use Rattle.std.proofs.Common.{◌≡◌, ◌∙◌, refl, sym, subst, ℕ, ◌+◌, ◌<◌, ◌≤◌, pos, List, [], ◌∷◌, ◌++◌, length, map, take, arith}
-use Rattle.std.specs.Prelude.{Bool, true, false, ◌&&◌, nat_eq, nat_lt, slice_index_or, if◌then◌else◌, codes, Option, Some, None, IsSome, Result, Ok, Err, IfOk, All}
-use Rattle.std.specs.List.{range_with_len}
-use Rattle.std.proofs.lemmas.Bool.Decides.{nat_tests}
-use Rattle.std.proofs.lemmas.List.{length-map, length-append}
-use Rattle.std.proofs.lemmas.List.Elements.{All-nil, All-cons, All-head, All-tail, All-filter, All-append}
-use Rattle.cell_core.specs.declared.grid.Shape.{Shape}
-use Rattle.cell_core.specs.declared.grid.Shape.TheVariants.{Series, Frame}
-use Rattle.meaning.specs.Text.{Text}
-use Rattle.meaning.specs.Cell.{CellValue, na_cell, LabelValue, Kind, Int64}
-use Rattle.meaning.specs.Column.{ColumnValue, ColumnFault, kind_mismatch, gap_cell}
-use Rattle.meaning.specs.Operator.{cell_label}
+use Rattle.{
+  std.{proofs.{Common.{◌≡◌, ◌∙◌, refl, sym, subst, ℕ, ◌+◌, ◌<◌, ◌≤◌, pos, List, [], ◌∷◌, ◌++◌, length, map, take, arith}, lemmas.{Bool.Decides.{nat_tests}, List.{length-map, length-append, Elements.{All-nil, All-cons, All-head, All-tail, All-filter, All-append}}}}, specs.{Prelude.{Bool, true, false, ◌&&◌, nat_eq, nat_lt, slice_index_or, if◌then◌else◌, codes, Option, Some, None, IsSome, Result, Ok, Err, IfOk, All}, List.{range_with_len}}},
+  cell_core.specs.declared.grid.Shape.{Shape, TheVariants.{Series, Frame}},
+  meaning.specs.{Text.{Text}, Cell.{CellValue, na_cell, LabelValue, Kind, Int64}, Column.{ColumnValue, ColumnFault, kind_mismatch, gap_cell}, Operator.{cell_label}, Reduce.{present, is_present, distinct, distinct_count}, Cumulate.{cumulation_takes}, Fault.{FaultValue, wrong_kind, limit, then_value}},
+  table_meaning.specs.{Table.{ColumnOf, RowOf, Table, column_at, rows_of}, Valid.{AreHeadings}, Value.{Entry, cell, table, Given, GivenList, NamedGiven, scalar_in, list_in}},
+  form_meaning.specs.{declared.{Method.TheVariants.{Other}, OtherMethod.TheVariants.{Groupby}}, Signature.{parameters_of}, Binding.{Bound, not_taken, not_listed, bound, bound_of, each, is_scalar, truth_in}, Finish.{finished, default_labels, value_of_column, column_of_value, made_column}, Select.{heading_at, columns_frame, column_place, column_places, labels_of}},
+  select_meaning.specs.Select.{as_series, shown_as},
+  align_meaning.proofs.OrderLaws.{all_in_order},
+  group_meaning.specs.{Keys.{KeyRules, tuple_rules, is_kept, ordered_if, group_keys}, Rows.{GroupsValue, cells_of_group, rows_of_group}, Reductions.{GroupReduction, earlier, later, group_cell, group_takes, group_kind, reduced_cells, column_if_taken, reduce_groups, transform_groups, of_group, cells_up_to, running_cell, cumsum_groups, group_sizes, count_before, group_places}},
+  method_meaning.specs.{Rows.{all_places, cells_by_row, labels_in}, Groups.{Grouping, Values, GroupCall, reduced, size, transformed, cumsum, cumcount, row_keys, keys_of, groups_of, each_of, under_keys, key_column, beside_keys, grouped_rows, same_rows, size_heading, headings_of, group_answer, of_bound, as_keys, keys_in, grouping_in, grouping_of, values_named, values_in, group_call_of, grouped_frame, grouped_of, grouped_result}},
+  table_laws.{specs.Validity.{IsValidObject, IsValidEntry}, proofs.{ListLaws.{all_made, all_mapped, all_tabulated, length_tabulate, at_or, then_keeps, try_keeps, on_keeps}, CellLaws.{Held, wrap_fits, fold_keeps, unless_held, reduction_held, cumulation_held}, ColumnLaws.{IsColumn}, TableLaws.{IsShaped, shaped, limited_keeps, column_of_table, series_heading, frame_headings}, HeadingLaws.{different, finished_keeps, column_place_found}, ReachLaws.{below_all}, RowLaws.{rows_counted, anything}, LevelLaws.{row_has}, SetLaws.{length_default, default_levels}}},
+}
 use Rattle.meaning.specs.Reduce as reduction
-use Rattle.meaning.specs.Reduce.{present, is_present, distinct, distinct_count, reduction_cell}
 use Rattle.meaning.specs.Cumulate as cumulation
-use Rattle.meaning.specs.Cumulate.{cumulation_cell, cumulation_takes, unless_missing}
-use Rattle.meaning.specs.Fault.{FaultValue, wrong_kind, limit, then_value}
-use Rattle.table_meaning.specs.Table.{ColumnOf, RowOf, Table, column_at, rows_of}
-use Rattle.table_meaning.specs.Valid.{AreHeadings}
-use Rattle.table_meaning.specs.Value.{Entry, cell, table, Given, GivenList, NamedGiven, scalar_in, list_in}
-use Rattle.form_meaning.specs.declared.Method.TheVariants.{Groupby}
-use Rattle.form_meaning.specs.Signature.{parameters_of}
-use Rattle.form_meaning.specs.Binding.{Bound, not_taken, not_listed, bound, bound_of, each, is_scalar, truth_in}
-use Rattle.form_meaning.specs.Finish.{finished, default_labels, value_of_column, column_of_value, made_column}
-use Rattle.form_meaning.specs.Select.{heading_at, columns_frame, column_place, column_places, labels_of}
-use Rattle.select_meaning.specs.Select.{as_series, shown_as}
-use Rattle.align_meaning.proofs.OrderLaws.{all_in_order}
-use Rattle.group_meaning.specs.Keys.{KeyRules, tuple_rules, is_kept, ordered_if, group_keys}
-use Rattle.group_meaning.specs.Rows.{GroupsValue, cells_of_group, rows_of_group}
 use Rattle.group_meaning.specs.Reductions as groups
-use Rattle.group_meaning.specs.Reductions.{GroupReduction, earlier, later, count_cell, group_cell, group_takes, group_kind, reduced_cells, column_if_taken, reduce_groups, transform_groups, of_group, cells_up_to, running_cell, cumsum_groups, group_sizes, count_before, group_places}
-use Rattle.method_meaning.specs.Rows.{all_places, cells_by_row, labels_in}
-use Rattle.method_meaning.specs.Groups.{Grouping, Values, GroupCall, reduced, size, transformed, cumsum, cumcount, row_keys, keys_of, groups_of, each_of, under_keys, key_column, beside_keys, grouped_rows, same_rows, size_heading, headings_of, group_answer, of_bound, as_keys, keys_in, grouping_in, grouping_of, values_named, values_in, group_call_of, grouped_frame, grouped_of, grouped_result}
-use Rattle.table_laws.specs.Validity.{IsValidObject, IsValidEntry}
-use Rattle.table_laws.proofs.ListLaws.{all_made, all_mapped, all_tabulated, length_tabulate, at_or, then_keeps, try_keeps, on_keeps}
-use Rattle.table_laws.proofs.CellLaws.{Held, wrap_fits, fold_keeps, unless_held, reduction_held, cumulation_held}
-use Rattle.table_laws.proofs.ColumnLaws.{IsColumn}
-use Rattle.table_laws.proofs.TableLaws.{IsShaped, shaped, limited_keeps, column_of_table, series_heading, frame_headings}
-use Rattle.table_laws.proofs.HeadingLaws.{different, finished_keeps, column_place_found}
-use Rattle.table_laws.proofs.ReachLaws.{below_all}
-use Rattle.table_laws.proofs.RowLaws.{rows_counted, anything}
-use Rattle.table_laws.proofs.LevelLaws.{row_has}
-use Rattle.table_laws.proofs.SetLaws.{length_default, default_levels}
 
 -- the cells of groups
 
@@ -350,7 +322,7 @@ grouping_in_keeps t s (a ∷ b ∷ c ∷ []) = tt
 grouping_in_keeps t s (a ∷ b ∷ c ∷ d ∷ e ∷ gs) = tt
 
 grouping_keeps : (t : Table) → IsShaped t → (by : List NamedGiven) → IfOk (grouping_of t by) (IsGrouping t)
-grouping_keeps t s by = of_bound_keeps (IsGrouping t) (grouping_in t) (bound_of (parameters_of Groupby) by) (grouping_in_keeps t s)
+grouping_keeps t s by = of_bound_keeps (IsGrouping t) (grouping_in t) (bound_of (parameters_of (Other Groupby)) by) (grouping_in_keeps t s)
 
 -- the brackets
 

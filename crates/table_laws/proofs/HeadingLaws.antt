@@ -1,27 +1,11 @@
 -- Labels of columns that differ.
-use Rattle.std.proofs.Common.{◌≡◌, ◌≢◌, ◌∙◌, refl, ap, sym, subst, ℕ, zero, suc, ◌<◌, List, [], ◌∷◌, ◌++◌, length, arith}
-use Rattle.std.specs.Prelude.{Bool, true, false, ◌||◌, if◌then◌else◌, nat_lt, slice_set, slice_index_or, Option, Some, None, IsSome, IfSome, option_map, unwrap_or, IfOk, All, AllPairs}
-use Rattle.std.specs.Bool.{Decides}
-use Rattle.std.specs.FinMap.{int_cmp-IsAntisymmetric, nat_cmp-IsAntisymmetric, slice_cmp-IsAntisymmetric}
-use Rattle.std.specs.List.{list_any}
-use Rattle.std.specs.Ordering.{is_eq, bool_cmp}
-use Rattle.std.specs.declared.cmp.Ordering.{Ordering}
-use Rattle.std.specs.declared.cmp.Ordering.TheVariants.{Less, Equal, Greater}
-use Rattle.std.proofs.lemmas.Bool.Decides.{nat_tests}
-use Rattle.std.proofs.lemmas.Cmp.{tied_itself}
-use Rattle.std.proofs.lemmas.List.Elements.{All-nil, All-cons, All-head, All-tail}
-use Rattle.std.proofs.lemmas.List.Kept.{AllPairs-cons}
-use Rattle.std.proofs.lemmas.List.Quantifiers.{all_pairs_push}
-use Rattle.cell_core.specs.Values.{LabelValue, truth, int, text, na, label_cmp}
-use Rattle.cell_core.proofs.LabelLaws.{label_total}
-use Rattle.table_meaning.specs.Change.{put_at}
-use Rattle.table_meaning.specs.Table.{Table}
-use Rattle.form_meaning.specs.Binding.{same_label}
-use Rattle.form_meaning.specs.Finish.{same_heading, first_repeated, unless_repeated, limited, finished}
-use Rattle.form_meaning.specs.Select.{place_of_label, found, column_place}
-use Rattle.table_laws.specs.Validity.{IsValidEntry}
-use Rattle.table_laws.proofs.ListLaws.{both_ways}
-use Rattle.table_laws.proofs.TableLaws.{IsShaped, limited_keeps}
+use Rattle.{
+  std.{proofs.{Common.{◌≡◌, ◌≢◌, ◌∙◌, refl, ap, sym, subst, ℕ, zero, suc, ◌<◌, List, [], ◌∷◌, ◌++◌, length, arith}, lemmas.{Bool.Decides.{nat_tests}, Cmp.{tied_itself}, List.{Elements.{All-nil, All-cons, All-head, All-tail}, Kept.{AllPairs-cons}, Quantifiers.{all_pairs_push}}}}, specs.{Prelude.{Bool, true, false, ◌||◌, if◌then◌else◌, nat_lt, slice_set, slice_index_or, Option, Some, None, IsSome, IfSome, option_map, unwrap_or, IfOk, All, AllPairs}, Bool.{Decides}, FinMap.{int_cmp-IsAntisymmetric, nat_cmp-IsAntisymmetric, slice_cmp-IsAntisymmetric}, List.{list_any}, Ordering.{is_eq, bool_cmp}, declared.cmp.Ordering.{Ordering, TheVariants.{Less, Equal, Greater}}}},
+  cell_core.{specs.Values.{LabelValue, truth, int, text, na, label_cmp}, proofs.LabelLaws.{label_total}},
+  table_meaning.specs.{Change.{put_at}, Table.{Table}},
+  form_meaning.specs.{Binding.{same_label}, Finish.{same_heading, first_repeated, unless_repeated, limited, finished}, Select.{place_of_label, found, column_place}},
+  table_laws.{specs.Validity.{IsValidEntry}, proofs.{ListLaws.{both_ways}, TableLaws.{IsShaped, limited_keeps}}},
+}
 
 abbrev Heading : Type 0
 Heading = Option LabelValue

@@ -1,30 +1,13 @@
 -- Operators make valid tables of valid values.
-use Rattle.std.proofs.Common.{◌≡◌, ◌∙◌, ◌≤◌, refl, ap, sym, subst, ℕ, suc, pos, List, [], ◌∷◌, length, map, arith}
-use Rattle.std.specs.Prelude.{replicate, Bool, true, false, if◌then◌else◌, Option, Some, None, Result, Ok, Err, IfOk, All}
-use Rattle.std.specs.List.{list_all}
-use Rattle.std.proofs.lemmas.List.{length-map}
-use Rattle.std.proofs.lemmas.List.Elements.{All-nil, All-cons, All-head, All-tail}
-use Rattle.cell_core.specs.declared.grid.Shape.{Shape}
-use Rattle.cell_core.specs.declared.grid.Shape.TheVariants.{Series, Frame}
-use Rattle.meaning.specs.Cell.{CellValue, int_cell, na_cell, Kind, LabelValue}
-use Rattle.meaning.specs.Column.{gap_cell, taken}
-use Rattle.meaning.specs.Symbol.{Binary, sub}
-use Rattle.meaning.specs.Fault.{FaultValue, wrong_kind, bad_value, not_aligned, limit, then_value}
-use Rattle.align_meaning.specs.Faults.{AlignRefusal, met_rows}
-use Rattle.align_meaning.specs.Joins.{outer}
-use Rattle.align_meaning.proofs.DifferLaws.{joined_apart}
-use Rattle.align_meaning.proofs.InsideLaws.{IsRowOf, AreInside, joined_inside}
-use Rattle.table_meaning.specs.Table.{ColumnOf, Table, column_at}
-use Rattle.table_meaning.specs.Valid.{IsValid, within_limits}
-use Rattle.table_meaning.specs.Value.{Entry, cell, table}
-use Rattle.form_meaning.specs.Finish.{same_heading, first_repeated, unless_repeated, try_all, with_columns, column_labels}
-use Rattle.form_meaning.specs.Infix.{Meeting, swapped, meets, met, infix_table, with_scalar, beside, across, turned, scalar_infix, on_levels, same_tuple, same_tuples, tuple_before, same_headings, are_headings, same_count, has_one, common_name, common_names, first_heading, compares, Joined, joined_rows, on_rows, with_joined, joined_infix, unequal_infix, rows_infix, series_infix, on_columns, common_infix, unequal_columns, wide_infix, joined_frames, frame_infix, across_series, takes_each, labels_fit, spread_series, spread_frame, joined_turned, across_unequal, across_infix, table_infix, infix_result, is_truth_column, inverted_column, inverted, sign_result}
-use Rattle.table_laws.specs.Validity.{IsValidObject, IsValidEntry}
-use Rattle.table_laws.proofs.ListLaws.{both_true, all_made, all_mapped, at_or, then_keeps, try_keeps}
-use Rattle.table_laws.proofs.CellLaws.{Held, na_held}
-use Rattle.table_laws.proofs.ColumnLaws.{side, IsColumn, IsMeeting, met_keeps, scalar_meets, inverted_keeps, spread_column}
-use Rattle.table_laws.proofs.WideLaws.{tuple_decides, labels_single, labels_many, labels_apart, length_wide, wide_shaped, spread_shaped}
-use Rattle.table_laws.proofs.TableLaws.{IsShaped, shaped, valid, with_columns_shaped, column_of_table, series_heading, frame_headings, one_column}
+use Rattle.{
+  std.{proofs.{Common.{◌≡◌, ◌∙◌, ◌≤◌, refl, ap, sym, subst, ℕ, suc, pos, List, [], ◌∷◌, length, map, arith}, lemmas.List.{length-map, Elements.{All-nil, All-cons, All-head, All-tail}}}, specs.{Prelude.{replicate, Bool, true, false, if◌then◌else◌, Option, Some, None, Result, Ok, Err, IfOk, All}, List.{list_all}}},
+  cell_core.specs.declared.grid.Shape.{Shape, TheVariants.{Series, Frame}},
+  meaning.specs.{Cell.{CellValue, int_cell, na_cell, Kind, LabelValue}, Column.{gap_cell, taken}, Symbol.{Binary, sub}, Fault.{FaultValue, wrong_kind, bad_value, not_aligned, limit, then_value}},
+  align_meaning.{specs.{Faults.{AlignRefusal, met_rows}, Joins.{outer}}, proofs.{DifferLaws.{joined_apart}, InsideLaws.{IsRowOf, AreInside, joined_inside}}},
+  table_meaning.specs.{Table.{ColumnOf, Table, column_at}, Valid.{IsValid, within_limits}, Value.{Entry, cell, table}},
+  form_meaning.specs.{Finish.{same_heading, first_repeated, unless_repeated, try_all, with_columns, column_labels}, Infix.{Meeting, swapped, meets, met, infix_table, with_scalar, beside, across, turned, scalar_infix, on_levels, same_tuple, same_tuples, tuple_before, same_headings, are_headings, same_count, has_one, common_name, common_names, first_heading, compares, Joined, joined_rows, on_rows, with_joined, joined_infix, unequal_infix, rows_infix, series_infix, on_columns, common_infix, unequal_columns, wide_infix, joined_frames, frame_infix, across_series, takes_each, labels_fit, spread_series, spread_frame, joined_turned, across_unequal, across_infix, table_infix, infix_result, is_truth_column, inverted_column, inverted, sign_result}},
+  table_laws.{specs.Validity.{IsValidObject, IsValidEntry}, proofs.{ListLaws.{both_true, all_made, all_mapped, at_or, then_keeps, try_keeps}, CellLaws.{Held, na_held}, ColumnLaws.{columns_meet, side, IsColumn, IsMeeting, met_keeps, scalar_meets, inverted_keeps, spread_column}, WideLaws.{tuple_decides, labels_single, labels_many, labels_apart, length_wide, wide_shaped, spread_shaped}, TableLaws.{IsShaped, shaped, valid, with_columns_shaped, column_of_table, series_heading, frame_headings, one_column}}},
+}
 
 -- as many meetings as columns, all of the table's rows
 record AreMeetings (t : Table) (meetings : List Meeting) : Type 0 where
@@ -72,7 +55,7 @@ beside_meet : (rows : ℕ) (as' bs : List (ColumnOf CellValue)) → All (IsColum
 beside_meet rows [] bs h k = All-nil (IsMeeting rows)
 beside_meet rows (a ∷ as') [] h k = All-nil (IsMeeting rows)
 beside_meet rows (a ∷ as') (b ∷ bs) h k =
-    All-cons (IsMeeting rows) _ (beside as' bs) record { first = side rows a.kind a.cells (All-head (IsColumn rows) a as' h); second = side rows b.kind b.cells (All-head (IsColumn rows) b bs k) }
+    All-cons (IsMeeting rows) _ (beside as' bs) (columns_meet rows a b (All-head (IsColumn rows) a as' h) (All-head (IsColumn rows) b bs k))
     (beside_meet rows as' bs (All-tail (IsColumn rows) a as' h) (All-tail (IsColumn rows) b bs k))
 
 length_across : (count : ℕ) (kind : Kind) (as' : List (ColumnOf CellValue)) (cells : List CellValue) → length as' ≡ length cells → length (across count kind as' cells) ≡ length as'

@@ -1,33 +1,14 @@
 -- Methods that give the rows other levels make valid tables of valid ones.
-use Rattle.std.proofs.Common.{◌≡◌, ◌∙◌, refl, sym, subst, ℕ, ◌<◌, ◌≤◌, ◌+◌, List, ◌++◌, length, map, length-append, arith}
-use Rattle.std.specs.Prelude.{Bool, true, false, nat_le, ◌&&◌, if◌then◌else◌, remove, swap, Option, Some, None, IsSome, Result, IfOk, All}
-use Rattle.std.specs.List.{list_any, range_with_len}
-use Rattle.std.proofs.lemmas.Bool.Decides.{nat_tests}
-use Rattle.std.proofs.lemmas.List.{length-map}
-use Rattle.std.proofs.lemmas.List.FromFn.{length-range_with_len}
-use Rattle.std.proofs.lemmas.List.Edits.{length-remove, length-swap}
-use Rattle.std.proofs.lemmas.List.Elements.{All-filter, All-append}
-use Rattle.cell_core.specs.declared.grid.Shape.TheVariants.{Frame}
-use Rattle.meaning.specs.Cell.{CellValue, LabelValue, na_cell, int_cell, text_cell, text}
-use Rattle.meaning.specs.Operator.{cell_label}
-use Rattle.meaning.specs.Fault.{FaultValue, bad_value, levels, limit}
-use Rattle.pick_meaning.specs.Positions.{row_at}
-use Rattle.pick_meaning.proofs.PositionLaws.{at_inside}
-use Rattle.table_meaning.specs.Table.{ColumnOf, RowOf, Table, row_of, rows_of}
-use Rattle.table_meaning.specs.Value.{Entry, Given}
-use Rattle.form_meaning.specs.Finish.{first_repeated, unless_repeated, limited}
-use Rattle.form_meaning.specs.Select.{heading_at, columns_frame, column_places}
-use Rattle.form_meaning.specs.Set.{list_column}
-use Rattle.method_meaning.specs.Rows.{cells_by_row, all_places, labels_in, places_besides}
-use Rattle.method_meaning.specs.Levels.{names_in, rename_axis_result, on_levels, indexed_by, index_set, set_index_result, renumbered, level_cells, level_columns, level_labels, with_levels, levels_reset, level_of, of_several, level_dropped, droplevel_result, levels_swapped, swaplevel_result}
-use Rattle.table_laws.specs.Validity.{IsValidEntry}
-use Rattle.table_laws.proofs.ListLaws.{both_true, all_made, all_any, all_mapped, all_tabulated, then_keeps, try_keeps, of_length_keeps}
-use Rattle.table_laws.proofs.ColumnLaws.{IsColumn, list_keeps}
-use Rattle.table_laws.proofs.TableLaws.{IsShaped, limited_keeps, frame_headings}
-use Rattle.table_laws.proofs.HeadingLaws.{different, finished_keeps, found_within}
-use Rattle.table_laws.proofs.ReachLaws.{below_all, found_is}
-use Rattle.table_laws.proofs.RowLaws.{kept_shaped, rows_counted, anything}
-use Rattle.table_laws.proofs.SetLaws.{length_default, default_levels}
+use Rattle.{
+  std.{proofs.{Common.{◌≡◌, ◌∙◌, refl, sym, subst, ℕ, ◌<◌, ◌≤◌, ◌+◌, List, ◌++◌, length, map, length-append, arith}, lemmas.{Bool.Decides.{nat_tests}, List.{length-map, FromFn.{length-range_with_len}, Edits.{length-remove, length-swap}, Elements.{All-filter, All-append}}}}, specs.{Prelude.{Bool, true, false, nat_le, ◌&&◌, if◌then◌else◌, remove, swap, Option, Some, None, IsSome, Result, IfOk, All}, List.{range_with_len}}},
+  cell_core.specs.declared.grid.Shape.TheVariants.{Frame},
+  meaning.specs.{Cell.{CellValue, LabelValue, na_cell, int_cell, text_cell, text}, Operator.{cell_label}, Fault.{FaultValue, bad_value, levels, limit}},
+  pick_meaning.{specs.Positions.{row_at}, proofs.PositionLaws.{at_inside}},
+  table_meaning.specs.{Table.{ColumnOf, RowOf, Table, row_of, rows_of}, Value.{Entry, Given}},
+  form_meaning.specs.{Finish.{first_repeated, unless_repeated, limited}, Select.{heading_at, columns_frame, column_places}, Set.{list_column}},
+  method_meaning.specs.{Rows.{cells_by_row, all_places, labels_in, places_besides}, Levels.{names_in, rename_axis_result, on_levels, indexed_by, index_set, set_index_result, renumbered, level_cells, level_columns, level_labels, with_levels, levels_reset, level_of, of_several, level_dropped, droplevel_result, levels_swapped, swaplevel_result}},
+  table_laws.{specs.Validity.{IsValidEntry}, proofs.{ListLaws.{both_true, all_made, all_any, all_mapped, all_tabulated, then_keeps, try_keeps, of_length_keeps}, ColumnLaws.{IsColumn, list_keeps}, TableLaws.{IsShaped, limited_keeps, frame_headings}, HeadingLaws.{different, finished_keeps, found_within}, ReachLaws.{below_all, found_is}, RowLaws.{kept_shaped, rows_counted, anything}, SetLaws.{length_default, default_levels}}},
+}
 
 abbrev Has : ℕ → List LabelValue → Type 0
 Has n tuple = length tuple ≡ n

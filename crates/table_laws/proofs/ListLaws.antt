@@ -1,18 +1,10 @@
 -- Laws of lists, and of what is made of them one by one.
-use Rattle.std.proofs.Common.{◌≡◌, ◌∙◌, refl, ap, sym, ℕ, zero, suc, ◌+◌, List, [], ◌∷◌, ◌++◌, length, map, arith}
-use Rattle.std.specs.Prelude.{Bool, true, false, ◌&&◌, if◌then◌else◌, nat_lt, nat_eq, remove, slice_set, slice_index_or, Option, Some, None, Result, Ok, Err, IfOk, IfSome, All}
-use Rattle.std.specs.List.{list_all}
-use Rattle.std.proofs.Common.{take, drop}
-use Rattle.std.proofs.lemmas.Bool.{eqb-true}
-use Rattle.std.proofs.lemmas.List.{length-set, length-append}
-use Rattle.std.proofs.lemmas.List.FromFn.{length-map-range_with_len}
-use Rattle.std.proofs.lemmas.List.Elements.{All-nil, All-cons, All-head, All-tail, All-set, All-push, All-append, All-take, All-drop}
-use Rattle.meaning.specs.Fault.{FaultValue, bad_value, length_of, then_value}
-use Rattle.meaning.specs.Column.{tabulate, then_rows, try_each, try_pairs}
-use Rattle.table_meaning.specs.Change.{put_at}
-use Rattle.form_meaning.specs.Finish.{try_all}
-use Rattle.form_meaning.specs.Set.{of_length}
-use Rattle.form_meaning.specs.Make.{on}
+use Rattle.{
+  std.{proofs.{Common.{◌≡◌, ◌∙◌, refl, ap, sym, ℕ, zero, suc, ◌+◌, List, [], ◌∷◌, ◌++◌, length, map, arith, take, drop}, lemmas.{Bool.{eqb-true}, List.{length-set, length-append, FromFn.{length-map-range_with_len}, Elements.{All-nil, All-cons, All-head, All-tail, All-set, All-push, All-append, All-take, All-drop}}}}, specs.{Prelude.{Bool, true, false, ◌&&◌, if◌then◌else◌, nat_lt, nat_eq, remove, slice_set, slice_index_or, Option, Some, None, Result, Ok, Err, IfOk, IfSome, All}, List.{list_all}}},
+  meaning.specs.{Fault.{FaultValue, bad_value, length_of, then_value}, Column.{tabulate, then_rows, try_each, try_pairs}},
+  table_meaning.specs.Change.{put_at},
+  form_meaning.specs.{Finish.{try_all}, Set.{of_length}, Make.{on}},
+}
 
 pub both_true : (a b : Bool) → a && b ≡ true → (a ≡ true) × (b ≡ true)
 both_true true b e = (refl, e)

@@ -1,35 +1,13 @@
 -- The constructors make valid tables.
-use Rattle.std.proofs.Common.{◌≡◌, ◌≢◌, ◌∙◌, refl, ap, sym, subst, ℕ, ◌≤◌, List, [], ◌∷◌, length, map, arith}
-use Rattle.std.specs.Prelude.{Bool, true, false, nat_le, if◌then◌else◌, option_map, Option, Some, None, IsSome, Result, Ok, Err, IfOk, All, AllPairs}
-use Rattle.std.specs.List.{list_all}
-use Rattle.std.proofs.lemmas.Bool.Decides.{nat_tests}
-use Rattle.std.proofs.lemmas.List.{length-map, length-replicate}
-use Rattle.std.proofs.lemmas.List.Elements.{All-nil, All-cons, All-head, All-tail}
-use Rattle.std.proofs.lemmas.List.Kept.{AllPairs-cons}
-use Rattle.cell_core.specs.declared.grid.Shape.TheVariants.{Series, Frame}
-use Rattle.meaning.specs.Text.{Text}
-use Rattle.meaning.specs.Cell.{CellValue, LabelValue, Kind}
-use Rattle.meaning.specs.Operator.{cell_label}
-use Rattle.meaning.specs.Fault.{FaultValue, wrong_kind, limit, then_value}
-use Rattle.table_meaning.specs.Table.{ColumnOf}
-use Rattle.table_meaning.specs.Value.{Entry, Given, GivenList, GivenPairs, NamedGiven, no_entries, more_entries, list_in, dict_in, scalar_in}
-use Rattle.form_meaning.specs.declared.Function.{Function}
+use Rattle.{
+  std.{proofs.{Common.{◌≡◌, ◌≢◌, ◌∙◌, refl, ap, sym, subst, ℕ, ◌≤◌, List, [], ◌∷◌, length, map, arith}, lemmas.{Bool.Decides.{nat_tests}, List.{length-map, length-replicate, Elements.{All-nil, All-cons, All-head, All-tail}, Kept.{AllPairs-cons}}}}, specs.{Prelude.{Bool, true, false, nat_le, if◌then◌else◌, option_map, Option, Some, None, IsSome, Result, Ok, Err, IfOk, All, AllPairs}, List.{list_all}}},
+  cell_core.specs.declared.grid.Shape.TheVariants.{Series, Frame},
+  meaning.specs.{Text.{Text}, Cell.{CellValue, LabelValue, Kind}, Operator.{cell_label}, Fault.{FaultValue, wrong_kind, limit, then_value}},
+  table_meaning.specs.{Table.{ColumnOf}, Value.{Entry, Given, GivenList, GivenPairs, NamedGiven, no_entries, more_entries, list_in, dict_in, scalar_in}},
+  form_meaning.{specs.{declared.Function.{Function}, Signature.{function_named, function_parameters}, Binding.{Bound, not_taken, not_listed, bound, same_label, argument_at, bound_of, on_bound}, Finish.{limited, default_labels, try_all}, Select.{cells_of}, Set.{list_column}, Make.{cast_to, kind_given, index_labels, level_count, nameless, AreAlike, few_levels, with_index, series_table, frame_table, series_of, series_result, with_pair, pairs_onto, pairs_in, is_scalar_list, cells_given, all_of_length, labels_given, frame_with, frame_of, frame_result}, Functions.{constructed, made_by, made_named, make_result}}, proofs.{BoundLaws.{bound_list}, IndexLaws.{GivesAlike, index_taken}}},
+  table_laws.{specs.Validity.{IsValidEntry}, proofs.{ListLaws.{all_made, all_mapped, then_keeps, try_keeps, of_length_keeps, on_keeps}, ColumnLaws.{IsColumn, list_keeps, cast_to_keeps}, TableLaws.{IsShaped, limited_keeps, series_heading, frame_headings}, HeadingLaws.{label_decides}, SetLaws.{length_default, default_levels}}},
+}
 use Rattle.form_meaning.specs.declared.Function.TheVariants as function
-use Rattle.form_meaning.specs.Signature.{function_named, function_parameters}
-use Rattle.form_meaning.specs.Binding.{Bound, not_taken, not_listed, bound, same_label, argument_at, bound_of, on_bound}
-use Rattle.form_meaning.specs.Finish.{limited, default_labels, try_all}
-use Rattle.form_meaning.specs.Select.{cells_of}
-use Rattle.form_meaning.specs.Set.{list_column}
-use Rattle.form_meaning.specs.Make.{cast_to, kind_given, index_labels, level_count, nameless, AreAlike, few_levels, with_index, series_table, frame_table, series_of, series_result, with_pair, pairs_onto, pairs_in, is_scalar_list, cells_given, all_of_length, labels_given, frame_with, frame_of, frame_result}
-use Rattle.form_meaning.specs.Functions.{constructed, made_by, made_named, make_result}
-use Rattle.form_meaning.proofs.BoundLaws.{bound_list}
-use Rattle.form_meaning.proofs.IndexLaws.{GivesAlike, index_taken}
-use Rattle.table_laws.specs.Validity.{IsValidEntry}
-use Rattle.table_laws.proofs.ListLaws.{all_made, all_mapped, then_keeps, try_keeps, of_length_keeps, on_keeps}
-use Rattle.table_laws.proofs.ColumnLaws.{IsColumn, list_keeps, cast_to_keeps}
-use Rattle.table_laws.proofs.TableLaws.{IsShaped, limited_keeps, series_heading, frame_headings}
-use Rattle.table_laws.proofs.HeadingLaws.{label_decides}
-use Rattle.table_laws.proofs.SetLaws.{length_default, default_levels}
 
 -- a column of its own number of rows
 abbrev IsOwnColumn : ColumnOf CellValue → Type 0

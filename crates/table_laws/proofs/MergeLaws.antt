@@ -1,44 +1,14 @@
 -- `merge` makes a valid frame of valid ones.
-use Rattle.std.proofs.Common.{◌≡◌, ◌∙◌, refl, sym, ap, subst, ℕ, suc, ◌+◌, ◌<◌, List, [], ◌∷◌, length, map, length-append, arith}
-use Rattle.std.specs.Prelude.{Bool, true, false, not, nat_eq, nat_lt, slice_get, is_some, if◌then◌else◌, codes, Option, Some, None, IsSome, IfSome, Result, Ok, Err, IfOk, All}
-use Rattle.std.specs.List.{list_any, position_or_len}
-use Rattle.std.proofs.lemmas.Bool.{eqb-true}
-use Rattle.std.proofs.lemmas.List.{length-map}
-use Rattle.std.proofs.lemmas.List.Elements.{All-nil, All-filter, All-append}
-use Rattle.cell_core.specs.declared.cell.Kind.{Kind}
-use Rattle.cell_core.specs.declared.cell.Kind.TheVariants.{Int64}
-use Rattle.cell_core.specs.declared.grid.Shape.TheVariants.{Frame}
-use Rattle.meaning.specs.Text.{Text}
-use Rattle.meaning.specs.Cell.{CellValue, na_cell, LabelValue}
-use Rattle.meaning.specs.Column.{gap_cell}
-use Rattle.meaning.specs.Fault.{FaultValue, bad_value, key_kinds, limit, then_value}
-use Rattle.join_meaning.specs.declared.How.{How}
-use Rattle.join_meaning.specs.declared.Validate.{Validate}
-use Rattle.join_meaning.specs.Pairs.{Pair, RepeatedKey, repeated_key, key_pairs}
-use Rattle.table_meaning.specs.Table.{ColumnOf, Table, column_at, no_column}
-use Rattle.table_meaning.specs.Valid.{IsValid}
-use Rattle.table_meaning.specs.Value.{Given, NamedGiven, object_in}
-use Rattle.table_meaning.proofs.KindLaws.{kind_is}
-use Rattle.form_meaning.specs.declared.Method.TheVariants.{Merge}
-use Rattle.form_meaning.specs.Signature.{parameters_of}
-use Rattle.form_meaning.specs.Binding.{argument_at, text_in}
-use Rattle.form_meaning.specs.Finish.{same_heading, same_kind, finished}
-use Rattle.form_meaning.specs.Infix.{same_tuple, tuple_before}
-use Rattle.form_meaning.specs.Select.{heading_at}
-use Rattle.method_meaning.specs.Rows.{all_places, places_besides}
-use Rattle.method_meaning.specs.Groups.{row_keys, headings_of}
-use Rattle.method_meaning.specs.Merge.{MergeKeys, keys_on, kinds_at, are_same_kinds, checked_keys, keys_of_merge, with_suffix, suffixed_heading, right_places, is_key, left_heading, right_heading, column_of_side, key_cell, joined_key_column, right_key, joined_or_left, left_column, merged, unless_twice, merged_rows, merge_result}
-use Rattle.method_meaning.specs.Calls.{merge_call}
-use Rattle.table_laws.specs.Validity.{IsValidEntry, AreValidArguments}
-use Rattle.table_laws.proofs.ListLaws.{both_true, all_made, all_mapped, at_or, then_keeps, on_keeps, on_some_keeps}
-use Rattle.table_laws.proofs.CellLaws.{Held}
-use Rattle.table_laws.proofs.ColumnLaws.{IsColumn}
-use Rattle.table_laws.proofs.TableLaws.{IsShaped, shaped}
-use Rattle.table_laws.proofs.ReachLaws.{below_all}
-use Rattle.table_laws.proofs.InfixLaws.{gap_held}
-use Rattle.table_laws.proofs.GroupLaws.{AreLabels, frame_keeps}
-use Rattle.table_laws.proofs.SetLaws.{length_default, default_levels}
-use Rattle.table_laws.proofs.ArgumentLaws.{argument_valid, object_valid, frame_at, bound_taken}
+use Rattle.{
+  std.{proofs.{Common.{◌≡◌, ◌∙◌, refl, sym, ap, subst, ℕ, suc, ◌+◌, ◌<◌, List, [], ◌∷◌, length, map, length-append, arith}, lemmas.{Bool.{eqb-true}, List.{length-map, Elements.{All-nil, All-filter, All-append}}}}, specs.{Prelude.{Bool, true, false, not, nat_eq, nat_lt, slice_get, is_some, if◌then◌else◌, codes, Option, Some, None, IsSome, IfSome, Result, Ok, Err, IfOk, All}, List.{list_any, position_or_len}}},
+  cell_core.specs.declared.{cell.Kind.{Kind, TheVariants.{Int64}}, grid.Shape.TheVariants.{Frame}},
+  meaning.specs.{Text.{Text}, Cell.{CellValue, na_cell, LabelValue}, Column.{gap_cell}, Fault.{FaultValue, bad_value, key_kinds, limit, then_value}},
+  join_meaning.specs.{declared.{How.{How}, Validate.{Validate}}, Pairs.{Pair, RepeatedKey, repeated_key, key_pairs}},
+  table_meaning.{specs.{Table.{ColumnOf, Table, column_at, no_column}, Valid.{IsValid}, Value.{Given, NamedGiven, object_in}}, proofs.KindLaws.{kind_is}},
+  form_meaning.specs.{declared.{Method.TheVariants.{Other}, OtherMethod.TheVariants.{Merge}}, Signature.{parameters_of}, Binding.{argument_at, text_in}, Finish.{same_heading, same_kind, finished}, Infix.{same_tuple, tuple_before}, Select.{heading_at}},
+  method_meaning.specs.{Rows.{all_places, places_besides}, Groups.{row_keys, headings_of}, Merge.{MergeKeys, keys_on, kinds_at, are_same_kinds, checked_keys, keys_of_merge, with_suffix, suffixed_heading, right_places, is_key, left_heading, right_heading, column_of_side, key_cell, joined_key_column, right_key, joined_or_left, left_column, merged, unless_twice, merged_rows, merge_result}, Calls.{merge_call}},
+  table_laws.{specs.Validity.{IsValidEntry, AreValidArguments}, proofs.{ListLaws.{both_true, all_made, all_mapped, at_or, then_keeps, on_keeps, on_some_keeps}, CellLaws.{Held}, ColumnLaws.{IsColumn}, TableLaws.{IsShaped, shaped}, ReachLaws.{below_all}, InfixLaws.{gap_held}, GroupLaws.{AreLabels, frame_keeps}, SetLaws.{length_default, default_levels}, ArgumentLaws.{argument_valid, object_valid, frame_at, bound_taken}}},
+}
 
 -- as many keys on either side, of the same kinds
 abbrev AreKeys : Table → Table → MergeKeys → Type 0
@@ -203,7 +173,7 @@ both_fit (Some t) h k = record { fits = shaped t h; frame = k }
 -- a call of `merge`
 pub merge_call_keeps : (t : Table) (gs : List NamedGiven) → IsShapedFrame t → AreValidArguments gs → IfOk (merge_call t gs) IsValidEntry
 merge_call_keeps t gs s h =
-    let ps = parameters_of Merge in
+    let ps = parameters_of (Other Merge) in
     bound_taken ps gs (merge_result t)
     (λ fitted. merge_result_keeps t (argument_at ps gs 0) (argument_at ps gs 1) (argument_at ps gs 2) (argument_at ps gs 3) s
     (both_fit (object_in (argument_at ps gs 0)) (object_valid (argument_at ps gs 0) (argument_valid ps gs 0 h)) (frame_at ps gs 0 _ refl refl fitted)))

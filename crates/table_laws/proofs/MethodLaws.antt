@@ -1,43 +1,21 @@
 -- Methods make valid tables of valid ones.
-use Rattle.std.proofs.Common.{◌≡◌, ◌∙◌, refl, sym, subst, ℕ, pos, List, [], ◌∷◌, length, map, arith}
-use Rattle.std.specs.Prelude.{Bool, true, false, ◌||◌, nat_lt, if◌then◌else◌, unwrap_or, Option, Some, None, IsSome, option_map, Result, Ok, Err, IfOk, All}
-use Rattle.std.specs.List.{list_all}
-use Rattle.std.proofs.lemmas.List.{length-map}
-use Rattle.std.proofs.lemmas.List.Elements.{All-nil, All-cons, All-head, All-tail}
-use Rattle.cell_core.specs.declared.grid.Shape.{Shape}
-use Rattle.cell_core.specs.declared.grid.Shape.TheVariants.{Series, Frame}
-use Rattle.meaning.specs.Text.{Text}
-use Rattle.meaning.specs.Cell.{CellValue, text_cell, LabelValue, int, Kind}
-use Rattle.meaning.specs.Column.{kind_mismatch}
-use Rattle.meaning.specs.Operator.{cell_label}
+use Rattle.{
+  std.{proofs.{Common.{◌≡◌, ◌∙◌, refl, sym, subst, ℕ, pos, List, [], ◌∷◌, length, map, arith}, lemmas.List.{length-map, Elements.{All-nil, All-cons, All-head, All-tail}}}, specs.{Prelude.{Bool, true, false, ◌||◌, nat_lt, if◌then◌else◌, unwrap_or, Option, Some, None, IsSome, option_map, Result, Ok, Err, IfOk, All}, List.{list_all}}},
+  cell_core.specs.declared.grid.Shape.{Shape, TheVariants.{Series, Frame}},
+  meaning.specs.{Text.{Text}, Cell.{CellValue, text_cell, LabelValue, int, Kind}, Column.{kind_mismatch}, Operator.{cell_label}, Reduce.{Reduction, reduction_takes, reduction_cell, distinct_count}, Fault.{FaultValue, wrong_kind, bad_value, no_columns, not_built}},
+  table_meaning.{specs.{Table.{ColumnOf, Table, column_at}, Valid.{AreHeadings}, Value.{Entry, cell, table, Given, NamedGiven, scalar_in, list_in, dict_in}}, proofs.KindLaws.{kind_is}},
+  form_meaning.{specs.{declared.Method.{Method}, Signature.{method_names, method_named, fits_shape, parameters_of}, Binding.{Bound, not_taken, not_listed, bound, bound_of, on_bound, truth_in}, Finish.{first_repeated, limited, finished, try_all, with_columns, same_kind, across_columns}, Make.{pairs_in}}, proofs.ShapeLaws.{named_fits, of_series, of_frame}},
+  format_meaning.specs.CsvWrite.{csv_text_of},
+  method_meaning.specs.{Methods.{each_column, Summary, reduced, distinct, made_cell, summary_cell, summary_kind, kind_for, summary_as, summary_of, summary, renamed_series, is_scalar_pair, renamed_heading, renamed_frame, as_frame, reset_index_result, csv_answer, answer_for, is_built}, Calls.{has_method, called, method_result, ChainValue, plain, grouped, through, not_built_if, chain_result}},
+  table_laws.{specs.Validity.{IsValidObject, IsValidEntry}, proofs.{ListLaws.{all_made, all_mapped, then_keeps, try_keeps, on_keeps}, CellLaws.{Held, held_cell, wrap_fits, reduced_kind, reduction_held}, ColumnLaws.{IsColumn, column_answers}, TableLaws.{IsShaped, shaped, limited_keeps, with_columns_shaped, column_of_table, series_heading, frame_headings, one_column}, HeadingLaws.{different, finished_keeps}, RowLaws.{head_keeps, tail_keeps, dropna_keeps, duplicated_keeps, sort_values_keeps, sort_by_keeps, sorted_keeps, drop_keeps}, GroupLaws.{grouped_result_keeps}, LevelLaws.{rename_axis_keeps, set_index_keeps, renumbered_keeps, levels_reset_keeps, droplevel_keeps, swaplevel_keeps}, ReindexLaws.{reindex_keeps}, SectionLaws.{xs_keeps}}},
+}
 use Rattle.meaning.specs.Reduce as reduction
-use Rattle.meaning.specs.Reduce.{Reduction, reduction_takes, reduction_cell, distinct_count}
-use Rattle.meaning.specs.Fault.{FaultValue, wrong_kind, bad_value, no_columns, not_built}
-use Rattle.table_meaning.specs.Table.{ColumnOf, Table, column_at}
-use Rattle.table_meaning.specs.Valid.{AreHeadings}
-use Rattle.table_meaning.specs.Value.{Entry, cell, table, Given, NamedGiven, scalar_in, list_in, dict_in}
-use Rattle.table_meaning.proofs.KindLaws.{kind_is}
-use Rattle.form_meaning.specs.declared.Method.{Method}
 use Rattle.form_meaning.specs.declared.Method.TheVariants as method
-use Rattle.form_meaning.specs.Signature.{method_names, method_named, fits_shape, parameters_of}
-use Rattle.form_meaning.proofs.ShapeLaws.{named_fits, of_series, of_frame}
-use Rattle.form_meaning.specs.Binding.{Bound, not_taken, not_listed, bound, bound_of, on_bound, truth_in}
-use Rattle.form_meaning.specs.Finish.{first_repeated, limited, finished, try_all, with_columns, same_kind, across_columns}
-use Rattle.form_meaning.specs.Make.{pairs_in}
-use Rattle.format_meaning.specs.CsvWrite.{csv_text_of}
-use Rattle.method_meaning.specs.Methods.{each_column, Summary, reduced, distinct, made_cell, summary_cell, summary_kind, kind_for, summary_as, summary_of, summary, renamed_series, is_scalar_pair, renamed_heading, renamed_frame, as_frame, reset_index_result, csv_answer, answer_for, is_built}
-use Rattle.method_meaning.specs.Calls.{has_method, called, method_result, ChainValue, plain, grouped, through, not_built_if, chain_result}
-use Rattle.table_laws.specs.Validity.{IsValidObject, IsValidEntry}
-use Rattle.table_laws.proofs.ListLaws.{all_made, all_mapped, then_keeps, try_keeps, on_keeps}
-use Rattle.table_laws.proofs.CellLaws.{Held, held_cell, wrap_fits, reduced_kind, reduction_held}
-use Rattle.table_laws.proofs.ColumnLaws.{IsColumn, column_answers}
-use Rattle.table_laws.proofs.TableLaws.{IsShaped, shaped, limited_keeps, with_columns_shaped, column_of_table, series_heading, frame_headings, one_column}
-use Rattle.table_laws.proofs.HeadingLaws.{different, finished_keeps}
-use Rattle.table_laws.proofs.RowLaws.{head_keeps, tail_keeps, dropna_keeps, duplicated_keeps, sort_values_keeps, sort_by_keeps, sorted_keeps, drop_keeps}
-use Rattle.table_laws.proofs.GroupLaws.{grouped_result_keeps}
-use Rattle.table_laws.proofs.LevelLaws.{rename_axis_keeps, set_index_keeps, renumbered_keeps, levels_reset_keeps, droplevel_keeps, swaplevel_keeps}
-use Rattle.table_laws.proofs.ReindexLaws.{reindex_keeps}
-use Rattle.table_laws.proofs.SectionLaws.{xs_keeps}
+use Rattle.form_meaning.specs.declared.ColumnMethod.TheVariants as column_method
+use Rattle.form_meaning.specs.declared.RowMethod.TheVariants as row_method
+use Rattle.form_meaning.specs.declared.LevelMethod.TheVariants as level_method
+use Rattle.form_meaning.specs.declared.LabelMethod.TheVariants as label_method
+use Rattle.form_meaning.specs.declared.TableMethod.TheVariants as table_method
 
 -- each column by itself
 each_keeps : (f : ColumnOf CellValue → Result (ColumnOf CellValue) FaultValue) (t : Table) → IsShaped t → ((rows : ℕ) (c : ColumnOf CellValue) → IsColumn rows c → IfOk (f c) (IsColumn rows)) → IfOk (each_column f t) IsValidEntry
@@ -200,19 +178,20 @@ ruleset answers = (
   csv_keeps,
 )
 
--- by the method and how many arguments it has; those that a shape alone has say which
+-- by the method and how many arguments it has; those that a shape alone has say which, and one of each family has them told apart
 answer_keeps : (m : Method) (gs : List Given) (t : Table) → IsShaped t → fits_shape m t.shape ≡ true → IfOk (answer_for m gs t) IsValidEntry
 unfolding method_names
-answer_keeps method.SortIndex (ascending ∷ []) t s fit = on_keeps IsValidEntry (truth_in ascending) _ (λ b. sorted_keeps t b t.labels s refl)
-answer_keeps method.RenameSeries (name ∷ []) t s fit = renamed_series_keeps t (option_map cell_label (scalar_in name)) s (of_series method.RenameSeries t.shape refl fit)
-answer_keeps method.RenameFrame (columns ∷ []) t s fit = on_keeps IsValidEntry (dict_in columns) _ (λ pairs. renamed_frame_keeps t (pairs_in pairs) s (of_frame method.RenameFrame t.shape refl fit))
-answer_keeps method.SetIndex (keys ∷ []) t s fit = set_index_keeps t keys s (of_frame method.SetIndex t.shape refl fit)
-answer_keeps method.ReindexSeries (index ∷ []) t s fit = reindex_keeps t (list_in index) None s (λ none. Prim.cc)
-answer_keeps method.ReindexFrame (index ∷ columns ∷ []) t s fit = reindex_keeps t (list_in index) (list_in columns) s (λ some. of_frame method.ReindexFrame t.shape refl fit)
-answer_keeps method.DropColumns (columns ∷ []) t s fit = drop_keeps t columns s (of_frame method.DropColumns t.shape refl fit)
-answer_keeps m [] t s fit = search answers
-answer_keeps m (a ∷ []) t s fit = search answers
-answer_keeps m (a ∷ b ∷ []) t s fit = search answers
+answer_keeps (method.Rows row_method.SortIndex) (ascending ∷ []) t s fit = on_keeps IsValidEntry (truth_in ascending) _ (λ b. sorted_keeps t b t.labels s refl)
+answer_keeps (method.Table table_method.RenameSeries) (name ∷ []) t s fit = renamed_series_keeps t (option_map cell_label (scalar_in name)) s (of_series (method.Table table_method.RenameSeries) t.shape refl fit)
+answer_keeps (method.Table table_method.RenameFrame) (columns ∷ []) t s fit = on_keeps IsValidEntry (dict_in columns) _ (λ pairs. renamed_frame_keeps t (pairs_in pairs) s (of_frame (method.Table table_method.RenameFrame) t.shape refl fit))
+answer_keeps (method.Levels level_method.SetIndex) (keys ∷ []) t s fit = set_index_keeps t keys s (of_frame (method.Levels level_method.SetIndex) t.shape refl fit)
+answer_keeps (method.Labels label_method.ReindexSeries) (index ∷ []) t s fit = reindex_keeps t (list_in index) None s (λ none. Prim.cc)
+answer_keeps (method.Labels label_method.ReindexFrame) (index ∷ columns ∷ []) t s fit = reindex_keeps t (list_in index) (list_in columns) s (λ some. of_frame (method.Labels label_method.ReindexFrame) t.shape refl fit)
+answer_keeps (method.Table table_method.DropColumns) (columns ∷ []) t s fit = drop_keeps t columns s (of_frame (method.Table table_method.DropColumns) t.shape refl fit)
+answer_keeps (method.Columns column_method.Isna) gs t s fit = search answers
+answer_keeps m [] t s fit = search answers depth 9
+answer_keeps m (a ∷ []) t s fit = search answers depth 9
+answer_keeps m (a ∷ b ∷ []) t s fit = search answers depth 9
 answer_keeps m gs t s fit = search answers
 
 pub on_bound_keeps : (b : Bound) (go : List Given → Result Entry FaultValue) → ((gs : List Given) → IfOk (go gs) IsValidEntry) → IfOk (on_bound b go) IsValidEntry

@@ -1,41 +1,15 @@
 -- What keys reach lies in the table.
-use Rattle.std.proofs.Common.{◌≡◌, ◌∙◌, refl, sym, subst, ℕ, ◌<◌, ◌≤◌, nat_lt, List, [], ◌∷◌, length, arith}
-use Rattle.std.specs.Prelude.{Bool, true, false, ◌==◌, if◌then◌else◌, Option, Some, None, Result, Ok, Err, IfOk, All}
-use Rattle.std.specs.List.{range_with_len}
-use Rattle.std.specs.declared.cmp.Ordering.{Ordering}
-use Rattle.std.specs.Cmp.Lexicographic.{as_long}
-use Rattle.std.proofs.lemmas.Bool.Decides.{nat_tests}
-use Rattle.std.proofs.lemmas.List.{length-map}
-use Rattle.std.proofs.lemmas.List.Elements.{All-nil, All-cons}
-use Rattle.std.proofs.lemmas.List.FromFn.{get_or-range_with_len, length-range_with_len}
-use Rattle.cell_core.specs.declared.grid.Shape.{Shape}
-use Rattle.cell_core.specs.declared.grid.Shape.TheVariants.{Series, Frame}
-use Rattle.meaning.specs.Cell.{na_cell, LabelValue, label_cmp}
-use Rattle.meaning.specs.Operator.{cell_label}
-use Rattle.meaning.specs.Symbol.{Accessor, loc, iloc, at, iat}
-use Rattle.meaning.specs.Fault.{FaultValue, wrong_kind, bad_value, repeated, then_value}
-use Rattle.table_meaning.specs.Table.{Table, rows_of}
-use Rattle.table_meaning.specs.Value.{Entry, cell, table, GivenSub, nothing, one, row, many, entries, key_given, span_given}
-use Rattle.form_meaning.specs.Binding.{each, is_scalar, same_label}
-use Rattle.form_meaning.specs.Finish.{column_labels}
-use Rattle.form_meaning.specs.Infix.{same_tuple}
-use Rattle.form_meaning.specs.Select.{column_place, column_places, labels_of}
-use Rattle.pick_meaning.specs.Faults.{PickFault, then_pick}
-use Rattle.pick_meaning.specs.Keys.{LabelKey, all_rows, one_key, each_key, between, PlaceKey, one_place, each_place, place_slice, Pick, has_one, key_pick, listed_pick, sliced_pick, single_pick, picked_by_label, picked_by_place}
-use Rattle.pick_meaning.specs.Labels.{rows_of_key, rows_of_keys}
-use Rattle.pick_meaning.specs.Leading.{leads}
-use Rattle.pick_meaning.specs.Masks.{masked_rows}
-use Rattle.pick_meaning.specs.Positions.{row_at, rows_at, position_slice}
+use Rattle.{
+  std.{proofs.{Common.{◌≡◌, ◌∙◌, refl, sym, subst, ℕ, ◌<◌, ◌≤◌, nat_lt, List, [], ◌∷◌, length, arith}, lemmas.{Bool.Decides.{nat_tests}, List.{length-map, Elements.{All-nil, All-cons}, FromFn.{get_or-range_with_len, length-range_with_len}}}}, specs.{Prelude.{Bool, true, false, ◌==◌, if◌then◌else◌, Option, Some, None, Result, Ok, Err, IfOk, All}, List.{range_with_len}, declared.cmp.Ordering.{Ordering}, Cmp.Lexicographic.{as_long}}},
+  cell_core.specs.declared.grid.Shape.{Shape, TheVariants.{Series, Frame}},
+  meaning.specs.{Cell.{na_cell, LabelValue, label_cmp}, Operator.{cell_label}, Symbol.{Accessor, loc, iloc, at, iat}, Fault.{FaultValue, wrong_kind, bad_value, repeated, then_value}},
+  table_meaning.specs.{Table.{Table, rows_of}, Value.{Entry, cell, table, GivenSub, nothing, one, row, many, entries, key_given, span_given}},
+  form_meaning.specs.{Binding.{each, is_scalar, same_label}, Finish.{column_labels}, Infix.{same_tuple}, Select.{column_place, column_places, labels_of}},
+  pick_meaning.{specs.{Faults.{PickFault, then_pick}, Keys.{LabelKey, all_rows, one_key, each_key, between, PlaceKey, one_place, each_place, place_slice, Pick, has_one, key_pick, listed_pick, sliced_pick, single_pick, picked_by_label, picked_by_place}, Labels.{rows_of_key, rows_of_keys}, Leading.{leads}, Masks.{masked_rows}, Positions.{row_at, rows_at, position_slice}}, proofs.{InsideLaws.{ok_same, went_on, mask_inside}, KeyLaws.{picked_inside, placed_inside}}},
+  select_meaning.specs.{Keys.{found_pick, found_labels, label_key, label_pick, place_key, place_pick, is_mask, marks_of, mask_pick, loc_rows, loc_columns, whole_key, once, at_rows, iat_pick, rows_by, columns_by, joined_key, rows_by_two, all_columns, only_column, reach_of, reach_by, may_stand_alone}, Select.{column_reach, columns_reach, frame_reach, item_reach, is_truth_list, Way, plain, through, way_reach, select_result}},
+  table_laws.{specs.Validity.{IsValidObject, IsValidEntry}, proofs.{ListLaws.{both_true, length_tabulate, then_keeps, try_keeps}, TableLaws.{IsShaped, shaped, one_column}, HeadingLaws.{column_place_found}, SelectLaws.{IsReach, picked_keeps}}},
+}
 use Rattle.pick_meaning.specs.Rows as pick_rows
-use Rattle.pick_meaning.proofs.InsideLaws.{ok_same, went_on, mask_inside}
-use Rattle.pick_meaning.proofs.KeyLaws.{picked_inside, placed_inside}
-use Rattle.select_meaning.specs.Keys.{found_pick, found_labels, label_key, label_pick, place_key, place_pick, is_mask, marks_of, mask_pick, loc_rows, loc_columns, whole_key, once, at_rows, iat_pick, rows_by, columns_by, joined_key, rows_by_two, all_columns, only_column, reach_of, reach_by, may_stand_alone}
-use Rattle.select_meaning.specs.Select.{column_reach, columns_reach, frame_reach, item_reach, is_truth_list, Way, plain, through, way_reach, select_result}
-use Rattle.table_laws.specs.Validity.{IsValidObject, IsValidEntry}
-use Rattle.table_laws.proofs.ListLaws.{both_true, length_tabulate, then_keeps, try_keeps}
-use Rattle.table_laws.proofs.TableLaws.{IsShaped, shaped, one_column}
-use Rattle.table_laws.proofs.HeadingLaws.{column_place_found}
-use Rattle.table_laws.proofs.SelectLaws.{IsReach, picked_keeps}
 
 -- a pick of so many places, of which a single one is one, and which leaves one of so many levels
 record IsPick (levels count : ℕ) (p : Pick) : Type 0 where

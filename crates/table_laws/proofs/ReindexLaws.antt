@@ -1,33 +1,15 @@
 -- `reindex` makes valid tables of valid ones.
-use Rattle.std.proofs.Common.{◌≡◌, ◌∙◌, refl, ap, sym, subst, ℕ, suc, ◌+◌, ◌<◌, List, [], ◌∷◌, length, map, arith}
-use Rattle.std.specs.Prelude.{Bool, true, false, ◌&&◌, nat_eq, nat_lt, if◌then◌else◌, Option, Some, None, IsSome, IfSome, Result, Ok, Err, IfOk, All}
-use Rattle.std.proofs.lemmas.Bool.{eqb-true}
-use Rattle.std.proofs.lemmas.List.{length-map}
-use Rattle.std.proofs.lemmas.List.Elements.{All-nil, All-cons}
-use Rattle.cell_core.specs.declared.grid.Shape.TheVariants.{Frame}
-use Rattle.meaning.specs.Cell.{na_cell, LabelValue, Int64}
-use Rattle.meaning.specs.Fault.{wrong_kind}
-use Rattle.meaning.specs.Operator.{cell_label}
-use Rattle.align_meaning.specs.Faults.{AlignRefusal, met_rows}
-use Rattle.align_meaning.specs.Targets.{reindexed}
-use Rattle.align_meaning.proofs.FoundLaws.{reindexed_count, reindexed_below}
-use Rattle.table_meaning.specs.Table.{Table}
-use Rattle.table_meaning.specs.Value.{Given, GivenList, cell, table, nothing, one, row, many, entries, no_given, more_given}
-use Rattle.form_meaning.specs.Binding.{each, is_scalar, count_of, is_tuple_of}
-use Rattle.form_meaning.specs.Finish.{first_repeated, column_labels}
-use Rattle.form_meaning.specs.Infix.{same_tuple}
-use Rattle.form_meaning.specs.Select.{labels_of}
-use Rattle.select_meaning.specs.Keys.{whole_item, whole_items}
-use Rattle.select_meaning.specs.Select.{row_name}
-use Rattle.method_meaning.specs.Reindex.{rows_at, rows_reindexed, column_or_missing, columns_at, columns_reindexed, reindex_result}
-use Rattle.table_laws.specs.Validity.{IsValidEntry}
-use Rattle.table_laws.proofs.ListLaws.{both_true, all_made, then_keeps}
-use Rattle.table_laws.proofs.CellLaws.{na_held}
-use Rattle.table_laws.proofs.ColumnLaws.{IsColumn, spread_column}
-use Rattle.table_laws.proofs.TableLaws.{IsShaped, limited_keeps, column_of_table, frame_headings}
-use Rattle.table_laws.proofs.HeadingLaws.{different, finished_keeps}
-use Rattle.table_laws.proofs.InfixLaws.{columns_on}
-use Rattle.table_laws.proofs.SetLaws.{met_keeps}
+use Rattle.{
+  std.{proofs.{Common.{◌≡◌, ◌∙◌, refl, ap, sym, subst, ℕ, suc, ◌+◌, ◌<◌, List, [], ◌∷◌, length, map, arith}, lemmas.{Bool.{eqb-true}, List.{length-map, Elements.{All-nil, All-cons}}}}, specs.Prelude.{Bool, true, false, ◌&&◌, nat_eq, nat_lt, if◌then◌else◌, Option, Some, None, IsSome, IfSome, Result, Ok, Err, IfOk, All}},
+  cell_core.specs.declared.grid.Shape.TheVariants.{Frame},
+  meaning.specs.{Cell.{na_cell, LabelValue, Int64}, Fault.{wrong_kind}, Operator.{cell_label}},
+  align_meaning.{specs.{Faults.{AlignRefusal, met_rows}, Targets.{reindexed}}, proofs.FoundLaws.{reindexed_count, reindexed_below}},
+  table_meaning.specs.{Table.{Table}, Value.{Given, GivenList, cell, table, nothing, one, row, many, entries, no_given, more_given}},
+  form_meaning.specs.{Binding.{each, is_scalar, count_of, is_tuple_of}, Finish.{first_repeated, column_labels}, Infix.{same_tuple}, Select.{labels_of}},
+  select_meaning.specs.{Keys.{whole_item, whole_items}, Select.{row_name}},
+  method_meaning.specs.Reindex.{rows_at, rows_reindexed, column_or_missing, columns_at, columns_reindexed, reindex_result},
+  table_laws.{specs.Validity.{IsValidEntry}, proofs.{ListLaws.{both_true, all_made, then_keeps}, CellLaws.{na_held}, ColumnLaws.{IsColumn, spread_column}, TableLaws.{IsShaped, limited_keeps, column_of_table, frame_headings}, HeadingLaws.{different, finished_keeps}, InfixLaws.{columns_on}, SetLaws.{met_keeps}}},
+}
 
 abbrev Has : ℕ → List LabelValue → Type 0
 Has n tuple = length tuple ≡ n

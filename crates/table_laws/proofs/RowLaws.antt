@@ -1,35 +1,16 @@
 -- Methods that answer some rows, or all in another order, make valid tables of valid ones.
-use Rattle.std.proofs.Common.{◌≡◌, ◌∙◌, ap, refl, sym, subst, ℕ, suc, ◌<◌, ℤ, pos, List, [], ◌∷◌, length, map, arith}
-use Rattle.std.specs.Prelude.{neg_ℤ, Bool, true, false, if◌then◌else◌, None, Some, IsSome, Result, Ok, Err, IfOk, All}
-use Rattle.std.specs.List.{list_all, range_with_len}
-use Rattle.std.specs.Ordering.{int_eq}
-use Rattle.std.specs.Cmp.Lexicographic.{pointwise}
-use Rattle.std.proofs.lemmas.List.{length-map}
-use Rattle.std.proofs.lemmas.List.Elements.{All-nil, All-cons, All-head, All-tail, All-filter}
-use Rattle.cell_core.specs.declared.grid.Shape.TheVariants.{Series, Frame}
-use Rattle.meaning.specs.Cell.{LabelValue, na_cell, truth_cell, Boolean}
-use Rattle.meaning.specs.Reduce.{is_present, same_cell}
-use Rattle.meaning.specs.Fault.{FaultValue}
-use Rattle.table_meaning.specs.Table.{Table, column_at, rows_of}
-use Rattle.table_meaning.specs.Value.{Given}
-use Rattle.form_meaning.specs.Finish.{first_repeated, limited}
-use Rattle.form_meaning.specs.Select.{heading_at, columns_frame, column_places}
-use Rattle.pick_meaning.specs.Keys.{PlaceKey, place_slice, Pick, picked_by_place}
-use Rattle.pick_meaning.specs.Rows.{rows_where}
-use Rattle.pick_meaning.proofs.InsideLaws.{rows_inside}
-use Rattle.pick_meaning.proofs.KeyLaws.{placed_inside}
-use Rattle.sorting.specs.Sorting.{put_in, in_order}
-use Rattle.select_meaning.specs.Keys.{found_pick}
-use Rattle.select_meaning.specs.Select.{rows_taken}
-use Rattle.method_meaning.specs.Rows.{placed_rows, head_result, tail_result, cells_by_row, all_places, dropna_result, repeats, marks_series, labels_in, subset_places, duplicated_result, row_less, sorted_rows, sorted_result, sort_values_result, sort_by_result, places_besides, drop_result}
-use Rattle.table_laws.specs.Validity.{IsValidEntry}
-use Rattle.table_laws.proofs.ListLaws.{all_made, all_mapped, length_tabulate, then_keeps}
-use Rattle.table_laws.proofs.CellLaws.{Held}
-use Rattle.table_laws.proofs.ColumnLaws.{IsColumn}
-use Rattle.table_laws.proofs.TableLaws.{IsShaped, limited_keeps, column_of_table, series_heading, frame_headings}
-use Rattle.table_laws.proofs.HeadingLaws.{different, finished_keeps}
-use Rattle.table_laws.proofs.SelectLaws.{rows_shaped}
-use Rattle.table_laws.proofs.ReachLaws.{below_all, found_is}
+use Rattle.{
+  std.{proofs.{Common.{◌≡◌, ◌∙◌, ap, refl, sym, subst, ℕ, suc, ◌<◌, ℤ, pos, List, [], ◌∷◌, length, map, arith}, lemmas.List.{length-map, Elements.{All-nil, All-cons, All-head, All-tail, All-filter}}}, specs.{Prelude.{neg_ℤ, Bool, true, false, if◌then◌else◌, None, Some, IsSome, Result, Ok, Err, IfOk, All}, List.{list_all, range_with_len}, Ordering.{int_eq}, Cmp.Lexicographic.{pointwise}}},
+  cell_core.specs.declared.grid.Shape.TheVariants.{Series, Frame},
+  meaning.specs.{Cell.{LabelValue, na_cell, truth_cell, Boolean}, Reduce.{is_present, same_cell}, Fault.{FaultValue}},
+  table_meaning.specs.{Table.{Table, column_at, rows_of}, Value.{Given}},
+  form_meaning.specs.{Finish.{first_repeated, limited}, Select.{heading_at, columns_frame, column_places}},
+  pick_meaning.{specs.{Keys.{PlaceKey, place_slice, Pick, picked_by_place}, Rows.{rows_where}}, proofs.{InsideLaws.{rows_inside}, KeyLaws.{placed_inside}}},
+  sorting.specs.Sorting.{put_in, in_order},
+  select_meaning.specs.{Keys.{found_pick}, Select.{rows_taken}},
+  method_meaning.specs.Rows.{placed_rows, head_result, tail_result, cells_by_row, all_places, dropna_result, repeats, marks_series, labels_in, subset_places, duplicated_result, row_less, sorted_rows, sorted_result, sort_values_result, sort_by_result, places_besides, drop_result},
+  table_laws.{specs.Validity.{IsValidEntry}, proofs.{ListLaws.{all_made, all_mapped, length_tabulate, then_keeps}, CellLaws.{Held}, ColumnLaws.{IsColumn}, TableLaws.{IsShaped, limited_keeps, column_of_table, series_heading, frame_headings}, HeadingLaws.{different, finished_keeps}, SelectLaws.{rows_shaped}, ReachLaws.{below_all, found_is}}},
+}
 
 rows_keep : (t : Table) (rows : List ℕ) → IsShaped t → All (λ row. row < length t.labels) rows → IfOk (limited (rows_taken t rows)) IsValidEntry
 rows_keep t rows s inside = limited_keeps (rows_taken t rows) (rows_shaped t rows s inside)

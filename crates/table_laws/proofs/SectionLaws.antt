@@ -1,21 +1,13 @@
 -- `xs` makes valid tables of valid ones.
-use Rattle.std.proofs.Common.{ℕ, ◌<◌, ◌≤◌, List, [], ◌∷◌, length}
-use Rattle.std.specs.Prelude.{Option, IfOk, All}
-use Rattle.meaning.specs.Cell.{CellValue, LabelValue}
-use Rattle.meaning.specs.Operator.{cell_label}
-use Rattle.pick_meaning.specs.Labels.{unless_none}
-use Rattle.pick_meaning.specs.Rows.{rows_where}
-use Rattle.pick_meaning.proofs.InsideLaws.{rows_inside}
-use Rattle.table_meaning.specs.Table.{Table}
-use Rattle.select_meaning.specs.Keys.{found_pick}
-use Rattle.select_meaning.specs.Select.{rows_taken}
-use Rattle.method_meaning.specs.Levels.{level_of, level_dropped}
-use Rattle.method_meaning.specs.Section.{has_label, rows_with_label, section, xs_result}
-use Rattle.table_laws.specs.Validity.{IsValidEntry}
-use Rattle.table_laws.proofs.ListLaws.{then_keeps}
-use Rattle.table_laws.proofs.TableLaws.{IsShaped, limited_keeps}
-use Rattle.table_laws.proofs.SelectLaws.{rows_shaped}
-use Rattle.table_laws.proofs.LevelLaws.{IsLevel, level_of_keeps, of_several_keeps, dropped_shaped}
+use Rattle.{
+  std.{proofs.Common.{ℕ, ◌<◌, ◌≤◌, List, [], ◌∷◌, length}, specs.Prelude.{Option, IfOk, All}},
+  meaning.specs.{Cell.{CellValue, LabelValue}, Operator.{cell_label}},
+  pick_meaning.{specs.{Labels.{unless_none}, Rows.{rows_where}}, proofs.InsideLaws.{rows_inside}},
+  table_meaning.specs.Table.{Table},
+  select_meaning.specs.{Keys.{found_pick}, Select.{rows_taken}},
+  method_meaning.specs.{Levels.{level_of, level_dropped}, Section.{has_label, rows_with_label, section, xs_result}},
+  table_laws.{specs.Validity.{IsValidEntry}, proofs.{ListLaws.{then_keeps}, TableLaws.{IsShaped, limited_keeps}, SelectLaws.{rows_shaped}, LevelLaws.{IsLevel, level_of_keeps, of_several_keeps, dropped_shaped}}},
+}
 
 -- the rows lie in the table
 some_inside : (P : List ℕ → Type 0) (key : List LabelValue) (rows : List ℕ) → P rows → IfOk (found_pick (unless_none key rows)) P

@@ -1,28 +1,13 @@
 -- Selections give valid tables of valid ones, and cells that columns can hold.
-use Rattle.std.proofs.Common.{◌≡◌, ◌∙◌, refl, ap, sym, subst, ℕ, ◌<◌, ◌-◌, drop, pos, List, [], ◌∷◌, length, map, arith}
-use Rattle.std.specs.Prelude.{Bool, true, false, if◌then◌else◌, slice_index_or, unwrap_or, Option, None, IsSome, Ok, Err, IfOk, All}
-use Rattle.std.specs.List.{list_all}
-use Rattle.std.proofs.lemmas.List.{length-map, length-drop}
-use Rattle.std.proofs.lemmas.List.Elements.{All-nil, All-cons}
-use Rattle.cell_core.specs.declared.cell.Kind.{Kind}
-use Rattle.cell_core.specs.declared.grid.Shape.{Shape}
-use Rattle.cell_core.specs.declared.grid.Shape.TheVariants.{Series, Frame}
-use Rattle.meaning.specs.Cell.{CellValue, na_cell, LabelValue, int}
-use Rattle.meaning.specs.Fault.{wrong_kind, then_value}
-use Rattle.table_meaning.specs.Table.{ColumnOf, Table, column_at}
-use Rattle.table_meaning.specs.Valid.{AreHeadings}
-use Rattle.table_meaning.specs.Value.{Entry, cell, table}
-use Rattle.table_meaning.proofs.KindLaws.{kind_is}
-use Rattle.form_meaning.specs.Finish.{limited, same_kind}
-use Rattle.form_meaning.specs.Select.{heading_at, length_result}
-use Rattle.select_meaning.specs.Keys.{Reach}
-use Rattle.select_meaning.specs.Select.{column_rows, rows_taken, without_leading, cut, as_series, row_name, first_cell, kind_across, row_series, row_result, shown_as, picked_result}
-use Rattle.table_laws.specs.Validity.{IsHeldCell, IsValidEntry}
-use Rattle.table_laws.proofs.ListLaws.{all_made, all_mapped, all_pass, at_or}
-use Rattle.table_laws.proofs.CellLaws.{Held, na_held, held_cell, wrap_fits}
-use Rattle.table_laws.proofs.ColumnLaws.{IsColumn}
-use Rattle.table_laws.proofs.TableLaws.{IsShaped, limited_keeps, column_of_table, series_heading, frame_headings}
-use Rattle.table_laws.proofs.HeadingLaws.{different, finished_keeps}
+use Rattle.{
+  std.{proofs.{Common.{◌≡◌, ◌∙◌, refl, ap, sym, subst, ℕ, ◌<◌, ◌-◌, drop, pos, List, [], ◌∷◌, length, map, arith}, lemmas.List.{length-map, length-drop, Elements.{All-nil, All-cons}}}, specs.{Prelude.{Bool, true, false, if◌then◌else◌, slice_index_or, unwrap_or, Option, None, IsSome, Ok, Err, IfOk, All}, List.{list_all}}},
+  cell_core.specs.declared.{cell.Kind.{Kind}, grid.Shape.{Shape, TheVariants.{Series, Frame}}},
+  meaning.specs.{Cell.{CellValue, na_cell, LabelValue, int}, Fault.{wrong_kind, then_value}},
+  table_meaning.{specs.{Table.{ColumnOf, Table, column_at}, Valid.{AreHeadings}, Value.{Entry, cell, table}}, proofs.KindLaws.{kind_is}},
+  form_meaning.specs.{Finish.{limited, same_kind}, Select.{heading_at, length_result}},
+  select_meaning.specs.{Keys.{Reach}, Select.{column_rows, rows_taken, without_leading, cut, as_series, row_name, first_cell, kind_across, row_series, row_result, shown_as, picked_result}},
+  table_laws.{specs.Validity.{IsHeldCell, IsValidEntry}, proofs.{ListLaws.{all_made, all_mapped, all_pass, at_or}, CellLaws.{Held, na_held, held_cell, wrap_fits}, ColumnLaws.{IsColumn}, TableLaws.{IsShaped, limited_keeps, column_of_table, series_heading, frame_headings}, HeadingLaws.{different, finished_keeps}}},
+}
 
 -- what is reached lies in the table, of whose levels one is left; single columns are one, and where they aren't single the
 -- table is a frame

@@ -1,43 +1,15 @@
 -- Settings and removals leave valid tables.
-use Rattle.std.proofs.Common.{◌≡◌, ◌≢◌, ◌∙◌, ap, refl, sym, subst, ℕ, zero, suc, ◌+◌, ◌*◌, ◌%◌, ◌/◌, ◌^◌, ◌<◌, ◌≤◌, pos, nat_eq, List, [], ◌∷◌, length, map, arith}
-use Rattle.std.specs.Prelude.{Bool, true, false, not, ◌&&◌, ◌||◌, nat_le, if◌then◌else◌, remove, slice_index, Option, Some, None, option_map, IsSome, IfSome, unwrap_or, Result, Ok, Err, IfOk, All, AllPairs}
-use Rattle.std.specs.List.{range_with_len, list_any}
-use Rattle.std.proofs.lemmas.Bool.Decides.{nat_tests}
-use Rattle.std.proofs.lemmas.List.{length-map, length-append, length-set}
-use Rattle.std.proofs.lemmas.List.FromFn.{length-map-range_with_len}
-use Rattle.std.proofs.lemmas.List.Edits.{length-remove}
-use Rattle.std.proofs.lemmas.List.Elements.{All-nil, All-cons, All-head, All-tail, All-append, All-set}
-use Rattle.std.proofs.lemmas.List.Quantifiers.{all_pairs_remove}
-use Rattle.std.proofs.lemmas.Nat.{mul-le}
-use Rattle.cell_core.specs.declared.grid.Shape.{Shape}
-use Rattle.cell_core.specs.declared.grid.Shape.TheVariants.{Series, Frame}
-use Rattle.meaning.specs.Column.{gap_cell}
-use Rattle.meaning.specs.Cell.{CellValue, na_cell, LabelValue, Kind, int, Int64, holds}
-use Rattle.meaning.specs.Operator.{cell_label, scalar_kind}
-use Rattle.meaning.specs.Symbol.{Accessor, loc}
-use Rattle.meaning.specs.Fault.{FaultValue, wrong_kind, bad_value, levels, no_columns, then_value}
-use Rattle.table_meaning.specs.Table.{ColumnOf, Table, column_at}
-use Rattle.table_meaning.specs.Change.{put_at, without_column, with_cell_at, with_cell, with_values_from, with_values}
-use Rattle.table_meaning.specs.Valid.{IsValid, within_limits}
-use Rattle.table_meaning.specs.Value.{Entry, cell, table, Given, GivenSub, nothing, one, row, many, entries, key_given, span_given}
-use Rattle.form_meaning.specs.Binding.{each, is_scalar, is_frame, same_label}
-use Rattle.form_meaning.specs.Finish.{limited_table, default_labels, missing_column, column_labels}
-use Rattle.form_meaning.specs.Infix.{same_tuple, same_tuples}
-use Rattle.form_meaning.specs.Select.{place_of_label, column_place, cells_of}
-use Rattle.form_meaning.specs.Set.{list_column, of_length}
-use Rattle.pick_meaning.specs.Keys.{Pick}
-use Rattle.align_meaning.specs.Faults.{AlignRefusal, met_rows}
-use Rattle.align_meaning.specs.Targets.{reindexed}
-use Rattle.align_meaning.proofs.FoundLaws.{reindexed_count}
-use Rattle.select_meaning.specs.Keys.{rows_by, columns_by, joined_key, all_columns, only_column, may_stand_alone}
-use Rattle.select_meaning.specs.Select.{Way, plain, through}
-use Rattle.select_meaning.specs.Set.{SetValue, same, listed, aligned, set_value, with_labelled, put_result, with_rows, has_none, list_set, aligned_rows, column_at_rows, aligned_column, series_set, scalar_column, column_set, frame_set, Reached, picked, added_label, or_added, row_to_add, rows_set, columns_set, Target, target_of, target_by, lacks_columns, with_gap, with_row, values_for, kind_of_value, with_new_column, fit_from, filled_table, target_set, access_set, item_set, assign_result, removal_result}
-use Rattle.table_laws.specs.Validity.{IsValidObject, IsHeldCell, IsValidGiven}
-use Rattle.table_laws.proofs.ListLaws.{both_true, all_made, all_mapped, at_or, then_keeps, All-put_at, length-put_at, All-remove, of_length_keeps}
-use Rattle.table_laws.proofs.CellLaws.{Held, na_held}
-use Rattle.table_laws.proofs.ColumnLaws.{IsColumn, list_keeps, spread_column}
-use Rattle.table_laws.proofs.TableLaws.{IsShaped, shaped, valid, limited_table_keeps, column_of_table, frame_headings, one_column}
-use Rattle.table_laws.proofs.HeadingLaws.{put_heading, column_place_found}
+use Rattle.{
+  std.{proofs.{Common.{◌≡◌, ◌≢◌, ◌∙◌, ap, refl, sym, subst, ℕ, zero, suc, ◌+◌, ◌*◌, ◌%◌, ◌/◌, ◌^◌, ◌<◌, ◌≤◌, pos, nat_eq, List, [], ◌∷◌, length, map, arith}, lemmas.{Bool.Decides.{nat_tests}, List.{length-map, length-append, length-set, FromFn.{length-map-range_with_len}, Edits.{length-remove}, Elements.{All-nil, All-cons, All-head, All-tail, All-append, All-set}, Quantifiers.{all_pairs_remove}}, Nat.{mul-le}}}, specs.{Prelude.{Bool, true, false, not, ◌&&◌, ◌||◌, nat_le, if◌then◌else◌, remove, slice_index, Option, Some, None, option_map, IsSome, IfSome, unwrap_or, Result, Ok, Err, IfOk, All, AllPairs}, List.{range_with_len, list_any}}},
+  cell_core.specs.declared.grid.Shape.{Shape, TheVariants.{Series, Frame}},
+  meaning.specs.{Column.{gap_cell}, Cell.{CellValue, na_cell, LabelValue, Kind, int, Int64, holds}, Operator.{cell_label, scalar_kind}, Symbol.{Accessor, loc}, Fault.{FaultValue, wrong_kind, bad_value, levels, no_columns, then_value}},
+  table_meaning.specs.{Table.{ColumnOf, Table, column_at}, Change.{put_at, without_column, with_cell_at, with_cell, with_values_from, with_values}, Valid.{IsValid, within_limits}, Value.{Entry, cell, table, Given, GivenSub, nothing, one, row, many, entries, key_given, span_given}},
+  form_meaning.specs.{Binding.{each, is_scalar, is_frame, same_label}, Finish.{limited_table, default_labels, missing_column, column_labels}, Infix.{same_tuple, same_tuples}, Select.{place_of_label, column_place, cells_of}, Set.{list_column, of_length}},
+  pick_meaning.specs.Keys.{Pick},
+  align_meaning.{specs.{Faults.{AlignRefusal, met_rows}, Targets.{reindexed}}, proofs.FoundLaws.{reindexed_count}},
+  select_meaning.specs.{Keys.{rows_by, columns_by, joined_key, all_columns, only_column, may_stand_alone}, Select.{Way, plain, through}, Set.{SetValue, same, listed, aligned, set_value, with_labelled, put_result, with_rows, has_none, list_set, aligned_rows, column_at_rows, aligned_column, series_set, scalar_column, column_set, frame_set, Reached, picked, added_label, or_added, row_to_add, rows_set, columns_set, Target, target_of, target_by, lacks_columns, with_gap, with_row, values_for, kind_of_value, with_new_column, fit_from, filled_table, target_set, access_set, item_set, assign_result, removal_result}},
+  table_laws.{specs.Validity.{IsValidObject, IsHeldCell, IsValidGiven}, proofs.{ListLaws.{both_true, all_made, all_mapped, at_or, then_keeps, All-put_at, length-put_at, All-remove, of_length_keeps}, CellLaws.{Held, na_held}, ColumnLaws.{IsColumn, list_keeps, spread_column}, TableLaws.{IsShaped, shaped, valid, limited_table_keeps, column_of_table, frame_headings, one_column}, HeadingLaws.{put_heading, column_place_found}}},
+}
 
 -- a column in the place of its label, or last
 put_keeps : (t : Table) (l : LabelValue) (c : ColumnOf CellValue) → IsShaped t → t.shape ≡ Frame → IsColumn (length t.labels) c → IfOk (put_result t l c) IsValid

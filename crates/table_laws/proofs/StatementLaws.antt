@@ -1,37 +1,17 @@
 -- A statement leaves a valid state of a valid one.
-use Rattle.std.proofs.Common.{ℕ, List}
-use Rattle.std.specs.Prelude.{Bool, true, false, ◌||◌, if◌then◌else◌, codes, is_some, Option, Some, None, IfSome, Result, Ok, Err, IfOk, All}
-use Rattle.std.proofs.lemmas.List.Elements.{All-nil, All-cons}
-use Rattle.std.specs.FinMap.{get}
-use Rattle.meaning.specs.Text.{Text, same_text, Contents}
-use Rattle.meaning.specs.Fault.{FaultValue}
+use Rattle.{
+  std.{proofs.{Common.{ℕ, List}, lemmas.List.Elements.{All-nil, All-cons}}, specs.{Prelude.{Bool, true, false, ◌||◌, if◌then◌else◌, codes, is_some, Option, Some, None, IfSome, Result, Ok, Err, IfOk, All}, FinMap.{get}}},
+  meaning.specs.{Text.{Text, same_text, Contents}, Fault.{FaultValue}},
+  language_meaning.specs.Tree.{Expr, Step, Arg, ArgList, Args, Form},
+  table_meaning.specs.{Table.{Table}, Valid.{IsValid}, Value.{Entry, cell, table, NamedGiven, key_given}},
+  form_meaning.specs.{declared.Function.TheVariants.{ReadCsv}, Signature.{function_named}},
+  select_meaning.specs.{Select.{plain, through}, Set.{removal_result}},
+  method_meaning.specs.{Calls.{has_method}, Concat.{tables_of}, Functions.{function_result}, Readers.{reads_file, file_name_of, read_result}},
+  script_meaning.specs.{State.{State, with_new, without_name}, Reading.{Files, Reading, Reads, at_once, goes_on, then_read, of_bytes, of_path, of_file, path_of_name}, Expression.{named_by, value_of_name, is_minus, where_named, made, value_of, stepped, sub_of, second_of, brackets_of, given_of, part_of, parts_of, pairs_of, named_of, target_of}, Statement.{Answer, refused, then_answer, with_value, set_answer, assigned, statement_result}},
+  table_laws.{specs.Validity.{IsValidObject, IsValidEntry, IsValidGiven, IsValidArgument, AreValidArguments, IsValidState, LeavesValid, HasHeldLiterals, IsHeldArgument, IsHeldForm}, proofs.{InfixLaws.{infix_result_keeps, sign_result_keeps}, SelectLaws.{length_result_keeps}, ReachLaws.{select_result_keeps}, SetLaws.{assign_result_keeps, removal_result_keeps}, MethodLaws.{chain_result_keeps}, CsvLaws.{read_result_keeps}, ArgumentLaws.{more_valid}, CallLaws.{call_result_keeps, function_result_keeps}}},
+}
 use Rattle.language_meaning.specs.Tree as tree
-use Rattle.language_meaning.specs.Tree.{Expr, Step, Arg, ArgList, Args, Form}
-use Rattle.table_meaning.specs.Table.{Table}
-use Rattle.table_meaning.specs.Valid.{IsValid}
-use Rattle.table_meaning.specs.Value.{Entry, cell, table, NamedGiven, key_given}
-use Rattle.form_meaning.specs.declared.Function.TheVariants.{ReadCsv}
-use Rattle.form_meaning.specs.Signature.{function_named}
-use Rattle.select_meaning.specs.Select.{plain, through}
-use Rattle.select_meaning.specs.Set.{removal_result}
 use Rattle.method_meaning.specs.Calls as calls
-use Rattle.method_meaning.specs.Calls.{has_method, chain_result}
-use Rattle.method_meaning.specs.Concat.{tables_of}
-use Rattle.method_meaning.specs.Functions.{function_result}
-use Rattle.method_meaning.specs.Readers.{reads_file, file_name_of, read_result}
-use Rattle.script_meaning.specs.State.{State, with_new, without_name}
-use Rattle.script_meaning.specs.Reading.{Files, Reading, Reads, at_once, goes_on, then_read, of_bytes, of_path, of_file, path_of_name}
-use Rattle.script_meaning.specs.Expression.{named_by, value_of_name, is_minus, where_named, made, value_of, stepped, sub_of, second_of, brackets_of, given_of, part_of, parts_of, pairs_of, named_of, target_of}
-use Rattle.script_meaning.specs.Statement.{Answer, refused, then_answer, with_value, set_answer, assigned, statement_result}
-use Rattle.table_laws.specs.Validity.{IsValidObject, IsValidEntry, IsValidGiven, IsValidArgument, AreValidArguments, IsValidState, LeavesValid, HasHeldLiterals, IsHeldArgument, IsHeldForm}
-use Rattle.table_laws.proofs.InfixLaws.{infix_result_keeps, sign_result_keeps}
-use Rattle.table_laws.proofs.SelectLaws.{length_result_keeps}
-use Rattle.table_laws.proofs.ReachLaws.{select_result_keeps}
-use Rattle.table_laws.proofs.SetLaws.{assign_result_keeps, removal_result_keeps}
-use Rattle.table_laws.proofs.MethodLaws.{chain_result_keeps}
-use Rattle.table_laws.proofs.CsvLaws.{read_result_keeps}
-use Rattle.table_laws.proofs.ArgumentLaws.{more_valid}
-use Rattle.table_laws.proofs.CallLaws.{call_result_keeps, function_result_keeps}
 
 abbrev Any : {A : Type 0} → A → Type 0
 Any a = Unit {0}

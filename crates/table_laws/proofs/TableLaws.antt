@@ -1,16 +1,12 @@
 -- Tables whose parts fit, before their limits are tested.
-use Rattle.std.proofs.Common.{◌≡◌, ◌≢◌, ◌∙◌, refl, sym, ℕ, ◌<◌, ◌≤◌, List, [], ◌∷◌, length}
-use Rattle.std.specs.Prelude.{Bool, true, false, if◌then◌else◌, Option, None, IsSome, Result, Ok, Err, IfOk, All, AllPairs}
-use Rattle.cell_core.specs.declared.grid.Shape.{Shape}
-use Rattle.cell_core.specs.declared.grid.Shape.TheVariants.{Series, Frame}
-use Rattle.meaning.specs.Cell.{CellValue, LabelValue}
-use Rattle.meaning.specs.Fault.{FaultValue, limit, then_value}
-use Rattle.table_meaning.specs.Table.{ColumnOf, Table, column_at, no_column}
-use Rattle.table_meaning.specs.Valid.{AreHeadings, IsValid, within_limits}
-use Rattle.table_meaning.specs.Value.{table}
-use Rattle.form_meaning.specs.Finish.{limited_table, limited, with_columns}
-use Rattle.table_laws.specs.Validity.{IsValidEntry}
-use Rattle.table_laws.proofs.ColumnLaws.{IsColumn}
+use Rattle.{
+  std.{proofs.Common.{◌≡◌, ◌≢◌, ◌∙◌, refl, sym, ℕ, ◌<◌, ◌≤◌, List, [], ◌∷◌, length}, specs.Prelude.{Bool, true, false, if◌then◌else◌, Option, None, IsSome, Result, Ok, Err, IfOk, All, AllPairs}},
+  cell_core.specs.declared.grid.Shape.{Shape, TheVariants.{Series, Frame}},
+  meaning.specs.{Cell.{CellValue, LabelValue}, Fault.{FaultValue, limit, then_value}},
+  table_meaning.specs.{Table.{ColumnOf, Table, column_at, no_column}, Valid.{AreHeadings, IsValid, within_limits}, Value.{table}},
+  form_meaning.specs.Finish.{limited_table, limited, with_columns},
+  table_laws.{specs.Validity.{IsValidEntry}, proofs.ColumnLaws.{IsColumn}},
+}
 
 -- a table that is valid if it is within the limits
 pub record IsShaped (t : Table) : Type 0 where

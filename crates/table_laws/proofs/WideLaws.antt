@@ -1,23 +1,13 @@
 -- Frames under joined labels of columns are valid.
-use Rattle.std.proofs.Common.{◌≡◌, ◌≢◌, ◌∙◌, ◌<◌, refl, ap, sym, subst, ℕ, zero, suc, pos, List, [], ◌∷◌, length, map, arith}
-use Rattle.std.specs.Prelude.{replicate, slice_index_or, unwrap_or, Option, Some, None, IsSome, All, AllPairs}
-use Rattle.std.specs.Bool.{Decides}
-use Rattle.std.specs.Cmp.Lexicographic.{pointwise_decides}
-use Rattle.std.proofs.lemmas.List.{length-map}
-use Rattle.std.proofs.lemmas.List.Elements.{All-nil, All-cons, All-head, All-tail}
-use Rattle.cell_core.specs.declared.cell.Kind.{Kind}
-use Rattle.cell_core.specs.declared.cell.Kind.TheVariants.{Int64}
-use Rattle.cell_core.specs.declared.grid.Shape.TheVariants.{Series, Frame}
-use Rattle.meaning.specs.Cell.{CellValue, LabelValue, int, na_cell}
-use Rattle.align_meaning.proofs.InsideLaws.{IsRowOf}
-use Rattle.table_meaning.specs.Table.{ColumnOf, Table, column_at}
-use Rattle.form_meaning.specs.Finish.{first_repeated, column_of_value, column_labels}
-use Rattle.form_meaning.specs.Infix.{same_tuple, tuple_heading, column_or_missing, columns_or_missing, on_columns, spread, spread_series}
-use Rattle.table_laws.proofs.ListLaws.{all_made, all_mapped}
-use Rattle.table_laws.proofs.CellLaws.{Held, na_held}
-use Rattle.table_laws.proofs.ColumnLaws.{IsColumn, spread_column}
-use Rattle.table_laws.proofs.HeadingLaws.{label_decides, different}
-use Rattle.table_laws.proofs.TableLaws.{IsShaped, column_of_table, frame_headings, one_column}
+use Rattle.{
+  std.{proofs.{Common.{◌≡◌, ◌≢◌, ◌∙◌, ◌<◌, refl, ap, sym, subst, ℕ, zero, suc, pos, List, [], ◌∷◌, length, map, arith}, lemmas.List.{length-map, Elements.{All-nil, All-cons, All-head, All-tail}}}, specs.{Prelude.{replicate, slice_index_or, unwrap_or, Option, Some, None, IsSome, All, AllPairs}, Bool.{Decides}, Cmp.Lexicographic.{pointwise_decides}}},
+  cell_core.specs.declared.{cell.Kind.{Kind, TheVariants.{Int64}}, grid.Shape.TheVariants.{Series, Frame}},
+  meaning.specs.Cell.{CellValue, LabelValue, int, na_cell},
+  align_meaning.proofs.InsideLaws.{IsRowOf},
+  table_meaning.specs.Table.{ColumnOf, Table, column_at},
+  form_meaning.specs.{Finish.{first_repeated, column_of_value, column_labels}, Infix.{same_tuple, tuple_heading, column_or_missing, columns_or_missing, on_columns, spread, spread_series}},
+  table_laws.proofs.{ListLaws.{all_made, all_mapped}, CellLaws.{Held, na_held}, ColumnLaws.{IsColumn, spread_column}, HeadingLaws.{label_decides, different}, TableLaws.{IsShaped, column_of_table, frame_headings, one_column}},
+}
 
 module _ {X : Type 0} where
   abbrev head_or : X → List X → X

@@ -1,8 +1,9 @@
 -- The test of kinds holds just where they are one.
-use Rattle.std.proofs.Common.{◌≡◌, true, refl}
-use Rattle.cell_core.specs.declared.cell.Kind.{Kind}
-use Rattle.cell_core.specs.declared.cell.Kind.TheVariants.{Int64, Boolean, Text as string}
-use Rattle.table_meaning.specs.Table.{same_kind}
+use Rattle.{
+  std.proofs.Common.{◌≡◌, true, refl},
+  cell_core.specs.declared.cell.Kind.{Kind, TheVariants.{Int64, Boolean, Text as string}},
+  table_meaning.specs.Table.{same_kind},
+}
 
 pub kind_is : (a b : Kind) → same_kind a b ≡ true → a ≡ b
 kind_is Int64 Int64 e = refl

@@ -1,12 +1,10 @@
 -- Two objects of a store.
-use Rattle.std.proofs.Common.{◌≡◌, ◌∙◌, ℕ, Bool, true, false, [], ◌∷◌, refl, ap, sym, subst, arith, nat_eq, if◌then◌else◌, Option, Some, None}
-use Rattle.std.specs.Prelude.{◌≢◌, is_some, IsSome, length}
-use Rattle.std.proofs.lemmas.Bool.Decides.{nat_tests}
-use Rattle.cell_core.specs.declared.grid.Shape.TheVariants.{Series, Frame}
-use Rattle.table_meaning.specs.Table.{NumberedTable, column_at}
-use Rattle.table_meaning.specs.Change.{put_at, with_column}
-use Rattle.table_meaning.specs.Valid.{AreHeadings}
-use Rattle.frame_store.specs.Objects.{Tables, with_object, with_moved, table_or, table_at}
+use Rattle.{
+  std.{proofs.{Common.{◌≡◌, ◌∙◌, ℕ, Bool, true, false, [], ◌∷◌, refl, ap, sym, subst, arith, nat_eq, if◌then◌else◌, Option, Some, None}, lemmas.Bool.Decides.{nat_tests}}, specs.Prelude.{◌≢◌, is_some, IsSome, length}},
+  cell_core.specs.declared.grid.Shape.TheVariants.{Series, Frame},
+  table_meaning.specs.{Table.{NumberedTable, column_at}, Change.{put_at, with_column}, Valid.{AreHeadings}},
+  frame_store.specs.Objects.{Tables, with_object, with_moved, table_or, table_at},
+}
 
 nat_eq_self : (n : ℕ) → nat_eq n n ≡ true
 nat_eq_self n = grind (arith, nat_tests)

@@ -1,6 +1,7 @@
-use Rattle.std.proofs.Common.{◌≡◌, ℤ, ap, sym, ◌∙◌, rules, to_z, of_z, w64}
-use Rattle.column_bench.specs.Checks.{check_more}
-use Rattle.column_bench.proofs.CheckLaws.{check_below_more}
+use Rattle.{
+  std.proofs.Common.{◌≡◌, ℤ, ap, sym, ◌∙◌, rules, to_z, of_z, w64},
+  column_bench.{specs.Checks.{check_more}, proofs.CheckLaws.{check_below_more}},
+}
 use Rattle.column_bench.proofs.checks.check.Goals as goal
 
 pub loop-row-preserved : goal.loop-row-preserved

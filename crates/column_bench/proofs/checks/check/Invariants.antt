@@ -1,5 +1,7 @@
-use Rattle.std.proofs.Common.{◌≡◌}
-use Rattle.column_bench.specs.Checks.{check_below}
+use Rattle.{
+  std.proofs.Common.{◌≡◌},
+  column_bench.specs.Checks.{check_below},
+}
 use Rattle.column_bench.proofs.checks.check.Given as goal
 
 -- the rows so far

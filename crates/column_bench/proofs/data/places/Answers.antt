@@ -1,7 +1,8 @@
-use Rattle.std.proofs.Common.{[], ◌∷◌, ◌++◌, ap, sym, ◌∙◌, List, Option, ℕ}
-use Rattle.meaning.specs.Column.{tabulate}
-use Rattle.column_bench.specs.Data.{place_at}
-use Rattle.column_bench.proofs.DataLaws.{tabulate_more}
+use Rattle.{
+  std.proofs.Common.{[], ◌∷◌, ◌++◌, ap, sym, ◌∙◌, List, Option, ℕ},
+  meaning.specs.Column.{tabulate},
+  column_bench.{specs.Data.{place_at}, proofs.DataLaws.{tabulate_more}},
+}
 use Rattle.column_bench.proofs.data.places.Goals as goal
 
 pub loop-row-preserved : goal.loop-row-preserved

@@ -1,6 +1,8 @@
-use Rattle.std.proofs.Common.{◌≡◌}
-use Rattle.meaning.specs.Column.{tabulate}
-use Rattle.column_bench.specs.Data.{place_at}
+use Rattle.{
+  std.proofs.Common.{◌≡◌},
+  meaning.specs.Column.{tabulate},
+  column_bench.specs.Data.{place_at},
+}
 use Rattle.column_bench.proofs.data.places.Given as goal
 
 -- the rows so far

@@ -1,6 +1,8 @@
-use Rattle.std.proofs.Common.{sym, subst}
-use Rattle.meaning.specs.Cell.{AreGiven}
-use Rattle.column_core.specs.Columns.{CellColumn}
+use Rattle.{
+  std.proofs.Common.{sym, subst},
+  meaning.specs.Cell.{AreGiven},
+  column_core.specs.Columns.{CellColumn},
+}
 use Rattle.column_bench.proofs.work.operated.Goals as goal
 
 pub binary-requires-clause-a : goal.binary-requires-clause-a

@@ -1,9 +1,8 @@
-use Rattle.std.proofs.Common.{replicate, refl, ap, sym, ◌∙◌}
-use Rattle.cell_core.specs.declared.cell.Kind.{Kind}
-use Rattle.cell_core.specs.declared.cell.Cell.TheVariants.{Na}
-use Rattle.cell_core.specs.declared.cell.Kind.TheVariants.{Int64, Boolean, Text as string}
-use Rattle.column_core.specs.Columns.{number_cell, truth_cell, text_cell}
-use Rattle.column_core.proofs.BlockLaws.{blank_column}
+use Rattle.{
+  std.proofs.Common.{replicate, refl, ap, sym, ◌∙◌},
+  cell_core.specs.declared.cell.{Kind.{Kind, TheVariants.{Int64, Boolean, Text as string}}, Cell.TheVariants.{Na}},
+  column_core.{specs.Columns.{number_cell, truth_cell, text_cell}, proofs.BlockLaws.{blank_column}},
+}
 use Rattle.column_core.proofs.blocks.missing.Goals as goal
 
 pub returns-in_ok-missing-in-Int64 : goal.returns-in_ok-missing-in-Int64

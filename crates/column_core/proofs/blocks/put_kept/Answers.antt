@@ -1,9 +1,8 @@
-use Rattle.std.proofs.Common.{ap, sym, arith}
-use Rattle.cell_core.specs.declared.cell.Kind.TheVariants.{Int64, Boolean, Text as string}
-use Rattle.column_core.specs.Columns.{number_cell, truth_cell, text_cell}
-use Rattle.column_core.specs.Views.{kept_column}
-use Rattle.column_core.proofs.ColumnLaws.{length-column}
-use Rattle.column_core.proofs.BlockLaws.{put_column}
+use Rattle.{
+  std.proofs.Common.{ap, sym, arith},
+  cell_core.specs.declared.cell.Kind.TheVariants.{Int64, Boolean, Text as string},
+  column_core.{specs.{Columns.{number_cell, truth_cell, text_cell}, Views.{kept_column}}, proofs.{ColumnLaws.{length-column}, BlockLaws.{put_column}}},
+}
 use Rattle.column_core.proofs.blocks.put_kept.Goals as goal
 
 pub put-requires : goal.put-requires

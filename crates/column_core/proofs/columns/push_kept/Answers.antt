@@ -1,8 +1,8 @@
-use Rattle.std.proofs.Common.{ap, sym}
-use Rattle.cell_core.specs.declared.cell.Kind.TheVariants.{Int64, Boolean, Text as string}
-use Rattle.column_core.specs.Columns.{number_cell, truth_cell, text_cell}
-use Rattle.column_core.specs.Views.{kept_column}
-use Rattle.column_core.proofs.CellRows.{pushed_answer}
+use Rattle.{
+  std.proofs.Common.{ap, sym},
+  cell_core.specs.declared.cell.Kind.TheVariants.{Int64, Boolean, Text as string},
+  column_core.{specs.{Columns.{number_cell, truth_cell, text_cell}, Views.{kept_column}}, proofs.CellRows.{pushed_answer}},
+}
 use Rattle.column_core.proofs.columns.push_kept.Goals as goal
 
 pub returns-in-Ints-clause-ok : goal.returns-in-Ints-clause-ok

@@ -1,5 +1,7 @@
-use Rattle.std.proofs.Common.{◌∙◌}
-use Rattle.column_core.proofs.BlockLaws.{repeated_column}
+use Rattle.{
+  std.proofs.Common.{◌∙◌},
+  column_core.proofs.BlockLaws.{repeated_column},
+}
 use Rattle.column_core.proofs.columns.repeated_value.Goals as goal
 
 pub returns : goal.returns

@@ -1,6 +1,7 @@
-use Rattle.std.proofs.Common.{◌∙◌}
-use Rattle.std.proofs.lemmas.Result.{IfOk-weaker}
-use Rattle.column_core.proofs.CellRows.{same_column}
+use Rattle.{
+  std.proofs.{Common.{◌∙◌}, lemmas.Result.{IfOk-weaker}},
+  column_core.proofs.CellRows.{same_column},
+}
 use Rattle.column_core.proofs.moves.copied_lane.Goals as goal
 
 pub returns-in-Some : goal.returns-in-Some

@@ -1,11 +1,9 @@
-use Rattle.std.proofs.Common.{◌≡◌, ap, sym, ◌∙◌, to_z, of_z, w64}
-use Rattle.std.proofs.Math.Facts.{to_z-of_z}
-use Rattle.cell_core.specs.declared.cell.Cell.TheVariants.{Na}
-use Rattle.meaning.specs.Column.{shifted}
-use Rattle.column_core.specs.Columns.{CellColumn}
-use Rattle.column_core.specs.Moves.{is_ahead, distance_of}
-use Rattle.column_core.specs.Views.{borrowed_column}
-use Rattle.column_core.proofs.MoveLaws.{if_ok_change}
+use Rattle.{
+  std.proofs.{Common.{◌≡◌, ap, sym, ◌∙◌, to_z, of_z, w64}, Math.Facts.{to_z-of_z}},
+  cell_core.specs.declared.cell.Cell.TheVariants.{Na},
+  meaning.specs.Column.{shifted},
+  column_core.{specs.{Columns.{CellColumn}, Moves.{is_ahead, distance_of}, Views.{borrowed_column}}, proofs.MoveLaws.{if_ok_change}},
+}
 use Rattle.column_core.proofs.moves.shift.Goals as goal
 
 pub returns-in-Ints-clause-cells : goal.returns-in-Ints-clause-cells

@@ -1,8 +1,7 @@
-use Rattle.std.proofs.Common.{◌∙◌, ap, length}
-use Rattle.column_core.specs.Columns.{CellColumn}
-use Rattle.column_core.specs.Lanes.{option_at}
-use Rattle.column_core.proofs.CellRows.{same_column}
-use Rattle.column_core.proofs.MoveLaws.{shifted_seen}
+use Rattle.{
+  std.proofs.Common.{◌∙◌, ap, length},
+  column_core.{specs.{Columns.{CellColumn}, Lanes.{option_at}}, proofs.{CellRows.{same_column}, MoveLaws.{shifted_seen}}},
+}
 use Rattle.column_core.proofs.moves.shift_side.Goals as goal
 
 pub returns-clause-cells : goal.returns-clause-cells

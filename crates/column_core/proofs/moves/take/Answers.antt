@@ -1,7 +1,7 @@
-use Rattle.std.proofs.Common.{ℕ, All, ap, sym, subst, ◌∙◌}
-use Rattle.column_core.specs.Moves.{IsPlaceOf}
-use Rattle.column_core.specs.Views.{borrowed_column}
-use Rattle.column_core.proofs.ColumnLaws.{length-column}
+use Rattle.{
+  std.proofs.Common.{ℕ, All, ap, sym, subst, ◌∙◌},
+  column_core.{specs.{Moves.{IsPlaceOf}, Views.{borrowed_column}}, proofs.ColumnLaws.{length-column}},
+}
 use Rattle.column_core.proofs.moves.take.Goals as goal
 
 pub take_lane-requires : goal.take_lane-requires

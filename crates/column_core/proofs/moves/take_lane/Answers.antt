@@ -1,9 +1,9 @@
-use Rattle.std.proofs.Common.{ap}
-use Rattle.cell_core.specs.declared.cell.Cell.TheVariants.{Na}
-use Rattle.meaning.specs.Column.{taken}
-use Rattle.column_core.specs.Columns.{CellColumn}
-use Rattle.column_core.proofs.CellRows.{same_column}
-use Rattle.column_core.proofs.MoveLaws.{if_ok_change}
+use Rattle.{
+  std.proofs.Common.{ap},
+  cell_core.specs.declared.cell.Cell.TheVariants.{Na},
+  meaning.specs.Column.{taken},
+  column_core.{specs.Columns.{CellColumn}, proofs.{CellRows.{same_column}, MoveLaws.{if_ok_change}}},
+}
 use Rattle.column_core.proofs.moves.take_lane.Goals as goal
 
 pub returns-in-Some-clause-cells : goal.returns-in-Some-clause-cells

@@ -1,5 +1,7 @@
-use Rattle.std.proofs.Common.{◌≡◌, length, arith}
-use Rattle.column_core.proofs.RowsMade.{vectors_written, rows_refused}
+use Rattle.{
+  std.proofs.Common.{◌≡◌, length, arith},
+  column_core.proofs.RowsMade.{vectors_written, rows_refused},
+}
 use Rattle.column_core.proofs.rows.by_rows.Goals as goal
 
 pub returns-in-Ok-clause-rows : goal.returns-in-Ok-clause-rows

@@ -1,6 +1,7 @@
-use Rattle.std.proofs.Common.{◌≡◌, ◌+◌, ◌*◌, ◌%◌, ◌^◌, arith}
-use Rattle.std.proofs.lemmas.Nat.{one_shl, pow_pos}
-use Rattle.column_operators.proofs.QuotientLaws.{inverts, inverse_fits}
+use Rattle.{
+  std.proofs.{Common.{◌≡◌, ◌+◌, ◌*◌, ◌%◌, ◌^◌, arith}, lemmas.Nat.{one_shl, pow_pos}},
+  column_operators.proofs.QuotientLaws.{inverts, inverse_fits},
+}
 use Rattle.column_operators.proofs.divisors.inverse.Goals as goal
 
 pub overflow_sub-result : goal.overflow_sub-result

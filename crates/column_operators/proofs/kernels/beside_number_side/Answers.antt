@@ -1,6 +1,8 @@
-use Rattle.cell_core.specs.declared.cell.Kind.TheVariants.{Int64}
-use Rattle.column_core.specs.Columns.{number_cell}
-use Rattle.column_operators.proofs.Scalars.{number_kept, scalar_on_left, scalar_on_right}
+use Rattle.{
+  cell_core.specs.declared.cell.Kind.TheVariants.{Int64},
+  column_core.specs.Columns.{number_cell},
+  column_operators.proofs.Scalars.{number_kept, scalar_on_left, scalar_on_right},
+}
 use Rattle.column_operators.proofs.kernels.beside_number_side.Goals as goal
 
 pub returns-then-left-clause-answer : goal.returns-then-left-clause-answer

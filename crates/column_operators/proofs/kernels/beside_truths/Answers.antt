@@ -1,6 +1,8 @@
-use Rattle.cell_core.specs.declared.cell.Kind.TheVariants.{Boolean}
-use Rattle.column_core.specs.Columns.{truth_cell}
-use Rattle.column_operators.proofs.Scalars.{truth_kept, scalar_on_left, scalar_on_right}
+use Rattle.{
+  cell_core.specs.declared.cell.Kind.TheVariants.{Boolean},
+  column_core.specs.Columns.{truth_cell},
+  column_operators.proofs.Scalars.{truth_kept, scalar_on_left, scalar_on_right},
+}
 use Rattle.column_operators.proofs.kernels.beside_truths.Goals as goal
 
 pub returns-then-left-clause-answer : goal.returns-then-left-clause-answer

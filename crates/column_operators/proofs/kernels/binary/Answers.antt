@@ -1,7 +1,8 @@
-use Rattle.std.proofs.Common.{ap, sym, ◌∙◌}
-use Rattle.column_core.specs.Views.{borrowed_column}
-use Rattle.column_core.proofs.ColumnLaws.{length-column}
-use Rattle.nullable_array.proofs.ColumnAnswers.{given_at}
+use Rattle.{
+  std.proofs.Common.{ap, sym, ◌∙◌},
+  column_core.{specs.Views.{borrowed_column}, proofs.ColumnLaws.{length-column}},
+  nullable_array.proofs.ColumnAnswers.{given_at},
+}
 use Rattle.column_operators.proofs.kernels.binary.Goals as goal
 
 pub numbers-requires : goal.numbers-requires

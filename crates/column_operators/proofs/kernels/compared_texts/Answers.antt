@@ -1,14 +1,11 @@
-use Rattle.std.proofs.Common.{refl}
-use Rattle.std.specs.Ordering.{nat_cmp}
-use Rattle.std.specs.Cmp.Lexicographic.{slice_cmp}
-use Rattle.cell_core.specs.Values.{text_of}
-use Rattle.cell_core.specs.declared.cell.Kind.TheVariants.{Boolean, Text as string}
+use Rattle.{
+  std.{proofs.Common.{refl}, specs.{Ordering.{nat_cmp}, Cmp.Lexicographic.{slice_cmp}}},
+  cell_core.specs.{Values.{text_of}, declared.cell.Kind.TheVariants.{Boolean, Text as string}},
+  column_core.specs.Columns.{text_cell, truth_cell},
+  column_operators.{specs.Operations.{compare_row}, proofs.{TaskAnswers.{pair_answer}, Laws.{texts_law}}},
+  nullable_array.proofs.ColumnAnswers.{given_at},
+}
 use Rattle.column_operators.specs.declared.ops.Task.TheVariants as task
-use Rattle.column_core.specs.Columns.{text_cell, truth_cell}
-use Rattle.column_operators.specs.Operations.{compare_row}
-use Rattle.column_operators.proofs.TaskAnswers.{pair_answer}
-use Rattle.nullable_array.proofs.ColumnAnswers.{given_at}
-use Rattle.column_operators.proofs.Laws.{texts_law}
 use Rattle.column_operators.proofs.kernels.compared_texts.Goals as goal
 
 pub returns-clause-given : goal.returns-clause-given

@@ -1,10 +1,10 @@
-use Rattle.std.proofs.Common.{ap, sym, subst, ◌∙◌}
-use Rattle.cell_core.specs.declared.cell.Kind.TheVariants.{Boolean}
-use Rattle.meaning.specs.Operator.{invert_column}
-use Rattle.nullable_array.specs.Answers.{Answers}
-use Rattle.column_core.specs.Columns.{CellColumn, column_value, truth_cell}
-use Rattle.column_core.specs.Views.{borrowed_column}
-use Rattle.column_core.proofs.CellRows.{same_column}
+use Rattle.{
+  std.proofs.Common.{ap, sym, subst, ◌∙◌},
+  cell_core.specs.declared.cell.Kind.TheVariants.{Boolean},
+  meaning.specs.Operator.{invert_column},
+  nullable_array.specs.Answers.{Answers},
+  column_core.{specs.{Columns.{CellColumn, column_value, truth_cell}, Views.{borrowed_column}}, proofs.CellRows.{same_column}},
+}
 use Rattle.column_operators.proofs.kernels.invert.Goals as goal
 
 pub returns-in-Some : goal.returns-in-Some

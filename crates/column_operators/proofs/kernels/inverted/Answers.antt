@@ -1,12 +1,11 @@
-use Rattle.std.proofs.Common.{subst, not, option_map, Result}
-use Rattle.cell_core.specs.declared.cell.Kind.TheVariants.{Boolean}
-use Rattle.meaning.specs.Column.{ColumnValue, ColumnFault, zero_division}
-use Rattle.meaning.specs.Operator.{invert_cell}
-use Rattle.nullable_array.specs.Answers.{Answers}
-use Rattle.column_core.specs.Columns.{truth_cell}
-use Rattle.column_operators.specs.Operations.{not_row}
-use Rattle.column_core.proofs.CellRows.{total_column}
-use Rattle.column_operators.proofs.Laws.{not_law, not_some}
+use Rattle.{
+  std.proofs.Common.{subst, not, option_map, Result},
+  cell_core.specs.declared.cell.Kind.TheVariants.{Boolean},
+  meaning.specs.{Column.{ColumnValue, ColumnFault, zero_division}, Operator.{invert_cell}},
+  nullable_array.specs.Answers.{Answers},
+  column_core.{specs.Columns.{truth_cell}, proofs.CellRows.{total_column}},
+  column_operators.{specs.Operations.{not_row}, proofs.Laws.{not_law, not_some}},
+}
 use Rattle.column_operators.proofs.kernels.inverted.Goals as goal
 
 pub returns : goal.returns

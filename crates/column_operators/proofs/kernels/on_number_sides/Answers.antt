@@ -1,11 +1,10 @@
-use Rattle.std.proofs.Common.{refl, ◌+ℤ◌, ◌-ℤ◌, ◌*ℤ◌}
-use Rattle.std.specs.Ordering.{int_cmp}
-use Rattle.cell_core.specs.declared.cell.Kind.TheVariants.{Int64, Boolean}
+use Rattle.{
+  std.{proofs.Common.{refl, ◌+ℤ◌, ◌-ℤ◌, ◌*ℤ◌}, specs.Ordering.{int_cmp}},
+  cell_core.specs.declared.cell.Kind.TheVariants.{Int64, Boolean},
+  column_core.specs.Columns.{number_cell, truth_cell},
+  column_operators.{specs.Operations.{number_row, compare_row}, proofs.{TaskAnswers.{pair_answer}, Laws.{sum_law, difference_law, product_law, numbers_law}}},
+}
 use Rattle.column_operators.specs.declared.ops.Task.TheVariants as task
-use Rattle.column_core.specs.Columns.{number_cell, truth_cell}
-use Rattle.column_operators.specs.Operations.{number_row, compare_row}
-use Rattle.column_operators.proofs.TaskAnswers.{pair_answer}
-use Rattle.column_operators.proofs.Laws.{sum_law, difference_law, product_law, numbers_law}
 use Rattle.column_operators.proofs.kernels.on_number_sides.Goals as goal
 
 pub returns-in-Sum-clause-answer : goal.returns-in-Sum-clause-answer

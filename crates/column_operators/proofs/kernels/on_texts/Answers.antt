@@ -1,13 +1,10 @@
-use Rattle.std.proofs.Common.{ap, sym, ◌∙◌, ◌++◌, Ok}
-use Rattle.cell_core.specs.Values.{text_of}
-use Rattle.cell_core.specs.declared.cell.Kind.TheVariants.{Text as string}
-use Rattle.column_operators.specs.declared.ops.Task.{Task}
+use Rattle.{
+  std.proofs.Common.{ap, sym, ◌∙◌, ◌++◌, Ok},
+  cell_core.specs.{Values.{text_of}, declared.cell.Kind.TheVariants.{Text as string}},
+  column_operators.{specs.{declared.ops.Task.{Task}, Operations.{both}, Tasks.{task_cell, task_column}}, proofs.Laws.{join_law}},
+  column_core.{specs.Columns.{text_cell, text_value, column_value, column_with}, proofs.CellRows.{pairs_column}},
+}
 use Rattle.column_operators.specs.declared.ops.Task.TheVariants as task
-use Rattle.column_core.specs.Columns.{text_cell, text_value, column_value, column_with}
-use Rattle.column_operators.specs.Operations.{both}
-use Rattle.column_operators.specs.Tasks.{task_cell, task_column}
-use Rattle.column_core.proofs.CellRows.{pairs_column}
-use Rattle.column_operators.proofs.Laws.{join_law}
 use Rattle.column_operators.proofs.kernels.on_texts.Goals as goal
 
 pub returns-in_ok-text_column-in-Sum-clause-answer : goal.returns-in_ok-text_column-in-Sum-clause-answer

@@ -1,11 +1,10 @@
-use Rattle.std.proofs.Common.{refl}
-use Rattle.std.specs.Ordering.{bool_cmp}
-use Rattle.cell_core.specs.declared.cell.Kind.TheVariants.{Boolean}
+use Rattle.{
+  std.{proofs.Common.{refl}, specs.Ordering.{bool_cmp}},
+  cell_core.specs.declared.cell.Kind.TheVariants.{Boolean},
+  column_core.specs.Columns.{truth_cell},
+  column_operators.{specs.Operations.{compare_row, and_row, or_row, xor_row}, proofs.{TaskAnswers.{pair_answer}, Laws.{truths_law, both_law, either_law, one_of_law}}},
+}
 use Rattle.column_operators.specs.declared.ops.Task.TheVariants as task
-use Rattle.column_core.specs.Columns.{truth_cell}
-use Rattle.column_operators.specs.Operations.{compare_row, and_row, or_row, xor_row}
-use Rattle.column_operators.proofs.TaskAnswers.{pair_answer}
-use Rattle.column_operators.proofs.Laws.{truths_law, both_law, either_law, one_of_law}
 use Rattle.column_operators.proofs.kernels.on_truths.Goals as goal
 
 pub returns-in-Both-clause-answer : goal.returns-in-Both-clause-answer

@@ -1,9 +1,8 @@
-use Rattle.std.proofs.Common.{ap, sym, ◌∙◌, Ok}
-use Rattle.meaning.specs.Column.{zero_division}
-use Rattle.column_core.specs.Columns.{column_value}
-use Rattle.column_core.proofs.CellRows.{made_column}
-use Rattle.column_core.proofs.ColumnLaws.{given-plain}
-use Rattle.column_core.proofs.RowsMade.{rows_written}
+use Rattle.{
+  std.proofs.Common.{ap, sym, ◌∙◌, Ok},
+  meaning.specs.Column.{zero_division},
+  column_core.{specs.Columns.{column_value}, proofs.{CellRows.{made_column}, ColumnLaws.{given-plain}, RowsMade.{rows_written}}},
+}
 use Rattle.column_operators.proofs.kernels.operate_sides.Goals as goal
 
 pub returns-clause-answer : goal.returns-clause-answer

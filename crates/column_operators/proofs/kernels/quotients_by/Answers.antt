@@ -1,15 +1,12 @@
-use Rattle.std.proofs.Common.{ℕ, pos, Some, refl, subst}
-use Rattle.cell_core.specs.declared.cell.Kind.TheVariants.{Int64}
-use Rattle.meaning.specs.Cell.{datum}
-use Rattle.meaning.specs.Column.{column_of, zero_division}
-use Rattle.meaning.specs.Operator.{floor_quotient}
-use Rattle.column_core.specs.Columns.{number_cell}
-use Rattle.column_core.specs.Rows.{try_rows, map_rows}
+use Rattle.{
+  std.proofs.Common.{ℕ, pos, Some, refl, subst},
+  cell_core.specs.declared.cell.Kind.TheVariants.{Int64},
+  meaning.specs.{Cell.{datum}, Column.{column_of, zero_division}, Operator.{floor_quotient}},
+  column_core.specs.{Columns.{number_cell}, Rows.{try_rows, map_rows}},
+  nullable_array.specs.Answers.{Answers},
+  column_operators.{specs.Operations.{division_row}, proofs.{TaskAnswers.{pair_answer}, Laws.{quotient_law}}},
+}
 use Rattle.column_operators.specs.declared.ops.Task.TheVariants as task
-use Rattle.nullable_array.specs.Answers.{Answers}
-use Rattle.column_operators.specs.Operations.{division_row}
-use Rattle.column_operators.proofs.TaskAnswers.{pair_answer}
-use Rattle.column_operators.proofs.Laws.{quotient_law}
 use Rattle.column_operators.proofs.kernels.quotients_by.Goals as goal
 
 pub returns-clause-answer : goal.returns-clause-answer

@@ -1,8 +1,9 @@
-use Rattle.std.proofs.Common.{refl}
-use Rattle.cell_core.specs.declared.cell.Kind.TheVariants.{Text as string}
-use Rattle.column_core.specs.Columns.{text_cell}
-use Rattle.column_core.proofs.ColumnLaws.{given-row}
-use Rattle.column_operators.proofs.Scalars.{text_kept, scalar_on_left, scalar_on_right}
+use Rattle.{
+  std.proofs.Common.{refl},
+  cell_core.specs.declared.cell.Kind.TheVariants.{Text as string},
+  column_core.{specs.Columns.{text_cell}, proofs.ColumnLaws.{given-row}},
+  column_operators.proofs.Scalars.{text_kept, scalar_on_left, scalar_on_right},
+}
 use Rattle.column_operators.proofs.kernels.texts_beside.Goals as goal
 
 pub on_texts-requires-clause-b : goal.on_texts-requires-clause-b

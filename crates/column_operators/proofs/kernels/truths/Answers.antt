@@ -1,7 +1,8 @@
-use Rattle.cell_core.specs.declared.cell.Kind.TheVariants.{Boolean}
-use Rattle.column_core.specs.Columns.{truth_cell}
-use Rattle.column_core.proofs.CellRows.{same_column}
-use Rattle.column_operators.proofs.TaskAnswers.{two_columns}
+use Rattle.{
+  cell_core.specs.declared.cell.Kind.TheVariants.{Boolean},
+  column_core.{specs.Columns.{truth_cell}, proofs.CellRows.{same_column}},
+  column_operators.proofs.TaskAnswers.{two_columns},
+}
 use Rattle.column_operators.proofs.kernels.truths.Goals as goal
 
 pub returns-in-Some-Some-clause-answer : goal.returns-in-Some-Some-clause-answer

@@ -1,10 +1,11 @@
-use Rattle.std.proofs.Common.{subst}
-use Rattle.cell_core.specs.declared.cell.Kind.TheVariants.{Boolean}
-use Rattle.meaning.specs.Cell.{datum}
-use Rattle.nullable_array.specs.Answers.{Answers}
-use Rattle.column_core.specs.Columns.{CellColumn, column_value, truth_cell}
-use Rattle.column_operators.specs.Tasks.{scalar_task}
-use Rattle.column_core.proofs.CellRows.{same_column}
+use Rattle.{
+  std.proofs.Common.{subst},
+  cell_core.specs.declared.cell.Kind.TheVariants.{Boolean},
+  meaning.specs.Cell.{datum},
+  nullable_array.specs.Answers.{Answers},
+  column_core.{specs.Columns.{CellColumn, column_value, truth_cell}, proofs.CellRows.{same_column}},
+  column_operators.specs.Tasks.{scalar_task},
+}
 use Rattle.column_operators.proofs.kernels.truths_beside.Goals as goal
 
 pub returns-in-Some-clause-answer : goal.returns-in-Some-clause-answer

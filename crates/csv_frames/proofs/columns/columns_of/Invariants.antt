@@ -1,6 +1,7 @@
-use Rattle.std.proofs.Common.{◌≡◌, ◌++◌, map, false}
-use Rattle.std.specs.List.{list_any}
-use Rattle.csv_frames.specs.Growing.{is_mixed, column_so_far}
+use Rattle.{
+  std.{proofs.Common.{◌≡◌, ◌++◌, map, false}, specs.List.{list_any}},
+  csv_frames.specs.Growing.{is_mixed, column_so_far},
+}
 use Rattle.csv_frames.proofs.columns.columns_of.Given as goal
 
 -- the columns so far, before the others

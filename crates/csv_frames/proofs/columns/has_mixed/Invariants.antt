@@ -1,6 +1,7 @@
-use Rattle.std.proofs.Common.{◌≡◌, drop}
-use Rattle.std.specs.List.{list_any}
-use Rattle.csv_frames.specs.Growing.{is_mixed}
+use Rattle.{
+  std.{proofs.Common.{◌≡◌, drop}, specs.List.{list_any}},
+  csv_frames.specs.Growing.{is_mixed},
+}
 use Rattle.csv_frames.proofs.columns.has_mixed.Given as goal
 
 -- none so far

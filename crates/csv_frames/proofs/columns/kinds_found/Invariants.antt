@@ -1,5 +1,7 @@
-use Rattle.std.proofs.Common.{◌≡◌, ◌++◌, map, Some}
-use Rattle.csv_frames.specs.Growing.{kind_so_far}
+use Rattle.{
+  std.proofs.Common.{◌≡◌, ◌++◌, map, Some},
+  csv_frames.specs.Growing.{kind_so_far},
+}
 use Rattle.csv_frames.proofs.columns.kinds_found.Given as goal
 
 -- the kinds so far, before the others

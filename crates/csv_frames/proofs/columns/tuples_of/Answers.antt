@@ -1,10 +1,10 @@
-use Rattle.std.proofs.Common.{◌∙◌, ◌∷◌, ◌++◌, [], ap, sym, Some, string_bytes}
+use Rattle.{
+  std.proofs.Common.{◌∙◌, ◌∷◌, ◌++◌, [], ap, sym, Some, string_bytes},
+  meaning.specs.Cell.{text},
+  table_meaning.specs.Table.{tuple_value},
+  csv_frames.{specs.Views.{texts_seen, label_tuples, tuples_seen}, proofs.SettledLaws.{longer_with, longer_twice, settled_more, seen_more, tuple_settled, tuple_seen, after, first_of}},
+}
 use Rattle.cell_core.specs.declared.cell.Label.TheVariants as label
-use Rattle.meaning.specs.Cell.{text}
-use Rattle.table_meaning.specs.Table.{tuple_value}
-use Rattle.csv_frames.specs.Views.{texts_seen, label_tuples, tuples_seen}
-use Rattle.csv_frames.proofs.SettledLaws.{longer_with, longer_twice, settled_more, seen_more, tuple_settled, tuple_seen}
-use Rattle.csv_frames.proofs.SettledLaws.{after, first_of}
 use Rattle.csv_frames.proofs.columns.tuples_of.Goals as goal
 
 pub loop-rest-preserved : goal.loop-rest-preserved

@@ -1,7 +1,9 @@
-use Rattle.std.proofs.Common.{◌≡◌, ◌++◌, length}
-use Rattle.meaning.specs.Cell.{IsLonger}
-use Rattle.table_meaning.specs.Settled.{IsSettled}
-use Rattle.csv_frames.specs.Views.{texts_seen, label_tuples, tuples_seen}
+use Rattle.{
+  std.proofs.Common.{◌≡◌, ◌++◌, length},
+  meaning.specs.Cell.{IsLonger},
+  table_meaning.specs.Settled.{IsSettled},
+  csv_frames.specs.Views.{texts_seen, label_tuples, tuples_seen},
+}
 use Rattle.csv_frames.proofs.columns.tuples_of.Given as goal
 
 -- the labels so far, before the others

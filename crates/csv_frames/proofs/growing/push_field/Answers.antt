@@ -1,7 +1,8 @@
-use Rattle.std.proofs.Common.{subst, OnOk}
-use Rattle.column_core.specs.Columns.{CellColumn}
-use Rattle.column_core.specs.Views.{kept_column}
-use Rattle.csv_frames.specs.Growing.{IsGrownBy}
+use Rattle.{
+  std.proofs.Common.{subst, OnOk},
+  column_core.specs.{Columns.{CellColumn}, Views.{kept_column}},
+  csv_frames.specs.Growing.{IsGrownBy},
+}
 use Rattle.csv_frames.proofs.growing.push_field.Goals as goal
 
 pub returns-clause-grown : goal.returns-clause-grown

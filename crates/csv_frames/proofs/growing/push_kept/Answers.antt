@@ -1,9 +1,9 @@
-use Rattle.std.proofs.Common.{ap, sym}
-use Rattle.meaning.specs.Cell.{Int64, Boolean}
-use Rattle.column_core.specs.Columns.{number_cell, truth_cell}
-use Rattle.column_core.specs.Views.{kept_column}
-use Rattle.csv_frames.proofs.GrowingLaws.{put_grown, text_grown, number_settled, number_seen, truth_settled, truth_seen}
-use Rattle.csv_frames.proofs.SettledLaws.{longer_self}
+use Rattle.{
+  std.proofs.Common.{ap, sym},
+  meaning.specs.Cell.{Int64, Boolean},
+  column_core.specs.{Columns.{number_cell, truth_cell}, Views.{kept_column}},
+  csv_frames.proofs.{GrowingLaws.{put_grown, text_grown, number_settled, number_seen, truth_settled, truth_seen}, SettledLaws.{longer_self}},
+}
 use Rattle.csv_frames.proofs.growing.push_kept.Goals as goal
 
 pub returns-in-Ints-clause-grown : goal.returns-in-Ints-clause-grown

@@ -1,11 +1,9 @@
-use Rattle.std.proofs.Common.{[], ◌∷◌, ◌++◌, ◌≤◌, length, sym, subst, ap, arith}
-use Rattle.csv.specs.Records.{fields_of}
-use Rattle.csv_meaning.specs.CsvRead.{first_long}
-use Rattle.csv_frames.specs.Growing.{GrownTo}
-use Rattle.csv_frames.specs.Rows.{file_rows, rows_left}
-use Rattle.csv_frames.proofs.RecordLaws.{one_left, no_header, under_header, few_before}
-use Rattle.csv_frames.proofs.SettledLaws.{longer_self, longer_twice}
-use Rattle.csv_frames.proofs.GrowthLaws.{more_read, still_short}
+use Rattle.{
+  std.proofs.Common.{[], ◌∷◌, ◌++◌, ◌≤◌, length, sym, subst, ap, arith},
+  csv.specs.Records.{fields_of},
+  csv_meaning.specs.CsvRead.{first_long},
+  csv_frames.{specs.{Growing.{GrownTo}, Rows.{file_rows, rows_left}}, proofs.{RecordLaws.{one_left, no_header, under_header, few_before}, SettledLaws.{longer_self, longer_twice}, GrowthLaws.{more_read, still_short}}},
+}
 use Rattle.csv_frames.proofs.growth.growth_of.Goals as goal
 
 pub returns-then-not-branch-clause-grown : goal.returns-then-not-branch-clause-grown

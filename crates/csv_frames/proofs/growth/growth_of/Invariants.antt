@@ -1,8 +1,9 @@
-use Rattle.std.proofs.Common.{◌≡◌, ◌+◌, ◌++◌, List, ℕ, length}
-use Rattle.meaning.specs.Cell.{IsLonger}
-use Rattle.csv_meaning.specs.CsvRead.{first_long}
-use Rattle.csv_frames.specs.Rows.{Reads, file_rows, rows_left}
-use Rattle.csv_frames.specs.Growing.{GrownTo}
+use Rattle.{
+  std.proofs.Common.{◌≡◌, ◌+◌, ◌++◌, List, ℕ, length},
+  meaning.specs.Cell.{IsLonger},
+  csv_meaning.specs.CsvRead.{first_long},
+  csv_frames.specs.{Rows.{Reads, file_rows, rows_left}, Growing.{GrownTo}},
+}
 use Rattle.csv_frames.proofs.growth.growth_of.Given as goal
 
 -- the records so far, before those that are left

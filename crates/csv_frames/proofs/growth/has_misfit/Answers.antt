@@ -1,7 +1,9 @@
-use Rattle.std.proofs.Common.{◌<◌, length, refl, arith}
-use Rattle.csv.specs.Records.{fields_of}
-use Rattle.csv_meaning.specs.CsvRead.{field_in}
-use Rattle.csv_frames.proofs.MisfitLaws.{misfit_found, misfit_passed, misfit_done}
+use Rattle.{
+  std.proofs.Common.{◌<◌, length, refl, arith},
+  csv.specs.Records.{fields_of},
+  csv_meaning.specs.CsvRead.{field_in},
+  csv_frames.proofs.MisfitLaws.{misfit_found, misfit_passed, misfit_done},
+}
 use Rattle.csv_frames.proofs.growth.has_misfit.Goals as goal
 
 pub returns-then-is_misfit : goal.returns-then-is_misfit

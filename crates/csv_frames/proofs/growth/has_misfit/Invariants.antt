@@ -1,6 +1,8 @@
-use Rattle.std.proofs.Common.{◌≡◌, drop}
-use Rattle.csv.specs.Records.{fields_of}
-use Rattle.csv_meaning.specs.CsvRead.{has_misfit}
+use Rattle.{
+  std.proofs.Common.{◌≡◌, drop},
+  csv.specs.Records.{fields_of},
+  csv_meaning.specs.CsvRead.{has_misfit},
+}
 use Rattle.csv_frames.proofs.growth.has_misfit.Given as goal
 
 -- no field so far

@@ -1,5 +1,7 @@
-use Rattle.std.proofs.Common.{◌≡◌, ◌++◌, map, drop}
-use Rattle.csv_frames.specs.Growing.{without_fields}
+use Rattle.{
+  std.proofs.Common.{◌≡◌, ◌++◌, map, drop},
+  csv_frames.specs.Growing.{without_fields},
+}
 use Rattle.csv_frames.proofs.growth.new_columns.Given as goal
 
 -- the columns so far, before the others

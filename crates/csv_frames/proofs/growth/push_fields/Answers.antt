@@ -1,13 +1,10 @@
-use Rattle.std.proofs.Common.{◌≡◌, ◌<◌, ◌∙◌, [], ◌∷◌, ◌++◌, None, length, get_or, ap, subst, arith}
-use Rattle.std.proofs.lemmas.List.{length-map, length-set, get_or_default}
-use Rattle.csv.specs.Records.{fields_of}
-use Rattle.csv_meaning.specs.CsvRead.{is_misfit}
-use Rattle.csv_frames.specs.Views.{column_fields}
-use Rattle.csv_frames.specs.Growing.{Grown}
+use Rattle.{
+  std.proofs.{Common.{◌≡◌, ◌<◌, ◌∙◌, [], ◌∷◌, ◌++◌, None, length, get_or, ap, subst, arith}, lemmas.List.{length-map, length-set, get_or_default}},
+  csv.specs.Records.{fields_of},
+  csv_meaning.specs.CsvRead.{is_misfit},
+  csv_frames.{specs.{Views.{column_fields}, Growing.{Grown}}, proofs.{SettledLaws.{longer_twice}, MisfitLaws.{misfit_more, misfit_all}, GrowthLaws.{push_one}}},
+}
 use Rattle.csv_frames.specs.declared.growing.Growing.TheVariants as growing
-use Rattle.csv_frames.proofs.SettledLaws.{longer_twice}
-use Rattle.csv_frames.proofs.MisfitLaws.{misfit_more, misfit_all}
-use Rattle.csv_frames.proofs.GrowthLaws.{push_one}
 use Rattle.csv_frames.proofs.growth.push_fields.Goals as goal
 
 pub loop-place-preserved : goal.loop-place-preserved

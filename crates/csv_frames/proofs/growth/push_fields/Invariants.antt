@@ -1,9 +1,10 @@
-use Rattle.std.proofs.Common.{◌≡◌, ◌||◌, List, ℕ, length, drop}
-use Rattle.csv.specs.Records.{fields_of}
-use Rattle.meaning.specs.Cell.{IsLonger}
-use Rattle.csv_meaning.specs.CsvRead.{has_misfit}
-use Rattle.csv_frames.specs.Growing.{AreGrown}
-use Rattle.csv_frames.proofs.GrowthLaws.{ArePushed}
+use Rattle.{
+  std.proofs.Common.{◌≡◌, ◌||◌, List, ℕ, length, drop},
+  csv.specs.Records.{fields_of},
+  meaning.specs.Cell.{IsLonger},
+  csv_meaning.specs.CsvRead.{has_misfit},
+  csv_frames.{specs.Growing.{AreGrown}, proofs.GrowthLaws.{ArePushed}},
+}
 use Rattle.csv_frames.proofs.growth.push_fields.Given as goal
 
 -- the columns so far have the record

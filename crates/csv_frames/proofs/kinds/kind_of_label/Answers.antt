@@ -1,5 +1,7 @@
-use Rattle.std.proofs.Common.{◌∙◌, sym}
-use Rattle.csv_frames.proofs.KindLaws.{kind_found}
+use Rattle.{
+  std.proofs.Common.{◌∙◌, sym},
+  csv_frames.proofs.KindLaws.{kind_found},
+}
 use Rattle.csv_frames.proofs.kinds.kind_of_label.Goals as goal
 
 pub returns : goal.returns

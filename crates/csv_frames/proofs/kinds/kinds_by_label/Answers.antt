@@ -1,5 +1,7 @@
-use Rattle.std.proofs.Common.{◌<◌, ◌∙◌, length, arith}
-use Rattle.csv_frames.proofs.KindLaws.{kind_step}
+use Rattle.{
+  std.proofs.Common.{◌<◌, ◌∙◌, length, arith},
+  csv_frames.proofs.KindLaws.{kind_step},
+}
 use Rattle.csv_frames.proofs.kinds.kinds_by_label.Goals as goal
 
 pub loop-k-preserved : goal.loop-k-preserved

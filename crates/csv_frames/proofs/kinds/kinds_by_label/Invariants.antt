@@ -1,7 +1,9 @@
-use Rattle.std.proofs.Common.{◌≡◌, drop}
-use Rattle.meaning.specs.Text.{Text}
-use Rattle.csv_meaning.specs.CsvRead.{kind_listed, named_kind}
-use Rattle.csv_frames.specs.Views.{entries_seen, kinds_seen, kind_at}
+use Rattle.{
+  std.proofs.Common.{◌≡◌, drop},
+  meaning.specs.Text.{Text},
+  csv_meaning.specs.CsvRead.{kind_listed, named_kind},
+  csv_frames.specs.Views.{entries_seen, kinds_seen, kind_at},
+}
 use Rattle.csv_frames.proofs.kinds.kinds_by_label.Given as goal
 
 -- the kinds so far, before the others

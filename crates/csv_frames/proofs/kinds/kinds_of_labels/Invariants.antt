@@ -1,6 +1,8 @@
-use Rattle.std.proofs.Common.{◌≡◌, ◌++◌, map, length}
-use Rattle.csv_meaning.specs.CsvRead.{named_kind}
-use Rattle.csv_frames.specs.Views.{texts_seen, entries_seen}
+use Rattle.{
+  std.proofs.Common.{◌≡◌, ◌++◌, map, length},
+  csv_meaning.specs.CsvRead.{named_kind},
+  csv_frames.specs.Views.{texts_seen, entries_seen},
+}
 use Rattle.csv_frames.proofs.kinds.kinds_of_labels.Given as goal
 
 -- the kinds so far, before the others

@@ -1,6 +1,8 @@
-use Rattle.std.proofs.Common.{◌≡◌, [], length}
-use Rattle.csv_meaning.specs.CsvRead.{with_texts}
-use Rattle.csv_frames.specs.Views.{texts_seen}
+use Rattle.{
+  std.proofs.Common.{◌≡◌, [], length},
+  csv_meaning.specs.CsvRead.{with_texts},
+  csv_frames.specs.Views.{texts_seen},
+}
 use Rattle.csv_frames.proofs.labels.all_of.Given as goal
 
 -- the texts so far, before the others

@@ -1,7 +1,8 @@
-use Rattle.std.proofs.Common.{◌≡◌, ◌++◌, length}
-use Rattle.csv_meaning.specs.CsvRead.{labels_after, different_labels}
-use Rattle.csv_frames.specs.Labels.{AreSkipped}
-use Rattle.csv_frames.specs.Views.{texts_seen}
+use Rattle.{
+  std.proofs.Common.{◌≡◌, ◌++◌, length},
+  csv_meaning.specs.CsvRead.{labels_after, different_labels},
+  csv_frames.specs.{Labels.{AreSkipped}, Views.{texts_seen}},
+}
 use Rattle.csv_frames.proofs.labels.different_labels.Given as goal
 
 -- the labels so far, before the others

@@ -1,6 +1,7 @@
-use Rattle.std.proofs.Common.{◌≤◌, ◌∙◌, sym, arith, string_bytes}
-use Rattle.csv_frames.proofs.LabelLaws.{is_number_free}
-use Rattle.csv_frames.proofs.SkippedLaws.{label_found, label_last}
+use Rattle.{
+  std.proofs.Common.{◌≤◌, ◌∙◌, sym, arith, string_bytes},
+  csv_frames.proofs.{LabelLaws.{is_number_free}, SkippedLaws.{label_found, label_last}},
+}
 use Rattle.csv_frames.proofs.labels.free_label.Goals as goal
 
 pub returns-then-branch-clause-label : goal.returns-then-branch-clause-label

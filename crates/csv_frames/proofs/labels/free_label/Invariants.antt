@@ -1,5 +1,7 @@
-use Rattle.std.proofs.Common.{◌≡◌}
-use Rattle.csv_frames.specs.Labels.{IsSkipped}
+use Rattle.{
+  std.proofs.Common.{◌≡◌},
+  csv_frames.specs.Labels.{IsSkipped},
+}
 use Rattle.csv_frames.proofs.labels.free_label.Given as goal
 
 -- no number so far was free

@@ -1,7 +1,9 @@
-use Rattle.std.proofs.Common.{◌≡◌, ◌++◌, drop}
-use Rattle.csv.specs.Records.{fields_of}
-use Rattle.csv_meaning.specs.CsvRead.{labels_named}
-use Rattle.csv_frames.specs.Views.{texts_seen}
+use Rattle.{
+  std.proofs.Common.{◌≡◌, ◌++◌, drop},
+  csv.specs.Records.{fields_of},
+  csv_meaning.specs.CsvRead.{labels_named},
+  csv_frames.specs.Views.{texts_seen},
+}
 use Rattle.csv_frames.proofs.labels.labels_named.Given as goal
 
 -- the labels so far, before the others

@@ -1,10 +1,9 @@
-use Rattle.std.proofs.Common.{◌≡◌, ◌<◌, ◌^◌, length, sym, subst, arith}
-use Rattle.std.specs.Prelude.{Result, Ok, Err, IfOk}
-use Rattle.std.specs.List.{IsDistinct}
-use Rattle.std.proofs.lemmas.List.{length-map}
-use Rattle.meaning.specs.Text.{same_text}
-use Rattle.csv_frames.specs.Views.{texts_seen}
-use Rattle.csv_meaning.proofs.DifferentLaws.{labels_differ}
+use Rattle.{
+  std.{proofs.{Common.{◌≡◌, ◌<◌, ◌^◌, length, sym, subst, arith}, lemmas.List.{length-map}}, specs.{Prelude.{Result, Ok, Err, IfOk}, List.{IsDistinct}}},
+  meaning.specs.Text.{same_text},
+  csv_frames.specs.Views.{texts_seen},
+  csv_meaning.proofs.DifferentLaws.{labels_differ},
+}
 use Rattle.csv_frames.proofs.labels.labels_of.Goals as goal
 
 so : {A E : Type 0} (r : Result A E) (P Q : A → Type 0) → ((x : A) → P x → Q x) → IfOk r P → IfOk r Q

@@ -1,5 +1,7 @@
-use Rattle.std.proofs.Common.{◌≢◌, ◌∙◌, length, arith}
-use Rattle.csv_frames.proofs.SkippedLaws.{number_within, skipped_new, skipped_old, next_number_of, next_old}
+use Rattle.{
+  std.proofs.Common.{◌≢◌, ◌∙◌, length, arith},
+  csv_frames.proofs.SkippedLaws.{number_within, skipped_new, skipped_old, next_number_of, next_old},
+}
 use Rattle.csv_frames.proofs.labels.next_label.Goals as goal
 
 pub returns-then-number-known-clause-skipped : goal.returns-then-number-known-clause-skipped

@@ -1,8 +1,7 @@
-use Rattle.std.proofs.Common.{◌∙◌, ap, sym}
-use Rattle.std.specs.List.{list_any}
-use Rattle.csv_frames.specs.Growing.{is_mixed}
-use Rattle.csv_frames.specs.Rows.{file_rows}
-use Rattle.csv_frames.proofs.ColumnLaws.{columns_settled, columns_right, again_grown, again_kept, again_same}
+use Rattle.{
+  std.{proofs.Common.{◌∙◌, ap, sym}, specs.List.{list_any}},
+  csv_frames.{specs.{Growing.{is_mixed}, Rows.{file_rows}}, proofs.ColumnLaws.{columns_settled, columns_right, again_grown, again_kept, again_same}},
+}
 use Rattle.csv_frames.proofs.reading.columns_read.Goals as goal
 
 pub returns-then-not-has_mixed-clause-settled : goal.returns-then-not-has_mixed-clause-settled

@@ -1,10 +1,9 @@
-use Rattle.std.proofs.Common.{◌≡◌, ◌∙◌, sym, subst, ap, map, None, arith}
-use Rattle.std.proofs.lemmas.List.{length-map}
-use Rattle.csv.specs.Records.{fields_of}
-use Rattle.csv_meaning.specs.CsvRead.{first_long, named_kind}
-use Rattle.csv_frames.specs.Rows.{file_records, file_rows}
-use Rattle.csv_frames.specs.Views.{texts_seen, entries_seen}
-use Rattle.csv_frames.proofs.ReadLaws.{under_read, wide_read}
+use Rattle.{
+  std.proofs.{Common.{◌≡◌, ◌∙◌, sym, subst, ap, map, None, arith}, lemmas.List.{length-map}},
+  csv.specs.Records.{fields_of},
+  csv_meaning.specs.CsvRead.{first_long, named_kind},
+  csv_frames.{specs.{Rows.{file_records, file_rows}, Views.{texts_seen, entries_seen}}, proofs.ReadLaws.{under_read, wide_read}},
+}
 use Rattle.csv_frames.proofs.reading.columns_under.Goals as goal
 
 pub returns-then-len-gt-MOST_COLUMNS-clause-answer : goal.returns-then-len-gt-MOST_COLUMNS-clause-answer

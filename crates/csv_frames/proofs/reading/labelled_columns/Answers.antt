@@ -1,9 +1,8 @@
-use Rattle.std.proofs.Common.{◌≡◌, ◌∙◌, ℕ, sym, subst, length, All}
-use Rattle.std.proofs.lemmas.List.{length-map}
-use Rattle.column_core.specs.Columns.{CellColumn}
-use Rattle.csv_frames.specs.Rows.{file_rows}
-use Rattle.csv_frames.specs.Views.{texts_seen}
-use Rattle.csv_frames.proofs.FilledLaws.{count_columns, filled, count_tuples, tuples_differ}
+use Rattle.{
+  std.proofs.{Common.{◌≡◌, ◌∙◌, ℕ, sym, subst, length, All}, lemmas.List.{length-map}},
+  column_core.specs.Columns.{CellColumn},
+  csv_frames.{specs.{Rows.{file_rows}, Views.{texts_seen}}, proofs.FilledLaws.{count_columns, filled, count_tuples, tuples_differ}},
+}
 use Rattle.csv_frames.proofs.reading.labelled_columns.Goals as goal
 
 pub returns-clause-parts : goal.returns-clause-parts

@@ -1,8 +1,8 @@
-use Rattle.std.proofs.Common.{sym, subst, arith}
-use Rattle.csv_meaning.specs.CsvRead.{columns_of_records}
-use Rattle.csv_frames.specs.Rows.{file_records}
-use Rattle.csv_frames.specs.Views.{entries_seen, ReadAnswers}
-use Rattle.csv_frames.proofs.ReadLaws.{refused, answered, file_read}
+use Rattle.{
+  std.proofs.Common.{sym, subst, arith},
+  csv_meaning.specs.CsvRead.{columns_of_records},
+  csv_frames.{specs.{Rows.{file_records}, Views.{entries_seen, ReadAnswers}}, proofs.ReadLaws.{refused, answered, file_read}},
+}
 use Rattle.csv_frames.proofs.reading.read_csv.Goals as goal
 
 pub returns-then-is_err-clause-answer : goal.returns-then-is_err-clause-answer

@@ -1,6 +1,8 @@
-use Rattle.std.proofs.Common.{◌∙◌, ap, [], unwrap_or}
-use Rattle.csv.specs.Records.{fields_of}
-use Rattle.csv_frames.proofs.FieldLaws.{field_unwrapped}
+use Rattle.{
+  std.proofs.Common.{◌∙◌, ap, [], unwrap_or},
+  csv.specs.Records.{fields_of},
+  csv_frames.proofs.FieldLaws.{field_unwrapped},
+}
 use Rattle.csv_frames.proofs.records.field_in.Goals as goal
 
 pub returns-in-Some : goal.returns-in-Some

@@ -1,5 +1,7 @@
-use Rattle.std.proofs.Common.{◌∙◌, inl}
-use Rattle.csv_frames.proofs.RecordLaws.{read_next}
+use Rattle.{
+  std.proofs.Common.{◌∙◌, inl},
+  csv_frames.proofs.RecordLaws.{read_next},
+}
 use Rattle.csv_frames.proofs.records.next_record.Goals as goal
 
 pub returns : goal.returns

@@ -1,8 +1,8 @@
-use Rattle.std.proofs.Common.{ap, ◌∙◌, true, length, ◌+◌, inr}
-use Rattle.csv.specs.Reading.{default_config, records_from, strip_bom, with_flexible}
-use Rattle.csv.specs.Machine.{ends_at_end}
-use Rattle.csv.specs.declared.parser.State.{State}
-use Rattle.csv_frames.specs.Rows.{records_after}
+use Rattle.{
+  std.proofs.Common.{ap, ◌∙◌, true, length, ◌+◌, inr},
+  csv.specs.{Reading.{default_config, records_from, strip_bom, with_flexible}, Machine.{ends_at_end}, declared.parser.State.{State}},
+  csv_frames.specs.Rows.{records_after},
+}
 use Rattle.csv_frames.proofs.records.reader_of.Goals as goal
 
 pub returns-clause-reads : goal.returns-clause-reads

@@ -1,10 +1,10 @@
-use Rattle.std.proofs.Common.{◌∙◌, ◌<◌, ap, sym, subst, map, length, All}
-use Rattle.multi_index.specs.Axes.{tuples_at}
-use Rattle.row_keys.specs.Keys.{same_tuple, place_among}
-use Rattle.group_meaning.specs.Keys.{group_keys}
-use Rattle.group_meaning.specs.Grouping.{AreGroups}
-use Rattle.factorize.specs.Keys.{seen_rules}
-use Rattle.factorize.proofs.GroupLaws.{rows_inside, tuples_there}
+use Rattle.{
+  std.proofs.Common.{◌∙◌, ◌<◌, ap, sym, subst, map, length, All},
+  multi_index.specs.Axes.{tuples_at},
+  row_keys.specs.Keys.{same_tuple, place_among},
+  group_meaning.specs.{Keys.{group_keys}, Grouping.{AreGroups}},
+  factorize.{specs.Keys.{seen_rules}, proofs.GroupLaws.{rows_inside, tuples_there}},
+}
 use Rattle.factorize.proofs.codes.factorize.Goals as goal
 
 pub tuples_of-requires : goal.tuples_of-requires

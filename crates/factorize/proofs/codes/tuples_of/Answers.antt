@@ -1,6 +1,7 @@
-use Rattle.std.proofs.Common.{◌∙◌, ◌<◌, ◌≤◌, length, [], ap, sym, arith, slice_index_or}
-use Rattle.std.proofs.lemmas.Option.{get_or_from_slice_get}
-use Rattle.multi_index.proofs.SideLaws.{one_row_more, every_row}
+use Rattle.{
+  std.proofs.{Common.{◌∙◌, ◌<◌, ◌≤◌, length, [], ap, sym, arith, slice_index_or}, lemmas.Option.{get_or_from_slice_get}},
+  multi_index.proofs.SideLaws.{one_row_more, every_row},
+}
 use Rattle.factorize.proofs.codes.tuples_of.Goals as goal
 
 pub loop-place-preserved : goal.loop-place-preserved

@@ -1,5 +1,7 @@
-use Rattle.std.proofs.Common.{◌≡◌, take}
-use Rattle.multi_index.specs.Axes.{tuples_at}
+use Rattle.{
+  std.proofs.Common.{◌≡◌, take},
+  multi_index.specs.Axes.{tuples_at},
+}
 use Rattle.factorize.proofs.codes.tuples_of.Given as goal
 
 -- the tuples so far

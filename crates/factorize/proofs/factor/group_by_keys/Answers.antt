@@ -1,7 +1,8 @@
-use Rattle.std.proofs.Common.{◌≡◌, ◌∙◌, false, ap, rules}
-use Rattle.group_meaning.specs.Rows.{GroupsValue}
-use Rattle.factorize.proofs.GroupLaws.{below_count, codes_below, codes_are, groups_counted, rows_are, law_of}
-use Rattle.factorize.proofs.KeyNumberLaws.{all_counted, all_firsts, all_codes}
+use Rattle.{
+  std.proofs.Common.{◌≡◌, ◌∙◌, false, ap, rules},
+  group_meaning.specs.Rows.{GroupsValue},
+  factorize.proofs.{GroupLaws.{below_count, codes_below, codes_are, groups_counted, rows_are, law_of}, KeyNumberLaws.{all_counted, all_firsts, all_codes}},
+}
 use Rattle.factorize.proofs.factor.group_by_keys.Goals as goal
 
 pub groups_of_all-requires : goal.groups_of_all-requires

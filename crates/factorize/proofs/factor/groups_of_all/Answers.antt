@@ -1,7 +1,8 @@
-use Rattle.std.proofs.Common.{◌≡◌, ◌∙◌, ℕ, List, Option, Some, map, ap, sym, subst, arith, length, All}
-use Rattle.std.proofs.lemmas.List.Elements.{All-map}
-use Rattle.column_core.specs.Moves.{IsPlaceOf}
-use Rattle.group_meaning.specs.Rows.{GroupsValue}
+use Rattle.{
+  std.proofs.{Common.{◌≡◌, ◌∙◌, ℕ, List, Option, Some, map, ap, sym, subst, arith, length, All}, lemmas.List.Elements.{All-map}},
+  column_core.specs.Moves.{IsPlaceOf},
+  group_meaning.specs.Rows.{GroupsValue},
+}
 use Rattle.factorize.proofs.factor.groups_of_all.Goals as goal
 
 pub of-requires : goal.of-requires

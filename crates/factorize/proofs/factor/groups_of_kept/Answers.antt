@@ -1,7 +1,8 @@
-use Rattle.std.proofs.Common.{◌≡◌, ◌∙◌, ◌<◌, ap, sym, subst, arith, length, All}
-use Rattle.column_core.specs.Moves.{IsPlaceOf}
-use Rattle.factorize.specs.Numbers.{places_of, recoded}
-use Rattle.factorize.proofs.PlaceLaws.{codes_placed, recoded_inside}
+use Rattle.{
+  std.proofs.Common.{◌≡◌, ◌∙◌, ◌<◌, ap, sym, subst, arith, length, All},
+  column_core.specs.Moves.{IsPlaceOf},
+  factorize.{specs.Numbers.{places_of, recoded}, proofs.PlaceLaws.{codes_placed, recoded_inside}},
+}
 use Rattle.factorize.proofs.factor.groups_of_kept.Goals as goal
 
 pub codes_by-requires : goal.codes_by-requires

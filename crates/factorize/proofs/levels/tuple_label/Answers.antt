@@ -1,9 +1,9 @@
-use Rattle.std.proofs.Common.{◌∙◌, arith, ap, sym, []}
-use Rattle.std.proofs.lemmas.Option.{get_or_from_slice_get}
-use Rattle.cell_core.specs.declared.cell.Label.TheVariants.{Na}
-use Rattle.row_keys.specs.Keys.{label_in}
-use Rattle.std.proofs.lemmas.List.{get_or_past}
-use Rattle.factorize.proofs.LabelLaws.{no_row}
+use Rattle.{
+  std.proofs.{Common.{◌∙◌, arith, ap, sym, []}, lemmas.{Option.{get_or_from_slice_get}, List.{get_or_past}}},
+  cell_core.specs.declared.cell.Label.TheVariants.{Na},
+  row_keys.specs.Keys.{label_in},
+  factorize.proofs.LabelLaws.{no_row},
+}
 use Rattle.factorize.proofs.levels.tuple_label.Goals as goal
 
 pub returns-then-row-len : goal.returns-then-row-len

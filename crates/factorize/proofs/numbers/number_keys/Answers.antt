@@ -1,11 +1,8 @@
-use Rattle.std.proofs.Common.{◌≡◌, ◌∙◌, ◌<◌, false, ap, sym, subst, arith, map, length, All}
-use Rattle.std.specs.List.{range_with_len}
-use Rattle.std.proofs.lemmas.List.{with_items_is}
-use Rattle.group_meaning.specs.Keys.{ordered_if}
-use Rattle.factorize.specs.Numbers.{number_less, number_in, places_of, recoded}
-use Rattle.factorize.proofs.GroupLaws.{codes_below}
-use Rattle.factorize.proofs.PlaceLaws.{codes_placed}
-use Rattle.factorize.proofs.KeyNumberLaws.{sight_counted, sight_numbers, ordered_below, ordered_counted, renumbered}
+use Rattle.{
+  std.{proofs.{Common.{◌≡◌, ◌∙◌, ◌<◌, false, ap, sym, subst, arith, map, length, All}, lemmas.List.{with_items_is}}, specs.List.{range_with_len}},
+  group_meaning.specs.Keys.{ordered_if},
+  factorize.{specs.Numbers.{number_less, number_in, places_of, recoded}, proofs.{GroupLaws.{codes_below}, PlaceLaws.{codes_placed}, KeyNumberLaws.{sight_counted, sight_numbers, ordered_below, ordered_counted, renumbered}}},
+}
 use Rattle.factorize.proofs.numbers.number_keys.Goals as goal
 
 pub returns-then-not-sorted-clause-count : goal.returns-then-not-sorted-clause-count

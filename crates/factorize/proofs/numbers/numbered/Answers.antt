@@ -1,11 +1,10 @@
-use Rattle.std.proofs.Common.{◌≡◌, ◌+◌, ◌-◌, ◌<◌, length, map, drop, ap, ◌∙◌, arith, All}
-use Rattle.std.specs.List.{zip}
-use Rattle.std.proofs.lemmas.List.Elements.{All-weaker}
+use Rattle.{
+  std.{proofs.{Common.{◌≡◌, ◌+◌, ◌-◌, ◌<◌, length, map, drop, ap, ◌∙◌, arith, All}, lemmas.List.Elements.{All-weaker}}, specs.List.{zip}},
+  cell_core.specs.contracts.cell.LabelEq.TheImpl.Laws.{laws-law},
+  index_core.specs.Labels.{same_number},
+  row_keys.{specs.Keys.{same_tuple, same_pair, label_in, codes_of, first_rows}, proofs.RecodeLaws.{last_level, one_level, drop_none}},
+}
 use Rattle.cell_core.specs.declared.cell.Label.TheVariants as label
-use Rattle.cell_core.specs.contracts.cell.LabelEq.TheImpl.Laws.{laws-law}
-use Rattle.index_core.specs.Labels.{same_number}
-use Rattle.row_keys.specs.Keys.{same_tuple, same_pair, label_in, codes_of, first_rows}
-use Rattle.row_keys.proofs.RecodeLaws.{last_level, one_level, drop_none}
 use Rattle.factorize.proofs.numbers.numbered.Goals as goal
 
 pub loop-level-init : goal.loop-level-init

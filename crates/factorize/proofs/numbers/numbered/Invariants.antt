@@ -1,6 +1,7 @@
-use Rattle.std.proofs.Common.{◌<◌, map, drop}
-use Rattle.row_keys.specs.Keys.{same_tuple}
-use Rattle.row_keys.proofs.RecodeLaws.{AreNumbers}
+use Rattle.{
+  std.proofs.Common.{◌<◌, map, drop},
+  row_keys.{specs.Keys.{same_tuple}, proofs.RecodeLaws.{AreNumbers}},
+}
 use Rattle.factorize.proofs.numbers.numbered.Given as goal
 
 -- the labels from a level on are numbered

@@ -1,5 +1,7 @@
-use Rattle.std.proofs.Common.{◌≡◌, take}
-use Rattle.factorize.specs.Numbers.{recoded}
+use Rattle.{
+  std.proofs.Common.{◌≡◌, take},
+  factorize.specs.Numbers.{recoded},
+}
 use Rattle.factorize.proofs.places.codes_by.Given as goal
 
 -- the codes so far

@@ -1,14 +1,11 @@
-use Rattle.std.proofs.Common.{◌≡◌, ◌∙◌, ◌<◌, ◌||◌, ap, sym, arith, ℕ, false, [], ◌∷◌, map, slice_index_or}
-use Rattle.std.specs.List.{list_any, range_with_len}
-use Rattle.std.proofs.lemmas.List.Folds.{list_any-append}
-use Rattle.std.proofs.lemmas.List.FromFn.{map-range_with_len_more}
-use Rattle.cell_core.specs.Values.{LabelValue, na, label_datum}
-use Rattle.row_keys.specs.Keys.{label_in}
-use Rattle.row_keys.proofs.KeyLaws.{any_at}
-use Rattle.label_align.specs.Tuples.{labels_of}
-use Rattle.label_align.proofs.OrderLaws.{label_there, labels_counted}
-use Rattle.group_meaning.specs.Keys.{is_na}
-use Rattle.factorize.proofs.LabelLaws.{na_told}
+use Rattle.{
+  std.{proofs.{Common.{◌≡◌, ◌∙◌, ◌<◌, ◌||◌, ap, sym, arith, ℕ, false, [], ◌∷◌, map, slice_index_or}, lemmas.List.{Folds.{list_any-append}, FromFn.{map-range_with_len_more}}}, specs.List.{list_any, range_with_len}},
+  cell_core.specs.Values.{LabelValue, na, label_datum},
+  row_keys.{specs.Keys.{label_in}, proofs.KeyLaws.{any_at}},
+  label_align.{specs.Tuples.{labels_of}, proofs.OrderLaws.{label_there, labels_counted}},
+  group_meaning.specs.Keys.{is_na},
+  factorize.proofs.LabelLaws.{na_told},
+}
 use Rattle.factorize.proofs.places.holds_na.Goals as goal
 
 pub returns-then-eq : goal.returns-then-eq

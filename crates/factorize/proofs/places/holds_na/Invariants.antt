@@ -1,8 +1,9 @@
-use Rattle.std.proofs.Common.{◌≡◌, ℕ, false, List, [], map, slice_index_or}
-use Rattle.std.specs.List.{list_any, range_with_len}
-use Rattle.cell_core.specs.Values.{label_datum}
-use Rattle.row_keys.specs.Keys.{label_in}
-use Rattle.group_meaning.specs.Keys.{is_na}
+use Rattle.{
+  std.{proofs.Common.{◌≡◌, ℕ, false, List, [], map, slice_index_or}, specs.List.{list_any, range_with_len}},
+  cell_core.specs.Values.{label_datum},
+  row_keys.specs.Keys.{label_in},
+  group_meaning.specs.Keys.{is_na},
+}
 use Rattle.factorize.proofs.places.holds_na.Given as goal
 
 -- no label so far is missing

@@ -1,8 +1,8 @@
-use Rattle.std.proofs.Common.{◌≡◌, ◌∙◌, ℕ, Bool, List, true, false, not, filter, length, ap, sym, rules}
-use Rattle.std.specs.List.{range_with_len}
-use Rattle.group_meaning.specs.Keys.{ordered_if}
-use Rattle.factorize.specs.Numbers.{first_row, number_less, row_holds_na, kept_numbers}
-use Rattle.factorize.proofs.NumberLaws.{filter_all}
+use Rattle.{
+  std.{proofs.Common.{◌≡◌, ◌∙◌, ℕ, Bool, List, true, false, not, filter, length, ap, sym, rules}, specs.List.{range_with_len}},
+  group_meaning.specs.Keys.{ordered_if},
+  factorize.{specs.Numbers.{first_row, number_less, row_holds_na, kept_numbers}, proofs.NumberLaws.{filter_all}},
+}
 use Rattle.factorize.proofs.places.numbers_kept.Goals as goal
 
 pub returns-then-not-dropna : goal.returns-then-not-dropna

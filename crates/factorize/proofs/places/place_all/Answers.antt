@@ -1,9 +1,7 @@
-use Rattle.std.proofs.Common.{◌≡◌, ◌∙◌, ◌<◌, ◌≤◌, ◌==◌, ◌+◌, ◌++◌, ◌∷◌, [], None, length, take, ap, sym, arith, refl, slice_index_or}
-use Rattle.std.specs.List.{position}
-use Rattle.std.proofs.lemmas.List.{take_all, take_more, length-take-le}
-use Rattle.std.proofs.lemmas.List.FromFn.{fill_by_all}
-use Rattle.factorize.specs.Numbers.{placed}
-use Rattle.factorize.proofs.PlaceLaws.{placed_size, placed_more}
+use Rattle.{
+  std.{proofs.{Common.{◌≡◌, ◌∙◌, ◌<◌, ◌≤◌, ◌==◌, ◌+◌, ◌++◌, ◌∷◌, [], None, length, take, ap, sym, arith, refl, slice_index_or}, lemmas.List.{take_all, take_more, length-take-le, FromFn.{fill_by_all}}}, specs.List.{position}},
+  factorize.{specs.Numbers.{placed}, proofs.PlaceLaws.{placed_size, placed_more}},
+}
 use Rattle.factorize.proofs.places.place_all.Goals as goal
 
 pub loop-place-init : goal.loop-place-init

@@ -1,5 +1,4 @@
-use Rattle.std.proofs.Common.{◌≡◌, ◌<◌, ◌==◌, ℕ, length, take, slice_index_or, None}
-use Rattle.std.specs.List.{position}
+use Rattle.std.{proofs.Common.{◌≡◌, ◌<◌, ◌==◌, ℕ, length, take, slice_index_or, None}, specs.List.{position}}
 use Rattle.factorize.proofs.places.place_all.Given as goal
 
 -- each number's place among those so far

@@ -1,5 +1,7 @@
-use Rattle.std.proofs.Common.{◌≡◌, length, arith}
-use Rattle.factorize.proofs.PlaceLaws.{all_recoded}
+use Rattle.{
+  std.proofs.Common.{◌≡◌, length, arith},
+  factorize.proofs.PlaceLaws.{all_recoded},
+}
 use Rattle.factorize.proofs.places.recode.Goals as goal
 
 pub returns : goal.returns

@@ -1,5 +1,7 @@
-use Rattle.std.proofs.Common.{◌≡◌, ℕ, ◌<◌, ◌≤◌, slice_index_or, None}
-use Rattle.factorize.specs.Numbers.{number_in}
+use Rattle.{
+  std.proofs.Common.{◌≡◌, ℕ, ◌<◌, ◌≤◌, slice_index_or, None},
+  factorize.specs.Numbers.{number_in},
+}
 use Rattle.factorize.proofs.places.recode.Given as goal
 
 -- the numbers so far are recoded, and the others as they were

@@ -1,7 +1,7 @@
-use Rattle.std.proofs.Common.{◌≡◌, ◌∙◌, ◌<◌, ◌≤◌, ◌++◌, ◌∷◌, [], ℕ, Bool, not, filter, length, cond, ap, sym, arith, slice_index_or}
-use Rattle.std.proofs.lemmas.List.{take_all}
-use Rattle.std.proofs.lemmas.List.Elements.{filter_more}
-use Rattle.factorize.specs.Numbers.{first_row, row_holds_na}
+use Rattle.{
+  std.proofs.{Common.{◌≡◌, ◌∙◌, ◌<◌, ◌≤◌, ◌++◌, ◌∷◌, [], ℕ, Bool, not, filter, length, cond, ap, sym, arith, slice_index_or}, lemmas.List.{take_all, Elements.{filter_more}}},
+  factorize.specs.Numbers.{first_row, row_holds_na},
+}
 use Rattle.factorize.proofs.places.without_na.Goals as goal
 
 pub loop-number-preserved : goal.loop-number-preserved

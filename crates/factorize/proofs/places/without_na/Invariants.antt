@@ -1,5 +1,7 @@
-use Rattle.std.proofs.Common.{◌≡◌, ℕ, List, not, filter, take}
-use Rattle.factorize.specs.Numbers.{first_row, row_holds_na}
+use Rattle.{
+  std.proofs.Common.{◌≡◌, ℕ, List, not, filter, take},
+  factorize.specs.Numbers.{first_row, row_holds_na},
+}
 use Rattle.factorize.proofs.places.without_na.Given as goal
 
 -- the numbers so far

@@ -1,5 +1,7 @@
-use Rattle.std.proofs.Common.{arith, rules}
-use Rattle.fault_lines.proofs.Quoting.{IsPlain, quoted_bytes-encode}
+use Rattle.{
+  std.proofs.Common.{arith, rules},
+  fault_lines.proofs.Quoting.{IsPlain, quoted_bytes-encode},
+}
 use Rattle.fault_lines.proofs.key.push_character.Goals as goal
 
 pub returns-in_default : goal.returns-in_default

@@ -1,6 +1,7 @@
-use Rattle.std.proofs.Common.{◌≡◌, ◌++◌, string_bytes}
-use Rattle.std.specs.Str.Iter.{chars_rest}
-use Rattle.meaning.specs.FaultText.{quoted_bytes}
+use Rattle.{
+  std.{proofs.Common.{◌≡◌, ◌++◌, string_bytes}, specs.Str.Iter.{chars_rest}},
+  meaning.specs.FaultText.{quoted_bytes},
+}
 use Rattle.fault_lines.proofs.key.push_escaped.Given as goal
 
 abbrev pub invariant-loop-character : goal.invariant-loop-character

@@ -1,6 +1,8 @@
-use Rattle.std.proofs.Common.{sym, ◌∙◌}
-use Rattle.cell_core.specs.Values.{label_datum}
-use Rattle.fault_lines.proofs.KeyLaws.{key_text-one}
+use Rattle.{
+  std.proofs.Common.{sym, ◌∙◌},
+  cell_core.specs.Values.{label_datum},
+  fault_lines.proofs.KeyLaws.{key_text-one},
+}
 use Rattle.fault_lines.proofs.key.push_key.Goals as goal
 
 pub returns-then-len-eq1 : goal.returns-then-len-eq1

@@ -1,5 +1,7 @@
-use Rattle.cell_core.specs.Values.{label_datum}
-use Rattle.fault_lines.proofs.KeyLaws.{labels_more}
+use Rattle.{
+  cell_core.specs.Values.{label_datum},
+  fault_lines.proofs.KeyLaws.{labels_more},
+}
 use Rattle.fault_lines.proofs.key.push_more_labels.Goals as goal
 
 pub loop-level-preserved : goal.loop-level-preserved

@@ -1,6 +1,8 @@
-use Rattle.std.proofs.Common.{◌≡◌, ◌++◌, drop, map, string_bytes}
-use Rattle.cell_core.specs.Values.{label_datum}
-use Rattle.meaning.specs.FaultText.{more_labels}
+use Rattle.{
+  std.proofs.Common.{◌≡◌, ◌++◌, drop, map, string_bytes},
+  cell_core.specs.Values.{label_datum},
+  meaning.specs.FaultText.{more_labels},
+}
 use Rattle.fault_lines.proofs.key.push_more_labels.Given as goal
 
 abbrev pub invariant-loop-level : goal.invariant-loop-level

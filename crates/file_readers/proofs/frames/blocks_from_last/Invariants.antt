@@ -1,6 +1,7 @@
-use Rattle.std.proofs.Common.{◌≡◌, ◌++◌, map, length}
-use Rattle.std.specs.Prelude.{reverse}
-use Rattle.file_readers.specs.Frames.{column_block}
+use Rattle.{
+  std.{proofs.Common.{◌≡◌, ◌++◌, map, length}, specs.Prelude.{reverse}},
+  file_readers.specs.Frames.{column_block},
+}
 use Rattle.file_readers.proofs.frames.blocks_from_last.Given as goal
 
 -- the blocks so far, before those of the columns that are left

@@ -1,7 +1,8 @@
-use Rattle.std.proofs.Common.{◌∙◌, sym, subst}
-use Rattle.table_meaning.specs.Table.{NumberedTable}
-use Rattle.table_meaning.specs.Valid.{IsWhole}
-use Rattle.file_readers.proofs.FrameLaws.{blocks_single, frame_parts, frame_whole}
+use Rattle.{
+  std.proofs.Common.{◌∙◌, sym, subst},
+  table_meaning.specs.{Table.{NumberedTable}, Valid.{IsWhole}},
+  file_readers.proofs.FrameLaws.{blocks_single, frame_parts, frame_whole},
+}
 use Rattle.file_readers.proofs.frames.frame_of.Goals as goal
 
 pub new-requires-clause-single : goal.new-requires-clause-single

@@ -1,6 +1,8 @@
-use Rattle.std.proofs.Common.{◌∙◌, ◌<◌, ap, length, arith}
-use Rattle.frame_store.specs.Parts.{HeadingList}
-use Rattle.file_readers.proofs.FrameLaws.{heading_step}
+use Rattle.{
+  std.proofs.Common.{◌∙◌, ◌<◌, ap, length, arith},
+  frame_store.specs.Parts.{HeadingList},
+  file_readers.proofs.FrameLaws.{heading_step},
+}
 use Rattle.file_readers.proofs.frames.headings_of.Goals as goal
 
 pub loop-place-preserved : goal.loop-place-preserved

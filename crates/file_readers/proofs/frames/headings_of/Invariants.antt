@@ -1,5 +1,7 @@
-use Rattle.std.proofs.Common.{◌≡◌, ◌++◌, map, drop, None}
-use Rattle.file_readers.proofs.FrameLaws.{first_label}
+use Rattle.{
+  std.proofs.Common.{◌≡◌, ◌++◌, map, drop, None},
+  file_readers.proofs.FrameLaws.{first_label},
+}
 use Rattle.file_readers.proofs.frames.headings_of.Given as goal
 
 -- the headings so far, before those of the other labels

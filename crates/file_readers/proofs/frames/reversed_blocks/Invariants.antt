@@ -1,5 +1,4 @@
-use Rattle.std.proofs.Common.{◌≡◌, ◌++◌, length}
-use Rattle.std.specs.Prelude.{reverse}
+use Rattle.std.{proofs.Common.{◌≡◌, ◌++◌, length}, specs.Prelude.{reverse}}
 use Rattle.file_readers.proofs.frames.reversed_blocks.Given as goal
 
 -- the blocks so far, before those that are left

@@ -1,8 +1,9 @@
-use Rattle.std.proofs.Common.{◌≡◌, ◌++◌, length}
+use Rattle.{
+  std.proofs.Common.{◌≡◌, ◌++◌, length},
+  csv_frames.specs.Views.{entries_seen},
+  frame_store.specs.{Objects.{Tables}, Arguments.{entries_of}},
+}
 use Rattle.method_meaning.specs.Readers as readers
-use Rattle.csv_frames.specs.Views.{entries_seen}
-use Rattle.frame_store.specs.Objects.{Tables}
-use Rattle.frame_store.specs.Arguments.{entries_of}
 use Rattle.file_readers.proofs.kinds.kinds_in.Given as goal
 
 -- the kinds so far, before those of the other pairs

@@ -1,10 +1,10 @@
-use Rattle.std.proofs.Common.{◌∙◌, ap, sym, subst}
-use Rattle.table_meaning.specs.Settled.{IsSettled}
-use Rattle.form_meaning.specs.Binding.{bound_of}
-use Rattle.frame_store.specs.Objects.{tables}
-use Rattle.frame_store.specs.Arguments.{arguments_of}
-use Rattle.frame_store.specs.World.{world}
-use Rattle.file_readers.proofs.NameLaws.{name_given}
+use Rattle.{
+  std.proofs.Common.{◌∙◌, ap, sym, subst},
+  table_meaning.specs.Settled.{IsSettled},
+  form_meaning.specs.Binding.{bound_of},
+  frame_store.specs.{Objects.{tables}, Arguments.{arguments_of}, World.{world}},
+  file_readers.proofs.NameLaws.{name_given},
+}
 use Rattle.file_readers.proofs.names.name_of.Goals as goal
 
 pub returns-in-Some-Text : goal.returns-in-Some-Text

@@ -1,6 +1,7 @@
-use Rattle.csv_frames.specs.Views.{entries_seen}
-use Rattle.file_readers.proofs.FrameLaws.{frame_settled, frame_made}
-use Rattle.file_readers.proofs.ReadLaws.{rows_few, labels_single}
+use Rattle.{
+  csv_frames.specs.Views.{entries_seen},
+  file_readers.proofs.{FrameLaws.{frame_settled, frame_made}, ReadLaws.{rows_few, labels_single}},
+}
 use Rattle.file_readers.proofs.reading.frame_of_file.Goals as goal
 
 pub frame_of-requires-clause-few : goal.frame_of-requires-clause-few

@@ -1,8 +1,9 @@
-use Rattle.std.proofs.Common.{rules, ◌≡◌, true}
-use Rattle.form_meaning.specs.Signature.{function_named}
+use Rattle.{
+  std.proofs.Common.{rules, ◌≡◌, true},
+  form_meaning.specs.Signature.{function_named},
+  frame_store.specs.{Objects.{tables}, Arguments.{arguments_of}},
+}
 use Rattle.method_meaning.specs.Readers as readers
-use Rattle.frame_store.specs.Objects.{tables}
-use Rattle.frame_store.specs.Arguments.{arguments_of}
 use Rattle.file_readers.proofs.reading.make.Goals as goal
 
 pub returns-in-Some : goal.returns-in-Some

@@ -1,14 +1,13 @@
-use Rattle.std.proofs.Common.{◌∙◌, ap, sym, subst, Result}
-use Rattle.meaning.specs.Fault.{FaultValue}
-use Rattle.table_meaning.specs.Value.{Entry}
-use Rattle.form_meaning.specs.Binding.{bound_of}
+use Rattle.{
+  std.proofs.Common.{◌∙◌, ap, sym, subst, Result},
+  meaning.specs.Fault.{FaultValue},
+  table_meaning.specs.Value.{Entry},
+  form_meaning.specs.Binding.{bound_of},
+  csv_frames.specs.Views.{entries_seen},
+  frame_store.specs.{Objects.{tables}, Arguments.{arguments_of}, Shown.{Makes}, World.{world}},
+  file_readers.proofs.ReadLaws.{read_bound},
+}
 use Rattle.method_meaning.specs.Readers as readers
-use Rattle.csv_frames.specs.Views.{entries_seen}
-use Rattle.frame_store.specs.Objects.{tables}
-use Rattle.frame_store.specs.Arguments.{arguments_of}
-use Rattle.frame_store.specs.Shown.{Makes}
-use Rattle.frame_store.specs.World.{world}
-use Rattle.file_readers.proofs.ReadLaws.{read_bound}
 use Rattle.file_readers.proofs.reading.read_frame.Goals as goal
 
 pub returns-clause-answer : goal.returns-clause-answer

@@ -1,8 +1,10 @@
-use Rattle.std.proofs.Common.{◌∙◌, ◌<◌, ap, length, subst, sym, arith, take_all, All}
-use Rattle.cell_core.specs.declared.cell.Cell.TheVariants.{Na}
-use Rattle.column_core.specs.Moves.{IsPlaceOf}
-use Rattle.form_meaning.specs.Infix.{on_rows}
-use Rattle.form_parts.proofs.GapLaws.{one_more_on, block_on, single_on}
+use Rattle.{
+  std.proofs.Common.{◌∙◌, ◌<◌, ap, length, subst, sym, arith, take_all, All},
+  cell_core.specs.declared.cell.Cell.TheVariants.{Na},
+  column_core.specs.Moves.{IsPlaceOf},
+  form_meaning.specs.Infix.{on_rows},
+  form_parts.proofs.GapLaws.{one_more_on, block_on, single_on},
+}
 use Rattle.form_parts.proofs.gaps.columns_on.Goals as goal
 
 pub take-requires : goal.take-requires

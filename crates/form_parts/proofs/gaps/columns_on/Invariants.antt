@@ -1,7 +1,9 @@
-use Rattle.std.proofs.Common.{◌≡◌, take, map, All}
-use Rattle.cell_core.specs.declared.cell.Cell.TheVariants.{Na}
-use Rattle.form_meaning.specs.Infix.{on_rows}
-use Rattle.frame_store.specs.Parts.{block_column, IsSingle}
+use Rattle.{
+  std.proofs.Common.{◌≡◌, take, map, All},
+  cell_core.specs.declared.cell.Cell.TheVariants.{Na},
+  form_meaning.specs.Infix.{on_rows},
+  frame_store.specs.Parts.{block_column, IsSingle},
+}
 use Rattle.form_parts.proofs.gaps.columns_on.Given as goal
 
 abbrev pub invariant-loop-place : goal.invariant-loop-place

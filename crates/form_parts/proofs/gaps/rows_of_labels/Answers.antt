@@ -1,11 +1,11 @@
-use Rattle.std.proofs.Common.{◌≡◌, subst, sym, Err, Ok, List, Option, Result, ℕ}
-use Rattle.align_meaning.specs.Targets.{reindexed}
-use Rattle.row_keys.specs.Keys.{same_tuple}
-use Rattle.label_align.specs.Answers.{AlignsBy, as_it_is}
-use Rattle.label_align.specs.declared.fault.AlignFault.{AlignFault}
-use Rattle.frame_store.specs.declared.fault.OpFault.{OpFault}
-use Rattle.form_parts.specs.Makes.{MakesBy}
-use Rattle.form_parts.proofs.GapLaws.{found_rows, rows_below, rows_counted, rows_met, rows_refused}
+use Rattle.{
+  std.proofs.Common.{◌≡◌, subst, sym, Err, Ok, List, Option, Result, ℕ},
+  align_meaning.specs.Targets.{reindexed},
+  row_keys.specs.Keys.{same_tuple},
+  label_align.specs.{Answers.{AlignsBy, as_it_is}, declared.fault.AlignFault.{AlignFault}},
+  frame_store.specs.declared.fault.OpFault.{OpFault},
+  form_parts.{specs.Makes.{MakesBy}, proofs.GapLaws.{found_rows, rows_below, rows_counted, rows_met, rows_refused}},
+}
 use Rattle.form_parts.proofs.gaps.rows_of_labels.Goals as goal
 
 pub returns-in-Ok-clause-rows : goal.returns-in-Ok-clause-rows

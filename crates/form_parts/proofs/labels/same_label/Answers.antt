@@ -1,6 +1,7 @@
-use Rattle.std.proofs.Common.{◌≡◌, rules}
-use Rattle.std.specs.Bool.{Decides}
-use Rattle.form_parts.proofs.LabelLaws.{same_by_number}
+use Rattle.{
+  std.{proofs.Common.{◌≡◌, rules}, specs.Bool.{Decides}},
+  form_parts.proofs.LabelLaws.{same_by_number},
+}
 use Rattle.form_parts.proofs.labels.same_label.Goals as goal
 
 pub returns : goal.returns

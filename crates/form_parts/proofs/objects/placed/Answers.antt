@@ -1,5 +1,7 @@
-use Rattle.std.proofs.Common.{refl, rules}
-use Rattle.form_parts.proofs.ObjectMade.{kept_settled, added_settled, refused, out_of_memory, added, made_settled}
+use Rattle.{
+  std.proofs.Common.{refl, rules},
+  form_parts.proofs.ObjectMade.{kept_settled, added_settled, refused, out_of_memory, added, made_settled},
+}
 use Rattle.form_parts.proofs.objects.placed.Goals as goal
 
 pub returns-in_err-made-clause-answers : goal.returns-in_err-made-clause-answers

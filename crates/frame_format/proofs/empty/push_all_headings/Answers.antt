@@ -1,5 +1,7 @@
-use Rattle.std.proofs.Common.{◌∙◌}
-use Rattle.frame_format.proofs.FieldLaws.{join_pushed}
+use Rattle.{
+  std.proofs.Common.{◌∙◌},
+  frame_format.proofs.FieldLaws.{join_pushed},
+}
 use Rattle.frame_format.proofs.empty.push_all_headings.Goals as goal
 
 pub loop-column-preserved : goal.loop-column-preserved

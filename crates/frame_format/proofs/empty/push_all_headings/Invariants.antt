@@ -1,7 +1,7 @@
-use Rattle.std.proofs.Common.{◌≡◌, ◌++◌, codes}
-use Rattle.std.specs.List.{join_by}
-use Rattle.format_meaning.specs.Told.{heading_at}
-use Rattle.format_meaning.specs.Print.{shown_name, places}
+use Rattle.{
+  std.{proofs.Common.{◌≡◌, ◌++◌, codes}, specs.List.{join_by}},
+  format_meaning.specs.{Told.{heading_at}, Print.{shown_name, places}},
+}
 use Rattle.frame_format.proofs.empty.push_all_headings.Given as goal
 
 abbrev pub invariant-loop-column : goal.invariant-loop-column

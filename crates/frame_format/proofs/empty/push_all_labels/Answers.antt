@@ -1,5 +1,7 @@
-use Rattle.std.proofs.Common.{refl}
-use Rattle.frame_format.proofs.FieldLaws.{join_pushed}
+use Rattle.{
+  std.proofs.Common.{refl},
+  frame_format.proofs.FieldLaws.{join_pushed},
+}
 use Rattle.frame_format.proofs.empty.push_all_labels.Goals as goal
 
 pub loop-row-preserved : goal.loop-row-preserved

@@ -1,6 +1,7 @@
-use Rattle.std.proofs.Common.{◌≡◌, ◌++◌, codes}
-use Rattle.std.specs.List.{join_by}
-use Rattle.format_meaning.specs.Print.{whole_label, places}
+use Rattle.{
+  std.{proofs.Common.{◌≡◌, ◌++◌, codes}, specs.List.{join_by}},
+  format_meaning.specs.Print.{whole_label, places},
+}
 use Rattle.frame_format.proofs.empty.push_all_labels.Given as goal
 
 abbrev pub invariant-loop-row : goal.invariant-loop-row

@@ -1,7 +1,7 @@
-use Rattle.std.proofs.Common.{◌≡◌, ◌++◌, codes}
-use Rattle.std.specs.List.{join_by}
-use Rattle.format_meaning.specs.Told.{label_at}
-use Rattle.format_meaning.specs.Print.{shown_label, places}
+use Rattle.{
+  std.{proofs.Common.{◌≡◌, ◌++◌, codes}, specs.List.{join_by}},
+  format_meaning.specs.{Told.{label_at}, Print.{shown_label, places}},
+}
 use Rattle.frame_format.proofs.empty.push_each_level.Given as goal
 
 abbrev pub invariant-loop-level : goal.invariant-loop-level

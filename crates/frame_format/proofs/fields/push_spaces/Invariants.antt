@@ -1,5 +1,7 @@
-use Rattle.std.proofs.Common.{◌≡◌, ◌++◌}
-use Rattle.format_meaning.specs.Print.{spaces}
+use Rattle.{
+  std.proofs.Common.{◌≡◌, ◌++◌},
+  format_meaning.specs.Print.{spaces},
+}
 use Rattle.frame_format.proofs.fields.push_spaces.Given as goal
 
 abbrev pub invariant-loop : goal.invariant-loop

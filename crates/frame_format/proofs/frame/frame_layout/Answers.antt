@@ -1,6 +1,8 @@
-use Rattle.std.proofs.Common.{◌≡◌, ◌∙◌, ◌-◌, ap, ap₂, max, ◌+◌, length, sum}
-use Rattle.format_meaning.specs.Print.{width, levels_width, index_width}
-use Rattle.frame_format.proofs.FieldLaws.{side_measured}
+use Rattle.{
+  std.proofs.Common.{◌≡◌, ◌∙◌, ◌-◌, ap, ap₂, max, ◌+◌, length, sum},
+  format_meaning.specs.Print.{width, levels_width, index_width},
+  frame_format.proofs.FieldLaws.{side_measured},
+}
 use Rattle.frame_format.proofs.frame.frame_layout.Goals as goal
 
 pub returns : goal.returns

@@ -1,5 +1,7 @@
-use Rattle.std.proofs.Common.{refl, codes}
-use Rattle.frame_format.proofs.FieldLaws.{column_pushed}
+use Rattle.{
+  std.proofs.Common.{refl, codes},
+  frame_format.proofs.FieldLaws.{column_pushed},
+}
 use Rattle.frame_format.proofs.frame.push_blanks.Goals as goal
 
 pub loop-column-preserved : goal.loop-column-preserved

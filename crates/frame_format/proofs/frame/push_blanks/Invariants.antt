@@ -1,5 +1,7 @@
-use Rattle.std.proofs.Common.{◌≡◌, ◌++◌, codes, slice_index}
-use Rattle.frame_format.specs.Layouts.{set_columns}
+use Rattle.{
+  std.proofs.Common.{◌≡◌, ◌++◌, codes, slice_index},
+  frame_format.specs.Layouts.{set_columns},
+}
 use Rattle.frame_format.proofs.frame.push_blanks.Given as goal
 
 abbrev pub invariant-loop-column : goal.invariant-loop-column

@@ -1,7 +1,8 @@
-use Rattle.std.proofs.Common.{◌∙◌}
-use Rattle.format_meaning.specs.Told.{cell_at}
-use Rattle.format_meaning.specs.Print.{shown_cell}
-use Rattle.frame_format.proofs.FieldLaws.{column_pushed}
+use Rattle.{
+  std.proofs.Common.{◌∙◌},
+  format_meaning.specs.{Told.{cell_at}, Print.{shown_cell}},
+  frame_format.proofs.FieldLaws.{column_pushed},
+}
 use Rattle.frame_format.proofs.frame.push_cells.Goals as goal
 
 pub loop-column-preserved : goal.loop-column-preserved

@@ -1,7 +1,8 @@
-use Rattle.std.proofs.Common.{◌≡◌, ◌++◌, slice_index}
-use Rattle.format_meaning.specs.Told.{cell_at}
-use Rattle.format_meaning.specs.Print.{shown_cell}
-use Rattle.frame_format.specs.Layouts.{set_columns}
+use Rattle.{
+  std.proofs.Common.{◌≡◌, ◌++◌, slice_index},
+  format_meaning.specs.{Told.{cell_at}, Print.{shown_cell}},
+  frame_format.specs.Layouts.{set_columns},
+}
 use Rattle.frame_format.proofs.frame.push_cells.Given as goal
 
 abbrev pub invariant-loop-column : goal.invariant-loop-column

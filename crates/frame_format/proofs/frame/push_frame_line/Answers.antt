@@ -1,7 +1,8 @@
-use Rattle.std.proofs.Common.{◌∙◌, ◌++◌, ap, length, codes}
-use Rattle.format_meaning.specs.Told.{cell_at}
-use Rattle.format_meaning.specs.Print.{spaces, level_width, titled_width, level_text, shown_cell}
-use Rattle.frame_format.proofs.FieldLaws.{both, both_at_last, at_last, sides_measured, columns_measured, length_measured}
+use Rattle.{
+  std.proofs.Common.{◌∙◌, ◌++◌, ap, length, codes},
+  format_meaning.specs.{Told.{cell_at}, Print.{spaces, level_width, titled_width, level_text, shown_cell}},
+  frame_format.proofs.FieldLaws.{both, both_at_last, at_last, sides_measured, columns_measured, length_measured},
+}
 use Rattle.frame_format.proofs.frame.push_frame_line.Goals as goal
 
 pub push_labels-requires-clause-levels : goal.push_labels-requires-clause-levels

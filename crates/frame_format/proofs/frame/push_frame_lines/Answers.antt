@@ -1,6 +1,8 @@
-use Rattle.std.proofs.Common.{codes}
-use Rattle.format_meaning.specs.Print.{frame_line}
-use Rattle.frame_format.proofs.FieldLaws.{line_pushed}
+use Rattle.{
+  std.proofs.Common.{codes},
+  format_meaning.specs.Print.{frame_line},
+  frame_format.proofs.FieldLaws.{line_pushed},
+}
 use Rattle.frame_format.proofs.frame.push_frame_lines.Goals as goal
 
 pub loop-row-preserved : goal.loop-row-preserved

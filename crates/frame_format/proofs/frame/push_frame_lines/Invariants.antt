@@ -1,6 +1,7 @@
-use Rattle.std.proofs.Common.{◌≡◌, ◌++◌, codes}
-use Rattle.std.specs.List.{flat_map}
-use Rattle.format_meaning.specs.Print.{frame_line, places}
+use Rattle.{
+  std.{proofs.Common.{◌≡◌, ◌++◌, codes}, specs.List.{flat_map}},
+  format_meaning.specs.Print.{frame_line, places},
+}
 use Rattle.frame_format.proofs.frame.push_frame_lines.Given as goal
 
 abbrev pub invariant-loop-row : goal.invariant-loop-row

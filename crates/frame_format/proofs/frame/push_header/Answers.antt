@@ -1,7 +1,8 @@
-use Rattle.std.proofs.Common.{◌∙◌, ◌++◌, ap, ap₂, length}
-use Rattle.format_meaning.specs.Told.{heading_at}
-use Rattle.format_meaning.specs.Print.{left_set, titled_width, shown_name}
-use Rattle.frame_format.proofs.FieldLaws.{both_at_last, at_last, columns_measured, length_measured}
+use Rattle.{
+  std.proofs.Common.{◌∙◌, ◌++◌, ap, ap₂, length},
+  format_meaning.specs.{Told.{heading_at}, Print.{left_set, titled_width, shown_name}},
+  frame_format.proofs.FieldLaws.{both_at_last, at_last, columns_measured, length_measured},
+}
 use Rattle.frame_format.proofs.frame.push_header.Goals as goal
 
 pub push_headings-requires : goal.push_headings-requires

@@ -1,7 +1,8 @@
-use Rattle.std.proofs.Common.{◌∙◌}
-use Rattle.format_meaning.specs.Told.{heading_at}
-use Rattle.format_meaning.specs.Print.{shown_name}
-use Rattle.frame_format.proofs.FieldLaws.{column_pushed}
+use Rattle.{
+  std.proofs.Common.{◌∙◌},
+  format_meaning.specs.{Told.{heading_at}, Print.{shown_name}},
+  frame_format.proofs.FieldLaws.{column_pushed},
+}
 use Rattle.frame_format.proofs.frame.push_headings.Goals as goal
 
 pub loop-column-preserved : goal.loop-column-preserved

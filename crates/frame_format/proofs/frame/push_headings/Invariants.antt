@@ -1,7 +1,8 @@
-use Rattle.std.proofs.Common.{◌≡◌, ◌++◌, slice_index}
-use Rattle.format_meaning.specs.Told.{heading_at}
-use Rattle.format_meaning.specs.Print.{shown_name}
-use Rattle.frame_format.specs.Layouts.{set_columns}
+use Rattle.{
+  std.proofs.Common.{◌≡◌, ◌++◌, slice_index},
+  format_meaning.specs.{Told.{heading_at}, Print.{shown_name}},
+  frame_format.specs.Layouts.{set_columns},
+}
 use Rattle.frame_format.proofs.frame.push_headings.Given as goal
 
 abbrev pub invariant-loop-column : goal.invariant-loop-column

@@ -1,7 +1,8 @@
-use Rattle.std.proofs.Common.{◌∙◌, ◌++◌, ap, length, codes, slice_index}
-use Rattle.format_meaning.specs.Print.{spaces, level_width, titled_width, level_title}
-use Rattle.frame_format.specs.Layouts.{set_columns}
-use Rattle.frame_format.proofs.FieldLaws.{both, both_at_last, at_last, sides_measured, columns_measured, length_measured}
+use Rattle.{
+  std.proofs.Common.{◌∙◌, ◌++◌, ap, length, codes, slice_index},
+  format_meaning.specs.Print.{spaces, level_width, titled_width, level_title},
+  frame_format.{specs.Layouts.{set_columns}, proofs.FieldLaws.{both, both_at_last, at_last, sides_measured, columns_measured, length_measured}},
+}
 use Rattle.frame_format.proofs.frame.push_names_line.Goals as goal
 
 pub push_names-requires : goal.push_names-requires

@@ -1,5 +1,7 @@
-use Rattle.std.proofs.Common.{◌≡◌, map}
-use Rattle.format_meaning.specs.Print.{titled_width, places}
+use Rattle.{
+  std.proofs.Common.{◌≡◌, map},
+  format_meaning.specs.Print.{titled_width, places},
+}
 use Rattle.frame_format.proofs.frame.widths_of_columns.Given as goal
 
 abbrev pub invariant-loop-column : goal.invariant-loop-column

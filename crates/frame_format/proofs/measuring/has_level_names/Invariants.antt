@@ -1,5 +1,7 @@
-use Rattle.std.proofs.Common.{◌≡◌, drop}
-use Rattle.format_meaning.specs.Print.{has_names}
+use Rattle.{
+  std.proofs.Common.{◌≡◌, drop},
+  format_meaning.specs.Print.{has_names},
+}
 use Rattle.frame_format.proofs.measuring.has_level_names.Given as goal
 
 abbrev pub invariant-loop-level : goal.invariant-loop-level

@@ -1,8 +1,9 @@
-use Rattle.std.proofs.Common.{◌∙◌, ap, slice_index}
-use Rattle.format_meaning.specs.Print.{left_set}
-use Rattle.frame_format.proofs.FieldLaws.{join_pushed, repeats_more, repeats_no_more}
+use Rattle.{
+  std.proofs.Common.{◌∙◌, ap, slice_index},
+  format_meaning.specs.Print.{left_set},
+  frame_format.proofs.{FieldLaws.{join_pushed, repeats_more, repeats_no_more}, measuring.push_labels.Goals.{then-repeated, else-repeated}},
+}
 use Rattle.frame_format.proofs.measuring.push_labels.Goals as goal
-use Rattle.frame_format.proofs.measuring.push_labels.Goals.{then-repeated, else-repeated}
 
 pub loop-level-preserved : goal.loop-level-preserved
 loop-level-preserved g c = record {

@@ -1,6 +1,8 @@
-use Rattle.std.proofs.Common.{◌∙◌, ap, slice_index}
-use Rattle.format_meaning.specs.Print.{left_set}
-use Rattle.frame_format.proofs.FieldLaws.{join_pushed}
+use Rattle.{
+  std.proofs.Common.{◌∙◌, ap, slice_index},
+  format_meaning.specs.Print.{left_set},
+  frame_format.proofs.FieldLaws.{join_pushed},
+}
 use Rattle.frame_format.proofs.measuring.push_names.Goals as goal
 
 pub loop-level-preserved : goal.loop-level-preserved

@@ -1,6 +1,7 @@
-use Rattle.std.proofs.Common.{◌≡◌, map}
-use Rattle.format_meaning.specs.Told.{label_at}
-use Rattle.format_meaning.specs.Print.{shown_label, widest, places}
+use Rattle.{
+  std.proofs.Common.{◌≡◌, map},
+  format_meaning.specs.{Told.{label_at}, Print.{shown_label, widest, places}},
+}
 use Rattle.frame_format.proofs.measuring.width_of_labels.Given as goal
 
 abbrev pub invariant-loop-row : goal.invariant-loop-row

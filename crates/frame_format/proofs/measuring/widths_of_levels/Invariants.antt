@@ -1,5 +1,7 @@
-use Rattle.std.proofs.Common.{◌≡◌, map}
-use Rattle.format_meaning.specs.Print.{level_width, places}
+use Rattle.{
+  std.proofs.Common.{◌≡◌, map},
+  format_meaning.specs.Print.{level_width, places},
+}
 use Rattle.frame_format.proofs.measuring.widths_of_levels.Given as goal
 
 abbrev pub invariant-loop-level : goal.invariant-loop-level

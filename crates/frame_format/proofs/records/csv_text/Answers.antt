@@ -1,11 +1,10 @@
-use Rattle.std.proofs.Common.{◌∙◌, ◌++◌, ap, arith, ◌≡◌, length}
-use Rattle.std.proofs.lemmas.Result.{IfOk-weaker}
-use Rattle.std.specs.List.{flat_map}
-use Rattle.cell_core.specs.Values.{na_cell}
-use Rattle.table_meaning.specs.Table.{row_of}
-use Rattle.format_meaning.specs.CsvWrite.{header_fields, row_fields, record_text, csv_text_of}
-use Rattle.format_meaning.specs.Print.{places}
-use Rattle.frame_format.proofs.RecordLaws.{nothing_written, header_written, row_written, rows_written}
+use Rattle.{
+  std.{proofs.{Common.{◌∙◌, ◌++◌, ap, arith, ◌≡◌, length}, lemmas.Result.{IfOk-weaker}}, specs.List.{flat_map}},
+  cell_core.specs.Values.{na_cell},
+  table_meaning.specs.Table.{row_of},
+  format_meaning.specs.{CsvWrite.{header_fields, row_fields, record_text, csv_text_of}, Print.{places}},
+  frame_format.proofs.RecordLaws.{nothing_written, header_written, row_written, rows_written},
+}
 use Rattle.frame_format.proofs.records.csv_text.Goals as goal
 
 pub loop-row-init : goal.loop-row-init

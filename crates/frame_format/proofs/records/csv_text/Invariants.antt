@@ -1,10 +1,10 @@
-use Rattle.std.proofs.Common.{◌++◌}
-use Rattle.std.specs.List.{flat_map}
-use Rattle.cell_core.specs.Values.{na_cell}
-use Rattle.table_meaning.specs.Table.{row_of}
-use Rattle.format_meaning.specs.CsvWrite.{header_fields, row_fields, record_text}
-use Rattle.format_meaning.specs.Print.{places}
-use Rattle.frame_format.specs.Written.{HasWritten}
+use Rattle.{
+  std.{proofs.Common.{◌++◌}, specs.List.{flat_map}},
+  cell_core.specs.Values.{na_cell},
+  table_meaning.specs.Table.{row_of},
+  format_meaning.specs.{CsvWrite.{header_fields, row_fields, record_text}, Print.{places}},
+  frame_format.specs.Written.{HasWritten},
+}
 use Rattle.frame_format.proofs.records.csv_text.Given as goal
 
 abbrev pub invariant-loop-row : goal.invariant-loop-row

@@ -1,5 +1,7 @@
-use Rattle.std.proofs.Common.{◌∙◌, arith}
-use Rattle.frame_format.proofs.RecordLaws.{field_pushed, filled_more, cells_placed}
+use Rattle.{
+  std.proofs.Common.{◌∙◌, arith},
+  frame_format.proofs.RecordLaws.{field_pushed, filled_more, cells_placed},
+}
 use Rattle.frame_format.proofs.records.put_cells.Goals as goal
 
 pub loop-column-preserved : goal.loop-column-preserved

@@ -1,6 +1,8 @@
-use Rattle.std.proofs.Common.{◌∙◌, None, arith}
-use Rattle.format_meaning.specs.CsvWrite.{heading_field}
-use Rattle.frame_format.proofs.RecordLaws.{field_pushed, filled_more, fields_placed}
+use Rattle.{
+  std.proofs.Common.{◌∙◌, None, arith},
+  format_meaning.specs.CsvWrite.{heading_field},
+  frame_format.proofs.RecordLaws.{field_pushed, filled_more, fields_placed},
+}
 use Rattle.frame_format.proofs.records.put_headings.Goals as goal
 
 pub loop-column-preserved : goal.loop-column-preserved

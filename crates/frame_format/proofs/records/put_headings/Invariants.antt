@@ -1,9 +1,9 @@
-use Rattle.std.proofs.Common.{◌≡◌, ◌++◌, map}
-use Rattle.csv.specs.Records.{fields_of}
-use Rattle.format_meaning.specs.Told.{heading_at}
-use Rattle.format_meaning.specs.CsvWrite.{heading_field}
-use Rattle.format_meaning.specs.Print.{places}
-use Rattle.frame_format.specs.Written.{IsFilled}
+use Rattle.{
+  std.proofs.Common.{◌≡◌, ◌++◌, map},
+  csv.specs.Records.{fields_of},
+  format_meaning.specs.{Told.{heading_at}, CsvWrite.{heading_field}, Print.{places}},
+  frame_format.specs.Written.{IsFilled},
+}
 use Rattle.frame_format.proofs.records.put_headings.Given as goal
 
 abbrev pub invariant-loop-column : goal.invariant-loop-column

@@ -1,7 +1,9 @@
-use Rattle.std.proofs.Common.{◌∙◌, [], get_or, arith}
-use Rattle.cell_core.specs.Values.{na}
-use Rattle.format_meaning.specs.CsvWrite.{label_field}
-use Rattle.frame_format.proofs.RecordLaws.{field_pushed, filled_more, fields_placed}
+use Rattle.{
+  std.proofs.Common.{◌∙◌, [], get_or, arith},
+  cell_core.specs.Values.{na},
+  format_meaning.specs.CsvWrite.{label_field},
+  frame_format.proofs.RecordLaws.{field_pushed, filled_more, fields_placed},
+}
 use Rattle.frame_format.proofs.records.put_labels.Goals as goal
 
 pub loop-level-preserved : goal.loop-level-preserved

@@ -1,6 +1,8 @@
-use Rattle.std.proofs.Common.{◌∙◌, None, arith}
-use Rattle.format_meaning.specs.CsvWrite.{name_field}
-use Rattle.frame_format.proofs.RecordLaws.{field_pushed, filled_more, fields_placed}
+use Rattle.{
+  std.proofs.Common.{◌∙◌, None, arith},
+  format_meaning.specs.CsvWrite.{name_field},
+  frame_format.proofs.RecordLaws.{field_pushed, filled_more, fields_placed},
+}
 use Rattle.frame_format.proofs.records.put_level_names.Goals as goal
 
 pub loop-level-preserved : goal.loop-level-preserved

@@ -1,9 +1,9 @@
-use Rattle.std.proofs.Common.{◌≡◌, ◌++◌, map}
-use Rattle.csv.specs.Records.{fields_of}
-use Rattle.format_meaning.specs.Told.{level_name}
-use Rattle.format_meaning.specs.CsvWrite.{name_field}
-use Rattle.format_meaning.specs.Print.{places}
-use Rattle.frame_format.specs.Written.{IsFilled}
+use Rattle.{
+  std.proofs.Common.{◌≡◌, ◌++◌, map},
+  csv.specs.Records.{fields_of},
+  format_meaning.specs.{Told.{level_name}, CsvWrite.{name_field}, Print.{places}},
+  frame_format.specs.Written.{IsFilled},
+}
 use Rattle.frame_format.proofs.records.put_level_names.Given as goal
 
 abbrev pub invariant-loop-level : goal.invariant-loop-level

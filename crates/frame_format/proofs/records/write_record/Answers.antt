@@ -1,5 +1,7 @@
-use Rattle.csv.specs.Records.{fields_of}
-use Rattle.frame_format.proofs.RecordLaws.{record_more}
+use Rattle.{
+  csv.specs.Records.{fields_of},
+  frame_format.proofs.RecordLaws.{record_more},
+}
 use Rattle.frame_format.proofs.records.write_record.Goals as goal
 
 pub returns : goal.returns

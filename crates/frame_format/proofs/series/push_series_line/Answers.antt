@@ -1,6 +1,8 @@
-use Rattle.std.proofs.Common.{◌∙◌, ◌++◌, ap, ap₂, length, codes}
-use Rattle.format_meaning.specs.Print.{right_set, series_width, level_text}
-use Rattle.frame_format.proofs.FieldLaws.{both, both_at_last, at_last, sides_measured, length_measured}
+use Rattle.{
+  std.proofs.Common.{◌∙◌, ◌++◌, ap, ap₂, length, codes},
+  format_meaning.specs.Print.{right_set, series_width, level_text},
+  frame_format.proofs.FieldLaws.{both, both_at_last, at_last, sides_measured, length_measured},
+}
 use Rattle.frame_format.proofs.series.push_series_line.Goals as goal
 
 pub push_labels-requires-clause-levels : goal.push_labels-requires-clause-levels

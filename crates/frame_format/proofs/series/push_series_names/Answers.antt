@@ -1,6 +1,8 @@
-use Rattle.std.proofs.Common.{◌∙◌, ap, length, codes}
-use Rattle.format_meaning.specs.Print.{series_width, level_title}
-use Rattle.frame_format.proofs.FieldLaws.{at_last, sides_measured, length_measured, several_names}
+use Rattle.{
+  std.proofs.Common.{◌∙◌, ap, length, codes},
+  format_meaning.specs.Print.{series_width, level_title},
+  frame_format.proofs.FieldLaws.{at_last, sides_measured, length_measured, several_names},
+}
 use Rattle.frame_format.proofs.series.push_series_names.Goals as goal
 
 pub push_names-requires : goal.push_names-requires

@@ -1,5 +1,7 @@
-use Rattle.std.proofs.Common.{arith, rules}
-use Rattle.frame_format.proofs.EscapeLaws.{IsPlain, shown_text-encode}
+use Rattle.{
+  std.proofs.Common.{arith, rules},
+  frame_format.proofs.EscapeLaws.{IsPlain, shown_text-encode},
+}
 use Rattle.frame_format.proofs.texts.put_character.Goals as goal
 
 pub returns-in_ok-push-in_default : goal.returns-in_ok-push-in_default

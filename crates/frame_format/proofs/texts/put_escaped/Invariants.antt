@@ -1,6 +1,7 @@
-use Rattle.std.proofs.Common.{◌≡◌, ◌++◌, string_bytes}
-use Rattle.std.specs.Str.Iter.{chars_rest}
-use Rattle.format_meaning.specs.Print.{shown_text}
+use Rattle.{
+  std.{proofs.Common.{◌≡◌, ◌++◌, string_bytes}, specs.Str.Iter.{chars_rest}},
+  format_meaning.specs.Print.{shown_text},
+}
 use Rattle.frame_format.proofs.texts.put_escaped.Given as goal
 
 abbrev pub invariant-loop-character : goal.invariant-loop-character

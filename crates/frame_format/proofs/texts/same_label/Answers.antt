@@ -1,9 +1,7 @@
-use Rattle.std.proofs.Common.{◌≡◌, ◌∙◌, ap, sym, rules}
-use Rattle.std.specs.Bool.{Decides}
-use Rattle.std.specs.Ordering.{is_eq}
-use Rattle.std.proofs.lemmas.Cmp.{tied_itself}
-use Rattle.cell_core.specs.Values.{label_cmp, label_datum}
-use Rattle.cell_core.proofs.LabelLaws.{label_total}
+use Rattle.{
+  std.{proofs.{Common.{◌≡◌, ◌∙◌, ap, sym, rules}, lemmas.Cmp.{tied_itself}}, specs.{Bool.{Decides}, Ordering.{is_eq}}},
+  cell_core.{specs.Values.{label_cmp, label_datum}, proofs.LabelLaws.{label_total}},
+}
 use Rattle.frame_format.proofs.texts.same_label.Goals as goal
 
 pub returns-then-eq : goal.returns-then-eq

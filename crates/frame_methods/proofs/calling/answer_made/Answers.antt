@@ -1,6 +1,8 @@
-use Rattle.std.proofs.Common.{refl, rules}
-use Rattle.form_parts.proofs.ObjectMade.{kept_settled}
-use Rattle.frame_methods.proofs.CallLaws.{refused_made, table_meant, scalar_answered}
+use Rattle.{
+  std.proofs.Common.{refl, rules},
+  form_parts.proofs.ObjectMade.{kept_settled},
+  frame_methods.proofs.CallLaws.{refused_made, table_meant, scalar_answered},
+}
 use Rattle.frame_methods.proofs.calling.answer_made.Goals as goal
 
 pub returns-in_err-cell : goal.returns-in_err-cell

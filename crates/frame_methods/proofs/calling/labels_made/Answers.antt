@@ -1,20 +1,15 @@
-use Rattle.std.proofs.Common.{◌≡◌, ap, sym, subst, refl, true, None, Option}
-use Rattle.table_meaning.specs.Table.{table_value}
-use Rattle.table_meaning.specs.Value.{GivenList, scalar_in, list_in}
-use Rattle.form_meaning.specs.Make.{on}
+use Rattle.{
+  std.proofs.Common.{◌≡◌, ap, sym, refl, None, Option},
+  table_meaning.specs.{Table.{table_value}, Value.{GivenList, scalar_in, list_in}},
+  form_meaning.specs.Make.{on},
+  method_meaning.specs.{Reindex.{reindex_result}, Section.{xs_result}},
+  frame_store.specs.{Objects.{tables, table_at, table_or}, World.{world}},
+  signatures.proofs.ToldLaws.{scalar_given, told_settled},
+  frame_methods.proofs.{AnswerLaws.{makes_by}, ShapeLaws.{reindex_of_frame}},
+  label_methods.{specs.Reindexed.{list_lent}, proofs.{AnswerLaws.{known_table}, LevelMoveLaws.{option_given}}},
+}
 use Rattle.form_meaning.specs.declared.Method.TheVariants as method
-use Rattle.method_meaning.specs.Reindex.{reindex_result}
-use Rattle.method_meaning.specs.Section.{xs_result}
-use Rattle.frame_store.specs.Arguments.{shape_at}
-use Rattle.frame_store.specs.Objects.{tables, table_at, table_or}
-use Rattle.frame_store.specs.World.{world}
-use Rattle.signatures.proofs.ToldLaws.{scalar_given, told_settled}
-use Rattle.frame_methods.specs.Built.{label_method}
-use Rattle.label_methods.specs.Reindexed.{list_lent}
-use Rattle.label_methods.proofs.AnswerLaws.{known_table}
-use Rattle.frame_methods.proofs.AnswerLaws.{makes_by}
-use Rattle.label_methods.proofs.LevelMoveLaws.{option_given}
-use Rattle.frame_methods.proofs.ShapeLaws.{reindex_of_frame}
+use Rattle.form_meaning.specs.declared.LabelMethod.TheVariants as label_method
 use Rattle.frame_methods.proofs.calling.labels_made.Goals as goal
 
 -- labels of rows
@@ -26,13 +21,13 @@ pub returns-in-ReindexSeries : goal.returns-in-ReindexSeries
 returns-in-ReindexSeries c =
     let w = world c.args.store.now c.args.dict.now in
     let t = table_at w.tables c.args.on.0 in
-    makes_by w (label_method c.args.method) method.ReindexSeries c.args.bound.now t t c.reindex.result (λ a v. reindex_result v (list_in (a 0)) None) _ refl (ap label_method c.in-ReindexSeries.is) c.requires.call.parameters (λ v. refl)
+    makes_by w (method.Labels c.args.method) (method.Labels label_method.ReindexSeries) c.args.bound.now t t c.reindex.result (λ a v. reindex_result v (list_in (a 0)) None) _ refl (ap method.Labels c.in-ReindexSeries.is) c.requires.call.parameters (λ v. refl)
     (ap (λ (o : Option GivenList). reindex_result (table_value w.texts t) o None) (c.list_or_none.ensures.value w.tables w.texts))
     c.reindex.ensures
 
 -- labels of rows, or of columns
 pub reindex-requires-in-ReindexFrame-clause-frame : goal.reindex-requires-in-ReindexFrame-clause-frame
-reindex-requires-in-ReindexFrame-clause-frame c = λ some. reindex_of_frame _ _ (ap label_method c.in-ReindexFrame.is) c.requires.call.shaped
+reindex-requires-in-ReindexFrame-clause-frame c = λ some. reindex_of_frame _ _ c.in-ReindexFrame.is c.requires.call.shaped
 
 pub reindex-requires-in-ReindexFrame-clause-rows : goal.reindex-requires-in-ReindexFrame-clause-rows
 reindex-requires-in-ReindexFrame-clause-rows c = λ more.
@@ -46,7 +41,7 @@ pub returns-in-ReindexFrame : goal.returns-in-ReindexFrame
 returns-in-ReindexFrame c =
     let w = world c.args.store.now c.args.dict.now in
     let t = table_at w.tables c.args.on.0 in
-    makes_by w (label_method c.args.method) method.ReindexFrame c.args.bound.now t t c.reindex-in-ReindexFrame.result (λ a v. reindex_result v (list_in (a 0)) (list_in (a 1))) _ refl (ap label_method c.in-ReindexFrame.is) c.requires.call.parameters (λ v. refl)
+    makes_by w (method.Labels c.args.method) (method.Labels label_method.ReindexFrame) c.args.bound.now t t c.reindex-in-ReindexFrame.result (λ a v. reindex_result v (list_in (a 0)) (list_in (a 1))) _ refl (ap method.Labels c.in-ReindexFrame.is) c.requires.call.parameters (λ v. refl)
     (λ j. reindex_result (table_value w.texts t) (c.list_or_none-rows.ensures.value w.tables w.texts j) (c.list_or_none-columns.ensures.value w.tables w.texts j))
     c.reindex-in-ReindexFrame.ensures
 
@@ -64,6 +59,6 @@ pub returns-in-Xs : goal.returns-in-Xs
 returns-in-Xs c =
     let w = world c.args.store.now c.args.dict.now in
     let at : c.read.result ≡ table_at w.tables c.args.on.0 = sym (ap table_or c.read.ensures.table) in
-    makes_by w (label_method c.args.method) method.Xs c.args.bound.now c.read.result _ c.xs.result (λ a v. on (scalar_in (a 0)) (λ k. xs_result v k (scalar_in (a 1)))) _ at (ap label_method c.in-Xs.is) c.requires.call.parameters (λ v. refl)
+    makes_by w (method.Labels c.args.method) (method.Labels label_method.Xs) c.args.bound.now c.read.result _ c.xs.result (λ a v. on (scalar_in (a 0)) (λ k. xs_result v k (scalar_in (a 1)))) _ at (ap method.Labels c.in-Xs.is) c.requires.call.parameters (λ v. refl)
     (λ j. on (c.scalar-key.ensures w.tables w.texts j) (λ k. xs_result (table_value w.texts c.read.result) k (c.scalar_or_none-level.ensures w.tables w.texts j)))
     c.xs.ensures

@@ -1,25 +1,17 @@
-use Rattle.std.proofs.Common.{◌≡◌, ◌∙◌, ap, sym, subst, refl, length, Err}
-use Rattle.std.proofs.lemmas.Result.{err_from_is_err_and}
-use Rattle.meaning.specs.Fault.{then_value}
-use Rattle.table_meaning.specs.Table.{NumberedTable, table_value}
-use Rattle.form_meaning.specs.Binding.{truth_in}
-use Rattle.form_meaning.specs.Make.{on}
-use Rattle.form_meaning.specs.Select.{column_places}
+use Rattle.{
+  std.proofs.{Common.{◌≡◌, ◌∙◌, ap, sym, subst, refl, length, Err}, lemmas.Result.{err_from_is_err_and}},
+  meaning.specs.Fault.{then_value},
+  table_meaning.specs.Table.{NumberedTable, table_value},
+  form_meaning.specs.{Binding.{truth_in}, Make.{on}, Select.{column_places}},
+  form_parts.proofs.TableMade.{refused_on},
+  method_meaning.specs.Rows.{dropna_result, duplicated_result, sort_values_result, sort_by_result, sorted_result, all_places, labels_in, subset_places},
+  frame_store.{specs.{Objects.{tables, table_at, table_or}, World.{world}, Parts.{AreColumnsOf}}, proofs.Settling.{object_settled}},
+  selections.{specs.Selected.{as_it_is}, proofs.PickedLaws.{places_inside}},
+  frame_methods.{specs.Rows.{duplicated_among}, proofs.AnswerLaws.{makes_by}},
+  label_methods.{specs.Named.{first_in}, proofs.{AnswerLaws.{known_table}, NamedLaws.{all_are}}},
+}
 use Rattle.form_meaning.specs.declared.Method.TheVariants as method
-use Rattle.form_parts.proofs.TableMade.{refused_on}
-use Rattle.method_meaning.specs.Rows.{dropna_result, duplicated_result, sort_values_result, sort_by_result, sorted_result, all_places, labels_in, subset_places}
-use Rattle.frame_store.specs.Objects.{tables, table_at, table_or}
-use Rattle.frame_store.specs.World.{world}
-use Rattle.frame_store.proofs.Settling.{object_settled}
-use Rattle.selections.specs.Selected.{as_it_is}
-use Rattle.selections.proofs.PickedLaws.{places_inside}
-use Rattle.frame_methods.specs.Built.{row_method}
-use Rattle.label_methods.specs.Named.{first_in}
-use Rattle.frame_store.specs.Parts.{AreColumnsOf}
-use Rattle.frame_methods.specs.Rows.{duplicated_among}
-use Rattle.label_methods.proofs.AnswerLaws.{known_table}
-use Rattle.frame_methods.proofs.AnswerLaws.{makes_by}
-use Rattle.label_methods.proofs.NamedLaws.{all_are}
+use Rattle.form_meaning.specs.declared.RowMethod.TheVariants as row_method
 use Rattle.frame_methods.proofs.calling.rows_made.Goals as goal
 
 pub returns-in-Dropna : goal.returns-in-Dropna
@@ -27,7 +19,7 @@ returns-in-Dropna c =
     let w = world c.args.store.now c.args.dict.now in
     let at : c.read-source.result ≡ table_at (tables c.args.store.now) c.args.on.0 = sym (ap table_or c.read-source.ensures.table) in
     let settled = object_settled w.texts w.tables c.args.on.0 c.read-source.result c.read-source.ensures.table c.requires.settled in
-    makes_by w (row_method c.args.method) method.Dropna c.args.bound.now c.read-source.result _ c.dropna.result (λ a t. dropna_result t) _ at (ap row_method c.in-Dropna.is) c.requires.call.parameters (λ v. refl) refl
+    makes_by w (method.Rows c.args.method) (method.Rows row_method.Dropna) c.args.bound.now c.read-source.result _ c.dropna.result (λ a t. dropna_result t) _ at (ap method.Rows c.in-Dropna.is) c.requires.call.parameters (λ v. refl) refl
     (c.dropna.ensures w.texts settled)
 
 -- the columns of a Series
@@ -54,7 +46,7 @@ returns-in_ok-places-in-DuplicatedSeries c =
     let w = world c.args.store.now c.args.dict.now in
     let s = table_value w.texts c.read-source.result in
     let at : c.read-source.result ≡ table_at w.tables c.args.on.0 = sym (ap table_or c.read-source.ensures.table) in
-    makes_by w (row_method c.args.method) method.DuplicatedSeries c.args.bound.now c.read-source.result _ c.duplicated.result (λ a t. duplicated_among t (all_places t)) _ at (ap row_method c.in-DuplicatedSeries.is) c.requires.call.parameters (λ v. refl)
+    makes_by w (method.Rows c.args.method) (method.Rows row_method.DuplicatedSeries) c.args.bound.now c.read-source.result _ c.duplicated.result (λ a t. duplicated_among t (all_places t)) _ at (ap method.Rows c.in-DuplicatedSeries.is) c.requires.call.parameters (λ v. refl)
     (ap (duplicated_among s) (all_are w.texts c.read-source.result c.in_ok-places-in-DuplicatedSeries.places c.columns.result c.in_ok-places-in-DuplicatedSeries.ensures c.columns.ensures))
     c.duplicated.ensures
 
@@ -66,7 +58,7 @@ returns-in_err-places-in-DuplicatedFrame c =
     let v = table_value w.texts t in
     let p = err_from_is_err_and c.from_residual-in_err-places-in-DuplicatedFrame.result c.from_residual-in_err-places-in-DuplicatedFrame.ensures.1 in
     rw (p.1, p.2)
-    (makes_by w (row_method c.args.method) method.DuplicatedFrame c.args.bound.now t t (Err c.in_err-places-in-DuplicatedFrame.field-0.0) (λ a t. duplicated_result t (a 0)) _ refl (ap row_method c.in-DuplicatedFrame.is) c.requires.call.parameters (λ v. refl) refl
+    (makes_by w (method.Rows c.args.method) (method.Rows row_method.DuplicatedFrame) c.args.bound.now t t (Err c.in_err-places-in-DuplicatedFrame.field-0.0) (λ a t. duplicated_result t (a 0)) _ refl (ap method.Rows c.in-DuplicatedFrame.is) c.requires.call.parameters (λ v. refl) refl
     (refused_on as_it_is w.texts (subset_places v (first_in w c.args.bound.now)) (duplicated_among v) c.subset_places.result c.in_err-places-in-DuplicatedFrame.field-0.0 c.in_err-places-in-DuplicatedFrame.was c.subset_places.ensures.0))
 
 pub duplicated-requires-in-DuplicatedFrame-clause-places : goal.duplicated-requires-in-DuplicatedFrame-clause-places
@@ -78,7 +70,7 @@ returns-in_ok-places-in-DuplicatedFrame c =
     let w = world c.args.store.now c.args.dict.now in
     let s = table_value w.texts c.read-source.result in
     let at : c.read-source.result ≡ table_at w.tables c.args.on.0 = sym (ap table_or c.read-source.ensures.table) in
-    makes_by w (row_method c.args.method) method.DuplicatedFrame c.args.bound.now c.read-source.result _ c.duplicated-in-DuplicatedFrame.result (λ a t. duplicated_result t (a 0)) _ at (ap row_method c.in-DuplicatedFrame.is) c.requires.call.parameters (λ v. refl)
+    makes_by w (method.Rows c.args.method) (method.Rows row_method.DuplicatedFrame) c.args.bound.now c.read-source.result _ c.duplicated-in-DuplicatedFrame.result (λ a t. duplicated_result t (a 0)) _ at (ap method.Rows c.in-DuplicatedFrame.is) c.requires.call.parameters (λ v. refl)
     (ap (λ r. then_value r (duplicated_among s)) (sym (ap (λ (n : NumberedTable). subset_places (table_value w.texts n) (first_in w c.args.bound.now)) at ∙ c.in_ok-places-in-DuplicatedFrame.ensures.0)))
     c.duplicated-in-DuplicatedFrame.ensures
 
@@ -88,7 +80,7 @@ returns-in_ok-places-in-SortValuesSeries c =
     let w = world c.args.store.now c.args.dict.now in
     let s = table_value w.texts c.read-source.result in
     let at : c.read-source.result ≡ table_at w.tables c.args.on.0 = sym (ap table_or c.read-source.ensures.table) in
-    makes_by w (row_method c.args.method) method.SortValuesSeries c.args.bound.now c.read-source.result _ c.sort_values.result (λ a t. on (truth_in (a 0)) (λ b. sort_values_result t b (all_places t))) _ at (ap row_method c.in-SortValuesSeries.is) c.requires.call.parameters (λ v. refl)
+    makes_by w (method.Rows c.args.method) (method.Rows row_method.SortValuesSeries) c.args.bound.now c.read-source.result _ c.sort_values.result (λ a t. on (truth_in (a 0)) (λ b. sort_values_result t b (all_places t))) _ at (ap method.Rows c.in-SortValuesSeries.is) c.requires.call.parameters (λ v. refl)
     (ap (sort_values_result s c.truth.result) (all_are w.texts c.read-source.result c.in_ok-places-in-SortValuesSeries.places c.columns-in-SortValuesSeries.result c.in_ok-places-in-SortValuesSeries.ensures c.columns-in-SortValuesSeries.ensures)
     ∙ ap (λ o. on o (λ b. sort_values_result s b (all_places s))) (c.truth.ensures w.tables w.texts))
     c.sort_values.ensures
@@ -101,7 +93,7 @@ returns-in_err-places-in-SortValuesFrame c =
     let g = first_in w c.args.bound.now in
     let p = err_from_is_err_and c.from_residual-in_err-places-in-SortValuesFrame.result c.from_residual-in_err-places-in-SortValuesFrame.ensures.1 in
     rw (p.1, p.2)
-    (makes_by w (row_method c.args.method) method.SortValuesFrame c.args.bound.now t t (Err c.in_err-places-in-SortValuesFrame.field-0.0) (λ a t. on (truth_in (a 1)) (λ b. sort_by_result t b (a 0))) _ refl (ap row_method c.in-SortValuesFrame.is) c.requires.call.parameters (λ v. refl)
+    (makes_by w (method.Rows c.args.method) (method.Rows row_method.SortValuesFrame) c.args.bound.now t t (Err c.in_err-places-in-SortValuesFrame.field-0.0) (λ a t. on (truth_in (a 1)) (λ b. sort_by_result t b (a 0))) _ refl (ap method.Rows c.in-SortValuesFrame.is) c.requires.call.parameters (λ v. refl)
     (ap (λ o. on o (λ b. sort_by_result v b g)) (c.truth-ascending.ensures w.tables w.texts))
     (refused_on as_it_is w.texts (column_places v (labels_in g)) (sort_values_result v c.truth-ascending.result) c.named_places.result c.in_err-places-in-SortValuesFrame.field-0.0 c.in_err-places-in-SortValuesFrame.was c.named_places.ensures.0))
 
@@ -111,7 +103,7 @@ returns-in_ok-places-in-SortValuesFrame c =
     let s = table_value w.texts c.read-source.result in
     let at : c.read-source.result ≡ table_at w.tables c.args.on.0 = sym (ap table_or c.read-source.ensures.table) in
     let g = first_in w c.args.bound.now in
-    makes_by w (row_method c.args.method) method.SortValuesFrame c.args.bound.now c.read-source.result _ c.sort_values-in-SortValuesFrame.result (λ a t. on (truth_in (a 1)) (λ b. sort_by_result t b (a 0))) _ at (ap row_method c.in-SortValuesFrame.is) c.requires.call.parameters (λ v. refl)
+    makes_by w (method.Rows c.args.method) (method.Rows row_method.SortValuesFrame) c.args.bound.now c.read-source.result _ c.sort_values-in-SortValuesFrame.result (λ a t. on (truth_in (a 1)) (λ b. sort_by_result t b (a 0))) _ at (ap method.Rows c.in-SortValuesFrame.is) c.requires.call.parameters (λ v. refl)
     (ap (λ r. then_value r (sort_values_result s c.truth-ascending.result)) (sym (ap (λ (n : NumberedTable). column_places (table_value w.texts n) (labels_in g)) at ∙ c.in_ok-places-in-SortValuesFrame.ensures.0))
     ∙ ap (λ o. on o (λ b. sort_by_result s b g)) (c.truth-ascending.ensures w.tables w.texts))
     c.sort_values-in-SortValuesFrame.ensures
@@ -121,7 +113,7 @@ returns-in-SortIndex c =
     let w = world c.args.store.now c.args.dict.now in
     let s = table_value w.texts c.read-source.result in
     let at : c.read-source.result ≡ table_at w.tables c.args.on.0 = sym (ap table_or c.read-source.ensures.table) in
-    makes_by w (row_method c.args.method) method.SortIndex c.args.bound.now c.read-source.result _ c.sort_index.result (λ a t. on (truth_in (a 0)) (λ b. sorted_result t b t.labels)) _ at (ap row_method c.in-SortIndex.is) c.requires.call.parameters (λ v. refl)
+    makes_by w (method.Rows c.args.method) (method.Rows row_method.SortIndex) c.args.bound.now c.read-source.result _ c.sort_index.result (λ a t. on (truth_in (a 0)) (λ b. sorted_result t b t.labels)) _ at (ap method.Rows c.in-SortIndex.is) c.requires.call.parameters (λ v. refl)
     (ap (λ o. on o (λ b. sorted_result s b s.labels)) (c.truth-in-SortIndex.ensures w.tables w.texts))
     c.sort_index.ensures
 

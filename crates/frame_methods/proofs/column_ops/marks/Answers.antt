@@ -1,7 +1,9 @@
-use Rattle.std.proofs.Common.{◌≡◌, Bool, map, sym, subst, IfOk}
-use Rattle.cell_core.specs.declared.cell.Kind.TheVariants.{Boolean}
-use Rattle.column_core.specs.Columns.{CellColumn}
-use Rattle.nullable_array.specs.Marks.{missing_mark}
+use Rattle.{
+  std.proofs.Common.{◌≡◌, Bool, map, sym, subst, IfOk},
+  cell_core.specs.declared.cell.Kind.TheVariants.{Boolean},
+  column_core.specs.Columns.{CellColumn},
+  column_operators.specs.Marks.{missing_mark},
+}
 use Rattle.frame_methods.proofs.column_ops.marks.Goals as goal
 
 pub returns-then-missing : goal.returns-then-missing

@@ -1,7 +1,8 @@
-use Rattle.std.proofs.Common.{◌∙◌, ◌<◌, ◌++◌, ◌∷◌, [], ap, length, arith}
-use Rattle.std.proofs.lemmas.Result.{err_from_is_err_and}
-use Rattle.frame_store.specs.Shown.{cells_value}
-use Rattle.frame_methods.proofs.ColumnLaws.{given_later, place_given, same_answer, front_step, front_refused, refused_columns}
+use Rattle.{
+  std.proofs.{Common.{◌∙◌, ◌<◌, ◌++◌, ◌∷◌, [], ap, length, arith}, lemmas.Result.{err_from_is_err_and}},
+  frame_store.specs.Shown.{cells_value},
+  frame_methods.proofs.ColumnLaws.{given_later, place_given, same_answer, front_step, front_refused, refused_columns},
+}
 use Rattle.frame_methods.proofs.columns.each_column.Goals as goal
 
 pub column-requires-in-loop-place-clause-cells : goal.column-requires-in-loop-place-clause-cells

@@ -1,6 +1,8 @@
-use Rattle.std.proofs.Common.{length}
-use Rattle.frame_store.specs.Shown.{cells_value}
-use Rattle.frame_methods.specs.Columns.{IsFront}
+use Rattle.{
+  std.proofs.Common.{length},
+  frame_store.specs.Shown.{cells_value},
+  frame_methods.specs.Columns.{IsFront},
+}
 use Rattle.frame_methods.proofs.columns.each_column.Given as goal
 
 -- the columns so far

@@ -1,5 +1,7 @@
-use Rattle.std.proofs.Common.{◌∙◌, ap, Some}
-use Rattle.frame_methods.proofs.CsvLaws.{csv_seen}
+use Rattle.{
+  std.proofs.Common.{◌∙◌, ap, Some},
+  frame_methods.proofs.CsvLaws.{csv_seen},
+}
 use Rattle.frame_methods.proofs.csv.csv_cell.Goals as goal
 
 pub returns-clause-text : goal.returns-clause-text

@@ -1,8 +1,10 @@
-use Rattle.std.proofs.Common.{◌≡◌, ◌∙◌, ◌<◌, ap, false, length, rules}
-use Rattle.table_meaning.specs.Table.{NumberedTable, table_value}
-use Rattle.method_meaning.specs.Methods.{csv_answer}
-use Rattle.frame_store.specs.Objects.{table_or}
-use Rattle.frame_methods.proofs.CsvLaws.{csv_meant}
+use Rattle.{
+  std.proofs.Common.{◌≡◌, ◌∙◌, ◌<◌, ap, false, length, rules},
+  table_meaning.specs.Table.{NumberedTable, table_value},
+  method_meaning.specs.Methods.{csv_answer},
+  frame_store.specs.Objects.{table_or},
+  frame_methods.proofs.CsvLaws.{csv_meant},
+}
 use Rattle.frame_methods.proofs.csv.to_csv.Goals as goal
 
 pub returns-clause-answer : goal.returns-clause-answer

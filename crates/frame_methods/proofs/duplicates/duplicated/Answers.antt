@@ -1,8 +1,10 @@
-use Rattle.std.proofs.Common.{◌≡◌, ◌∙◌, ap, map, true, [], ℕ, List, length, nat_eq, rules}
-use Rattle.cell_core.specs.declared.cell.Cell.TheVariants.{Bool}
-use Rattle.form_meaning.specs.Finish.{within_limits}
-use Rattle.method_meaning.specs.Rows.{repeats}
-use Rattle.frame_methods.proofs.DuplicateLaws.{marks_count, duplicated_made}
+use Rattle.{
+  std.proofs.Common.{◌≡◌, ◌∙◌, ap, map, true, [], ℕ, List, length, nat_eq, rules},
+  cell_core.specs.declared.cell.Cell.TheVariants.{Bool},
+  form_meaning.specs.Finish.{within_limits},
+  method_meaning.specs.Rows.{repeats},
+  frame_methods.proofs.DuplicateLaws.{marks_count, duplicated_made},
+}
 use Rattle.frame_methods.proofs.duplicates.duplicated.Goals as goal
 
 pub series_table-requires : goal.series_table-requires

@@ -1,8 +1,8 @@
-use Rattle.std.proofs.Common.{◌<◌, ◌≤◌, refl, sym, length, arith}
-use Rattle.std.specs.Prelude.{slice_index}
-use Rattle.std.proofs.lemmas.Option.{get_or_from_slice_get}
-use Rattle.cell_core.specs.declared.cell.Cell.TheVariants.{Na}
-use Rattle.frame_methods.proofs.DuplicateLaws.{numbered_more, numbers_more}
+use Rattle.{
+  std.{proofs.{Common.{◌<◌, ◌≤◌, refl, sym, length, arith}, lemmas.Option.{get_or_from_slice_get}}, specs.Prelude.{slice_index}},
+  cell_core.specs.declared.cell.Cell.TheVariants.{Na},
+  frame_methods.proofs.DuplicateLaws.{numbered_more, numbers_more},
+}
 use Rattle.frame_methods.proofs.duplicates.number_cells.Goals as goal
 
 pub loop-row-preserved : goal.loop-row-preserved

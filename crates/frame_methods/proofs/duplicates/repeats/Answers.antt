@@ -1,7 +1,8 @@
-use Rattle.std.proofs.Common.{◌∙◌, ◌<◌, refl, ap, length, arith}
-use Rattle.std.specs.Prelude.{slice_index}
-use Rattle.column_core.specs.Columns.{CellColumn}
-use Rattle.frame_methods.proofs.DuplicateLaws.{marks_more}
+use Rattle.{
+  std.{proofs.Common.{◌∙◌, ◌<◌, refl, ap, length, arith}, specs.Prelude.{slice_index}},
+  column_core.specs.Columns.{CellColumn},
+  frame_methods.proofs.DuplicateLaws.{marks_more},
+}
 use Rattle.frame_methods.proofs.duplicates.repeats.Goals as goal
 
 pub loop-number-preserved : goal.loop-number-preserved

@@ -1,7 +1,8 @@
-use Rattle.std.proofs.Common.{◌≡◌, [], ◌++◌, map, drop, nat_eq}
-use Rattle.cell_core.specs.declared.cell.Cell.TheVariants.{Bool}
-use Rattle.cell_core.specs.declared.cell.Kind.TheVariants.{Boolean}
-use Rattle.method_meaning.specs.Rows.{repeats}
+use Rattle.{
+  std.proofs.Common.{◌≡◌, [], ◌++◌, map, drop, nat_eq},
+  cell_core.specs.declared.cell.{Cell.TheVariants.{Bool}, Kind.TheVariants.{Boolean}},
+  method_meaning.specs.Rows.{repeats},
+}
 use Rattle.frame_methods.proofs.duplicates.repeats.Given as goal
 
 -- the marks so far, before the others

@@ -1,7 +1,7 @@
-use Rattle.std.proofs.Common.{◌≡◌, ◌∙◌, ◌<◌, ◌+◌, ◌++◌, ◌∷◌, [], ap, sym, subst, ℕ, List, length, take, drop, arith}
-use Rattle.std.proofs.lemmas.List.{take_at, take_more}
-use Rattle.std.proofs.lemmas.Option.{get_or_from_slice_get}
-use Rattle.frame_methods.specs.Rows.{AreNumbers}
+use Rattle.{
+  std.proofs.{Common.{◌≡◌, ◌∙◌, ◌<◌, ◌+◌, ◌++◌, ◌∷◌, [], ap, sym, subst, ℕ, List, length, take, drop, arith}, lemmas.{List.{take_at, take_more}, Option.{get_or_from_slice_get}}},
+  frame_methods.specs.Rows.{AreNumbers},
+}
 use Rattle.frame_methods.proofs.duplicates.row_numbers.Goals as goal
 
 pub loop-k-preserved : goal.loop-k-preserved

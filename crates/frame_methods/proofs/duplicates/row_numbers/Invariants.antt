@@ -1,5 +1,7 @@
-use Rattle.std.proofs.Common.{take}
-use Rattle.frame_methods.specs.Rows.{AreNumbers}
+use Rattle.{
+  std.proofs.Common.{take},
+  frame_methods.specs.Rows.{AreNumbers},
+}
 use Rattle.frame_methods.proofs.duplicates.row_numbers.Given as goal
 
 -- the rows are told apart by the columns so far

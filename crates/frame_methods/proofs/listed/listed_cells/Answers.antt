@@ -1,5 +1,7 @@
-use Rattle.std.proofs.Common.{◌<◌, length, arith}
-use Rattle.frame_methods.proofs.ListedLaws.{first_settled, noted_given, noted_step}
+use Rattle.{
+  std.proofs.Common.{◌<◌, length, arith},
+  frame_methods.proofs.ListedLaws.{first_settled, noted_given, noted_step},
+}
 use Rattle.frame_methods.proofs.listed.listed_cells.Goals as goal
 
 pub loop-item-preserved : goal.loop-item-preserved

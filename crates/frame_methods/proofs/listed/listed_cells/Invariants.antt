@@ -1,10 +1,10 @@
-use Rattle.std.proofs.Common.{◌≡◌, ◌||◌, Bool, List, drop}
-use Rattle.std.specs.List.{list_any}
-use Rattle.meaning.specs.Text.{Text}
-use Rattle.meaning.specs.Cell.{CellValue, AreGiven}
-use Rattle.table_meaning.specs.Settled.{IsSettled}
-use Rattle.frame_store.specs.Shown.{cells_value}
-use Rattle.signatures.specs.Scalars.{scalars}
+use Rattle.{
+  std.{proofs.Common.{◌≡◌, ◌||◌, Bool, List, drop}, specs.List.{list_any}},
+  meaning.specs.{Text.{Text}, Cell.{CellValue, AreGiven}},
+  table_meaning.specs.Settled.{IsSettled},
+  frame_store.specs.Shown.{cells_value},
+  signatures.specs.Scalars.{scalars},
+}
 use Rattle.frame_methods.proofs.listed.listed_cells.Given as goal
 
 -- the scalars so far, before the others

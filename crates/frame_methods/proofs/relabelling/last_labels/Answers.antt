@@ -1,5 +1,7 @@
-use Rattle.std.proofs.Common.{◌<◌, length, arith}
-use Rattle.frame_methods.proofs.RenameLaws.{labels_settled, labels_step}
+use Rattle.{
+  std.proofs.Common.{◌<◌, length, arith},
+  frame_methods.proofs.RenameLaws.{labels_settled, labels_step},
+}
 use Rattle.frame_methods.proofs.relabelling.last_labels.Goals as goal
 
 pub loop-key-preserved : goal.loop-key-preserved

@@ -1,8 +1,10 @@
-use Rattle.std.proofs.Common.{◌≡◌, drop, []}
-use Rattle.indexmap.specs.IndexMap.{insert_all}
-use Rattle.table_meaning.specs.Settled.{IsSettled}
-use Rattle.form_meaning.specs.Binding.{same_label}
-use Rattle.frame_methods.specs.Renames.{given_labels, pairs_seen}
+use Rattle.{
+  std.proofs.Common.{◌≡◌, drop, []},
+  indexmap.specs.IndexMap.{insert_all},
+  table_meaning.specs.Settled.{IsSettled},
+  form_meaning.specs.Binding.{same_label},
+  frame_methods.specs.Renames.{given_labels, pairs_seen},
+}
 use Rattle.frame_methods.proofs.relabelling.last_labels.Given as goal
 
 -- the labels so far, before the others

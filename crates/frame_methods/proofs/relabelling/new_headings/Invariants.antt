@@ -1,5 +1,7 @@
-use Rattle.std.proofs.Common.{◌≡◌, map, take}
-use Rattle.frame_methods.specs.Renames.{heading_by}
+use Rattle.{
+  std.proofs.Common.{◌≡◌, map, take},
+  frame_methods.specs.Renames.{heading_by},
+}
 use Rattle.frame_methods.proofs.relabelling.new_headings.Given as goal
 
 -- the headings of the columns so far

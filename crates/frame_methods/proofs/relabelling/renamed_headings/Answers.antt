@@ -1,7 +1,8 @@
-use Rattle.std.proofs.Common.{◌∙◌, sym, refl}
-use Rattle.frame_store.specs.Shown.{headings_value}
-use Rattle.frame_store.proofs.Settling.{headings_part}
-use Rattle.frame_methods.proofs.RenameLaws.{new_heads, new_settled, new_meant, no_labels}
+use Rattle.{
+  std.proofs.Common.{◌∙◌, sym, refl},
+  frame_store.{specs.Shown.{headings_value}, proofs.Settling.{headings_part}},
+  frame_methods.proofs.RenameLaws.{new_heads, new_settled, new_meant, no_labels},
+}
 use Rattle.frame_methods.proofs.relabelling.renamed_headings.Goals as goal
 
 pub returns-then-not-have_labels-clause-answer : goal.returns-then-not-have_labels-clause-answer

@@ -1,13 +1,10 @@
-use Rattle.std.proofs.Common.{ap, sym, subst, Option}
-use Rattle.std.proofs.lemmas.Result.{err_from_is_err_and}
-use Rattle.cell_core.specs.declared.cell.Label.{Label}
-use Rattle.table_meaning.specs.Settled.{IsSettled}
-use Rattle.table_meaning.specs.Table.{heading_value}
-use Rattle.frame_store.specs.Objects.{tables, table_at, table_or}
-use Rattle.frame_store.specs.Shown.{shown}
-use Rattle.frame_store.proofs.Settling.{object_settled, columns_name_part}
-use Rattle.frame_methods.proofs.NameLaws.{meant_so}
-use Rattle.frame_methods.proofs.RenameLaws.{frame_refused, frame_renamed}
+use Rattle.{
+  std.proofs.{Common.{ap, sym, subst, Option}, lemmas.Result.{err_from_is_err_and}},
+  cell_core.specs.declared.cell.Label.{Label},
+  table_meaning.specs.{Settled.{IsSettled}, Table.{heading_value}},
+  frame_store.{specs.{Objects.{tables, table_at, table_or}, Shown.{shown}}, proofs.Settling.{object_settled, columns_name_part}},
+  frame_methods.proofs.{NameLaws.{meant_so}, RenameLaws.{frame_refused, frame_renamed}},
+}
 use Rattle.frame_methods.proofs.renaming.rename_frame.Goals as goal
 
 pub renamed_headings-requires-clause-settled : goal.renamed_headings-requires-clause-settled

@@ -1,8 +1,9 @@
-use Rattle.std.proofs.Common.{◌≡◌, ◌∙◌, ap, sym, refl, [], ◌∷◌}
-use Rattle.table_meaning.specs.Table.{NumberedTable, heading_value}
-use Rattle.frame_store.specs.Objects.{tables, table_at, table_or}
-use Rattle.frame_store.specs.Parts.{HeadingList}
-use Rattle.frame_methods.proofs.NameLaws.{named_settled, renamed_meant, meant_so, heading_list}
+use Rattle.{
+  std.proofs.Common.{◌≡◌, ◌∙◌, ap, sym, refl, [], ◌∷◌},
+  table_meaning.specs.Table.{NumberedTable, heading_value},
+  frame_store.specs.{Objects.{tables, table_at, table_or}, Parts.{HeadingList}},
+  frame_methods.proofs.NameLaws.{named_settled, renamed_meant, meant_so, heading_list},
+}
 use Rattle.frame_methods.proofs.renaming.rename_series.Goals as goal
 
 pub renamed-requires-clause-labels : goal.renamed-requires-clause-labels

@@ -1,10 +1,9 @@
-use Rattle.std.proofs.Common.{◌≡◌, ◌∙◌, ap, sym, [], ◌∷◌, Some, None, slice_index_or}
-use Rattle.table_meaning.specs.Table.{NumberedTable, heading_value}
-use Rattle.frame_store.specs.Objects.{tables, table_or}
-use Rattle.frame_store.specs.Parts.{HeadingList}
-use Rattle.frame_store.specs.Shown.{headings_value}
-use Rattle.frame_store.proofs.Settling.{object_settled, headings_part}
-use Rattle.frame_methods.proofs.NameLaws.{named_settled, heading_list, label_seen, one_item, frame_heading, first_value}
+use Rattle.{
+  std.proofs.Common.{◌≡◌, ◌∙◌, ap, sym, [], ◌∷◌, Some, None, slice_index_or},
+  table_meaning.specs.Table.{NumberedTable, heading_value},
+  frame_store.{specs.{Objects.{tables, table_or}, Parts.{HeadingList}, Shown.{headings_value}}, proofs.Settling.{object_settled, headings_part}},
+  frame_methods.proofs.NameLaws.{named_settled, heading_list, label_seen, one_item, frame_heading, first_value},
+}
 use Rattle.frame_methods.proofs.renaming.to_frame.Goals as goal
 
 pub as_frame-requires-clause-labels : goal.as_frame-requires-clause-labels

@@ -1,9 +1,9 @@
-use Rattle.std.proofs.Common.{◌∙◌, ◌<◌, ◌≤◌, sym, [], length, arith}
-use Rattle.std.proofs.lemmas.List.{length-map}
-use Rattle.table_meaning.specs.Table.{table_value, tuple_value}
-use Rattle.frame_methods.proofs.RowLaws.{complete_more, complete_same, complete_all, complete_below}
+use Rattle.{
+  std.proofs.{Common.{◌∙◌, ◌<◌, ◌≤◌, sym, [], length, arith}, lemmas.List.{length-map}},
+  table_meaning.specs.Table.{table_value, tuple_value},
+  frame_methods.proofs.{RowLaws.{complete_more, complete_same, complete_all, complete_below}, rows.complete_rows.Goals.{then-is_complete+in_ok-push, else-is_complete}},
+}
 use Rattle.frame_methods.proofs.rows.complete_rows.Goals as goal
-use Rattle.frame_methods.proofs.rows.complete_rows.Goals.{then-is_complete+in_ok-push, else-is_complete}
 
 pub loop-row-preserved : goal.loop-row-preserved
 loop-row-preserved c = λ texts.

@@ -1,7 +1,9 @@
-use Rattle.std.proofs.Common.{◌≡◌, List}
-use Rattle.meaning.specs.Text.{Text}
-use Rattle.table_meaning.specs.Table.{table_value}
-use Rattle.frame_methods.proofs.RowLaws.{complete_before}
+use Rattle.{
+  std.proofs.Common.{◌≡◌, List},
+  meaning.specs.Text.{Text},
+  table_meaning.specs.Table.{table_value},
+  frame_methods.proofs.RowLaws.{complete_before},
+}
 use Rattle.frame_methods.proofs.rows.complete_rows.Given as goal
 
 -- the complete rows so far

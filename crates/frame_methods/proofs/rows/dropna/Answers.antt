@@ -1,8 +1,10 @@
-use Rattle.std.proofs.Common.{ap}
-use Rattle.table_meaning.specs.Table.{table_value}
-use Rattle.form_meaning.specs.Finish.{limited}
-use Rattle.select_meaning.specs.Select.{rows_taken}
-use Rattle.frame_methods.proofs.RowLaws.{makes_so}
+use Rattle.{
+  std.proofs.Common.{ap},
+  table_meaning.specs.Table.{table_value},
+  form_meaning.specs.Finish.{limited},
+  select_meaning.specs.Select.{rows_taken},
+  frame_methods.proofs.RowLaws.{makes_so},
+}
 use Rattle.frame_methods.proofs.rows.dropna.Goals as goal
 
 pub returns : goal.returns

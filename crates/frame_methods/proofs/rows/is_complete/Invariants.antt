@@ -1,6 +1,8 @@
-use Rattle.std.proofs.Common.{◌≡◌, List, drop}
-use Rattle.meaning.specs.Text.{Text}
-use Rattle.frame_methods.proofs.RowLaws.{whole_in}
+use Rattle.{
+  std.proofs.Common.{◌≡◌, List, drop},
+  meaning.specs.Text.{Text},
+  frame_methods.proofs.RowLaws.{whole_in},
+}
 use Rattle.frame_methods.proofs.rows.is_complete.Given as goal
 
 -- no cell of the columns so far is missing

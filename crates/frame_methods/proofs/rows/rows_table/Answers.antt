@@ -1,11 +1,11 @@
-use Rattle.std.proofs.Common.{◌≡◌, ◌∙◌, ap, sym, true, length, rules}
-use Rattle.std.specs.List.{range_with_len}
-use Rattle.cell_core.specs.declared.grid.Shape.{Shape}
-use Rattle.form_meaning.specs.Finish.{within_limits}
-use Rattle.frame_store.specs.Parts.{HeadingList}
-use Rattle.selections.specs.Chosen.{chosen}
-use Rattle.selections.proofs.PickedLaws.{places_inside, places_count}
-use Rattle.frame_methods.proofs.RowLaws.{rows_made}
+use Rattle.{
+  std.{proofs.Common.{◌≡◌, ◌∙◌, ap, sym, true, length, rules}, specs.List.{range_with_len}},
+  cell_core.specs.declared.grid.Shape.{Shape},
+  form_meaning.specs.Finish.{within_limits},
+  frame_store.specs.Parts.{HeadingList},
+  selections.{specs.Chosen.{chosen}, proofs.PickedLaws.{places_inside, places_count}},
+  frame_methods.proofs.RowLaws.{rows_made},
+}
 use Rattle.frame_methods.proofs.rows.rows_table.Goals as goal
 
 pub chosen_table-requires-clause-columns : goal.chosen_table-requires-clause-columns

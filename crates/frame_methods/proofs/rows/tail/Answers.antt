@@ -1,11 +1,10 @@
-use Rattle.std.proofs.Common.{◌∙◌, ◌-◌, ap}
-use Rattle.std.specs.Int.{w64}
-use Rattle.std.proofs.lemmas.Int.{to_z-of_z}
-use Rattle.frame_store.specs.Arguments.{object_value}
-use Rattle.frame_store.specs.Objects.{tables}
-use Rattle.pick_meaning.specs.Positions.{rows_before}
-use Rattle.label_methods.proofs.AnswerLaws.{forms_so}
-use Rattle.frame_methods.proofs.RowLaws.{run, run_result, last_meant, rows_read}
+use Rattle.{
+  std.{proofs.{Common.{◌∙◌, ◌-◌, ap}, lemmas.Int.{to_z-of_z}}, specs.Int.{w64}},
+  frame_store.specs.{Arguments.{object_value}, Objects.{tables}},
+  pick_meaning.specs.Positions.{rows_before},
+  label_methods.proofs.AnswerLaws.{forms_so},
+  frame_methods.proofs.RowLaws.{run, run_result, last_meant, rows_read},
+}
 use Rattle.frame_methods.proofs.rows.tail.Goals as goal
 
 pub returns : goal.returns

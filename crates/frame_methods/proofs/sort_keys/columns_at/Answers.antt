@@ -1,6 +1,7 @@
-use Rattle.std.proofs.Common.{◌<◌, length, arith}
-use Rattle.frame_methods.specs.Sorts.{column_of}
-use Rattle.frame_methods.proofs.SortLaws.{one_place_more, column_here}
+use Rattle.{
+  std.proofs.Common.{◌<◌, length, arith},
+  frame_methods.{specs.Sorts.{column_of}, proofs.SortLaws.{one_place_more, column_here}},
+}
 use Rattle.frame_methods.proofs.sort_keys.columns_at.Goals as goal
 
 pub loop-k-preserved : goal.loop-k-preserved

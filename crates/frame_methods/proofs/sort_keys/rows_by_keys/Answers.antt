@@ -1,5 +1,7 @@
-use Rattle.std.proofs.Common.{◌≡◌, List, ℕ, subst, IfOk}
-use Rattle.frame_methods.proofs.SortLaws.{rows_keyed}
+use Rattle.{
+  std.proofs.Common.{◌≡◌, List, ℕ, subst, IfOk},
+  frame_methods.proofs.SortLaws.{rows_keyed},
+}
 use Rattle.frame_methods.proofs.sort_keys.rows_by_keys.Goals as goal
 
 pub returns : goal.returns

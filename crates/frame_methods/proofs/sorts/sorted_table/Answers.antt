@@ -1,12 +1,11 @@
-use Rattle.std.proofs.Common.{◌∙◌, ap, List, ℕ, length}
-use Rattle.table_meaning.specs.Table.{table_value}
-use Rattle.form_meaning.specs.Finish.{limited}
-use Rattle.std.specs.List.{range_with_len}
-use Rattle.sorting.specs.Sorting.{in_order}
-use Rattle.select_meaning.specs.Select.{rows_taken}
-use Rattle.frame_methods.specs.Sorts.{keys_of, stands_before}
-use Rattle.frame_methods.proofs.RowLaws.{makes_so}
-use Rattle.frame_methods.proofs.SortLaws.{sorted_below, sorted_so}
+use Rattle.{
+  std.{proofs.Common.{◌∙◌, ap, List, ℕ, length}, specs.List.{range_with_len}},
+  table_meaning.specs.Table.{table_value},
+  form_meaning.specs.Finish.{limited},
+  sorting.specs.Sorting.{in_order},
+  select_meaning.specs.Select.{rows_taken},
+  frame_methods.{specs.Sorts.{keys_of, stands_before}, proofs.{RowLaws.{makes_so}, SortLaws.{sorted_below, sorted_so}}},
+}
 use Rattle.frame_methods.proofs.sorts.sorted_table.Goals as goal
 
 pub rows_table-requires-clause-rows : goal.rows_table-requires-clause-rows

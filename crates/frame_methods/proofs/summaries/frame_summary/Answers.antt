@@ -1,7 +1,8 @@
-use Rattle.std.proofs.Common.{◌≡◌, true, length, rules}
-use Rattle.form_meaning.specs.Finish.{within_limits}
-use Rattle.frame_methods.specs.Summaries.{summary_value}
-use Rattle.frame_methods.proofs.SeriesLaws.{frame_answer, frame_settled}
+use Rattle.{
+  std.proofs.Common.{◌≡◌, true, length, rules},
+  form_meaning.specs.Finish.{within_limits},
+  frame_methods.{specs.Summaries.{summary_value}, proofs.SeriesLaws.{frame_answer, frame_settled}},
+}
 use Rattle.frame_methods.proofs.summaries.frame_summary.Goals as goal
 
 pub returns : goal.returns

@@ -1,5 +1,7 @@
-use Rattle.std.proofs.Common.{◌<◌, length, sym, arith}
-use Rattle.frame_methods.proofs.ColumnLaws.{place_given}
+use Rattle.{
+  std.proofs.Common.{◌<◌, length, sym, arith},
+  frame_methods.proofs.ColumnLaws.{place_given},
+}
 use Rattle.frame_methods.proofs.summaries.summarize.Goals as goal
 
 pub summary_cell-requires : goal.summary_cell-requires

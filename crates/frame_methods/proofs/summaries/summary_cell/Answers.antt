@@ -1,5 +1,7 @@
-use Rattle.std.proofs.Common.{◌<◌, ◌^◌, arith}
-use Rattle.frame_methods.proofs.SummaryLaws.{distinct_answer}
+use Rattle.{
+  std.proofs.Common.{◌<◌, ◌^◌, arith},
+  frame_methods.proofs.SummaryLaws.{distinct_answer},
+}
 use Rattle.frame_methods.proofs.summaries.summary_cell.Goals as goal
 
 pub returns-in_ok-distinct-in-Distinct-clause-answer : goal.returns-in_ok-distinct-in-Distinct-clause-answer

@@ -1,8 +1,8 @@
-use Rattle.std.proofs.Common.{◌<◌, length, arith}
+use Rattle.{
+  std.proofs.Common.{◌<◌, length, arith},
+  frame_methods.{specs.Summaries.{summary_value}, proofs.{ColumnLaws.{place_given}, SummaryLaws.{cells_step}}},
+}
 use Rattle.method_meaning.specs.Methods as meant
-use Rattle.frame_methods.specs.Summaries.{summary_value}
-use Rattle.frame_methods.proofs.ColumnLaws.{place_given}
-use Rattle.frame_methods.proofs.SummaryLaws.{cells_step}
 use Rattle.frame_methods.proofs.summaries.summary_column.Goals as goal
 
 pub summary_as-requires : goal.summary_as-requires

@@ -1,10 +1,10 @@
-use Rattle.std.proofs.Common.{◌≡◌, ap, sym}
-use Rattle.table_meaning.specs.Table.{NumberedTable, table_value}
-use Rattle.method_meaning.specs.Methods.{each_column}
-use Rattle.frame_store.specs.Shown.{cells_value}
-use Rattle.frame_store.specs.World.{world}
-use Rattle.frame_store.specs.Objects.{tables, table_at, table_or}
-use Rattle.label_methods.proofs.AnswerLaws.{known_table, forms_so}
+use Rattle.{
+  std.proofs.Common.{◌≡◌, ap, sym},
+  table_meaning.specs.Table.{NumberedTable, table_value},
+  method_meaning.specs.Methods.{each_column},
+  frame_store.specs.{Shown.{cells_value}, World.{world}, Objects.{tables, table_at, table_or}},
+  label_methods.proofs.AnswerLaws.{known_table, forms_so},
+}
 use Rattle.frame_methods.proofs.tables.columns_placed.Goals as goal
 
 pub columns_table-table-requires-clause-known : goal.columns_table-table-requires-clause-known

@@ -1,7 +1,9 @@
-use Rattle.std.proofs.Common.{◌≡◌, true, length, rules}
-use Rattle.form_meaning.specs.Finish.{within_limits}
-use Rattle.frame_store.specs.Shown.{cells_value}
-use Rattle.frame_methods.proofs.TableLaws.{made_columns, columns_settled_later}
+use Rattle.{
+  std.proofs.Common.{◌≡◌, true, length, rules},
+  form_meaning.specs.Finish.{within_limits},
+  frame_store.specs.Shown.{cells_value},
+  frame_methods.proofs.TableLaws.{made_columns, columns_settled_later},
+}
 use Rattle.frame_methods.proofs.tables.columns_table.Goals as goal
 
 pub returns-clause-answer : goal.returns-clause-answer

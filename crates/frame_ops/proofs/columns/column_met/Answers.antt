@@ -1,10 +1,10 @@
-use Rattle.std.proofs.Common.{◌≡◌, refl, subst, sym, true, []}
-use Rattle.nullable_array.specs.Answers.{Answers}
-use Rattle.column_operators.specs.Tasks.{operator_of}
-use Rattle.table_meaning.specs.Table.{column_at}
-use Rattle.frame_ops.specs.declared.other.Other.{Other}
-use Rattle.frame_ops.specs.Pairs.{pair_at, kinds_meet, meeting_value, column_meant}
-use Rattle.frame_ops.proofs.AnswerLaws.{beside_scalar, across_scalar, column_rows, scalar_rows, rows_beside}
+use Rattle.{
+  std.proofs.Common.{◌≡◌, refl, subst, sym, true, []},
+  nullable_array.specs.Answers.{Answers},
+  column_operators.{specs.Tasks.{operator_of}, proofs.RowLaws.{column_rows, scalar_rows}},
+  table_meaning.specs.Table.{column_at},
+  frame_ops.{specs.{declared.other.Other.{Other}, Pairs.{pair_at, kinds_meet, meeting_value, column_meant}}, proofs.AnswerLaws.{beside_scalar, across_scalar, rows_beside}},
+}
 use Rattle.frame_ops.proofs.columns.column_met.Goals as goal
 
 pub returns-in-Scalar-clause-answer : goal.returns-in-Scalar-clause-answer

@@ -1,13 +1,12 @@
-use Rattle.std.proofs.Common.{◌≡◌, ◌<◌, List, length, arith, rules, subst, sym, Result, Err}
-use Rattle.column_core.specs.Blocks.{CellBlock}
-use Rattle.frame_store.specs.declared.fault.OpFault.{OpFault}
-use Rattle.column_operators.specs.Tasks.{operator_of}
-use Rattle.form_meaning.specs.Finish.{try_all}
-use Rattle.form_meaning.specs.Infix.{met}
-use Rattle.form_parts.specs.Makes.{MakesBy, blocks_value}
-use Rattle.frame_ops.specs.Pairs.{kinds_meet, pairs_from, meetings_value}
-use Rattle.frame_store.proofs.Settling.{longer_twice}
-use Rattle.frame_ops.proofs.ColumnsMade.{kinds_here, columns_more, whole_more, whole_refused}
+use Rattle.{
+  std.proofs.Common.{◌≡◌, ◌<◌, List, length, arith, rules, subst, sym, Result, Err},
+  column_core.specs.Blocks.{CellBlock},
+  frame_store.{specs.declared.fault.OpFault.{OpFault}, proofs.Settling.{longer_twice}},
+  column_operators.specs.Tasks.{operator_of},
+  form_meaning.specs.{Finish.{try_all}, Infix.{met}},
+  form_parts.specs.Makes.{MakesBy, blocks_value},
+  frame_ops.{specs.Pairs.{kinds_meet, pairs_from, meetings_value}, proofs.ColumnsMade.{kinds_here, columns_more, whole_more, whole_refused}},
+}
 use Rattle.frame_ops.proofs.columns.columns_met.Goals as goal
 
 pub returns-in_err-block-clause-made : goal.returns-in_err-block-clause-made

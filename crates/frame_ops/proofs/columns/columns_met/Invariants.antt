@@ -1,12 +1,11 @@
-use Rattle.std.proofs.Common.{◌≡◌, ◌++◌, drop, length, true, Ok}
-use Rattle.std.specs.List.{list_all}
-use Rattle.meaning.specs.Cell.{IsLonger}
-use Rattle.meaning.specs.Fault.{then_value}
-use Rattle.column_operators.specs.Tasks.{operator_of}
-use Rattle.form_meaning.specs.Finish.{try_all}
-use Rattle.form_meaning.specs.Infix.{met}
-use Rattle.form_parts.specs.Makes.{blocks_value, AreColumns}
-use Rattle.frame_ops.specs.Pairs.{kinds_meet, pairs_from, meetings_value}
+use Rattle.{
+  std.{proofs.Common.{◌≡◌, ◌++◌, drop, length, true, Ok}, specs.List.{list_all}},
+  meaning.specs.{Cell.{IsLonger}, Fault.{then_value}},
+  column_operators.specs.Tasks.{operator_of},
+  form_meaning.specs.{Finish.{try_all}, Infix.{met}},
+  form_parts.specs.Makes.{blocks_value, AreColumns},
+  frame_ops.specs.Pairs.{kinds_meet, pairs_from, meetings_value},
+}
 use Rattle.frame_ops.proofs.columns.columns_met.Given as goal
 
 abbrev pub invariant-loop-place : goal.invariant-loop-place

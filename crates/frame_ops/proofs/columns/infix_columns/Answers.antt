@@ -1,13 +1,12 @@
-use Rattle.std.proofs.Common.{◌≡◌, List, length, true, false, rules, sym, subst, Result, refl}
-use Rattle.std.specs.List.{list_all}
-use Rattle.meaning.specs.Cell.{CellValue}
-use Rattle.meaning.specs.Fault.{FaultValue}
-use Rattle.column_operators.specs.Tasks.{operator_of}
-use Rattle.table_meaning.specs.Table.{ColumnOf}
-use Rattle.form_meaning.specs.Finish.{within_limits}
-use Rattle.form_parts.specs.Makes.{MakesBy, blocks_value}
-use Rattle.frame_ops.specs.Pairs.{pairs_from, kinds_meet, levels_fit}
-use Rattle.frame_ops.proofs.Meanings.{kinds_refused, levels_refused, limit_refused, columns_allowed}
+use Rattle.{
+  std.{proofs.Common.{◌≡◌, List, length, true, false, rules, sym, subst, Result, refl}, specs.List.{list_all}},
+  meaning.specs.{Cell.{CellValue}, Fault.{FaultValue}},
+  column_operators.specs.Tasks.{operator_of},
+  table_meaning.specs.Table.{ColumnOf},
+  form_meaning.specs.Finish.{within_limits},
+  form_parts.specs.Makes.{MakesBy, blocks_value},
+  frame_ops.{specs.Pairs.{pairs_from, kinds_meet, levels_fit}, proofs.Meanings.{kinds_refused, levels_refused, limit_refused, columns_allowed}},
+}
 use Rattle.frame_ops.proofs.columns.infix_columns.Goals as goal
 
 pub returns-then-not-all_meet-clause-made : goal.returns-then-not-all_meet-clause-made

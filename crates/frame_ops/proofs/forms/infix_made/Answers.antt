@@ -1,10 +1,9 @@
-use Rattle.std.proofs.Common.{subst}
-use Rattle.table_meaning.specs.Settled.{IsSettled}
-use Rattle.frame_store.specs.Arguments.{entry_of}
-use Rattle.frame_store.specs.Objects.{tables}
-use Rattle.frame_store.specs.declared.arguments.Value.{Value}
-use Rattle.frame_store.proofs.Settling.{object_settled}
-use Rattle.frame_ops.proofs.SignLaws.{scalar_given}
+use Rattle.{
+  std.proofs.Common.{subst},
+  table_meaning.specs.Settled.{IsSettled},
+  frame_store.{specs.{Arguments.{entry_of}, Objects.{tables}, declared.arguments.Value.{Value}}, proofs.Settling.{object_settled}},
+  frame_ops.proofs.SignLaws.{scalar_given},
+}
 use Rattle.frame_ops.proofs.forms.infix_made.Goals as goal
 
 pub table_infix-requires-clause-known_a : goal.table_infix-requires-clause-known_a

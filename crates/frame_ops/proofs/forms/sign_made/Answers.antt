@@ -1,9 +1,9 @@
-use Rattle.std.proofs.Common.{◌≡◌, ◌∙◌, false, rules}
-use Rattle.table_meaning.specs.Table.{table_value}
-use Rattle.frame_store.specs.Objects.{tables}
-use Rattle.frame_store.proofs.Settling.{object_settled}
-use Rattle.frame_ops.proofs.InfixLaws.{makes_as}
-use Rattle.frame_ops.proofs.SignLaws.{inverted_by_xor, inverted_as_read}
+use Rattle.{
+  std.proofs.Common.{◌≡◌, ◌∙◌, false, rules},
+  table_meaning.specs.Table.{table_value},
+  frame_store.{specs.Objects.{tables}, proofs.Settling.{object_settled}},
+  frame_ops.proofs.{InfixLaws.{makes_as}, SignLaws.{inverted_by_xor, inverted_as_read}},
+}
 use Rattle.frame_ops.proofs.forms.sign_made.Goals as goal
 
 pub scalar_infix-requires-clause-known : goal.scalar_infix-requires-clause-known

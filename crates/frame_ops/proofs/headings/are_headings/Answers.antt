@@ -1,10 +1,12 @@
-use Rattle.std.proofs.Common.{◌≡◌, ◌<◌, length, arith, rules, subst, true, Some}
-use Rattle.meaning.specs.Cell.{label_datum}
-use Rattle.multi_index.specs.Axes.{AxisValue, HaveLevels}
-use Rattle.table_meaning.specs.Table.{heading_value}
-use Rattle.form_meaning.specs.Finish.{same_heading}
-use Rattle.frame_store.proofs.Settling.{headings_part, labels_part}
-use Rattle.frame_ops.proofs.HeadingLaws.{heading_settled, label_settled, other_rows, other_levels, one_more_heading}
+use Rattle.{
+  std.proofs.Common.{◌≡◌, ◌<◌, length, arith, rules, subst, true, Some},
+  meaning.specs.Cell.{label_datum},
+  multi_index.specs.Axes.{AxisValue, HaveLevels},
+  table_meaning.specs.Table.{heading_value},
+  form_meaning.specs.Finish.{same_heading},
+  frame_store.proofs.Settling.{headings_part, labels_part},
+  frame_ops.proofs.HeadingLaws.{heading_settled, label_settled, other_rows, other_levels, one_more_heading},
+}
 use Rattle.frame_ops.proofs.headings.are_headings.Goals as goal
 
 pub returns-then-rows-columns : goal.returns-then-rows-columns

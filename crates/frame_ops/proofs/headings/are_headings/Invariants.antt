@@ -1,5 +1,7 @@
-use Rattle.std.proofs.Common.{◌≡◌, drop}
-use Rattle.frame_store.specs.Shown.{headings_value, labels_value}
+use Rattle.{
+  std.proofs.Common.{◌≡◌, drop},
+  frame_store.specs.Shown.{headings_value, labels_value},
+}
 use Rattle.form_meaning.specs.Infix as meant
 use Rattle.frame_ops.proofs.headings.are_headings.Given as goal
 

@@ -1,6 +1,8 @@
-use Rattle.std.proofs.Common.{◌≡◌, ◌<◌, length, arith}
-use Rattle.frame_store.proofs.Settling.{headings_part}
-use Rattle.frame_ops.proofs.HeadingLaws.{heading_settled, other_count}
+use Rattle.{
+  std.proofs.Common.{◌≡◌, ◌<◌, length, arith},
+  frame_store.proofs.Settling.{headings_part},
+  frame_ops.proofs.HeadingLaws.{heading_settled, other_count},
+}
 use Rattle.frame_ops.proofs.headings.same_headings.Goals as goal
 
 pub returns-then-columns : goal.returns-then-columns

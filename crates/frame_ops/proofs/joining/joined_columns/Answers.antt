@@ -1,8 +1,10 @@
-use Rattle.std.proofs.Common.{◌≡◌, ◌∙◌, length, false, rules, subst, refl}
-use Rattle.column_operators.specs.Tasks.{operator_of}
-use Rattle.form_meaning.specs.Finish.{within_limits}
-use Rattle.form_parts.specs.Makes.{MakesBy, blocks_value}
-use Rattle.frame_ops.proofs.JoinedTable.{sides_beyond, opposite_of, meant_of, columns_of, side_given}
+use Rattle.{
+  std.proofs.Common.{◌≡◌, ◌∙◌, length, false, rules, subst, refl},
+  column_operators.specs.Tasks.{operator_of},
+  form_meaning.specs.Finish.{within_limits},
+  form_parts.specs.Makes.{MakesBy, blocks_value},
+  frame_ops.proofs.JoinedTable.{sides_beyond, opposite_of, meant_of, columns_of, side_given},
+}
 use Rattle.frame_ops.proofs.joining.joined_columns.Goals as goal
 
 pub returns-then-not-within_limits-clause-made : goal.returns-then-not-within_limits-clause-made

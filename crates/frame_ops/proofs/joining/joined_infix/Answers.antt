@@ -1,20 +1,15 @@
-use Rattle.std.proofs.Common.{◌≡◌, ◌∙◌, Result, Ok, Err, refl, length, map, sym, subst, ap, rules}
-use Rattle.cell_core.specs.declared.grid.Shape.{Shape}
-use Rattle.column_operators.specs.Tasks.{operator_of}
-use Rattle.meaning.specs.Fault.{then_value}
-use Rattle.label_align.specs.declared.joined.Joined.{Joined}
-use Rattle.table_meaning.specs.Settled.{IsSettled}
-use Rattle.table_meaning.specs.Table.{NumberedTable, table_value}
-use Rattle.table_meaning.specs.Valid.{IsWhole}
+use Rattle.{
+  std.proofs.Common.{◌≡◌, ◌∙◌, Result, Ok, Err, refl, length, map, sym, subst, ap, rules},
+  cell_core.specs.declared.grid.Shape.{Shape},
+  column_operators.specs.Tasks.{operator_of},
+  meaning.specs.Fault.{then_value},
+  label_align.specs.declared.joined.Joined.{Joined},
+  table_meaning.specs.{Settled.{IsSettled}, Table.{NumberedTable, table_value}, Valid.{IsWhole}},
+  frame_store.specs.{Parts.{axis_of, block_column, headings_of, table_with}, Shown.{Makes, labels_value, headings_value}, declared.fault.OpFault.{OpFault}},
+  form_parts.{specs.Makes.{MakesBy}, proofs.TableMade.{refused_on}},
+  frame_ops.{specs.{Joining.{joined_value}, Namings.{named_by}}, proofs.JoinedTable.{joined_refused, framed_settled, joined_is_settled, joined_is_meant, joined_is_whole, axes_joined, axis_labels, axis_names, axes_levels, axes_inside, on_axis, still_seen, still_inside}},
+}
 use Rattle.form_meaning.specs.Infix as meant
-use Rattle.frame_store.specs.Parts.{axis_of, block_column, headings_of, table_with}
-use Rattle.frame_store.specs.Shown.{Makes, labels_value, headings_value}
-use Rattle.frame_store.specs.declared.fault.OpFault.{OpFault}
-use Rattle.form_parts.specs.Makes.{MakesBy}
-use Rattle.form_parts.proofs.TableMade.{refused_on}
-use Rattle.frame_ops.specs.Joining.{joined_value}
-use Rattle.frame_ops.specs.Namings.{named_by}
-use Rattle.frame_ops.proofs.JoinedTable.{joined_refused, framed_settled, joined_is_settled, joined_is_meant, joined_is_whole, axes_joined, axis_labels, axis_names, axes_levels, axes_inside, on_axis, still_seen, still_inside}
 use Rattle.frame_ops.proofs.joining.joined_infix.Goals as goal
 
 pub joined_rows-requires-clause-levels : goal.joined_rows-requires-clause-levels

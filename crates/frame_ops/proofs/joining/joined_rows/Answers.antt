@@ -1,19 +1,15 @@
-use Rattle.std.proofs.Common.{◌∙◌, List, Option, None, length, ap, subst, sym, Err}
-use Rattle.std.proofs.lemmas.List.{length-replicate}
-use Rattle.cell_core.specs.declared.cell.Label.{Label}
-use Rattle.multi_index.specs.Axes.{HaveLevels}
-use Rattle.row_keys.specs.Keys.{same_tuple}
-use Rattle.align_meaning.proofs.DifferLaws.{joined_apart}
-use Rattle.label_align.specs.Joined.{lists_seen}
-use Rattle.label_align.specs.Tuples.{tuple_less}
-use Rattle.label_align.proofs.SameLaws.{tuple_decides}
+use Rattle.{
+  std.proofs.{Common.{◌∙◌, List, Option, None, length, ap, subst, sym, Err}, lemmas.List.{length-replicate}},
+  cell_core.specs.declared.cell.Label.{Label},
+  multi_index.specs.Axes.{HaveLevels},
+  row_keys.specs.Keys.{same_tuple},
+  align_meaning.proofs.DifferLaws.{joined_apart},
+  label_align.{specs.{Joined.{lists_seen}, Tuples.{tuple_less}}, proofs.SameLaws.{tuple_decides}},
+  form_parts.{specs.Makes.{MakesBy}, proofs.RowLaws.{tuples_given}},
+  frame_store.specs.{declared.fault.OpFault.{OpFault}, Shown.{labels_value}},
+  frame_ops.{specs.Joining.{joined_value}, proofs.JoinLaws.{rows_meant, rows_refused, rows_inside, is_joined, joined_given}},
+}
 use Rattle.form_meaning.specs.Infix as meant
-use Rattle.form_parts.specs.Makes.{MakesBy}
-use Rattle.frame_store.specs.declared.fault.OpFault.{OpFault}
-use Rattle.frame_store.specs.Shown.{labels_value}
-use Rattle.frame_ops.specs.Joining.{joined_value}
-use Rattle.frame_ops.proofs.JoinLaws.{rows_meant, rows_refused, rows_inside, is_joined, joined_given}
-use Rattle.form_parts.proofs.RowLaws.{tuples_given}
 use Rattle.frame_ops.proofs.joining.joined_rows.Goals as goal
 
 pub outer-requires-clause-given_a : goal.outer-requires-clause-given_a

@@ -1,12 +1,10 @@
-use Rattle.std.proofs.Common.{◌≡◌, ◌∙◌, ◌<◌, refl, ap, sym, length, arith, slice_index_or, None}
-use Rattle.std.proofs.lemmas.List.{length-set}
-use Rattle.std.proofs.lemmas.Option.{get_or_from_slice_get}
-use Rattle.multi_index.specs.Axes.{AxisValue}
-use Rattle.table_meaning.specs.Settled.{IsSettled}
-use Rattle.table_meaning.specs.Table.{heading_value}
-use Rattle.form_meaning.specs.Infix.{common_name}
-use Rattle.frame_ops.proofs.HeadingLaws.{heading_settled}
-use Rattle.frame_ops.proofs.JoinLaws.{one_named, all_named, names_given}
+use Rattle.{
+  std.proofs.{Common.{◌≡◌, ◌∙◌, ◌<◌, refl, ap, sym, length, arith, slice_index_or, None}, lemmas.{List.{length-set}, Option.{get_or_from_slice_get}}},
+  multi_index.specs.Axes.{AxisValue},
+  table_meaning.specs.{Settled.{IsSettled}, Table.{heading_value}},
+  form_meaning.specs.Infix.{common_name},
+  frame_ops.proofs.{HeadingLaws.{heading_settled}, JoinLaws.{one_named, all_named, names_given}},
+}
 use Rattle.frame_ops.proofs.joining.name_levels.Goals as goal
 
 pub loop-level-init : goal.loop-level-init

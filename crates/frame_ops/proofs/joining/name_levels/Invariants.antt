@@ -1,7 +1,8 @@
-use Rattle.std.proofs.Common.{◌≡◌, ◌<◌, ℕ, length, slice_index_or, None}
-use Rattle.table_meaning.specs.Settled.{IsSettled}
-use Rattle.table_meaning.specs.Table.{heading_value}
-use Rattle.form_meaning.specs.Infix.{common_name}
+use Rattle.{
+  std.proofs.Common.{◌≡◌, ◌<◌, ℕ, length, slice_index_or, None},
+  table_meaning.specs.{Settled.{IsSettled}, Table.{heading_value}},
+  form_meaning.specs.Infix.{common_name},
+}
 use Rattle.frame_ops.proofs.joining.name_levels.Given as goal
 
 abbrev pub invariant-loop-level : goal.invariant-loop-level

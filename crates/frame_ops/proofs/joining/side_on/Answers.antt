@@ -1,7 +1,8 @@
-use Rattle.std.proofs.Common.{◌∙◌, sym, subst}
-use Rattle.table_meaning.specs.Table.{NumberedTable}
-use Rattle.table_meaning.specs.Valid.{IsWhole}
-use Rattle.frame_ops.proofs.JoinLaws.{side_made, side_is_whole}
+use Rattle.{
+  std.proofs.Common.{◌∙◌, sym, subst},
+  table_meaning.specs.{Table.{NumberedTable}, Valid.{IsWhole}},
+  frame_ops.proofs.JoinLaws.{side_made, side_is_whole},
+}
 use Rattle.frame_ops.proofs.joining.side_on.Goals as goal
 
 pub new-requires-clause-whole : goal.new-requires-clause-whole

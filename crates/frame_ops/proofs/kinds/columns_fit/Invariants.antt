@@ -1,8 +1,8 @@
-use Rattle.std.proofs.Common.{◌≡◌, drop}
-use Rattle.std.specs.List.{list_all}
-use Rattle.column_operators.specs.Tasks.{operator_of}
-use Rattle.frame_ops.specs.declared.other.Other.TheVariants.{Beside}
-use Rattle.frame_ops.specs.Pairs.{kinds_meet, pairs_from}
+use Rattle.{
+  std.{proofs.Common.{◌≡◌, drop}, specs.List.{list_all}},
+  column_operators.specs.Tasks.{operator_of},
+  frame_ops.specs.{declared.other.Other.TheVariants.{Beside}, Pairs.{kinds_meet, pairs_from}},
+}
 use Rattle.frame_ops.proofs.kinds.columns_fit.Given as goal
 
 abbrev pub invariant-loop-place : goal.invariant-loop-place

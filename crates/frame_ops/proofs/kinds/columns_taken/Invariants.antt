@@ -1,7 +1,8 @@
-use Rattle.std.proofs.Common.{◌≡◌, drop}
-use Rattle.std.specs.List.{list_all}
-use Rattle.column_operators.specs.Tasks.{operator_of}
-use Rattle.form_meaning.specs.Infix.{takes_twice}
+use Rattle.{
+  std.{proofs.Common.{◌≡◌, drop}, specs.List.{list_all}},
+  column_operators.specs.Tasks.{operator_of},
+  form_meaning.specs.Infix.{takes_twice},
+}
 use Rattle.frame_ops.proofs.kinds.columns_taken.Given as goal
 
 abbrev pub invariant-loop-place : goal.invariant-loop-place

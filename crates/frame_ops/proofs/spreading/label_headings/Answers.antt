@@ -1,5 +1,7 @@
-use Rattle.std.proofs.Common.{◌<◌, length, arith}
-use Rattle.frame_ops.proofs.SpreadLaws.{one_more_label}
+use Rattle.{
+  std.proofs.Common.{◌<◌, length, arith},
+  frame_ops.proofs.SpreadLaws.{one_more_label},
+}
 use Rattle.frame_ops.proofs.spreading.label_headings.Goals as goal
 
 pub loop-row-preserved : goal.loop-row-preserved

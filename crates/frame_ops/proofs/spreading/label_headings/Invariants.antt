@@ -1,5 +1,7 @@
-use Rattle.std.proofs.Common.{◌≡◌, map, take}
-use Rattle.form_meaning.specs.Infix.{tuple_heading}
+use Rattle.{
+  std.proofs.Common.{◌≡◌, map, take},
+  form_meaning.specs.Infix.{tuple_heading},
+}
 use Rattle.frame_ops.proofs.spreading.label_headings.Given as goal
 
 -- the headings of the rows so far

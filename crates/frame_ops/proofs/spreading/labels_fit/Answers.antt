@@ -1,15 +1,13 @@
-use Rattle.std.proofs.Common.{◌≡◌, ◌∙◌, ◌<◌, List, sym, subst, length, slice_index_or, [], arith, map, true, false, if◌then◌else◌}
-use Rattle.std.proofs.lemmas.List.{length-map}
-use Rattle.std.proofs.lemmas.List.Elements.{All-append}
-use Rattle.cell_core.specs.declared.cell.Label.{Label}
-use Rattle.pick_meaning.specs.Rows.{are_some}
-use Rattle.row_keys.specs.Partners.{rows_with}
-use Rattle.multi_index.specs.Axes.{AxisValue, HaveLevels}
-use Rattle.table_meaning.specs.Table.{column_at}
-use Rattle.form_meaning.specs.Finish.{same_kind}
-use Rattle.frame_ops.specs.Widening.{heading_tuple}
-use Rattle.frame_ops.proofs.AcrossLaws.{one_more_fits, one_unfit}
-use Rattle.frame_ops.proofs.WideLaws.{tuples_alike}
+use Rattle.{
+  std.proofs.{Common.{◌≡◌, ◌∙◌, ◌<◌, List, sym, subst, length, slice_index_or, [], arith, map, true, false, if◌then◌else◌}, lemmas.List.{length-map, Elements.{All-append}}},
+  cell_core.specs.declared.cell.Label.{Label},
+  pick_meaning.specs.Rows.{are_some},
+  row_keys.specs.Partners.{rows_with},
+  multi_index.specs.Axes.{AxisValue, HaveLevels},
+  table_meaning.specs.Table.{column_at},
+  form_meaning.specs.Finish.{same_kind},
+  frame_ops.{specs.Widening.{heading_tuple}, proofs.{AcrossLaws.{one_more_fits, one_unfit}, WideLaws.{tuples_alike}}},
+}
 use Rattle.frame_ops.proofs.spreading.labels_fit.Goals as goal
 
 pub find_partners-requires-clause-alike : goal.find_partners-requires-clause-alike

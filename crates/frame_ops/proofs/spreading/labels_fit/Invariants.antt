@@ -1,8 +1,10 @@
-use Rattle.std.proofs.Common.{◌≡◌, drop, map}
-use Rattle.row_keys.specs.Keys.{same_tuple}
-use Rattle.table_meaning.specs.Table.{column_at}
-use Rattle.form_meaning.specs.Infix.{labels_fit}
-use Rattle.frame_ops.specs.Widening.{heading_tuple}
+use Rattle.{
+  std.proofs.Common.{◌≡◌, drop, map},
+  row_keys.specs.Keys.{same_tuple},
+  table_meaning.specs.Table.{column_at},
+  form_meaning.specs.Infix.{labels_fit},
+  frame_ops.specs.Widening.{heading_tuple},
+}
 use Rattle.frame_ops.proofs.spreading.labels_fit.Given as goal
 
 -- the columns so far fit

@@ -1,7 +1,8 @@
-use Rattle.std.proofs.Common.{◌∙◌, ◌<◌, ap, length, map, replicate, arith, take_all}
-use Rattle.frame_ops.specs.Pairs.{repeated}
-use Rattle.form_parts.proofs.GapLaws.{single_on}
-use Rattle.frame_ops.proofs.SpreadLaws.{one_more_spread}
+use Rattle.{
+  std.proofs.Common.{◌∙◌, ◌<◌, ap, length, map, replicate, arith, take_all},
+  frame_ops.{specs.Pairs.{repeated}, proofs.SpreadLaws.{one_more_spread}},
+  form_parts.proofs.GapLaws.{single_on},
+}
 use Rattle.frame_ops.proofs.spreading.spread_columns.Goals as goal
 
 pub loop-place-preserved : goal.loop-place-preserved

@@ -1,6 +1,8 @@
-use Rattle.std.proofs.Common.{◌≡◌, take, map, All}
-use Rattle.frame_store.specs.Parts.{block_column, IsSingle}
-use Rattle.frame_ops.specs.Pairs.{repeated}
+use Rattle.{
+  std.proofs.Common.{◌≡◌, take, map, All},
+  frame_store.specs.Parts.{block_column, IsSingle},
+  frame_ops.specs.Pairs.{repeated},
+}
 use Rattle.frame_ops.proofs.spreading.spread_columns.Given as goal
 
 abbrev pub invariant-loop-place : goal.invariant-loop-place

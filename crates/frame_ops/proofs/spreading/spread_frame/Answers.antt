@@ -1,11 +1,11 @@
-use Rattle.std.proofs.Common.{◌≡◌, ◌∙◌, Result, Ok, Err, ap, length, true, false, refl, sym, subst, rules}
-use Rattle.table_meaning.specs.Table.{NumberedTable, table_value}
-use Rattle.table_meaning.specs.Valid.{IsWhole, within_limits}
+use Rattle.{
+  std.proofs.Common.{◌≡◌, ◌∙◌, Result, Ok, Err, ap, length, true, false, refl, sym, subst, rules},
+  table_meaning.specs.{Table.{NumberedTable, table_value}, Valid.{IsWhole, within_limits}},
+  frame_store.specs.{World.{IsKnownTable}, declared.fault.OpFault.{OpFault}},
+  form_parts.specs.Makes.{MakesBy},
+  frame_ops.proofs.SpreadLaws.{spread_known, spread_refused, spread_made, spread_beyond, spread_is},
+}
 use Rattle.form_meaning.specs.Infix as meant
-use Rattle.frame_store.specs.World.{IsKnownTable}
-use Rattle.frame_store.specs.declared.fault.OpFault.{OpFault}
-use Rattle.form_parts.specs.Makes.{MakesBy}
-use Rattle.frame_ops.proofs.SpreadLaws.{spread_known, spread_refused, spread_made, spread_beyond, spread_is}
 use Rattle.frame_ops.proofs.spreading.spread_frame.Goals as goal
 
 pub returns-in_err-headings-clause-made : goal.returns-in_err-headings-clause-made

@@ -1,7 +1,8 @@
-use Rattle.std.proofs.Common.{◌≡◌, ◌∙◌, List, Option, None, subst}
-use Rattle.std.specs.Prelude.{IfOk, IfErr}
-use Rattle.cell_core.specs.declared.cell.Label.{Label}
-use Rattle.selections.specs.Headings.{repeated_heading, NamesRepeated}
+use Rattle.{
+  std.{proofs.Common.{◌≡◌, ◌∙◌, List, Option, None, subst}, specs.Prelude.{IfOk, IfErr}},
+  cell_core.specs.declared.cell.Label.{Label},
+  selections.specs.Headings.{repeated_heading, NamesRepeated},
+}
 use Rattle.frame_ops.proofs.spreading.spread_headings.Goals as goal
 
 pub returns-clause-made : goal.returns-clause-made

@@ -1,6 +1,8 @@
-use Rattle.std.proofs.Common.{◌≡◌, ◌∙◌, sym, true, false, rules}
-use Rattle.column_operators.specs.Tasks.{operator_of}
-use Rattle.frame_ops.proofs.InfixLaws.{makes_as, across_is_meant, across_is_unequal, across_opposite, series_given}
+use Rattle.{
+  std.proofs.Common.{◌≡◌, ◌∙◌, sym, true, false, rules},
+  column_operators.specs.Tasks.{operator_of},
+  frame_ops.proofs.InfixLaws.{makes_as, across_is_meant, across_is_unequal, across_opposite, series_given},
+}
 use Rattle.frame_ops.proofs.tables.across_infix.Goals as goal
 
 pub table_met-requires-clause-opposite : goal.table_met-requires-clause-opposite

@@ -1,9 +1,9 @@
-use Rattle.std.proofs.Common.{◌≡◌, ◌∙◌, length, ap, refl, sym}
-use Rattle.std.specs.Prelude.{◌≢◌}
-use Rattle.multi_index.specs.Axes.{AxisValue}
-use Rattle.column_operators.specs.Tasks.{operator_of}
-use Rattle.frame_ops.proofs.InfixLaws.{makes_as}
-use Rattle.frame_ops.proofs.AcrossLaws.{across_kinds, across_levels, across_unfit, across_compared, across_met}
+use Rattle.{
+  std.{proofs.Common.{◌≡◌, ◌∙◌, length, ap, refl, sym}, specs.Prelude.{◌≢◌}},
+  multi_index.specs.Axes.{AxisValue},
+  column_operators.specs.Tasks.{operator_of},
+  frame_ops.proofs.{InfixLaws.{makes_as}, AcrossLaws.{across_kinds, across_levels, across_unfit, across_compared, across_met}},
+}
 use Rattle.frame_ops.proofs.tables.across_unequal.Goals as goal
 
 pub returns-then-not-takes_each-clause-makes : goal.returns-then-not-takes_each-clause-makes

@@ -1,11 +1,9 @@
-use Rattle.std.proofs.Common.{◌≡◌, length, true, false, arith, rules, refl}
-use Rattle.std.specs.Prelude.{◌≢◌}
-use Rattle.std.specs.List.{list_all}
-use Rattle.column_operators.specs.Tasks.{operator_of}
-use Rattle.form_meaning.specs.Infix.{compares}
-use Rattle.frame_ops.specs.declared.other.Other.TheVariants.{Beside}
-use Rattle.frame_ops.specs.Pairs.{kinds_meet, pairs_from}
-use Rattle.frame_ops.proofs.InfixLaws.{kinds_differ, levels_differ, tests_passed}
+use Rattle.{
+  std.{proofs.Common.{◌≡◌, length, true, false, arith, rules, refl}, specs.{Prelude.{◌≢◌}, List.{list_all}}},
+  column_operators.specs.Tasks.{operator_of},
+  form_meaning.specs.Infix.{compares},
+  frame_ops.{specs.{declared.other.Other.TheVariants.{Beside}, Pairs.{kinds_meet, pairs_from}}, proofs.InfixLaws.{kinds_differ, levels_differ, tests_passed}},
+}
 use Rattle.frame_ops.proofs.tables.expect_joined.Goals as goal
 
 pub returns-then-not-columns_fit-clause-passes : goal.returns-then-not-columns_fit-clause-passes

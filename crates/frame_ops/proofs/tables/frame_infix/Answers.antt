@@ -1,6 +1,8 @@
-use Rattle.std.proofs.Common.{◌≡◌, ◌∙◌, sym, true, false, rules}
-use Rattle.column_operators.specs.Tasks.{operator_of}
-use Rattle.frame_ops.proofs.InfixLaws.{makes_as, frame_is_meant, frame_is_wide, frame_columns}
+use Rattle.{
+  std.proofs.Common.{◌≡◌, ◌∙◌, sym, true, false, rules},
+  column_operators.specs.Tasks.{operator_of},
+  frame_ops.proofs.InfixLaws.{makes_as, frame_is_meant, frame_is_wide, frame_columns},
+}
 use Rattle.frame_ops.proofs.tables.frame_infix.Goals as goal
 
 pub returns-then-not-same_headings-clause-makes : goal.returns-then-not-same_headings-clause-makes

@@ -1,9 +1,11 @@
-use Rattle.std.proofs.Common.{◌∙◌, Result, ap, sym, true, false}
-use Rattle.meaning.specs.Fault.{FaultValue, then_value}
-use Rattle.column_operators.specs.Tasks.{operator_of}
-use Rattle.table_meaning.specs.Table.{NumberedTable, Table, table_value}
-use Rattle.form_meaning.specs.Infix.{joined_frames, joined_turned, spread_frame}
-use Rattle.frame_ops.proofs.InfixLaws.{makes_as}
+use Rattle.{
+  std.proofs.Common.{◌∙◌, Result, ap, sym, true, false},
+  meaning.specs.Fault.{FaultValue, then_value},
+  column_operators.specs.Tasks.{operator_of},
+  table_meaning.specs.Table.{NumberedTable, Table, table_value},
+  form_meaning.specs.Infix.{joined_frames, joined_turned, spread_frame},
+  frame_ops.proofs.InfixLaws.{makes_as},
+}
 use Rattle.frame_ops.proofs.tables.joined_across.Goals as goal
 
 pub returns-then-left-clause-makes : goal.returns-then-left-clause-makes

@@ -1,11 +1,11 @@
-use Rattle.std.proofs.Common.{◌≡◌, ◌∙◌, sym, true, false, rules}
-use Rattle.std.proofs.lemmas.List.{length-map}
-use Rattle.column_operators.specs.Tasks.{operator_of}
-use Rattle.table_meaning.specs.Table.{table_value, tuple_value}
-use Rattle.form_meaning.specs.Infix.{same_tuples}
-use Rattle.frame_store.specs.Shown.{labels_value}
-use Rattle.frame_ops.specs.Namings.{named_by}
-use Rattle.frame_ops.proofs.InfixLaws.{makes_as, rows_are_meant, rows_count, axes_same, table_given}
+use Rattle.{
+  std.proofs.{Common.{◌≡◌, ◌∙◌, sym, true, false, rules}, lemmas.List.{length-map}},
+  column_operators.specs.Tasks.{operator_of},
+  table_meaning.specs.Table.{table_value, tuple_value},
+  form_meaning.specs.Infix.{same_tuples},
+  frame_store.specs.Shown.{labels_value},
+  frame_ops.{specs.Namings.{named_by}, proofs.InfixLaws.{makes_as, rows_are_meant, rows_count, axes_same, table_given}},
+}
 use Rattle.frame_ops.proofs.tables.rows_infix.Goals as goal
 
 pub unequal_infix-requires-clause-unequal : goal.unequal_infix-requires-clause-unequal

@@ -1,5 +1,7 @@
-use Rattle.column_operators.specs.Tasks.{operator_of}
-use Rattle.frame_ops.proofs.InfixLaws.{makes_as, scalar_is_meant}
+use Rattle.{
+  column_operators.specs.Tasks.{operator_of},
+  frame_ops.proofs.InfixLaws.{makes_as, scalar_is_meant},
+}
 use Rattle.frame_ops.proofs.tables.scalar_infix.Goals as goal
 
 pub returns-clause-makes : goal.returns-clause-makes

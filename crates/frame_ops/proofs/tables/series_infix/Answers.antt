@@ -1,8 +1,10 @@
-use Rattle.std.proofs.Common.{ap}
-use Rattle.column_operators.specs.Tasks.{operator_of}
-use Rattle.table_meaning.specs.Table.{table_value}
-use Rattle.form_meaning.specs.Infix.{rows_infix}
-use Rattle.frame_ops.proofs.InfixLaws.{makes_as, series_named, series_columns, name_settled}
+use Rattle.{
+  std.proofs.Common.{ap},
+  column_operators.specs.Tasks.{operator_of},
+  table_meaning.specs.Table.{table_value},
+  form_meaning.specs.Infix.{rows_infix},
+  frame_ops.proofs.InfixLaws.{makes_as, series_named, series_columns, name_settled},
+}
 use Rattle.frame_ops.proofs.tables.series_infix.Goals as goal
 
 pub common_name-name-requires-clause-a : goal.common_name-name-requires-clause-a

@@ -1,5 +1,7 @@
-use Rattle.frame_store.proofs.Settling.{columns_given, columns_part}
-use Rattle.frame_ops.proofs.NamingLaws.{whole_named, named_is_settled, named_is_meant}
+use Rattle.{
+  frame_store.proofs.Settling.{columns_given, columns_part},
+  frame_ops.proofs.NamingLaws.{whole_named, named_is_settled, named_is_meant},
+}
 use Rattle.frame_ops.proofs.tables.table_met.Goals as goal
 
 pub infix_columns-requires-clause-given : goal.infix_columns-requires-clause-given

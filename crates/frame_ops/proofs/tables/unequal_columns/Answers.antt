@@ -1,9 +1,10 @@
-use Rattle.std.proofs.Common.{sym}
-use Rattle.std.proofs.lemmas.Result.{err_from_is_err_and}
-use Rattle.column_operators.specs.Tasks.{operator_of}
-use Rattle.table_meaning.specs.Table.{table_value}
-use Rattle.form_meaning.specs.Infix.{common_infix}
-use Rattle.frame_ops.proofs.InfixLaws.{makes_as, test_refused}
+use Rattle.{
+  std.proofs.{Common.{sym}, lemmas.Result.{err_from_is_err_and}},
+  column_operators.specs.Tasks.{operator_of},
+  table_meaning.specs.Table.{table_value},
+  form_meaning.specs.Infix.{common_infix},
+  frame_ops.proofs.InfixLaws.{makes_as, test_refused},
+}
 use Rattle.frame_ops.proofs.tables.unequal_columns.Goals as goal
 
 pub returns-in_err-expect_joined-clause-makes : goal.returns-in_err-expect_joined-clause-makes

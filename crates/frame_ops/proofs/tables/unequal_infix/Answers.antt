@@ -1,11 +1,11 @@
-use Rattle.std.proofs.Common.{◌∙◌, sym, Err}
-use Rattle.std.proofs.lemmas.Result.{err_from_is_err_and}
-use Rattle.meaning.specs.Fault.{then_value}
-use Rattle.column_operators.specs.Tasks.{operator_of}
-use Rattle.table_meaning.specs.Table.{table_value}
-use Rattle.form_meaning.specs.Infix.{joined_rows, joined_infix}
-use Rattle.frame_ops.specs.Namings.{named_by}
-use Rattle.frame_ops.proofs.InfixLaws.{makes_as, rows_unequal, test_refused}
+use Rattle.{
+  std.proofs.{Common.{◌∙◌, sym, Err}, lemmas.Result.{err_from_is_err_and}},
+  meaning.specs.Fault.{then_value},
+  column_operators.specs.Tasks.{operator_of},
+  table_meaning.specs.Table.{table_value},
+  form_meaning.specs.Infix.{joined_rows, joined_infix},
+  frame_ops.{specs.Namings.{named_by}, proofs.InfixLaws.{makes_as, rows_unequal, test_refused}},
+}
 use Rattle.frame_ops.proofs.tables.unequal_infix.Goals as goal
 
 pub returns-in_err-expect_joined-clause-makes : goal.returns-in_err-expect_joined-clause-makes

@@ -1,16 +1,14 @@
-use Rattle.std.proofs.Common.{◌≡◌, ◌∙◌, Result, Ok, Err, ap, length, sym, subst, rules}
-use Rattle.meaning.specs.Fault.{FaultValue, then_value}
-use Rattle.column_operators.specs.Tasks.{operator_of}
-use Rattle.table_meaning.specs.Table.{NumberedTable, table_value}
-use Rattle.form_meaning.specs.Finish.{column_labels}
+use Rattle.{
+  std.proofs.Common.{◌≡◌, ◌∙◌, Result, Ok, Err, ap, length, sym, subst, rules},
+  meaning.specs.Fault.{FaultValue, then_value},
+  column_operators.specs.Tasks.{operator_of},
+  table_meaning.specs.Table.{NumberedTable, table_value},
+  form_meaning.specs.Finish.{column_labels},
+  frame_store.specs.{Shown.{Makes}, World.{IsKnownTable}, declared.fault.OpFault.{OpFault}},
+  form_parts.proofs.TableMade.{refused_on},
+  frame_ops.{specs.Joining.{joined_value}, proofs.{InfixLaws.{makes_as}, WideLaws.{known_wide, widened_seen, widened_many}}},
+}
 use Rattle.form_meaning.specs.Infix as meant
-use Rattle.frame_store.specs.Shown.{Makes}
-use Rattle.frame_store.specs.World.{IsKnownTable}
-use Rattle.frame_store.specs.declared.fault.OpFault.{OpFault}
-use Rattle.form_parts.proofs.TableMade.{refused_on}
-use Rattle.frame_ops.specs.Joining.{joined_value}
-use Rattle.frame_ops.proofs.InfixLaws.{makes_as}
-use Rattle.frame_ops.proofs.WideLaws.{known_wide, widened_seen, widened_many}
 use Rattle.frame_ops.proofs.tables.wide_infix.Goals as goal
 
 pub unequal_columns-requires-clause-known_a : goal.unequal_columns-requires-clause-known_a

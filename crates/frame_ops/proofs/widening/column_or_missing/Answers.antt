@@ -1,5 +1,7 @@
-use Rattle.std.proofs.Common.{length}
-use Rattle.frame_ops.proofs.WideLaws.{own_column, missing_opposite, missing_both}
+use Rattle.{
+  std.proofs.Common.{length},
+  frame_ops.proofs.WideLaws.{own_column, missing_opposite, missing_both},
+}
 use Rattle.frame_ops.proofs.widening.column_or_missing.Goals as goal
 
 pub returns-in-Some-default : goal.returns-in-Some-default

@@ -1,8 +1,10 @@
-use Rattle.std.proofs.Common.{◌∙◌, ◌<◌, length, arith, take_all}
-use Rattle.cell_core.specs.declared.cell.Cell.TheVariants.{Na}
-use Rattle.form_meaning.specs.Infix.{columns_or_missing}
-use Rattle.form_parts.proofs.GapLaws.{single_on}
-use Rattle.frame_ops.proofs.WideLaws.{place_at, wide_step}
+use Rattle.{
+  std.proofs.Common.{◌∙◌, ◌<◌, length, arith, take_all},
+  cell_core.specs.declared.cell.Cell.TheVariants.{Na},
+  form_meaning.specs.Infix.{columns_or_missing},
+  form_parts.proofs.GapLaws.{single_on},
+  frame_ops.proofs.WideLaws.{place_at, wide_step},
+}
 use Rattle.frame_ops.proofs.widening.columns_or_missing.Goals as goal
 
 pub column_or_missing-requires-clause-place : goal.column_or_missing-requires-clause-place

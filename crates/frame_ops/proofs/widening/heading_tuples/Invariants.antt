@@ -1,5 +1,7 @@
-use Rattle.std.proofs.Common.{◌≡◌, map, take}
-use Rattle.frame_ops.specs.Widening.{heading_tuple}
+use Rattle.{
+  std.proofs.Common.{◌≡◌, map, take},
+  frame_ops.specs.Widening.{heading_tuple},
+}
 use Rattle.frame_ops.proofs.widening.heading_tuples.Given as goal
 
 -- the tuples of the columns so far

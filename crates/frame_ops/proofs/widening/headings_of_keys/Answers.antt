@@ -1,8 +1,8 @@
-use Rattle.std.proofs.Common.{◌∙◌, ◌<◌, [], ap, sym, length, arith, slice_get, slice_index_or, take_all}
-use Rattle.std.specs.Prelude.{option_and_then}
-use Rattle.multi_index.proofs.SideLaws.{tuple_there}
-use Rattle.frame_ops.specs.Widening.{headings_of_keys}
-use Rattle.frame_ops.proofs.WideLaws.{one_more_key}
+use Rattle.{
+  std.{proofs.Common.{◌∙◌, ◌<◌, [], ap, sym, length, arith, slice_get, slice_index_or, take_all}, specs.Prelude.{option_and_then}},
+  multi_index.proofs.SideLaws.{tuple_there},
+  frame_ops.{specs.Widening.{headings_of_keys}, proofs.WideLaws.{one_more_key}},
+}
 use Rattle.frame_ops.proofs.widening.headings_of_keys.Goals as goal
 
 pub loop-place-preserved : goal.loop-place-preserved

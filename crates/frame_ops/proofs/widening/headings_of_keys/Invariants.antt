@@ -1,5 +1,7 @@
-use Rattle.std.proofs.Common.{◌≡◌, take}
-use Rattle.frame_ops.specs.Widening.{headings_of_keys}
+use Rattle.{
+  std.proofs.Common.{◌≡◌, take},
+  frame_ops.specs.Widening.{headings_of_keys},
+}
 use Rattle.frame_ops.proofs.widening.headings_of_keys.Given as goal
 
 abbrev pub invariant-loop-place : goal.invariant-loop-place

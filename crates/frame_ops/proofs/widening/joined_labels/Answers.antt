@@ -1,11 +1,10 @@
-use Rattle.std.proofs.Common.{◌≡◌, ◌∙◌, ap, length, subst}
-use Rattle.std.proofs.lemmas.Result.{IfOk-weaker}
-use Rattle.multi_index.specs.Axes.{AxisValue, HaveLevels}
+use Rattle.{
+  std.proofs.{Common.{◌≡◌, ◌∙◌, ap, length, subst}, lemmas.Result.{IfOk-weaker}},
+  multi_index.specs.Axes.{AxisValue, HaveLevels},
+  form_parts.specs.Makes.{MakesBy},
+  frame_ops.{specs.{Joining.{joined_value, AreApart, AreSideRows, IsJoined}, Widening.{labels_axis, AreColumnKeys}}, proofs.WideLaws.{one_name, labels_given, labels_seen, labels_apart, if_both}},
+}
 use Rattle.form_meaning.specs.Infix as meant
-use Rattle.form_parts.specs.Makes.{MakesBy}
-use Rattle.frame_ops.specs.Joining.{joined_value, AreApart, AreSideRows, IsJoined}
-use Rattle.frame_ops.specs.Widening.{labels_axis, AreColumnKeys}
-use Rattle.frame_ops.proofs.WideLaws.{one_name, labels_given, labels_seen, labels_apart, if_both}
 use Rattle.frame_ops.proofs.widening.joined_labels.Goals as goal
 
 pub joined_rows-requires-clause-levels : goal.joined_rows-requires-clause-levels

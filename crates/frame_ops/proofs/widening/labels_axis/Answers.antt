@@ -1,8 +1,9 @@
-use Rattle.std.proofs.Common.{◌≡◌, List, sym, subst}
-use Rattle.std.specs.Prelude.{IfOk}
-use Rattle.cell_core.specs.declared.cell.Label.{Label}
-use Rattle.multi_index.specs.Axes.{HaveLevels, nameless_axis}
-use Rattle.frame_ops.proofs.WideLaws.{tuples_alike}
+use Rattle.{
+  std.{proofs.Common.{◌≡◌, List, sym, subst}, specs.Prelude.{IfOk}},
+  cell_core.specs.declared.cell.Label.{Label},
+  multi_index.specs.Axes.{HaveLevels, nameless_axis},
+  frame_ops.proofs.WideLaws.{tuples_alike},
+}
 use Rattle.frame_ops.proofs.widening.labels_axis.Goals as goal
 
 pub from_tuples-requires-clause-alike : goal.from_tuples-requires-clause-alike

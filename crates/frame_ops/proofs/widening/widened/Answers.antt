@@ -1,7 +1,8 @@
-use Rattle.std.proofs.Common.{◌∙◌, length, sym, subst}
-use Rattle.table_meaning.specs.Table.{NumberedTable}
-use Rattle.table_meaning.specs.Valid.{IsWhole}
-use Rattle.frame_ops.proofs.WideLaws.{side_places, wide_made, widened_whole}
+use Rattle.{
+  std.proofs.Common.{◌∙◌, length, sym, subst},
+  table_meaning.specs.{Table.{NumberedTable}, Valid.{IsWhole}},
+  frame_ops.proofs.WideLaws.{side_places, wide_made, widened_whole},
+}
 use Rattle.frame_ops.proofs.widening.widened.Goals as goal
 
 pub columns_or_missing-requires-clause-places : goal.columns_or_missing-requires-clause-places

@@ -1,5 +1,7 @@
-use Rattle.std.proofs.Common.{◌<◌, length, arith}
-use Rattle.frame_store.proofs.PartLaws.{number_inside, one_more_cut, singles_more, block_below}
+use Rattle.{
+  std.proofs.Common.{◌<◌, length, arith},
+  frame_store.proofs.PartLaws.{number_inside, one_more_cut, singles_more, block_below},
+}
 use Rattle.frame_store.proofs.columns.cut.Goals as goal
 
 pub strided_copy-requires-clause-rows : goal.strided_copy-requires-clause-rows

@@ -1,7 +1,9 @@
-use Rattle.std.proofs.Common.{◌≡◌, take, map, All}
-use Rattle.cell_core.specs.declared.cell.Cell.TheVariants.{Na}
-use Rattle.table_meaning.specs.Change.{cut_columns}
-use Rattle.frame_store.specs.Parts.{block_column, IsSingle}
+use Rattle.{
+  std.proofs.Common.{◌≡◌, take, map, All},
+  cell_core.specs.declared.cell.Cell.TheVariants.{Na},
+  table_meaning.specs.Change.{cut_columns},
+  frame_store.specs.Parts.{block_column, IsSingle},
+}
 use Rattle.frame_store.proofs.columns.cut.Given as goal
 
 abbrev pub invariant-loop-k : goal.invariant-loop-k

@@ -1,5 +1,7 @@
-use Rattle.std.proofs.Common.{◌<◌, length, arith}
-use Rattle.frame_store.proofs.ValueLaws.{put_column_cell}
+use Rattle.{
+  std.proofs.Common.{◌<◌, length, arith},
+  frame_store.proofs.ValueLaws.{put_column_cell},
+}
 use Rattle.frame_store.proofs.values.put_value.Goals as goal
 
 pub returns-clause-columns : goal.returns-clause-columns

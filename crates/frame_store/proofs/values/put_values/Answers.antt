@@ -1,7 +1,7 @@
-use Rattle.std.proofs.Common.{◌≡◌, ◌<◌, ◌∙◌, length, map, arith}
-use Rattle.std.proofs.lemmas.List.{length-map}
-use Rattle.frame_store.specs.Parts.{block_column}
-use Rattle.frame_store.proofs.ValueLaws.{alike_put, one_more_put, cell_held, rows_kept}
+use Rattle.{
+  std.proofs.{Common.{◌≡◌, ◌<◌, ◌∙◌, length, map, arith}, lemmas.List.{length-map}},
+  frame_store.{specs.Parts.{block_column}, proofs.ValueLaws.{alike_put, one_more_put, cell_held, rows_kept}},
+}
 use Rattle.frame_store.proofs.values.put_values.Goals as goal
 
 pub put_value-requires-clause-held : goal.put_value-requires-clause-held

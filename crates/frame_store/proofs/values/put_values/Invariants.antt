@@ -1,7 +1,8 @@
-use Rattle.std.proofs.Common.{◌≡◌, drop, map, All, vec_len}
-use Rattle.table_meaning.specs.Change.{with_values_from}
-use Rattle.frame_store.specs.Parts.{block_column, IsSingle}
-use Rattle.frame_store.proofs.ValueLaws.{AreAlike}
+use Rattle.{
+  std.proofs.Common.{◌≡◌, drop, map, All, vec_len},
+  table_meaning.specs.Change.{with_values_from},
+  frame_store.{specs.Parts.{block_column, IsSingle}, proofs.ValueLaws.{AreAlike}},
+}
 use Rattle.frame_store.proofs.values.put_values.Given as goal
 
 abbrev pub invariant-loop-k : goal.invariant-loop-k

@@ -1,7 +1,8 @@
-use Rattle.std.proofs.Common.{rules, ap, sym, ◌∙◌, FitsSigned, to_z-of_z}
-use Rattle.std.specs.Int.{w64}
-use Rattle.meaning.specs.Cell.{int_cell}
-use Rattle.group_by.proofs.GatherLaws.{count_wraps}
+use Rattle.{
+  std.{proofs.Common.{rules, ap, sym, ◌∙◌, FitsSigned, to_z-of_z}, specs.Int.{w64}},
+  meaning.specs.Cell.{int_cell},
+  group_by.proofs.GatherLaws.{count_wraps},
+}
 use Rattle.group_by.proofs.cells.counted.Goals as goal
 
 pub returns-clause-value : goal.returns-clause-value

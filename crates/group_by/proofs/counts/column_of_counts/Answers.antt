@@ -1,9 +1,10 @@
-use Rattle.std.proofs.Common.{◌∙◌, ◌<◌, ◌≤◌, ◌+◌, ◌∷◌, [], ap, arith, map, take, length, slice_index_or}
-use Rattle.std.proofs.lemmas.List.{take_more, take_all, map-append}
-use Rattle.cell_core.specs.declared.cell.Kind.{Kind}
-use Rattle.meaning.specs.Cell.{datum, holds}
-use Rattle.group_meaning.specs.Reductions.{count_cell}
-use Rattle.group_by.proofs.NumberLaws.{no_numbers, numbers_more, same_numbers}
+use Rattle.{
+  std.proofs.{Common.{◌∙◌, ◌<◌, ◌≤◌, ◌+◌, ◌∷◌, [], ap, arith, map, take, length, slice_index_or}, lemmas.List.{take_more, take_all, map-append}},
+  cell_core.specs.declared.cell.Kind.{Kind},
+  meaning.specs.Cell.{datum, holds},
+  group_meaning.specs.Reductions.{count_cell},
+  group_by.proofs.NumberLaws.{no_numbers, numbers_more, same_numbers},
+}
 use Rattle.group_by.proofs.counts.column_of_counts.Goals as goal
 
 pub loop-count-init : goal.loop-count-init

@@ -1,6 +1,8 @@
-use Rattle.std.proofs.Common.{map, take}
-use Rattle.group_meaning.specs.Reductions.{count_cell}
-use Rattle.group_by.specs.Counted.{AreNumbers}
+use Rattle.{
+  std.proofs.Common.{map, take},
+  group_meaning.specs.Reductions.{count_cell},
+  group_by.specs.Counted.{AreNumbers},
+}
 use Rattle.group_by.proofs.counts.column_of_counts.Given as goal
 
 -- the numbers so far

@@ -1,9 +1,9 @@
-use Rattle.std.proofs.Common.{◌≡◌, ◌∙◌, ◌<◌, ◌≤◌, ◌^◌, ap, sym, subst, arith, rules, length, slice_index_or, None}
-use Rattle.std.proofs.lemmas.List.{take_all}
-use Rattle.std.proofs.lemmas.Option.{get_or_from_slice_get}
-use Rattle.column_core.specs.Moves.{IsPlaceOf}
-use Rattle.group_meaning.specs.Rows.{rows_of_group}
-use Rattle.group_by.proofs.NumberLaws.{room, rows_counted}
+use Rattle.{
+  std.proofs.{Common.{◌≡◌, ◌∙◌, ◌<◌, ◌≤◌, ◌^◌, ap, sym, subst, arith, rules, length, slice_index_or, None}, lemmas.{List.{take_all}, Option.{get_or_from_slice_get}}},
+  column_core.specs.Moves.{IsPlaceOf},
+  group_meaning.specs.Rows.{rows_of_group},
+  group_by.proofs.NumberLaws.{room, rows_counted},
+}
 use Rattle.group_by.proofs.counts.count_rows.Goals as goal
 
 pub count_one-requires-clause-below : goal.count_one-requires-clause-below

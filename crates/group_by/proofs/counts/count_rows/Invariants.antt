@@ -1,5 +1,7 @@
-use Rattle.std.proofs.Common.{◌≡◌, ◌<◌, ℕ, length, take, slice_index_or}
-use Rattle.group_meaning.specs.Rows.{rows_of_group}
+use Rattle.{
+  std.proofs.Common.{◌≡◌, ◌<◌, ℕ, length, take, slice_index_or},
+  group_meaning.specs.Rows.{rows_of_group},
+}
 use Rattle.group_by.proofs.counts.count_rows.Given as goal
 
 -- how many rows each group has so far

@@ -1,13 +1,11 @@
-use Rattle.std.proofs.Common.{◌≡◌, ◌∙◌, ◌<◌, ◌+◌, ◌^◌, ap, sym, subst, arith, rules, length, map, take, slice_index_or, None}
-use Rattle.std.specs.List.{range_with_len}
-use Rattle.std.proofs.lemmas.List.FromFn.{map-range_with_len_more}
-use Rattle.std.proofs.lemmas.Option.{get_or_from_slice_get}
-use Rattle.cell_core.specs.declared.cell.Kind.{Kind}
-use Rattle.meaning.specs.Cell.{datum, holds}
-use Rattle.column_core.specs.Moves.{IsPlaceOf}
-use Rattle.group_meaning.specs.Rows.{rows_of_group}
-use Rattle.group_meaning.specs.Reductions.{count_cell, of_group, count_before, group_places}
-use Rattle.group_by.proofs.NumberLaws.{room, rows_counted, no_numbers, numbers_more, same_numbers, of_one_group}
+use Rattle.{
+  std.{proofs.{Common.{◌≡◌, ◌∙◌, ◌<◌, ◌+◌, ◌^◌, ap, sym, subst, arith, rules, length, map, take, slice_index_or, None}, lemmas.{List.FromFn.{map-range_with_len_more}, Option.{get_or_from_slice_get}}}, specs.List.{range_with_len}},
+  cell_core.specs.declared.cell.Kind.{Kind},
+  meaning.specs.Cell.{datum, holds},
+  column_core.specs.Moves.{IsPlaceOf},
+  group_meaning.specs.{Rows.{rows_of_group}, Reductions.{count_cell, of_group, count_before, group_places}},
+  group_by.proofs.NumberLaws.{room, rows_counted, no_numbers, numbers_more, same_numbers, of_one_group},
+}
 use Rattle.group_by.proofs.counts.place_rows.Goals as goal
 
 pub loop-row-init : goal.loop-row-init

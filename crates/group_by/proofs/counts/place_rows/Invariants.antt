@@ -1,8 +1,8 @@
-use Rattle.std.proofs.Common.{◌≡◌, ◌<◌, ℕ, length, map, take, slice_index_or}
-use Rattle.std.specs.List.{range_with_len}
-use Rattle.group_meaning.specs.Rows.{rows_of_group}
-use Rattle.group_meaning.specs.Reductions.{count_before}
-use Rattle.group_by.specs.Counted.{AreNumbers}
+use Rattle.{
+  std.{proofs.Common.{◌≡◌, ◌<◌, ℕ, length, map, take, slice_index_or}, specs.List.{range_with_len}},
+  group_meaning.specs.{Rows.{rows_of_group}, Reductions.{count_before}},
+  group_by.specs.Counted.{AreNumbers},
+}
 use Rattle.group_by.proofs.counts.place_rows.Given as goal
 
 -- how many rows each group has so far, and the places so far

@@ -1,6 +1,4 @@
-use Rattle.std.proofs.Common.{rules, ◌≡◌, ◌∙◌, ap, sym, subst, refl, length, All}
-use Rattle.std.proofs.lemmas.List.{length-replicate}
-use Rattle.std.proofs.lemmas.List.Elements.{All-replicate}
+use Rattle.std.proofs.{Common.{rules, ◌≡◌, ◌∙◌, ap, sym, subst, refl, length, All}, lemmas.List.{length-replicate, Elements.{All-replicate}}}
 use Rattle.group_by.proofs.counts.places.Goals as goal
 
 pub place_rows-requires-clause-size : goal.place_rows-requires-clause-size

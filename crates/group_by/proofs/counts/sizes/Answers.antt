@@ -1,9 +1,8 @@
-use Rattle.std.proofs.Common.{rules, ◌≡◌, ◌∙◌, ap, sym, subst, refl, arith, length, map, All}
-use Rattle.std.proofs.lemmas.List.{with_items_is, length-replicate}
-use Rattle.std.proofs.lemmas.List.Elements.{All-replicate}
-use Rattle.group_meaning.specs.Rows.{rows_of_group}
-use Rattle.group_meaning.specs.Reductions.{count_cell, group_sizes}
-use Rattle.group_by.proofs.NumberLaws.{same_numbers, counts_cells, if_ok_more}
+use Rattle.{
+  std.proofs.{Common.{rules, ◌≡◌, ◌∙◌, ap, sym, subst, refl, arith, length, map, All}, lemmas.List.{with_items_is, length-replicate, Elements.{All-replicate}}},
+  group_meaning.specs.{Rows.{rows_of_group}, Reductions.{count_cell, group_sizes}},
+  group_by.proofs.NumberLaws.{same_numbers, counts_cells, if_ok_more},
+}
 use Rattle.group_by.proofs.counts.sizes.Goals as goal
 
 pub count_rows-requires-clause-size : goal.count_rows-requires-clause-size

@@ -1,13 +1,10 @@
-use Rattle.std.proofs.Common.{◌≡◌, ◌∙◌, ◌<◌, ◌≤◌, ◌^◌, ap, sym, subst, arith, rules, length, map, slice_index_or, None}
-use Rattle.std.specs.List.{list_any}
-use Rattle.std.proofs.lemmas.List.{take_all, get_or-map}
-use Rattle.std.proofs.lemmas.Option.{get_or_from_slice_get}
-use Rattle.meaning.specs.Cell.{na_cell, datum, IsGiven}
-use Rattle.meaning.specs.Reduce.{distinct_count}
-use Rattle.column_core.specs.Moves.{IsPlaceOf}
-use Rattle.group_meaning.specs.Rows.{cells_of_group}
-use Rattle.group_by.specs.Distincts.{new_in, same_member}
-use Rattle.group_by.proofs.DistinctLaws.{room, new_below, seen_more, distinct_more}
+use Rattle.{
+  std.{proofs.{Common.{◌≡◌, ◌∙◌, ◌<◌, ◌≤◌, ◌^◌, ap, sym, subst, arith, rules, length, map, slice_index_or, None}, lemmas.{List.{take_all, get_or-map}, Option.{get_or_from_slice_get}}}, specs.List.{list_any}},
+  meaning.specs.{Cell.{na_cell, datum, IsGiven}, Reduce.{distinct_count}},
+  column_core.specs.Moves.{IsPlaceOf},
+  group_meaning.specs.Rows.{cells_of_group},
+  group_by.{specs.Distincts.{new_in, same_member}, proofs.DistinctLaws.{room, new_below, seen_more, distinct_more}},
+}
 use Rattle.group_by.proofs.distinct.count_distinct.Goals as goal
 
 pub loop-row-init : goal.loop-row-init

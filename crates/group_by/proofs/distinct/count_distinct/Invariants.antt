@@ -1,10 +1,10 @@
-use Rattle.std.proofs.Common.{◌≡◌, ◌<◌, ℕ, false, length, map, take, slice_index_or}
-use Rattle.std.specs.List.{list_any}
-use Rattle.cell_core.specs.declared.cell.Cell.{Cell}
-use Rattle.meaning.specs.Cell.{datum, IsGiven}
-use Rattle.meaning.specs.Reduce.{present, same_cell, distinct_count}
-use Rattle.group_meaning.specs.Rows.{cells_of_group}
-use Rattle.group_by.specs.Distincts.{is_missing, same_member}
+use Rattle.{
+  std.{proofs.Common.{◌≡◌, ◌<◌, ℕ, false, length, map, take, slice_index_or}, specs.List.{list_any}},
+  cell_core.specs.declared.cell.Cell.{Cell},
+  meaning.specs.{Cell.{datum, IsGiven}, Reduce.{present, same_cell, distinct_count}},
+  group_meaning.specs.Rows.{cells_of_group},
+  group_by.specs.Distincts.{is_missing, same_member},
+}
 use Rattle.group_by.proofs.distinct.count_distinct.Given as goal
 
 -- how many different cells each group has so far, and that they were seen

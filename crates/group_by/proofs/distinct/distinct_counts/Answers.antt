@@ -1,11 +1,9 @@
-use Rattle.std.proofs.Common.{rules, ◌≡◌, ◌∙◌, ap, sym, subst, refl, arith, length, map, All}
-use Rattle.std.proofs.lemmas.List.{with_items_is, length-replicate}
-use Rattle.std.proofs.lemmas.List.Elements.{All-replicate}
-use Rattle.meaning.specs.Cell.{datum}
-use Rattle.meaning.specs.Reduce.{distinct_count}
-use Rattle.group_meaning.specs.Rows.{cells_of_group}
-use Rattle.group_meaning.specs.Reductions.{count_cell, nunique, reduced_cells}
-use Rattle.group_by.proofs.NumberLaws.{same_numbers, counts_cells, if_ok_more}
+use Rattle.{
+  std.proofs.{Common.{rules, ◌≡◌, ◌∙◌, ap, sym, subst, refl, arith, length, map, All}, lemmas.List.{with_items_is, length-replicate, Elements.{All-replicate}}},
+  meaning.specs.{Cell.{datum}, Reduce.{distinct_count}},
+  group_meaning.specs.{Rows.{cells_of_group}, Reductions.{count_cell, nunique, reduced_cells}},
+  group_by.proofs.NumberLaws.{same_numbers, counts_cells, if_ok_more},
+}
 use Rattle.group_by.proofs.distinct.distinct_counts.Goals as goal
 
 pub count_distinct-requires-clause-size : goal.count_distinct-requires-clause-size

@@ -1,6 +1,8 @@
-use Rattle.std.proofs.Common.{◌≡◌, ◌∙◌, sym, subst, OnOk, IfOk, List, ℕ, Option}
-use Rattle.cell_core.specs.declared.cell.Cell.{Cell}
-use Rattle.group_by.proofs.DistinctLaws.{noted_there, noted_missing, new_there, new_missing}
+use Rattle.{
+  std.proofs.Common.{◌≡◌, ◌∙◌, sym, subst, OnOk, IfOk, List, ℕ, Option},
+  cell_core.specs.declared.cell.Cell.{Cell},
+  group_by.proofs.DistinctLaws.{noted_there, noted_missing, new_there, new_missing},
+}
 use Rattle.group_by.proofs.distinct.note.Goals as goal
 
 pub returns-in-Some-clause-seen : goal.returns-in-Some-clause-seen

@@ -1,7 +1,8 @@
-use Rattle.std.proofs.Common.{◌∙◌, ap, sym}
-use Rattle.cell_core.specs.declared.cell.Kind.TheVariants.{Text as string}
-use Rattle.cell_core.specs.contracts.cell.KindPartialEq.TheImpl.{eq-value}
-use Rattle.group_by.proofs.CallLaws.{cumsum_answer}
+use Rattle.{
+  std.proofs.Common.{◌∙◌, ap, sym},
+  cell_core.specs.{declared.cell.Kind.TheVariants.{Text as string}, contracts.cell.KindPartialEq.TheImpl.{eq-value}},
+  group_by.proofs.CallLaws.{cumsum_answer},
+}
 use Rattle.group_by.proofs.groups.group_cumsum.Goals as goal
 
 pub returns-clause-answer : goal.returns-clause-answer

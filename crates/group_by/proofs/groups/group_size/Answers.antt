@@ -1,6 +1,8 @@
-use Rattle.std.proofs.Common.{◌∙◌, ap}
-use Rattle.group_meaning.specs.Reductions.{group_sizes}
-use Rattle.group_by.proofs.NumberLaws.{numbers_value, if_ok_more}
+use Rattle.{
+  std.proofs.Common.{◌∙◌, ap},
+  group_meaning.specs.Reductions.{group_sizes},
+  group_by.proofs.NumberLaws.{numbers_value, if_ok_more},
+}
 use Rattle.group_by.proofs.groups.group_size.Goals as goal
 
 pub returns-clause-answer : goal.returns-clause-answer

@@ -1,14 +1,10 @@
-use Rattle.std.proofs.Common.{◌≡◌, ◌∙◌, ap, sym, subst, length, map, slice_index_or}
-use Rattle.std.proofs.lemmas.List.{length-map}
-use Rattle.meaning.specs.Cell.{na_cell, datum, AreGiven}
-use Rattle.meaning.specs.Column.{ColumnValue, gap_cell}
-use Rattle.column_core.specs.Columns.{CellColumn}
-use Rattle.column_core.specs.Moves.{IsPlaceOf}
-use Rattle.column_core.proofs.ColumnLaws.{length-tabulate}
-use Rattle.group_meaning.specs.Rows.{GroupsValue, cells_of_group}
-use Rattle.group_meaning.specs.Reductions.{group_cell, group_takes, reduced_cells}
-use Rattle.group_by.specs.Operations.{reduction_of}
-use Rattle.group_by.proofs.CallLaws.{transform_answer, gaps_seen, taken_given}
+use Rattle.{
+  std.proofs.{Common.{◌≡◌, ◌∙◌, ap, sym, subst, length, map, slice_index_or}, lemmas.List.{length-map}},
+  meaning.specs.{Cell.{na_cell, datum, AreGiven}, Column.{ColumnValue, gap_cell}},
+  column_core.{specs.{Columns.{CellColumn}, Moves.{IsPlaceOf}}, proofs.ColumnLaws.{length-tabulate}},
+  group_meaning.specs.{Rows.{GroupsValue, cells_of_group}, Reductions.{group_cell, group_takes, reduced_cells}},
+  group_by.{specs.Operations.{reduction_of}, proofs.CallLaws.{transform_answer, gaps_seen, taken_given}},
+}
 use Rattle.group_by.proofs.groups.group_transform.Goals as goal
 
 pub take-requires : goal.take-requires

@@ -1,8 +1,9 @@
-use Rattle.std.proofs.Common.{◌<◌, length, subst}
-use Rattle.std.proofs.lemmas.List.Elements.{All-set}
-use Rattle.column_core.specs.Moves.{IsPlaceOf}
-use Rattle.group_meaning.specs.Reductions.{group_kind}
-use Rattle.group_by.specs.Cells.{IsCellOf}
+use Rattle.{
+  std.proofs.{Common.{◌<◌, length, subst}, lemmas.List.Elements.{All-set}},
+  column_core.specs.Moves.{IsPlaceOf},
+  group_meaning.specs.Reductions.{group_kind},
+  group_by.specs.Cells.{IsCellOf},
+}
 use Rattle.group_by.proofs.reduce.gather_cell.Goals as goal
 
 pub returns-in-Some-clause-held : goal.returns-in-Some-clause-held

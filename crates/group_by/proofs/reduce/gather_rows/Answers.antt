@@ -1,13 +1,11 @@
-use Rattle.std.proofs.Common.{◌≡◌, ◌∙◌, ◌<◌, ◌≤◌, ap, sym, subst, arith, length, map, slice_index_or, None}
-use Rattle.std.proofs.lemmas.List.{take_all, get_or-map}
-use Rattle.std.proofs.lemmas.Option.{get_or_from_slice_get}
-use Rattle.cell_core.specs.declared.cell.Cell.TheVariants.{Na}
-use Rattle.meaning.specs.Cell.{na_cell, datum, IsGiven}
-use Rattle.column_core.specs.Moves.{IsPlaceOf}
-use Rattle.group_meaning.specs.Rows.{cells_of_group}
-use Rattle.group_meaning.specs.Reductions.{group_cell}
-use Rattle.group_by.specs.Cells.{IsCellOf}
-use Rattle.group_by.proofs.RowLaws.{taken_in}
+use Rattle.{
+  std.proofs.{Common.{◌≡◌, ◌∙◌, ◌<◌, ◌≤◌, ap, sym, subst, arith, length, map, slice_index_or, None}, lemmas.{List.{take_all, get_or-map}, Option.{get_or_from_slice_get}}},
+  cell_core.specs.declared.cell.Cell.TheVariants.{Na},
+  meaning.specs.Cell.{na_cell, datum, IsGiven},
+  column_core.specs.Moves.{IsPlaceOf},
+  group_meaning.specs.{Rows.{cells_of_group}, Reductions.{group_cell}},
+  group_by.{specs.Cells.{IsCellOf}, proofs.RowLaws.{taken_in}},
+}
 use Rattle.group_by.proofs.reduce.gather_rows.Goals as goal
 
 pub gather_cell-requires : goal.gather_cell-requires

@@ -1,9 +1,10 @@
-use Rattle.std.proofs.Common.{◌≡◌, ◌<◌, ℕ, length, map, take, slice_index_or, All}
-use Rattle.cell_core.specs.declared.cell.Cell.TheVariants.{Na}
-use Rattle.meaning.specs.Cell.{datum}
-use Rattle.group_meaning.specs.Rows.{cells_of_group}
-use Rattle.group_meaning.specs.Reductions.{group_cell, group_kind}
-use Rattle.group_by.specs.Cells.{IsCellOf}
+use Rattle.{
+  std.proofs.Common.{◌≡◌, ◌<◌, ℕ, length, map, take, slice_index_or, All},
+  cell_core.specs.declared.cell.Cell.TheVariants.{Na},
+  meaning.specs.Cell.{datum},
+  group_meaning.specs.{Rows.{cells_of_group}, Reductions.{group_cell, group_kind}},
+  group_by.specs.Cells.{IsCellOf},
+}
 use Rattle.group_by.proofs.reduce.gather_rows.Given as goal
 
 -- what is gathered of each group so far

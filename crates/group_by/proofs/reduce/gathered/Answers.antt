@@ -1,14 +1,11 @@
-use Rattle.std.proofs.Common.{rules, ◌≡◌, ◌∙◌, [], ap, sym, subst, arith, length, map, All}
-use Rattle.std.proofs.lemmas.List.{with_items_is, length-replicate}
-use Rattle.std.proofs.lemmas.List.Elements.{All-replicate}
-use Rattle.cell_core.specs.declared.cell.Cell.{Cell}
-use Rattle.cell_core.specs.declared.cell.Kind.{Kind}
-use Rattle.meaning.specs.Cell.{datum}
-use Rattle.column_core.specs.Columns.{CellColumn, column_value}
-use Rattle.group_meaning.specs.Reductions.{group_cell, group_kind}
-use Rattle.group_by.specs.Cells.{IsCellOf}
-use Rattle.group_by.proofs.GatherLaws.{gathered_cells, column_given, cells_held}
-use Rattle.group_by.proofs.NumberLaws.{if_ok_more}
+use Rattle.{
+  std.proofs.{Common.{rules, ◌≡◌, ◌∙◌, [], ap, sym, subst, arith, length, map, All}, lemmas.List.{with_items_is, length-replicate, Elements.{All-replicate}}},
+  cell_core.specs.declared.cell.{Cell.{Cell}, Kind.{Kind}},
+  meaning.specs.Cell.{datum},
+  column_core.specs.Columns.{CellColumn, column_value},
+  group_meaning.specs.Reductions.{group_cell, group_kind},
+  group_by.{specs.Cells.{IsCellOf}, proofs.{GatherLaws.{gathered_cells, column_given, cells_held}, NumberLaws.{if_ok_more}}},
+}
 use Rattle.group_by.proofs.reduce.gathered.Goals as goal
 
 pub gather_rows-requires-clause-size : goal.gather_rows-requires-clause-size

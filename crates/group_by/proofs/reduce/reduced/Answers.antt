@@ -1,8 +1,9 @@
-use Rattle.std.proofs.Common.{◌∙◌, sym, map}
-use Rattle.meaning.specs.Cell.{datum}
-use Rattle.group_meaning.specs.Reductions.{nunique, group_kind, reduced_cells}
-use Rattle.group_by.specs.Operations.{reduction_of}
-use Rattle.group_by.proofs.NumberLaws.{numbers_value, if_ok_more}
+use Rattle.{
+  std.proofs.Common.{◌∙◌, sym, map},
+  meaning.specs.Cell.{datum},
+  group_meaning.specs.Reductions.{nunique, group_kind, reduced_cells},
+  group_by.{specs.Operations.{reduction_of}, proofs.NumberLaws.{numbers_value, if_ok_more}},
+}
 use Rattle.group_by.proofs.reduce.reduced.Goals as goal
 
 pub returns-in-Distinct-clause-given : goal.returns-in-Distinct-clause-given

@@ -1,16 +1,11 @@
-use Rattle.std.proofs.Common.{◌≡◌, ◌∙◌, ◌<◌, ℕ, List, true, ap, length, subst}
-use Rattle.std.proofs.lemmas.List.{get_or_default}
-use Rattle.std.proofs.lemmas.List.Elements.{All-set}
-use Rattle.cell_core.specs.declared.cell.Cell.{Cell}
-use Rattle.cell_core.specs.declared.cell.Cell.TheVariants.{Na}
-use Rattle.cell_core.specs.declared.cell.Kind.TheVariants.{Int64}
-use Rattle.meaning.specs.Cell.{int_cell, datum, holds}
-use Rattle.meaning.specs.Reduce.{number_in}
-use Rattle.column_core.specs.Moves.{IsPlaceOf}
-use Rattle.group_meaning.specs.Reductions.{sum}
-use Rattle.group_by.specs.Gathered.{plus, total_of}
-use Rattle.group_by.proofs.GatherLaws.{total_more, takes_at}
-use Rattle.group_by.proofs.NumberLaws.{number_given}
+use Rattle.{
+  std.proofs.{Common.{◌≡◌, ◌∙◌, ◌<◌, ℕ, List, true, ap, length, subst}, lemmas.List.{get_or_default, Elements.{All-set}}},
+  cell_core.specs.declared.cell.{Cell.{Cell, TheVariants.{Na}}, Kind.TheVariants.{Int64}},
+  meaning.specs.{Cell.{int_cell, datum, holds}, Reduce.{number_in}},
+  column_core.specs.Moves.{IsPlaceOf},
+  group_meaning.specs.Reductions.{sum},
+  group_by.{specs.Gathered.{plus, total_of}, proofs.{GatherLaws.{total_more, takes_at}, NumberLaws.{number_given}}},
+}
 use Rattle.group_by.proofs.running.add_cell.Goals as goal
 
 pub returns-in-Some-clause-takes : goal.returns-in-Some-clause-takes

@@ -1,8 +1,7 @@
-use Rattle.std.proofs.Common.{rules, ◌≡◌, ◌∙◌, ap, sym, subst, refl, length, pos, All}
-use Rattle.std.proofs.lemmas.List.{length-replicate}
-use Rattle.std.proofs.lemmas.List.Elements.{All-replicate}
-use Rattle.cell_core.specs.declared.cell.Cell.{Cell}
-use Rattle.cell_core.specs.declared.cell.Cell.TheVariants.{Int}
+use Rattle.{
+  std.proofs.{Common.{rules, ◌≡◌, ◌∙◌, ap, sym, subst, refl, length, pos, All}, lemmas.List.{length-replicate, Elements.{All-replicate}}},
+  cell_core.specs.declared.cell.Cell.{Cell, TheVariants.{Int}},
+}
 use Rattle.group_by.proofs.running.running_sums.Goals as goal
 
 pub sum_rows-requires-clause-size : goal.sum_rows-requires-clause-size

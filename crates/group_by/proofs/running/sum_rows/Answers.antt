@@ -1,19 +1,11 @@
-use Rattle.std.proofs.Common.{◌≡◌, ◌∙◌, ◌<◌, ◌+◌, [], ap, sym, subst, refl, arith, length, map, take, slice_index_or, true, ℕ, List, None}
-use Rattle.std.specs.List.{range_with_len}
-use Rattle.std.proofs.lemmas.List.{get_or-map}
-use Rattle.std.proofs.lemmas.List.FromFn.{map-range_with_len_more}
-use Rattle.std.proofs.lemmas.Option.{get_or_from_slice_get}
-use Rattle.cell_core.specs.declared.cell.Cell.{Cell}
-use Rattle.cell_core.specs.declared.cell.Cell.TheVariants.{Na}
-use Rattle.cell_core.specs.declared.cell.Kind.{Kind}
-use Rattle.cell_core.specs.declared.cell.Kind.TheVariants.{Int64}
-use Rattle.meaning.specs.Cell.{na_cell, datum, holds}
-use Rattle.meaning.specs.Cumulate.{unless_missing}
-use Rattle.column_core.specs.Moves.{IsPlaceOf}
-use Rattle.group_meaning.specs.Rows.{cells_of_group}
-use Rattle.group_meaning.specs.Reductions.{of_group, group_cell, sum, running_cell}
-use Rattle.group_by.proofs.RowLaws.{taken_in}
-use Rattle.group_by.proofs.NumberLaws.{no_numbers, numbers_more, same_numbers, of_one_group}
+use Rattle.{
+  std.{proofs.{Common.{◌≡◌, ◌∙◌, ◌<◌, ◌+◌, [], ap, sym, subst, refl, arith, length, map, take, slice_index_or, true, ℕ, List, None}, lemmas.{List.{get_or-map, FromFn.{map-range_with_len_more}}, Option.{get_or_from_slice_get}}}, specs.List.{range_with_len}},
+  cell_core.specs.declared.cell.{Cell.{Cell, TheVariants.{Na}}, Kind.{Kind, TheVariants.{Int64}}},
+  meaning.specs.{Cell.{na_cell, datum, holds}, Cumulate.{unless_missing}},
+  column_core.specs.Moves.{IsPlaceOf},
+  group_meaning.specs.{Rows.{cells_of_group}, Reductions.{of_group, group_cell, sum, running_cell}},
+  group_by.proofs.{RowLaws.{taken_in}, NumberLaws.{no_numbers, numbers_more, same_numbers, of_one_group}},
+}
 use Rattle.group_by.proofs.running.sum_rows.Goals as goal
 
 pub loop-row-init : goal.loop-row-init

@@ -1,12 +1,10 @@
-use Rattle.std.proofs.Common.{◌≡◌, ◌<◌, ℕ, true, List, length, map, take, slice_index_or, All}
-use Rattle.std.specs.List.{range_with_len}
-use Rattle.cell_core.specs.declared.cell.Cell.{Cell}
-use Rattle.cell_core.specs.declared.cell.Cell.TheVariants.{Na}
-use Rattle.cell_core.specs.declared.cell.Kind.TheVariants.{Int64}
-use Rattle.meaning.specs.Cell.{datum, holds}
-use Rattle.group_meaning.specs.Rows.{cells_of_group}
-use Rattle.group_meaning.specs.Reductions.{sum, group_cell, running_cell}
-use Rattle.group_by.specs.Counted.{AreNumbers}
+use Rattle.{
+  std.{proofs.Common.{◌≡◌, ◌<◌, ℕ, true, List, length, map, take, slice_index_or, All}, specs.List.{range_with_len}},
+  cell_core.specs.declared.cell.{Cell.{Cell, TheVariants.{Na}}, Kind.TheVariants.{Int64}},
+  meaning.specs.Cell.{datum, holds},
+  group_meaning.specs.{Rows.{cells_of_group}, Reductions.{sum, group_cell, running_cell}},
+  group_by.specs.Counted.{AreNumbers},
+}
 use Rattle.group_by.proofs.running.sum_rows.Given as goal
 
 -- the sum of each group so far, and the sums of the rows so far

@@ -1,14 +1,12 @@
-use Rattle.std.proofs.Common.{◌≡◌, ◌∙◌, ap, sym, length, map, List, arith}
-use Rattle.std.proofs.lemmas.List.{length-map}
-use Rattle.meaning.specs.Cell.{LabelValue}
-use Rattle.table_meaning.specs.Table.{table_value, tuple_value}
-use Rattle.multi_index.specs.Axes.{AxisValue, range_axis}
-use Rattle.selections.specs.Selected.{headings_at}
-use Rattle.label_methods.specs.Levels.{row_labels}
-use Rattle.group_forms.specs.Grouped.{grouping_seen}
-use Rattle.group_forms.specs.Tables.{IsAxis, group_labels, group_names}
-use Rattle.group_forms.proofs.KeyLaws.{if_ok}
-use Rattle.group_forms.proofs.GroupLaws.{keys_axis, numbers_axis}
+use Rattle.{
+  std.proofs.{Common.{◌≡◌, ◌∙◌, ap, sym, length, map, List, arith}, lemmas.List.{length-map}},
+  meaning.specs.Cell.{LabelValue},
+  table_meaning.specs.Table.{table_value, tuple_value},
+  multi_index.specs.Axes.{AxisValue, range_axis},
+  selections.specs.Selected.{headings_at},
+  label_methods.specs.Levels.{row_labels},
+  group_forms.{specs.{Grouped.{grouping_seen}, Tables.{IsAxis, group_labels, group_names}}, proofs.{KeyLaws.{if_ok}, GroupLaws.{keys_axis, numbers_axis}}},
+}
 use Rattle.group_forms.proofs.by_group.group_axis.Goals as goal
 
 pub returns-then-grouping : goal.returns-then-grouping

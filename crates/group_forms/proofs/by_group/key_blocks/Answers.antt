@@ -1,15 +1,11 @@
-use Rattle.std.proofs.Common.{◌≡◌, ◌∙◌, ◌++◌, ap, sym, map, List}
-use Rattle.column_core.specs.Blocks.{CellBlock}
-use Rattle.table_meaning.specs.Table.{table_value}
-use Rattle.form_parts.specs.Makes.{blocks_value}
-use Rattle.group_by.specs.declared.ops.GroupOp.TheVariants.{First}
-use Rattle.group_forms.specs.declared.columns.ColumnCall.TheVariants.{Reduced}
-use Rattle.group_forms.specs.Columns.{made_at}
-use Rattle.group_forms.specs.Grouped.{grouping_seen}
-use Rattle.group_forms.specs.Tables.{group_keys}
-use Rattle.group_forms.proofs.KeyLaws.{codes_counted, if_ok}
-use Rattle.group_forms.proofs.RowLaws.{blocks_begin}
-use Rattle.group_forms.proofs.GroupLaws.{keys_none, first_taken, keys_are_made}
+use Rattle.{
+  std.proofs.Common.{◌≡◌, ◌∙◌, ◌++◌, ap, sym, map, List},
+  column_core.specs.Blocks.{CellBlock},
+  table_meaning.specs.Table.{table_value},
+  form_parts.specs.Makes.{blocks_value},
+  group_by.specs.declared.ops.GroupOp.TheVariants.{First},
+  group_forms.{specs.{declared.columns.ColumnCall.TheVariants.{Reduced}, Columns.{made_at}, Grouped.{grouping_seen}, Tables.{group_keys}}, proofs.{KeyLaws.{codes_counted, if_ok}, RowLaws.{blocks_begin}, GroupLaws.{keys_none, first_taken, keys_are_made}}},
+}
 use Rattle.group_forms.proofs.by_group.key_blocks.Goals as goal
 
 pub returns-then-grouping-clause-blocks : goal.returns-then-grouping-clause-blocks

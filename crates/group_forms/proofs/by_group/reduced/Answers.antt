@@ -1,25 +1,13 @@
-use Rattle.std.proofs.Common.{◌≡◌, ◌∙◌, ap, sym, subst, true, false, length, map, ◌++◌, List, Option, ℕ, rules}
-use Rattle.std.specs.List.{list_all}
-use Rattle.std.proofs.lemmas.List.{length-map}
-use Rattle.std.proofs.lemmas.Result.{err_from_is_err_and}
-use Rattle.cell_core.specs.declared.cell.Label.{Label}
-use Rattle.group_meaning.specs.Rows.{GroupsValue}
-use Rattle.std.specs.Prelude.{All, IsSome}
-use Rattle.table_meaning.specs.Settled.{IsSettled}
-use Rattle.table_meaning.specs.Table.{table_value}
-use Rattle.frame_store.specs.Shown.{headings_value}
-use Rattle.frame_store.specs.Parts.{HeadingList, block_column, HaveRows}
-use Rattle.select_meaning.specs.Select.{shown_as}
-use Rattle.method_meaning.specs.Groups.{headings_of}
-use Rattle.group_forms.specs.declared.columns.ColumnCall.TheVariants.{Reduced}
-use Rattle.group_forms.specs.Columns.{takes_at, made_at}
-use Rattle.group_forms.specs.Grouped.{grouping_seen}
-use Rattle.group_forms.specs.Tables.{group_keys}
-use Rattle.group_forms.proofs.ColumnLaws.{all_taken}
-use Rattle.group_forms.proofs.KeyLaws.{codes_counted}
-use Rattle.group_forms.proofs.RowLaws.{own_settled, own_labelled, labels_counted}
-use Rattle.group_forms.proofs.GroupLaws.{group_headings_settled, group_labelled, reduced_one, reduced_refused, reduced_shown, reduced_headings, reduced_columns, group_table, group_made, group_headings_counted, few_firsts, axis_counted, blocks_counted}
-use Rattle.group_forms.proofs.ShownLaws.{made_is, refused_is}
+use Rattle.{
+  std.{proofs.{Common.{◌≡◌, ◌∙◌, ap, sym, subst, true, false, length, map, ◌++◌, List, Option, ℕ, rules}, lemmas.{List.{length-map}, Result.{err_from_is_err_and}}}, specs.{List.{list_all}, Prelude.{All, IsSome}}},
+  cell_core.specs.declared.cell.Label.{Label},
+  group_meaning.specs.Rows.{GroupsValue},
+  table_meaning.specs.{Settled.{IsSettled}, Table.{table_value}},
+  frame_store.specs.{Shown.{headings_value}, Parts.{HeadingList, block_column, HaveRows}},
+  select_meaning.specs.Select.{shown_as},
+  method_meaning.specs.Groups.{headings_of},
+  group_forms.{specs.{declared.columns.ColumnCall.TheVariants.{Reduced}, Columns.{takes_at, made_at}, Grouped.{grouping_seen}, Tables.{group_keys}}, proofs.{ColumnLaws.{all_taken}, KeyLaws.{codes_counted}, RowLaws.{own_settled, own_labelled, labels_counted}, GroupLaws.{group_headings_settled, group_labelled, reduced_one, reduced_refused, reduced_shown, reduced_headings, reduced_columns, group_table, group_made, group_headings_counted, few_firsts, axis_counted, blocks_counted}, ShownLaws.{made_is, refused_is}}},
+}
 use Rattle.group_forms.proofs.by_group.reduced.Goals as goal
 
 pub returns-then-not-all_taken : goal.returns-then-not-all_taken

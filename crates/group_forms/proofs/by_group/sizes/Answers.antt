@@ -1,15 +1,12 @@
-use Rattle.std.proofs.Common.{◌∙◌, ap, sym, subst, refl, [], ◌∷◌, length, map, List, Option, ℕ}
-use Rattle.std.proofs.lemmas.Result.{err_from_is_err_and}
-use Rattle.cell_core.specs.declared.cell.Label.{Label}
-use Rattle.group_meaning.specs.Rows.{GroupsValue}
-use Rattle.table_meaning.specs.Settled.{IsSettled}
-use Rattle.table_meaning.specs.Table.{table_value}
+use Rattle.{
+  std.proofs.{Common.{◌∙◌, ap, sym, subst, refl, [], ◌∷◌, length, map, List, Option, ℕ}, lemmas.Result.{err_from_is_err_and}},
+  cell_core.specs.declared.cell.Label.{Label},
+  group_meaning.specs.Rows.{GroupsValue},
+  table_meaning.specs.{Settled.{IsSettled}, Table.{table_value}},
+  frame_store.specs.{Parts.{HeadingList, block_column, HaveRows}, Shown.{headings_value}},
+  group_forms.{specs.Grouped.{grouping_seen}, proofs.{GroupLaws.{group_headings_settled, group_headings_counted, sizes_labelled, sizes_shown, size_table, size_column, size_headings, sizes_boxed, sizes_seen, one_settled, group_made, few_firsts, axis_counted, blocks_counted}, ShownLaws.{made_is, refused_is}}},
+}
 use Rattle.method_meaning.specs.Groups as meant
-use Rattle.frame_store.specs.Parts.{HeadingList, block_column, HaveRows}
-use Rattle.frame_store.specs.Shown.{headings_value}
-use Rattle.group_forms.specs.Grouped.{grouping_seen}
-use Rattle.group_forms.proofs.GroupLaws.{group_headings_settled, group_headings_counted, sizes_labelled, sizes_shown, size_table, size_column, size_headings, sizes_boxed, sizes_seen, one_settled, group_made, few_firsts, axis_counted, blocks_counted}
-use Rattle.group_forms.proofs.ShownLaws.{made_is, refused_is}
 use Rattle.group_forms.proofs.by_group.sizes.Goals as goal
 
 -- the headings

@@ -1,18 +1,10 @@
-use Rattle.std.proofs.Common.{◌≡◌, ◌∙◌, ap, sym, subst, true, false, length, map, ℕ, rules}
-use Rattle.std.specs.List.{list_all}
-use Rattle.std.proofs.lemmas.List.{length-map}
-use Rattle.std.proofs.lemmas.Result.{err_from_is_err_and}
-use Rattle.multi_index.specs.Axes.{AxisValue}
-use Rattle.table_meaning.specs.Settled.{IsSettled}
-use Rattle.table_meaning.specs.Table.{table_value, heading_value}
-use Rattle.frame_store.specs.Parts.{HeadingList, block_column, HaveRows}
-use Rattle.frame_store.proofs.Settling.{columns_name_part}
-use Rattle.group_forms.specs.Columns.{takes_at, made_at}
-use Rattle.group_forms.proofs.ColumnLaws.{all_taken}
-use Rattle.group_forms.proofs.GroupLaws.{blocks_counted}
-use Rattle.group_forms.proofs.KeyLaws.{codes_counted}
-use Rattle.group_forms.proofs.RowLaws.{own_settled, own_labelled, labels_counted, own_axis, along_refused, along_meant, along_headings, along_table, blocks_begin, rows_by_row, blocks_placed}
-use Rattle.group_forms.proofs.ShownLaws.{made_is, refused_is}
+use Rattle.{
+  std.{proofs.{Common.{◌≡◌, ◌∙◌, ap, sym, subst, true, false, length, map, ℕ, rules}, lemmas.{List.{length-map}, Result.{err_from_is_err_and}}}, specs.List.{list_all}},
+  multi_index.specs.Axes.{AxisValue},
+  table_meaning.specs.{Settled.{IsSettled}, Table.{table_value, heading_value}},
+  frame_store.{specs.Parts.{HeadingList, block_column, HaveRows}, proofs.Settling.{columns_name_part}},
+  group_forms.{specs.Columns.{takes_at, made_at}, proofs.{ColumnLaws.{all_taken}, GroupLaws.{blocks_counted}, KeyLaws.{codes_counted}, RowLaws.{own_settled, own_labelled, labels_counted, own_axis, along_refused, along_meant, along_headings, along_table, blocks_begin, rows_by_row, blocks_placed}, ShownLaws.{made_is, refused_is}}},
+}
 use Rattle.group_forms.proofs.by_row.along_rows.Goals as goal
 
 pub returns-then-not-all_taken : goal.returns-then-not-all_taken

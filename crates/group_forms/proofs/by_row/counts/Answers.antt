@@ -1,10 +1,9 @@
-use Rattle.std.proofs.Common.{◌∙◌, ap, sym, subst, refl, true, [], ◌∷◌, None, length, map, ℕ}
-use Rattle.std.proofs.lemmas.Result.{err_from_is_err_and}
-use Rattle.multi_index.specs.Axes.{AxisValue}
-use Rattle.frame_store.specs.Parts.{block_column, HaveRows}
-use Rattle.frame_store.proofs.Settling.{columns_name_part}
-use Rattle.group_forms.proofs.RowLaws.{own_axis, counts_table, counts_headings, counts_boxed, counts_seen}
-use Rattle.group_forms.proofs.ShownLaws.{made_is, refused_is}
+use Rattle.{
+  std.proofs.{Common.{◌∙◌, ap, sym, subst, refl, true, [], ◌∷◌, None, length, map, ℕ}, lemmas.Result.{err_from_is_err_and}},
+  multi_index.specs.Axes.{AxisValue},
+  frame_store.{specs.Parts.{block_column, HaveRows}, proofs.Settling.{columns_name_part}},
+  group_forms.proofs.{RowLaws.{own_axis, counts_table, counts_headings, counts_boxed, counts_seen}, ShownLaws.{made_is, refused_is}},
+}
 use Rattle.group_forms.proofs.by_row.counts.Goals as goal
 
 pub returns-in_err-headings : goal.returns-in_err-headings

@@ -1,17 +1,13 @@
-use Rattle.std.proofs.Common.{◌≡◌, ◌∙◌, ap, sym, subst, Result}
-use Rattle.meaning.specs.Fault.{FaultValue}
-use Rattle.table_meaning.specs.Table.{NumberedTable, table_value}
-use Rattle.table_meaning.specs.Value.{Entry}
+use Rattle.{
+  std.proofs.Common.{◌≡◌, ◌∙◌, ap, sym, subst, Result},
+  meaning.specs.Fault.{FaultValue},
+  table_meaning.specs.{Table.{NumberedTable, table_value}, Value.{Entry}},
+  method_meaning.specs.Groups.{group_answer},
+  frame_store.{specs.{Objects.{tables, table_or}, World.{world, Forms}}, proofs.Settling.{longer_self}},
+  group_by.specs.Operations.{reduction_of},
+  group_forms.{specs.{declared.calls.GroupCall.{GroupCall}, Calls.{call_of}, Grouped.{grouping_seen, values_seen}}, proofs.FormLaws.{known_table}},
+}
 use Rattle.method_meaning.specs.Groups as meant
-use Rattle.method_meaning.specs.Groups.{group_answer}
-use Rattle.frame_store.specs.Objects.{tables, table_or}
-use Rattle.frame_store.specs.World.{world, Forms}
-use Rattle.frame_store.proofs.Settling.{longer_self}
-use Rattle.group_by.specs.Operations.{reduction_of}
-use Rattle.group_forms.specs.declared.calls.GroupCall.{GroupCall}
-use Rattle.group_forms.specs.Calls.{call_of}
-use Rattle.group_forms.specs.Grouped.{grouping_seen, values_seen}
-use Rattle.group_forms.proofs.FormLaws.{known_table}
 use Rattle.group_forms.proofs.calling.answer.Goals as goal
 
 pub reduced-table-requires-clause-known : goal.reduced-table-requires-clause-known

@@ -1,12 +1,10 @@
-use Rattle.std.proofs.Common.{Err, option_map}
-use Rattle.std.proofs.lemmas.Result.{err_from_is_err_and}
-use Rattle.table_meaning.specs.Table.{table_value}
+use Rattle.{
+  std.proofs.{Common.{Err, option_map}, lemmas.Result.{err_from_is_err_and}},
+  table_meaning.specs.Table.{table_value},
+  frame_store.specs.{Objects.{tables, table_at}, World.{world, argument_in, arguments_in}},
+  group_forms.{specs.{Calls.{call_of, call_seen}, Grouped.{grouping_seen, values_seen}}, proofs.FormLaws.{refused_by, forms_so, after_grouping, after_values, frame_grouped, frame_valued, frame_called}},
+}
 use Rattle.method_meaning.specs.Groups as meant
-use Rattle.frame_store.specs.Objects.{tables, table_at}
-use Rattle.frame_store.specs.World.{world, argument_in, arguments_in}
-use Rattle.group_forms.specs.Calls.{call_of, call_seen}
-use Rattle.group_forms.specs.Grouped.{grouping_seen, values_seen}
-use Rattle.group_forms.proofs.FormLaws.{refused_by, forms_so, after_grouping, after_values, frame_grouped, frame_valued, frame_called}
 use Rattle.group_forms.proofs.calling.on_frame.Goals as goal
 
 pub returns-in_err-grouping : goal.returns-in_err-grouping

@@ -1,11 +1,11 @@
-use Rattle.std.proofs.Common.{◌≡◌, ap, Err, rules}
-use Rattle.table_meaning.specs.Table.{Table}
+use Rattle.{
+  std.proofs.Common.{◌≡◌, ap, Err, rules},
+  table_meaning.specs.Table.{Table},
+  method_meaning.specs.Groups.{group_answer},
+  frame_store.specs.{declared.fault.OpFault.TheVariants.{NoMemory}, World.{world}},
+  group_forms.{specs.Grouped.{grouping_seen, values_seen}, proofs.FormLaws.{known_later, seen_before, no_memory_forms, forms_so}},
+}
 use Rattle.method_meaning.specs.Groups as meant
-use Rattle.method_meaning.specs.Groups.{group_answer}
-use Rattle.frame_store.specs.declared.fault.OpFault.TheVariants.{NoMemory}
-use Rattle.frame_store.specs.World.{world}
-use Rattle.group_forms.specs.Grouped.{grouping_seen, values_seen}
-use Rattle.group_forms.proofs.FormLaws.{known_later, seen_before, no_memory_forms, forms_so}
 use Rattle.group_forms.proofs.calling.sizes_placed.Goals as goal
 
 pub returns-in_err-heading : goal.returns-in_err-heading

@@ -1,10 +1,11 @@
-use Rattle.std.proofs.Common.{◌≡◌, true, false, sym, subst, length, rules}
-use Rattle.std.proofs.lemmas.Result.{err_from_is_err_and}
-use Rattle.cell_core.specs.declared.grid.Shape.TheVariants.{Frame}
-use Rattle.table_meaning.specs.Valid.{AreHeadings}
-use Rattle.form_meaning.specs.Finish.{within_limits}
-use Rattle.frame_store.specs.Parts.{HeadingList}
-use Rattle.group_forms.proofs.ShownLaws.{within_few, frame_shows, frame_beyond, frame_repeated, frame_fit}
+use Rattle.{
+  std.proofs.{Common.{◌≡◌, true, false, sym, subst, length, rules}, lemmas.Result.{err_from_is_err_and}},
+  cell_core.specs.declared.grid.Shape.TheVariants.{Frame},
+  table_meaning.specs.Valid.{AreHeadings},
+  form_meaning.specs.Finish.{within_limits},
+  frame_store.specs.Parts.{HeadingList},
+  group_forms.proofs.ShownLaws.{within_few, frame_shows, frame_beyond, frame_repeated, frame_fit},
+}
 use Rattle.group_forms.proofs.checks.frame_headings.Goals as goal
 
 pub returns-in_err-headings-clause-may : goal.returns-in_err-headings-clause-may

@@ -1,11 +1,10 @@
-use Rattle.std.proofs.Common.{◌≡◌, sym, subst, None}
-use Rattle.std.specs.Prelude.{IfOk}
-use Rattle.cell_core.specs.declared.grid.Shape.TheVariants.{Series}
-use Rattle.table_meaning.specs.Valid.{AreHeadings}
-use Rattle.frame_store.specs.Parts.{HeadingList}
-use Rattle.group_forms.specs.Tables.{shape_if, headings_if, MayShow}
-use Rattle.group_forms.proofs.KeyLaws.{if_ok}
-use Rattle.group_forms.proofs.ShownLaws.{series_fit}
+use Rattle.{
+  std.{proofs.Common.{◌≡◌, sym, subst, None}, specs.Prelude.{IfOk}},
+  cell_core.specs.declared.grid.Shape.TheVariants.{Series},
+  table_meaning.specs.Valid.{AreHeadings},
+  frame_store.specs.Parts.{HeadingList},
+  group_forms.{specs.Tables.{shape_if, headings_if, MayShow}, proofs.{KeyLaws.{if_ok}, ShownLaws.{series_fit}}},
+}
 use Rattle.group_forms.proofs.checks.new_headings.Goals as goal
 
 pub returns-then-single-clause-may : goal.returns-then-single-clause-may

@@ -1,6 +1,8 @@
-use Rattle.std.proofs.Common.{◌≡◌, true, false, rules}
-use Rattle.form_meaning.specs.Finish.{within_limits}
-use Rattle.group_forms.proofs.ShownLaws.{within_few, series_shows, series_beyond}
+use Rattle.{
+  std.proofs.Common.{◌≡◌, true, false, rules},
+  form_meaning.specs.Finish.{within_limits},
+  group_forms.proofs.ShownLaws.{within_few, series_shows, series_beyond},
+}
 use Rattle.group_forms.proofs.checks.series_headings.Goals as goal
 
 pub returns-then-not-within_limits-clause-may : goal.returns-then-not-within_limits-clause-may

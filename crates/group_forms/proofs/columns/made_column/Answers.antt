@@ -1,16 +1,12 @@
-use Rattle.std.proofs.Common.{◌≡◌, sym, subst, true, length, List}
-use Rattle.std.specs.Prelude.{IfOk}
-use Rattle.meaning.specs.Text.{Text}
-use Rattle.meaning.specs.Cell.{AreGiven}
-use Rattle.column_core.specs.Columns.{CellColumn}
+use Rattle.{
+  std.{proofs.Common.{◌≡◌, sym, subst, true, length, List}, specs.Prelude.{IfOk}},
+  meaning.specs.{Text.{Text}, Cell.{AreGiven}},
+  column_core.specs.Columns.{CellColumn},
+  table_meaning.specs.Table.{column_value},
+  frame_store.specs.Parts.{table_column},
+  group_forms.{specs.{declared.columns.ColumnCall.{ColumnCall, TheVariants.{Reduced, Cumsum}}, Columns.{takes, column_made, rows_made}}, proofs.{KeyLaws.{if_ok}, ColumnLaws.{never_mismatch, through, column_by, count_by}}},
+}
 use Rattle.column_core.specs.Columns as kernel
-use Rattle.table_meaning.specs.Table.{column_value}
-use Rattle.frame_store.specs.Parts.{table_column}
-use Rattle.group_forms.specs.declared.columns.ColumnCall.{ColumnCall}
-use Rattle.group_forms.specs.declared.columns.ColumnCall.TheVariants.{Reduced, Cumsum}
-use Rattle.group_forms.specs.Columns.{takes, column_made, rows_made}
-use Rattle.group_forms.proofs.KeyLaws.{if_ok}
-use Rattle.group_forms.proofs.ColumnLaws.{never_mismatch, through, column_by, count_by}
 use Rattle.group_forms.proofs.columns.made_column.Goals as goal
 
 pub taken-requires-in-Cumsum : goal.taken-requires-in-Cumsum

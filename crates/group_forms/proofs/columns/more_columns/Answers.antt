@@ -1,10 +1,10 @@
-use Rattle.std.proofs.Common.{◌∙◌, ◌<◌, ◌≤◌, ◌++◌, ap, sym, map, length, arith}
-use Rattle.std.proofs.lemmas.List.{take_all}
-use Rattle.table_meaning.specs.Table.{table_value, column_value}
-use Rattle.form_parts.specs.Makes.{blocks_value}
-use Rattle.frame_store.specs.Parts.{table_column}
-use Rattle.group_forms.specs.Columns.{made_at, rows_made}
-use Rattle.group_forms.proofs.ColumnLaws.{one_more_block, one_more_value, one_more_column, place_given, place_seen, place_taken, place_inside}
+use Rattle.{
+  std.proofs.{Common.{◌∙◌, ◌<◌, ◌≤◌, ◌++◌, ap, sym, map, length, arith}, lemmas.List.{take_all}},
+  table_meaning.specs.Table.{table_value, column_value},
+  form_parts.specs.Makes.{blocks_value},
+  frame_store.specs.Parts.{table_column},
+  group_forms.{specs.Columns.{made_at, rows_made}, proofs.ColumnLaws.{one_more_block, one_more_value, one_more_column, place_given, place_seen, place_taken, place_inside}},
+}
 use Rattle.group_forms.proofs.columns.more_columns.Goals as goal
 
 pub column-requires : goal.column-requires

@@ -1,7 +1,9 @@
-use Rattle.std.proofs.Common.{◌≡◌, ◌++◌, map, take}
-use Rattle.table_meaning.specs.Table.{table_value}
-use Rattle.form_parts.specs.Makes.{blocks_value}
-use Rattle.group_forms.specs.Columns.{made_at, rows_made, AreBlocks}
+use Rattle.{
+  std.proofs.Common.{◌≡◌, ◌++◌, map, take},
+  table_meaning.specs.Table.{table_value},
+  form_parts.specs.Makes.{blocks_value},
+  group_forms.specs.Columns.{made_at, rows_made, AreBlocks},
+}
 use Rattle.group_forms.proofs.columns.more_columns.Given as goal
 
 -- the columns so far

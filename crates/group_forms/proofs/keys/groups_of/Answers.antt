@@ -1,8 +1,10 @@
-use Rattle.std.proofs.Common.{◌∙◌, ◌≤◌, ap, sym, subst, map, length, List}
-use Rattle.column_core.specs.Columns.{CellColumn}
-use Rattle.frame_store.specs.Parts.{table_column}
-use Rattle.key_columns.proofs.KeyLaws.{keys_are, keys_counted, rows_alike}
-use Rattle.group_forms.proofs.KeyLaws.{groups_found, rows_found, labels_found}
+use Rattle.{
+  std.proofs.Common.{◌∙◌, ◌≤◌, ap, sym, subst, map, length, List},
+  column_core.specs.Columns.{CellColumn},
+  frame_store.specs.Parts.{table_column},
+  key_columns.proofs.KeyLaws.{keys_are, keys_counted, rows_alike},
+  group_forms.proofs.KeyLaws.{groups_found, rows_found, labels_found},
+}
 use Rattle.group_forms.proofs.keys.groups_of.Goals as goal
 
 pub of-rows-requires-clause-some : goal.of-rows-requires-clause-some

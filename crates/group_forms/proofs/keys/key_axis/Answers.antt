@@ -1,9 +1,10 @@
-use Rattle.std.proofs.Common.{◌∙◌, ap, sym, subst, length, List, Option}
-use Rattle.std.proofs.lemmas.List.{length-map, length-replicate}
-use Rattle.cell_core.specs.declared.cell.Label.{Label}
-use Rattle.multi_index.specs.Axes.{AxisValue, HaveLevels}
-use Rattle.selections.specs.Selected.{heading_of}
-use Rattle.label_methods.proofs.IndexingLaws.{rows_alike}
+use Rattle.{
+  std.proofs.{Common.{◌∙◌, ap, sym, subst, length, List, Option}, lemmas.List.{length-map, length-replicate}},
+  cell_core.specs.declared.cell.Label.{Label},
+  multi_index.specs.Axes.{AxisValue, HaveLevels},
+  selections.specs.Selected.{heading_of},
+  label_methods.proofs.IndexingLaws.{rows_alike},
+}
 use Rattle.group_forms.proofs.keys.key_axis.Goals as goal
 
 pub from_tuples-requires-clause-alike : goal.from_tuples-requires-clause-alike

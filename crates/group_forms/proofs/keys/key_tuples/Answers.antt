@@ -1,6 +1,8 @@
-use Rattle.std.proofs.Common.{◌<◌, ◌≤◌, length, arith}
-use Rattle.label_methods.specs.Levels.{row_labels}
-use Rattle.group_forms.proofs.KeyLaws.{one_more_tuple, all_of}
+use Rattle.{
+  std.proofs.Common.{◌<◌, ◌≤◌, length, arith},
+  label_methods.specs.Levels.{row_labels},
+  group_forms.proofs.KeyLaws.{one_more_tuple, all_of},
+}
 use Rattle.group_forms.proofs.keys.key_tuples.Goals as goal
 
 pub loop-k-preserved : goal.loop-k-preserved

@@ -1,5 +1,7 @@
-use Rattle.std.proofs.Common.{◌≡◌, map, take}
-use Rattle.label_methods.specs.Levels.{row_labels}
+use Rattle.{
+  std.proofs.Common.{◌≡◌, map, take},
+  label_methods.specs.Levels.{row_labels},
+}
 use Rattle.group_forms.proofs.keys.key_tuples.Given as goal
 
 -- the tuples so far

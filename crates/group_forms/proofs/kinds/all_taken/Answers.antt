@@ -1,6 +1,7 @@
-use Rattle.std.proofs.Common.{◌∙◌, ◌≤◌, ap, sym, true, false, length, arith}
-use Rattle.group_forms.specs.Columns.{takes, takes_at}
-use Rattle.group_forms.proofs.KindLaws.{passed_on, not_passed, all_passed}
+use Rattle.{
+  std.proofs.Common.{◌∙◌, ◌≤◌, ap, sym, true, false, length, arith},
+  group_forms.{specs.Columns.{takes, takes_at}, proofs.KindLaws.{passed_on, not_passed, all_passed}},
+}
 use Rattle.group_forms.proofs.kinds.all_taken.Goals as goal
 
 pub loop-k-preserved : goal.loop-k-preserved

@@ -1,6 +1,7 @@
-use Rattle.std.proofs.Common.{◌≡◌, drop}
-use Rattle.std.specs.List.{list_all}
-use Rattle.group_forms.specs.Columns.{takes_at}
+use Rattle.{
+  std.{proofs.Common.{◌≡◌, drop}, specs.List.{list_all}},
+  group_forms.specs.Columns.{takes_at},
+}
 use Rattle.group_forms.proofs.kinds.all_taken.Given as goal
 
 -- the columns from here on decide it

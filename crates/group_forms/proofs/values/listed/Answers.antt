@@ -1,7 +1,9 @@
-use Rattle.std.proofs.Common.{◌∙◌, ap, sym, Option, option_map, List}
-use Rattle.cell_core.specs.declared.cell.Cell.{Cell}
-use Rattle.frame_store.specs.Shown.{cells_value}
-use Rattle.group_forms.proofs.FormLaws.{listed_settled}
+use Rattle.{
+  std.proofs.Common.{◌∙◌, ap, sym, Option, option_map, List},
+  cell_core.specs.declared.cell.Cell.{Cell},
+  frame_store.specs.Shown.{cells_value},
+  group_forms.proofs.FormLaws.{listed_settled},
+}
 use Rattle.group_forms.proofs.values.listed.Goals as goal
 
 pub column_places-requires-clause-cells : goal.column_places-requires-clause-cells

@@ -1,17 +1,14 @@
-use Rattle.std.proofs.Common.{◌≡◌, ◌∙◌, ap, sym, subst, length, Option, Some, None, option_map, Result, Bor}
-use Rattle.std.specs.Prelude.{IfSome}
-use Rattle.meaning.specs.Fault.{FaultValue}
-use Rattle.table_meaning.specs.Table.{NumberedTable, table_value}
+use Rattle.{
+  std.{proofs.Common.{◌≡◌, ◌∙◌, ap, sym, subst, length, Option, Some, None, option_map, Result, Bor}, specs.Prelude.{IfSome}},
+  meaning.specs.Fault.{FaultValue},
+  table_meaning.specs.Table.{NumberedTable, table_value},
+  method_meaning.specs.Groups.{values_in, values_named},
+  form_parts.specs.Makes.{MakesBy},
+  frame_store.specs.{declared.arguments.Argument.{Argument}, Arguments.{items_of}, Objects.{tables, table_at, table_or}, World.{world, argument_in, IsKnownArgument}},
+  label_methods.proofs.NamedLaws.{others_inside},
+  group_forms.{specs.Grouped.{values_seen}, proofs.FormLaws.{known_table, items_known, many_values}},
+}
 use Rattle.method_meaning.specs.Groups as meant
-use Rattle.method_meaning.specs.Groups.{values_in, values_named}
-use Rattle.form_parts.specs.Makes.{MakesBy}
-use Rattle.frame_store.specs.declared.arguments.Argument.{Argument}
-use Rattle.frame_store.specs.Arguments.{items_of}
-use Rattle.frame_store.specs.Objects.{tables, table_at, table_or}
-use Rattle.frame_store.specs.World.{world, argument_in, IsKnownArgument}
-use Rattle.label_methods.proofs.NamedLaws.{others_inside}
-use Rattle.group_forms.specs.Grouped.{values_seen}
-use Rattle.group_forms.proofs.FormLaws.{known_table, items_known, many_values}
 use Rattle.group_forms.proofs.values.values_of.Goals as goal
 
 -- all columns but the keys

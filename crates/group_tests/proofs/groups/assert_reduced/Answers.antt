@@ -1,6 +1,8 @@
-use Rattle.std.proofs.Common.{sym, subst}
-use Rattle.meaning.specs.Cell.{AreGiven}
-use Rattle.column_core.specs.Columns.{CellColumn}
+use Rattle.{
+  std.proofs.Common.{sym, subst},
+  meaning.specs.Cell.{AreGiven},
+  column_core.specs.Columns.{CellColumn},
+}
 use Rattle.group_tests.proofs.groups.assert_reduced.Goals as goal
 
 pub group_reduce-requires-clause-given : goal.group_reduce-requires-clause-given

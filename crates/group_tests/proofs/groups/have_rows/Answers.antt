@@ -1,8 +1,7 @@
-use Rattle.std.proofs.Common.{◌≡◌, ◌<◌, ◌≤◌, length, All, arith, rules, subst, slice_index_or}
-use Rattle.std.proofs.lemmas.Grind.{common_steps}
-use Rattle.std.proofs.lemmas.List.{take_all}
-use Rattle.std.proofs.lemmas.List.Elements.{All-more}
-use Rattle.column_core.specs.Columns.{CellColumn}
+use Rattle.{
+  std.proofs.{Common.{◌≡◌, ◌<◌, ◌≤◌, length, All, arith, rules, subst, slice_index_or}, lemmas.{Grind.{common_steps}, List.{take_all, Elements.{All-more}}}},
+  column_core.specs.Columns.{CellColumn},
+}
 use Rattle.group_tests.proofs.groups.have_rows.Goals as goal
 
 pub loop-column-preserved : goal.loop-column-preserved

@@ -1,7 +1,8 @@
-use Rattle.std.proofs.Common.{◌∙◌, ap, sym, subst}
-use Rattle.std.proofs.lemmas.List.Elements.{All-push}
-use Rattle.meaning.specs.Cell.{IsGiven, AreGiven}
-use Rattle.column_core.specs.Columns.{CellColumn, number_given}
+use Rattle.{
+  std.proofs.{Common.{◌∙◌, ap, sym, subst}, lemmas.List.Elements.{All-push}},
+  meaning.specs.Cell.{IsGiven, AreGiven},
+  column_core.specs.Columns.{CellColumn, number_given},
+}
 use Rattle.group_tests.proofs.groups.numbers.Goals as goal
 
 pub loop-value-preserved : goal.loop-value-preserved

@@ -1,6 +1,8 @@
-use Rattle.std.proofs.Common.{◌≡◌, ℕ, List}
-use Rattle.cell_core.specs.declared.cell.Kind.TheVariants.{Int64}
-use Rattle.meaning.specs.Cell.{AreGiven}
+use Rattle.{
+  std.proofs.Common.{◌≡◌, ℕ, List},
+  cell_core.specs.declared.cell.Kind.TheVariants.{Int64},
+  meaning.specs.Cell.{AreGiven},
+}
 use Rattle.group_tests.proofs.groups.numbers.Given as goal
 
 -- numbers so far

@@ -1,6 +1,7 @@
-use Rattle.std.proofs.Common.{◌≡◌, ◌<◌, ◌+◌, ◌-◌, refl, subst, length, arith}
-use Rattle.index_core.specs.Found.{HaveFirstRows, HaveNextRows}
-use Rattle.index_core.proofs.LinkLaws.{first_more, next_more}
+use Rattle.{
+  std.proofs.Common.{◌≡◌, ◌<◌, ◌+◌, ◌-◌, refl, subst, length, arith},
+  index_core.{specs.Found.{HaveFirstRows, HaveNextRows}, proofs.LinkLaws.{first_more, next_more}},
+}
 use Rattle.index_core.proofs.found.linked.Goals as goal
 
 pub loop-row-preserved : goal.loop-row-preserved

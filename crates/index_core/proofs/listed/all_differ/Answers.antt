@@ -1,7 +1,8 @@
-use Rattle.std.proofs.Common.{◌≡◌, ◌∙◌, ◌<◌, ◌+◌, ◌-◌, true, ap, sym, subst, length, drop, arith}
-use Rattle.pick_meaning.specs.Labels.{all_differ}
-use Rattle.index_core.specs.Labels.{same_number}
-use Rattle.index_core.proofs.DifferLaws.{AreKeys, keys_more, differ_more, stands_twice}
+use Rattle.{
+  std.proofs.Common.{◌≡◌, ◌∙◌, ◌<◌, ◌+◌, ◌-◌, true, ap, sym, subst, length, drop, arith},
+  pick_meaning.specs.Labels.{all_differ},
+  index_core.{specs.Labels.{same_number}, proofs.DifferLaws.{AreKeys, keys_more, differ_more, stands_twice}},
+}
 use Rattle.index_core.proofs.listed.all_differ.Goals as goal
 
 pub returns-then-not-branch : goal.returns-then-not-branch

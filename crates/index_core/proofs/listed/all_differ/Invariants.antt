@@ -1,7 +1,8 @@
-use Rattle.std.proofs.Common.{◌≡◌, true, drop}
-use Rattle.pick_meaning.specs.Labels.{all_differ}
-use Rattle.index_core.specs.Labels.{same_number}
-use Rattle.index_core.proofs.DifferLaws.{AreKeys}
+use Rattle.{
+  std.proofs.Common.{◌≡◌, true, drop},
+  pick_meaning.specs.Labels.{all_differ},
+  index_core.{specs.Labels.{same_number}, proofs.DifferLaws.{AreKeys}},
+}
 use Rattle.index_core.proofs.listed.all_differ.Given as goal
 
 -- the labels from a place on

@@ -1,8 +1,7 @@
-use Rattle.std.proofs.Common.{rules, of_calls, not}
-use Rattle.std.specs.Ordering.{is_gt}
-use Rattle.std.proofs.lemmas.Fn.{always_returns_same}
-use Rattle.index_core.specs.Labels.{order_in}
-use Rattle.index_core.proofs.SplitLaws.{within_first, split_below}
+use Rattle.{
+  std.{proofs.{Common.{rules, of_calls, not}, lemmas.Fn.{always_returns_same}}, specs.Ordering.{is_gt}},
+  index_core.{specs.Labels.{order_in}, proofs.SplitLaws.{within_first, split_below}},
+}
 use Rattle.index_core.proofs.listed.end_within.Goals as goal
 
 pub returns : goal.returns

@@ -1,8 +1,7 @@
-use Rattle.std.proofs.Common.{rules, of_calls}
-use Rattle.std.specs.Ordering.{is_lt}
-use Rattle.std.proofs.lemmas.Fn.{always_returns_same}
-use Rattle.index_core.specs.Labels.{order_in}
-use Rattle.index_core.proofs.SplitLaws.{below_first, split_below}
+use Rattle.{
+  std.{proofs.{Common.{rules, of_calls}, lemmas.Fn.{always_returns_same}}, specs.Ordering.{is_lt}},
+  index_core.{specs.Labels.{order_in}, proofs.SplitLaws.{below_first, split_below}},
+}
 use Rattle.index_core.proofs.listed.first_reached.Goals as goal
 
 pub returns : goal.returns

@@ -1,7 +1,8 @@
-use Rattle.std.proofs.Common.{◌∙◌, ap, sym}
-use Rattle.std.specs.Ordering.{is_lt}
-use Rattle.index_core.specs.Labels.{order_in}
-use Rattle.pick_meaning.proofs.OrderLaws.{order_goes_on, order_broken, order_kept}
+use Rattle.{
+  std.{proofs.Common.{◌∙◌, ap, sym}, specs.Ordering.{is_lt}},
+  index_core.specs.Labels.{order_in},
+  pick_meaning.proofs.OrderLaws.{order_goes_on, order_broken, order_kept},
+}
 use Rattle.index_core.proofs.listed.is_sorted.Goals as goal
 
 pub loop-place-preserved : goal.loop-place-preserved

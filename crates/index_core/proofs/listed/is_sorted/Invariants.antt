@@ -1,6 +1,8 @@
-use Rattle.std.proofs.Common.{◌≡◌, ◌-◌, drop}
-use Rattle.pick_meaning.specs.Slices.{is_in_order}
-use Rattle.index_core.specs.Labels.{order_in}
+use Rattle.{
+  std.proofs.Common.{◌≡◌, ◌-◌, drop},
+  pick_meaning.specs.Slices.{is_in_order},
+  index_core.specs.Labels.{order_in},
+}
 use Rattle.index_core.proofs.listed.is_sorted.Given as goal
 
 -- all are in order where those from the last place on are

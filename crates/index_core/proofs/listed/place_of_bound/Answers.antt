@@ -1,11 +1,9 @@
-use Rattle.std.proofs.Common.{Bool, ◌∙◌, ◌+◌, ◌<◌, ap, sym, subst, length}
-use Rattle.std.specs.Prelude.{IfSome}
-use Rattle.std.specs.Ordering.{is_eq}
-use Rattle.cell_core.specs.declared.cell.Label.{Label}
-use Rattle.index_core.specs.Labels.{order_in}
-use Rattle.index_core.proofs.BoundLaws.{IsSoFar, first_time, passed_by, second_time}
+use Rattle.{
+  std.{proofs.Common.{Bool, ◌∙◌, ◌+◌, ◌<◌, ap, sym, subst, length}, specs.{Prelude.{IfSome}, Ordering.{is_eq}}},
+  cell_core.specs.declared.cell.Label.{Label},
+  index_core.{specs.Labels.{order_in}, proofs.{BoundLaws.{IsSoFar, first_time, passed_by, second_time}, listed.place_of_bound.Goals.{then-is_eq+else-is_some, else-is_eq}}},
+}
 use Rattle.index_core.proofs.listed.place_of_bound.Goals as goal
-use Rattle.index_core.proofs.listed.place_of_bound.Goals.{then-is_eq+else-is_some, else-is_eq}
 
 pub loop-place-preserved : goal.loop-place-preserved
 loop-place-preserved c =

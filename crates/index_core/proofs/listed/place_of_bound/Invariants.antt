@@ -1,8 +1,7 @@
-use Rattle.std.proofs.Common.{◌<◌, length}
-use Rattle.std.specs.Prelude.{IfSome}
-use Rattle.std.specs.Ordering.{is_eq}
-use Rattle.index_core.specs.Labels.{order_in}
-use Rattle.index_core.proofs.BoundLaws.{IsSoFar}
+use Rattle.{
+  std.{proofs.Common.{◌<◌, length}, specs.{Prelude.{IfSome}, Ordering.{is_eq}}},
+  index_core.{specs.Labels.{order_in}, proofs.BoundLaws.{IsSoFar}},
+}
 use Rattle.index_core.proofs.listed.place_of_bound.Given as goal
 
 -- the place so far, if there is one

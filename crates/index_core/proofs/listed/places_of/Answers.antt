@@ -1,8 +1,9 @@
-use Rattle.std.proofs.Common.{◌∙◌, sym}
-use Rattle.index_core.specs.Labels.{same_number}
-use Rattle.pick_meaning.proofs.RowLaws.{rows_more_yes, rows_more_no}
+use Rattle.{
+  std.proofs.Common.{◌∙◌, sym},
+  index_core.{specs.Labels.{same_number}, proofs.listed.places_of.Goals.{then-eq+in_ok-push, else-eq}},
+  pick_meaning.proofs.RowLaws.{rows_more_yes, rows_more_no},
+}
 use Rattle.index_core.proofs.listed.places_of.Goals as goal
-use Rattle.index_core.proofs.listed.places_of.Goals.{then-eq+in_ok-push, else-eq}
 
 pub loop-place-preserved : goal.loop-place-preserved
 loop-place-preserved c = elim c.if-eq.branch [

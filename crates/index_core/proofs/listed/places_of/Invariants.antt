@@ -1,6 +1,8 @@
-use Rattle.std.proofs.Common.{◌≡◌, take}
-use Rattle.pick_meaning.specs.Rows.{rows_where}
-use Rattle.index_core.specs.Labels.{same_number}
+use Rattle.{
+  std.proofs.Common.{◌≡◌, take},
+  pick_meaning.specs.Rows.{rows_where},
+  index_core.specs.Labels.{same_number},
+}
 use Rattle.index_core.proofs.listed.places_of.Given as goal
 
 -- the places so far

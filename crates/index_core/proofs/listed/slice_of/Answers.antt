@@ -1,5 +1,7 @@
-use Rattle.std.proofs.Common.{◌∙◌, sym}
-use Rattle.index_core.proofs.SplitLaws.{slice_in_order}
+use Rattle.{
+  std.proofs.Common.{◌∙◌, sym},
+  index_core.proofs.SplitLaws.{slice_in_order},
+}
 use Rattle.index_core.proofs.listed.slice_of.Goals as goal
 
 pub returns-then-is_sorted-clause-rows : goal.returns-then-is_sorted-clause-rows

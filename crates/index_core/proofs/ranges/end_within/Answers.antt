@@ -1,5 +1,7 @@
-use Rattle.std.proofs.Common.{refl}
-use Rattle.index_core.proofs.NumberLaws.{none_passes}
+use Rattle.{
+  std.proofs.Common.{refl},
+  index_core.proofs.NumberLaws.{none_passes},
+}
 use Rattle.index_core.proofs.ranges.end_within.Goals as goal
 
 pub returns-in-None : goal.returns-in-None

@@ -1,6 +1,7 @@
-use Rattle.std.proofs.Common.{refl, rules, w64, FitsSigned}
-use Rattle.std.proofs.lemmas.Int.{to_z-of_z}
-use Rattle.index_core.proofs.NumberLaws.{all_pass, none_passes}
+use Rattle.{
+  std.proofs.{Common.{refl, rules, w64, FitsSigned}, lemmas.Int.{to_z-of_z}},
+  index_core.proofs.NumberLaws.{all_pass, none_passes},
+}
 use Rattle.index_core.proofs.ranges.first_at.Goals as goal
 
 pub returns-in-Bool : goal.returns-in-Bool

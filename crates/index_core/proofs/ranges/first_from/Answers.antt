@@ -1,5 +1,7 @@
-use Rattle.std.proofs.lemmas.Int.{to_z-of_z}
-use Rattle.index_core.proofs.NumberLaws.{reached_number, reached_below}
+use Rattle.{
+  std.proofs.lemmas.Int.{to_z-of_z},
+  index_core.proofs.NumberLaws.{reached_number, reached_below},
+}
 use Rattle.index_core.proofs.ranges.first_from.Goals as goal
 
 pub returns-then-number-lt0 : goal.returns-then-number-lt0

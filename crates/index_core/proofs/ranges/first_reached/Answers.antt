@@ -1,5 +1,7 @@
-use Rattle.std.proofs.Common.{refl}
-use Rattle.index_core.proofs.NumberLaws.{all_pass}
+use Rattle.{
+  std.proofs.Common.{refl},
+  index_core.proofs.NumberLaws.{all_pass},
+}
 use Rattle.index_core.proofs.ranges.first_reached.Goals as goal
 
 pub returns-in-None : goal.returns-in-None

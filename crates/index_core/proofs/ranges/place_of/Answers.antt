@@ -1,7 +1,7 @@
-use Rattle.std.proofs.Common.{ap}
-use Rattle.index_core.specs.Labels.{same_number}
-use Rattle.index_core.specs.Ranges.{number_label}
-use Rattle.index_core.proofs.NumberLaws.{nowhere}
+use Rattle.{
+  std.proofs.Common.{ap},
+  index_core.{specs.{Labels.{same_number}, Ranges.{number_label}}, proofs.NumberLaws.{nowhere}},
+}
 use Rattle.index_core.proofs.ranges.place_of.Goals as goal
 
 pub returns-in-Bool : goal.returns-in-Bool

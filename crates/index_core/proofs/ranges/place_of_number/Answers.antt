@@ -1,5 +1,7 @@
-use Rattle.std.proofs.lemmas.Int.{to_z-of_z}
-use Rattle.index_core.proofs.NumberLaws.{no_number, found_number, missed_number}
+use Rattle.{
+  std.proofs.lemmas.Int.{to_z-of_z},
+  index_core.proofs.NumberLaws.{no_number, found_number, missed_number},
+}
 use Rattle.index_core.proofs.ranges.place_of_number.Goals as goal
 
 pub returns-then-number-lt0 : goal.returns-then-number-lt0

@@ -1,9 +1,8 @@
-use Rattle.std.proofs.Common.{◌∙◌, [], arith}
-use Rattle.cell_core.specs.declared.cell.Label.TheVariants.{Na}
-use Rattle.index_core.specs.Labels.{order_in}
-use Rattle.index_core.specs.Ranges.{range_labels}
-use Rattle.index_core.proofs.RangeLaws.{length-range_labels}
-use Rattle.index_core.proofs.SplitLaws.{rows_of_splits}
+use Rattle.{
+  std.proofs.Common.{◌∙◌, [], arith},
+  cell_core.specs.declared.cell.Label.TheVariants.{Na},
+  index_core.{specs.{Labels.{order_in}, Ranges.{range_labels}}, proofs.{RangeLaws.{length-range_labels}, SplitLaws.{rows_of_splits}}},
+}
 use Rattle.index_core.proofs.ranges.slice_of.Goals as goal
 
 pub run_of-requires : goal.run_of-requires

@@ -1,7 +1,8 @@
-use Rattle.std.proofs.Common.{◌∙◌, ap, sym, Ok}
-use Rattle.indexers.specs.Picks.{pick_of}
-use Rattle.pick_meaning.specs.Keys.{sliced_pick}
-use Rattle.indexers.proofs.SpanLaws.{all_listed}
+use Rattle.{
+  std.proofs.Common.{◌∙◌, ap, sym, Ok},
+  indexers.{specs.Picks.{pick_of}, proofs.SpanLaws.{all_listed}},
+  pick_meaning.specs.Keys.{sliced_pick},
+}
 use Rattle.indexers.proofs.labels.all_rows.Goals as goal
 
 pub returns-clause-picked : goal.returns-clause-picked

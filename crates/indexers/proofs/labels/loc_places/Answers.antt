@@ -1,10 +1,9 @@
-use Rattle.std.proofs.Common.{◌<◌, [], sym, subst, length, All}
-use Rattle.index_core.specs.Labels.{same_number, order_in}
-use Rattle.pick_meaning.specs.Keys.{all_rows, one_key, each_key}
-use Rattle.pick_meaning.proofs.KeyLaws.{picked_inside}
-use Rattle.pick_meaning.proofs.PositionLaws.{spaced_inside}
-use Rattle.indexers.specs.declared.keys.Picked.{Picked}
-use Rattle.indexers.proofs.AnswerLaws.{picks_inside}
+use Rattle.{
+  std.proofs.Common.{◌<◌, [], sym, subst, length, All},
+  index_core.specs.Labels.{same_number, order_in},
+  pick_meaning.{specs.Keys.{all_rows, one_key, each_key}, proofs.{KeyLaws.{picked_inside}, PositionLaws.{spaced_inside}}},
+  indexers.{specs.declared.keys.Picked.{Picked}, proofs.AnswerLaws.{picks_inside}},
+}
 use Rattle.indexers.proofs.labels.loc_places.Goals as goal
 
 pub returns-in-All-clause-inside : goal.returns-in-All-clause-inside

@@ -1,7 +1,8 @@
-use Rattle.std.proofs.Common.{◌∙◌, ap, length, Ok}
-use Rattle.pick_meaning.specs.Faults.{then_pick}
-use Rattle.pick_meaning.specs.Keys.{Pick, key_pick}
-use Rattle.indexers.proofs.AnswerLaws.{key_picked}
+use Rattle.{
+  std.proofs.Common.{◌∙◌, ap, length, Ok},
+  pick_meaning.specs.{Faults.{then_pick}, Keys.{Pick, key_pick}},
+  indexers.proofs.AnswerLaws.{key_picked},
+}
 use Rattle.indexers.proofs.labels.rows_of_key.Goals as goal
 
 pub returns-clause-picked : goal.returns-clause-picked

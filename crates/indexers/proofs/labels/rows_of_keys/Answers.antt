@@ -1,5 +1,7 @@
-use Rattle.std.proofs.Common.{◌≡◌, length, subst, arith}
-use Rattle.multi_index.specs.Axes.{HaveLevels}
+use Rattle.{
+  std.proofs.Common.{◌≡◌, length, subst, arith},
+  multi_index.specs.Axes.{HaveLevels},
+}
 use Rattle.indexers.proofs.labels.rows_of_keys.Goals as goal
 
 pub rows_of_labels-requires-clause-full : goal.rows_of_labels-requires-clause-full

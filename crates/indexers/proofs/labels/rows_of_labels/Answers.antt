@@ -1,13 +1,10 @@
-use Rattle.std.proofs.Common.{◌∙◌, ◌<◌, ap, sym, length, [], Ok, Err, arith}
-use Rattle.std.proofs.lemmas.Option.{get_or_from_slice_get}
-use Rattle.pick_meaning.specs.Faults.{then_pick, not_there}
-use Rattle.pick_meaning.specs.Keys.{listed_pick}
-use Rattle.pick_meaning.specs.Labels.{rows_of_key}
-use Rattle.pick_meaning.specs.Leading.{leads}
-use Rattle.index_core.specs.Labels.{same_number}
-use Rattle.multi_index.specs.Axes.{single_tuples}
-use Rattle.indexers.proofs.AnswerLaws.{label_found, label_missing}
-use Rattle.indexers.proofs.TurnLaws.{label_more, label_refused}
+use Rattle.{
+  std.proofs.{Common.{◌∙◌, ◌<◌, ap, sym, length, [], Ok, Err, arith}, lemmas.Option.{get_or_from_slice_get}},
+  pick_meaning.specs.{Faults.{then_pick, not_there}, Keys.{listed_pick}, Labels.{rows_of_key}, Leading.{leads}},
+  index_core.specs.Labels.{same_number},
+  multi_index.specs.Axes.{single_tuples},
+  indexers.proofs.{AnswerLaws.{label_found, label_missing}, TurnLaws.{label_more, label_refused}},
+}
 use Rattle.indexers.proofs.labels.rows_of_labels.Goals as goal
 
 pub returns-then-not-branch-clause-picked : goal.returns-then-not-branch-clause-picked

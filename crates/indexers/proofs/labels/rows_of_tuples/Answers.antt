@@ -1,16 +1,12 @@
-use Rattle.std.proofs.Common.{◌≡◌, ◌∙◌, ◌<◌, List, ap, sym, subst, length, slice_index_or, [], Ok, Err, arith}
-use Rattle.std.proofs.lemmas.List.{get_or-map, length-map}
-use Rattle.std.proofs.lemmas.List.Elements.{All-append}
-use Rattle.std.proofs.lemmas.Option.{get_or_from_slice_get}
-use Rattle.pick_meaning.specs.Faults.{then_pick, not_there}
-use Rattle.pick_meaning.specs.Keys.{listed_pick}
-use Rattle.pick_meaning.specs.Leading.{leads}
-use Rattle.index_core.specs.Labels.{same_number}
-use Rattle.cell_core.specs.declared.cell.Label.{Label}
-use Rattle.multi_index.specs.Axes.{HaveLevels}
-use Rattle.row_keys.specs.Partners.{rows_with}
-use Rattle.indexers.proofs.AnswerLaws.{whole_found, whole_missing}
-use Rattle.indexers.proofs.TurnLaws.{label_more, label_refused}
+use Rattle.{
+  std.proofs.{Common.{◌≡◌, ◌∙◌, ◌<◌, List, ap, sym, subst, length, slice_index_or, [], Ok, Err, arith}, lemmas.{List.{get_or-map, length-map, Elements.{All-append}}, Option.{get_or_from_slice_get}}},
+  pick_meaning.specs.{Faults.{then_pick, not_there}, Keys.{listed_pick}, Leading.{leads}},
+  index_core.specs.Labels.{same_number},
+  cell_core.specs.declared.cell.Label.{Label},
+  multi_index.specs.Axes.{HaveLevels},
+  row_keys.specs.Partners.{rows_with},
+  indexers.proofs.{AnswerLaws.{whole_found, whole_missing}, TurnLaws.{label_more, label_refused}},
+}
 use Rattle.indexers.proofs.labels.rows_of_tuples.Goals as goal
 
 pub returns-then-not-branch-clause-picked : goal.returns-then-not-branch-clause-picked

@@ -1,8 +1,9 @@
-use Rattle.std.proofs.Common.{◌≡◌, drop}
-use Rattle.pick_meaning.specs.Labels.{rows_of_keys}
-use Rattle.pick_meaning.specs.Leading.{leads}
-use Rattle.index_core.specs.Labels.{same_number}
-use Rattle.indexers.proofs.TurnLaws.{added}
+use Rattle.{
+  std.proofs.Common.{◌≡◌, drop},
+  pick_meaning.specs.{Labels.{rows_of_keys}, Leading.{leads}},
+  index_core.specs.Labels.{same_number},
+  indexers.proofs.TurnLaws.{added},
+}
 use Rattle.indexers.proofs.labels.rows_of_tuples.Given as goal
 
 -- the rows so far, before those of the other tuples

@@ -1,5 +1,7 @@
-use Rattle.std.proofs.Common.{◌∙◌, sym, ◌<◌, length, arith}
-use Rattle.indexers.proofs.MaskLaws.{only_inside, cell_at_label}
+use Rattle.{
+  std.proofs.Common.{◌∙◌, sym, ◌<◌, length, arith},
+  indexers.proofs.MaskLaws.{only_inside, cell_at_label},
+}
 use Rattle.indexers.proofs.masks.keeps.Goals as goal
 
 pub cell-requires : goal.cell-requires

@@ -1,5 +1,7 @@
-use Rattle.std.proofs.Common.{◌≡◌, ◌<◌, [], refl, length, slice_index_or, arith}
-use Rattle.indexers.proofs.MaskLaws.{cell_at_rows}
+use Rattle.{
+  std.proofs.Common.{◌≡◌, ◌<◌, [], refl, length, slice_index_or, arith},
+  indexers.proofs.MaskLaws.{cell_at_rows},
+}
 use Rattle.indexers.proofs.masks.keeps_at.Goals as goal
 
 pub cell-requires : goal.cell-requires

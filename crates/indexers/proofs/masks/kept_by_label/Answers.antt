@@ -1,17 +1,11 @@
-use Rattle.std.proofs.Common.{◌∙◌, ◌<◌, ◌++◌, ◌∷◌, [], List, ap, sym, length, map, arith}
-use Rattle.std.proofs.lemmas.Option.{get_or_from_slice_get}
-use Rattle.std.proofs.lemmas.Result.{err_from_is_err_and}
-use Rattle.cell_core.specs.declared.cell.Label.{Label}
-use Rattle.cell_core.specs.declared.cell.Label.TheVariants.{Na}
-use Rattle.pick_meaning.specs.Masks.{cell_of_label, kept_by_label}
-use Rattle.pick_meaning.proofs.RowLaws.{when_so, when_not}
-use Rattle.index_core.specs.Labels.{same_number}
-use Rattle.indexers.specs.Masks.{is_true, as_tuple}
-use Rattle.indexers.specs.Picks.{as_it_is}
-use Rattle.indexers.proofs.AnswerLaws.{handed_on, seen_ok, seen_refused}
-use Rattle.indexers.proofs.TurnLaws.{mask_more, mask_refused}
+use Rattle.{
+  std.proofs.{Common.{◌∙◌, ◌<◌, ◌++◌, ◌∷◌, [], List, ap, sym, length, map, arith}, lemmas.{Option.{get_or_from_slice_get}, Result.{err_from_is_err_and}}},
+  cell_core.specs.declared.cell.Label.{Label, TheVariants.{Na}},
+  pick_meaning.{specs.Masks.{cell_of_label, kept_by_label}, proofs.RowLaws.{when_so, when_not}},
+  index_core.specs.Labels.{same_number},
+  indexers.{specs.{Masks.{is_true, as_tuple}, Picks.{as_it_is}}, proofs.{AnswerLaws.{handed_on, seen_ok, seen_refused}, TurnLaws.{mask_more, mask_refused}, masks.kept_by_label.Goals.{then-branch+in_ok-push, else-branch}}},
+}
 use Rattle.indexers.proofs.masks.kept_by_label.Goals as goal
-use Rattle.indexers.proofs.masks.kept_by_label.Goals.{then-branch+in_ok-push, else-branch}
 
 pub returns-in_err-keeps : goal.returns-in_err-keeps
 returns-in_err-keeps c =

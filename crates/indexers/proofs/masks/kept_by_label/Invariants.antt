@@ -1,8 +1,9 @@
-use Rattle.std.proofs.Common.{◌≡◌, drop, map}
-use Rattle.pick_meaning.specs.Masks.{kept_by_label}
-use Rattle.index_core.specs.Labels.{same_number}
-use Rattle.indexers.specs.Masks.{is_true}
-use Rattle.indexers.proofs.TurnLaws.{added}
+use Rattle.{
+  std.proofs.Common.{◌≡◌, drop, map},
+  pick_meaning.specs.Masks.{kept_by_label},
+  index_core.specs.Labels.{same_number},
+  indexers.{specs.Masks.{is_true}, proofs.TurnLaws.{added}},
+}
 use Rattle.indexers.proofs.masks.kept_by_label.Given as goal
 
 -- the rows so far, before those that the mask keeps of the others

@@ -1,22 +1,13 @@
-use Rattle.std.proofs.Common.{◌≡◌, ◌∙◌, ◌<◌, ◌++◌, ◌∷◌, [], ℕ, List, All, ap, sym, subst, length, map, slice_index_or, arith}
-use Rattle.std.specs.Cmp.Lexicographic.{pointwise}
-use Rattle.std.proofs.lemmas.List.{get_or-map, length-map}
-use Rattle.std.proofs.lemmas.List.Elements.{All-append}
-use Rattle.std.proofs.lemmas.Result.{err_from_is_err_and}
-use Rattle.pick_meaning.specs.Masks.{cell_or_fault, kept_by_label}
-use Rattle.pick_meaning.specs.Rows.{only_row}
-use Rattle.pick_meaning.proofs.RowLaws.{when_so, when_not}
-use Rattle.index_core.specs.Labels.{same_number}
-use Rattle.cell_core.specs.declared.cell.Label.{Label}
-use Rattle.multi_index.specs.Axes.{HaveLevels}
-use Rattle.pick_meaning.proofs.InsideLaws.{rows_inside}
-use Rattle.row_keys.specs.Partners.{rows_with}
-use Rattle.indexers.specs.Masks.{is_true}
-use Rattle.indexers.specs.Picks.{as_it_is}
-use Rattle.indexers.proofs.AnswerLaws.{handed_on}
-use Rattle.indexers.proofs.TurnLaws.{added_to_none, mask_more, mask_refused}
+use Rattle.{
+  std.{proofs.{Common.{◌≡◌, ◌∙◌, ◌<◌, ◌++◌, ◌∷◌, [], ℕ, List, All, ap, sym, subst, length, map, slice_index_or, arith}, lemmas.{List.{get_or-map, length-map, Elements.{All-append}}, Result.{err_from_is_err_and}}}, specs.Cmp.Lexicographic.{pointwise}},
+  pick_meaning.{specs.{Masks.{cell_or_fault, kept_by_label}, Rows.{only_row}}, proofs.{RowLaws.{when_so, when_not}, InsideLaws.{rows_inside}}},
+  index_core.specs.Labels.{same_number},
+  cell_core.specs.declared.cell.Label.{Label},
+  multi_index.specs.Axes.{HaveLevels},
+  row_keys.specs.Partners.{rows_with},
+  indexers.{specs.{Masks.{is_true}, Picks.{as_it_is}}, proofs.{AnswerLaws.{handed_on}, TurnLaws.{added_to_none, mask_more, mask_refused}, masks.kept_by_tuple.Goals.{then-branch+in_ok-push, else-branch}}},
+}
 use Rattle.indexers.proofs.masks.kept_by_tuple.Goals as goal
-use Rattle.indexers.proofs.masks.kept_by_tuple.Goals.{then-branch+in_ok-push, else-branch}
 
 pub returns-in_err-keeps_at : goal.returns-in_err-keeps_at
 returns-in_err-keeps_at c =

@@ -1,9 +1,9 @@
-use Rattle.std.proofs.Common.{◌≡◌, drop, map}
-use Rattle.std.specs.Cmp.Lexicographic.{pointwise}
-use Rattle.pick_meaning.specs.Masks.{kept_by_label}
-use Rattle.index_core.specs.Labels.{same_number}
-use Rattle.indexers.specs.Masks.{is_true}
-use Rattle.indexers.proofs.TurnLaws.{added}
+use Rattle.{
+  std.{proofs.Common.{◌≡◌, drop, map}, specs.Cmp.Lexicographic.{pointwise}},
+  pick_meaning.specs.Masks.{kept_by_label},
+  index_core.specs.Labels.{same_number},
+  indexers.{specs.Masks.{is_true}, proofs.TurnLaws.{added}},
+}
 use Rattle.indexers.proofs.masks.kept_by_tuple.Given as goal
 
 -- the rows so far, before those that the mask keeps of the others

@@ -1,8 +1,8 @@
-use Rattle.std.proofs.Common.{◌≡◌, map, length, sym, subst, arith}
-use Rattle.multi_index.specs.Axes.{HaveLevels}
-use Rattle.indexers.specs.Masks.{is_true}
-use Rattle.indexers.specs.Picks.{PicksBy, as_it_is}
-use Rattle.indexers.proofs.MaskLaws.{kept_seen, none_kept}
+use Rattle.{
+  std.proofs.Common.{◌≡◌, map, length, sym, subst, arith},
+  multi_index.specs.Axes.{HaveLevels},
+  indexers.{specs.{Masks.{is_true}, Picks.{PicksBy, as_it_is}}, proofs.MaskLaws.{kept_seen, none_kept}},
+}
 use Rattle.indexers.proofs.masks.kept_elsewhere.Goals as goal
 
 pub returns-then-levels-mask_levels : goal.returns-then-levels-mask_levels

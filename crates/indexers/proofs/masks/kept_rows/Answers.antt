@@ -1,10 +1,9 @@
-use Rattle.std.proofs.Common.{◌∙◌, ◌<◌, false, sym, map, length, arith}
-use Rattle.std.proofs.lemmas.List.{length-map}
-use Rattle.pick_meaning.proofs.RowLaws.{rows_more_yes, rows_more_no}
-use Rattle.indexers.specs.Masks.{is_true}
-use Rattle.indexers.proofs.MaskLaws.{cell_read}
+use Rattle.{
+  std.proofs.{Common.{◌∙◌, ◌<◌, false, sym, map, length, arith}, lemmas.List.{length-map}},
+  pick_meaning.proofs.RowLaws.{rows_more_yes, rows_more_no},
+  indexers.{specs.Masks.{is_true}, proofs.{MaskLaws.{cell_read}, masks.kept_rows.Goals.{then-is_true+in_ok-push, else-is_true}}},
+}
 use Rattle.indexers.proofs.masks.kept_rows.Goals as goal
-use Rattle.indexers.proofs.masks.kept_rows.Goals.{then-is_true+in_ok-push, else-is_true}
 
 pub loop-row-preserved : goal.loop-row-preserved
 loop-row-preserved c =

@@ -1,6 +1,8 @@
-use Rattle.std.proofs.Common.{◌≡◌, take, map}
-use Rattle.pick_meaning.specs.Rows.{rows_where}
-use Rattle.indexers.specs.Masks.{is_true}
+use Rattle.{
+  std.proofs.Common.{◌≡◌, take, map},
+  pick_meaning.specs.Rows.{rows_where},
+  indexers.specs.Masks.{is_true},
+}
 use Rattle.indexers.proofs.masks.kept_rows.Given as goal
 
 -- the rows so far

@@ -1,12 +1,9 @@
-use Rattle.std.proofs.Common.{sym, subst, map, length}
-use Rattle.std.specs.Cmp.Lexicographic.{pointwise}
-use Rattle.index_core.specs.Labels.{same_number}
-use Rattle.pick_meaning.specs.Masks.{kept_by_label}
-use Rattle.pick_meaning.proofs.InsideLaws.{by_label_inside}
-use Rattle.indexers.specs.Masks.{is_true}
-use Rattle.indexers.specs.Picks.{PicksBy, as_it_is}
-use Rattle.indexers.proofs.AnswerLaws.{rows_inside}
-use Rattle.indexers.proofs.MaskLaws.{masked_alike, alike_inside, masked_otherwise}
+use Rattle.{
+  std.{proofs.Common.{sym, subst, map, length}, specs.Cmp.Lexicographic.{pointwise}},
+  index_core.specs.Labels.{same_number},
+  pick_meaning.{specs.Masks.{kept_by_label}, proofs.InsideLaws.{by_label_inside}},
+  indexers.{specs.{Masks.{is_true}, Picks.{PicksBy, as_it_is}}, proofs.{AnswerLaws.{rows_inside}, MaskLaws.{masked_alike, alike_inside, masked_otherwise}}},
+}
 use Rattle.indexers.proofs.masks.mask_places.Goals as goal
 
 pub returns-then-same_labels-clause-rows : goal.returns-then-same_labels-clause-rows

@@ -1,10 +1,9 @@
-use Rattle.std.proofs.Common.{◌<◌, sym, subst, List, All}
-use Rattle.cell_core.specs.declared.cell.Label.{Label}
-use Rattle.pick_meaning.specs.Keys.{each_place}
-use Rattle.pick_meaning.proofs.KeyLaws.{placed_inside}
-use Rattle.pick_meaning.proofs.PositionLaws.{spaced_inside}
-use Rattle.indexers.specs.declared.keys.Picked.{Picked}
-use Rattle.indexers.proofs.AnswerLaws.{picks_inside}
+use Rattle.{
+  std.proofs.Common.{◌<◌, sym, subst, List, All},
+  cell_core.specs.declared.cell.Label.{Label},
+  pick_meaning.{specs.Keys.{each_place}, proofs.{KeyLaws.{placed_inside}, PositionLaws.{spaced_inside}}},
+  indexers.{specs.declared.keys.Picked.{Picked}, proofs.AnswerLaws.{picks_inside}},
+}
 use Rattle.indexers.proofs.positions.iloc_places.Goals as goal
 
 pub returns-in-Many-clause-inside : goal.returns-in-Many-clause-inside

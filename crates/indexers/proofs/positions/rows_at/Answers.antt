@@ -1,14 +1,9 @@
-use Rattle.std.proofs.Common.{◌∙◌, ◌<◌, ap, length, List, pos, Ok, arith, rules, w64, FitsSigned}
-use Rattle.std.proofs.lemmas.Option.{get_or_from_slice_get}
-use Rattle.std.proofs.lemmas.Int.{to_z-of_z}
-use Rattle.std.proofs.lemmas.Result.{err_from_is_err_and}
-use Rattle.cell_core.specs.declared.cell.Label.{Label}
-use Rattle.pick_meaning.specs.Faults.{then_pick}
-use Rattle.pick_meaning.specs.Keys.{listed_pick}
-use Rattle.pick_meaning.specs.Positions.{row_at}
-use Rattle.indexers.specs.Picks.{as_it_is, pick_of}
-use Rattle.indexers.proofs.AnswerLaws.{handed_on}
-use Rattle.indexers.proofs.TurnLaws.{place_more, place_refused}
+use Rattle.{
+  std.proofs.{Common.{◌∙◌, ◌<◌, ap, length, List, pos, Ok, arith, rules, w64, FitsSigned}, lemmas.{Option.{get_or_from_slice_get}, Int.{to_z-of_z}, Result.{err_from_is_err_and}}},
+  cell_core.specs.declared.cell.Label.{Label},
+  pick_meaning.specs.{Faults.{then_pick}, Keys.{listed_pick}, Positions.{row_at}},
+  indexers.{specs.Picks.{as_it_is, pick_of}, proofs.{AnswerLaws.{handed_on}, TurnLaws.{place_more, place_refused}}},
+}
 use Rattle.indexers.proofs.positions.rows_at.Goals as goal
 
 pub returns-in_err-row_at-clause-picked : goal.returns-in_err-row_at-clause-picked

@@ -1,7 +1,9 @@
-use Rattle.std.proofs.Common.{◌≡◌, drop, List}
-use Rattle.cell_core.specs.declared.cell.Label.{Label}
-use Rattle.pick_meaning.specs.Positions.{rows_at}
-use Rattle.indexers.proofs.TurnLaws.{added}
+use Rattle.{
+  std.proofs.Common.{◌≡◌, drop, List},
+  cell_core.specs.declared.cell.Label.{Label},
+  pick_meaning.specs.Positions.{rows_at},
+  indexers.proofs.TurnLaws.{added},
+}
 use Rattle.indexers.proofs.positions.rows_at.Given as goal
 
 -- the rows so far, before those of the other positions

@@ -1,7 +1,8 @@
-use Rattle.std.proofs.Common.{ap, w64}
 use mir.Val.{of_z}
-use Rattle.std.proofs.lemmas.Int.{to_z-of_z}
-use Rattle.indexers.proofs.SpanLaws.{forward_spaced, backward_spaced}
+use Rattle.{
+  std.proofs.{Common.{ap, w64}, lemmas.Int.{to_z-of_z}},
+  indexers.proofs.SpanLaws.{forward_spaced, backward_spaced},
+}
 use Rattle.indexers.proofs.positions.slice_rows.Goals as goal
 
 pub returns-then-step-gt0-clause-below : goal.returns-then-step-gt0-clause-below

@@ -1,5 +1,7 @@
-use Rattle.cell_core.specs.Grids.{place_from}
-use Rattle.indexers.proofs.SpanLaws.{place_pushed}
+use Rattle.{
+  cell_core.specs.Grids.{place_from},
+  indexers.proofs.SpanLaws.{place_pushed},
+}
 use Rattle.indexers.proofs.spans.spanned.Goals as goal
 
 pub loop-row-preserved : goal.loop-row-preserved

@@ -1,6 +1,7 @@
-use Rattle.std.proofs.Common.{◌≡◌, map}
-use Rattle.std.specs.List.{range_with_len}
-use Rattle.cell_core.specs.Grids.{place_from}
+use Rattle.{
+  std.{proofs.Common.{◌≡◌, map}, specs.List.{range_with_len}},
+  cell_core.specs.Grids.{place_from},
+}
 use Rattle.indexers.proofs.spans.spanned.Given as goal
 
 -- the places so far

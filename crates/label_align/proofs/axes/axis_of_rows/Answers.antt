@@ -1,8 +1,8 @@
-use Rattle.std.proofs.Common.{◌≡◌, ◌∙◌, ap, subst, sym, rules}
-use Rattle.multi_index.specs.Axes.{HaveLevels, nameless_axis, single_tuples}
-use Rattle.multi_index.proofs.TupleLaws.{levels_of_taken}
-use Rattle.label_align.specs.Both.{tuples_of}
-use Rattle.label_align.proofs.AxisLaws.{single_rows}
+use Rattle.{
+  std.proofs.Common.{◌≡◌, ◌∙◌, ap, subst, sym, rules},
+  multi_index.{specs.Axes.{HaveLevels, nameless_axis, single_tuples}, proofs.TupleLaws.{levels_of_taken}},
+  label_align.{specs.Both.{tuples_of}, proofs.AxisLaws.{single_rows}},
+}
 use Rattle.label_align.proofs.axes.axis_of_rows.Goals as goal
 
 pub returns-then-both-eq1 : goal.returns-then-both-eq1

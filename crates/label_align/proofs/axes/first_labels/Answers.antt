@@ -1,7 +1,8 @@
-use Rattle.std.proofs.Common.{◌<◌, ◌≤◌, [], length, arith}
-use Rattle.multi_index.proofs.SideLaws.{one_row_more, every_row}
-use Rattle.label_align.specs.Both.{tuples_of}
-use Rattle.label_align.specs.Runs.{label_of_row}
+use Rattle.{
+  std.proofs.Common.{◌<◌, ◌≤◌, [], length, arith},
+  multi_index.proofs.SideLaws.{one_row_more, every_row},
+  label_align.specs.{Both.{tuples_of}, Runs.{label_of_row}},
+}
 use Rattle.label_align.proofs.axes.first_labels.Goals as goal
 
 pub loop-row-preserved : goal.loop-row-preserved

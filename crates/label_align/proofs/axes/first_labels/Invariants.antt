@@ -1,6 +1,7 @@
-use Rattle.std.proofs.Common.{◌≡◌, map, take}
-use Rattle.label_align.specs.Both.{tuples_of}
-use Rattle.label_align.specs.Runs.{label_of_row}
+use Rattle.{
+  std.proofs.Common.{◌≡◌, map, take},
+  label_align.specs.{Both.{tuples_of}, Runs.{label_of_row}},
+}
 use Rattle.label_align.proofs.axes.first_labels.Given as goal
 
 -- the labels so far

@@ -1,6 +1,7 @@
-use Rattle.std.proofs.Common.{◌≡◌, rules, arith}
-use Rattle.label_align.specs.Both.{tuples_of}
-use Rattle.label_align.proofs.OrderLaws.{rows_differ, rows_agree}
+use Rattle.{
+  std.proofs.Common.{◌≡◌, rules, arith},
+  label_align.{specs.Both.{tuples_of}, proofs.OrderLaws.{rows_differ, rows_agree}},
+}
 use Rattle.label_align.proofs.both.is_same_row.Goals as goal
 
 pub returns-then-ne : goal.returns-then-ne

@@ -1,6 +1,7 @@
-use Rattle.std.proofs.Common.{◌≡◌, ◌<◌, ℕ}
-use Rattle.label_align.specs.Both.{tuples_of}
-use Rattle.label_align.specs.Runs.{label_of_row}
+use Rattle.{
+  std.proofs.Common.{◌≡◌, ◌<◌, ℕ},
+  label_align.specs.{Both.{tuples_of}, Runs.{label_of_row}},
+}
 use Rattle.label_align.proofs.both.is_same_row.Given as goal
 
 -- the labels so far are the same

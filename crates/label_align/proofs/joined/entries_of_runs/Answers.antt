@@ -1,11 +1,8 @@
-use Rattle.std.proofs.Common.{◌≡◌, ◌∙◌, ◌<◌, List, ℕ, take, drop, length, ap, sym, subst, arith, slice_index_or}
-use Rattle.std.proofs.lemmas.List.Sums.{sum_by_more}
-use Rattle.align_meaning.specs.Joins.{lists_of}
-use Rattle.label_align.specs.declared.runs.Run.{Run}
-use Rattle.label_align.specs.Joined.{HasMore}
-use Rattle.label_align.specs.Runs.{no_run, run_entries, entries_in, rows_in, total}
-use Rattle.label_align.proofs.JoinedLaws.{lists_more}
-use Rattle.label_align.proofs.SideLaws.{run_more, entries_here}
+use Rattle.{
+  std.proofs.{Common.{◌≡◌, ◌∙◌, ◌<◌, List, ℕ, take, drop, length, ap, sym, subst, arith, slice_index_or}, lemmas.List.Sums.{sum_by_more}},
+  align_meaning.specs.Joins.{lists_of},
+  label_align.{specs.{declared.runs.Run.{Run}, Joined.{HasMore}, Runs.{no_run, run_entries, entries_in, rows_in, total}}, proofs.{JoinedLaws.{lists_more}, SideLaws.{run_more, entries_here}}},
+}
 use Rattle.label_align.proofs.joined.entries_of_runs.Goals as goal
 
 pub loop-run-preserved : goal.loop-run-preserved

@@ -1,7 +1,8 @@
-use Rattle.std.proofs.Common.{◌≡◌, take}
-use Rattle.align_meaning.specs.Joins.{lists_of}
-use Rattle.label_align.specs.Joined.{entries_seen}
-use Rattle.label_align.specs.Runs.{run_entries, total}
+use Rattle.{
+  std.proofs.Common.{◌≡◌, take},
+  align_meaning.specs.Joins.{lists_of},
+  label_align.specs.{Joined.{entries_seen}, Runs.{run_entries, total}},
+}
 use Rattle.label_align.proofs.joined.entries_of_runs.Given as goal
 
 -- the entries of the runs so far

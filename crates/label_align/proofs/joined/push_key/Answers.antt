@@ -1,10 +1,8 @@
-use Rattle.std.proofs.Common.{arith, ◌<◌, ◌-◌, ℕ, map, List, Some, length, ap, sym, ◌∙◌, subst}
-use Rattle.std.specs.List.{flat_map}
-use Rattle.std.proofs.lemmas.List.{take_all}
-use Rattle.align_meaning.specs.Joins.{Entry, entries_with}
-use Rattle.label_align.specs.Joined.{HasMore}
-use Rattle.label_align.proofs.EntryLaws.{entries_of_some, flat_map_more}
-use Rattle.label_align.proofs.JoinedLaws.{more_more, more_none}
+use Rattle.{
+  std.{proofs.{Common.{arith, ◌<◌, ◌-◌, ℕ, map, List, Some, length, ap, sym, ◌∙◌, subst}, lemmas.List.{take_all}}, specs.List.{flat_map}},
+  align_meaning.specs.Joins.{Entry, entries_with},
+  label_align.{specs.Joined.{HasMore}, proofs.{EntryLaws.{entries_of_some, flat_map_more}, JoinedLaws.{more_more, more_none}}},
+}
 use Rattle.label_align.proofs.joined.push_key.Goals as goal
 
 pub loop-left-init : goal.loop-left-init

@@ -1,7 +1,8 @@
-use Rattle.std.proofs.Common.{Some, take, map, ◌-◌}
-use Rattle.std.specs.List.{flat_map}
-use Rattle.align_meaning.specs.Joins.{entries_with}
-use Rattle.label_align.specs.Joined.{HasMore}
+use Rattle.{
+  std.{proofs.Common.{Some, take, map, ◌-◌}, specs.List.{flat_map}},
+  align_meaning.specs.Joins.{entries_with},
+  label_align.specs.Joined.{HasMore},
+}
 use Rattle.label_align.proofs.joined.push_key.Given as goal
 
 abbrev pub invariant-loop-left : goal.invariant-loop-left

@@ -1,8 +1,8 @@
-use Rattle.std.proofs.Common.{arith, ◌<◌, ◌-◌, Some, map, length, ap, ◌∙◌, subst}
-use Rattle.std.proofs.lemmas.List.{take_all}
-use Rattle.align_meaning.specs.Joins.{entry}
-use Rattle.label_align.specs.Joined.{HasMore}
-use Rattle.label_align.proofs.EntryLaws.{entries_with_some}
+use Rattle.{
+  std.proofs.{Common.{arith, ◌<◌, ◌-◌, Some, map, length, ap, ◌∙◌, subst}, lemmas.List.{take_all}},
+  align_meaning.specs.Joins.{entry},
+  label_align.{specs.Joined.{HasMore}, proofs.EntryLaws.{entries_with_some}},
+}
 use Rattle.label_align.proofs.joined.push_left.Goals as goal
 
 pub returns : goal.returns

@@ -1,6 +1,8 @@
-use Rattle.std.proofs.Common.{map, Some, take, ◌-◌}
-use Rattle.align_meaning.specs.Joins.{entry}
-use Rattle.label_align.specs.Joined.{HasMore}
+use Rattle.{
+  std.proofs.Common.{map, Some, take, ◌-◌},
+  align_meaning.specs.Joins.{entry},
+  label_align.specs.Joined.{HasMore},
+}
 use Rattle.label_align.proofs.joined.push_left.Given as goal
 
 abbrev pub invariant-loop-right : goal.invariant-loop-right

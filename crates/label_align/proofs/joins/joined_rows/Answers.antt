@@ -1,8 +1,8 @@
-use Rattle.std.proofs.Common.{◌∙◌, ◌<◌, ◌≤◌, ◌++◌, List, ℕ, length, ap, sym, subst, arith, All}
-use Rattle.align_meaning.specs.Joins.{most_rows, lists_of}
-use Rattle.label_align.specs.declared.runs.Run.{Run}
-use Rattle.label_align.specs.Runs.{same_row, no_run, runs_from, run_entries, total, counted}
-use Rattle.label_align.proofs.OuterLaws.{rows_inside, total_outer, keys_inside, outer_refused, outer_shown}
+use Rattle.{
+  std.proofs.Common.{◌∙◌, ◌<◌, ◌≤◌, ◌++◌, List, ℕ, length, ap, sym, subst, arith, All},
+  align_meaning.specs.Joins.{most_rows, lists_of},
+  label_align.{specs.{declared.runs.Run.{Run}, Runs.{same_row, no_run, runs_from, run_entries, total, counted}}, proofs.OuterLaws.{rows_inside, total_outer, keys_inside, outer_refused, outer_shown}},
+}
 use Rattle.label_align.proofs.joins.joined_rows.Goals as goal
 
 pub runs_of-requires-clause-rows : goal.runs_of-requires-clause-rows

@@ -1,7 +1,8 @@
-use Rattle.std.proofs.Common.{◌∙◌, ◌<◌, ◌++◌, List, ℕ, length, ap, sym, subst, All, Ok}
-use Rattle.multi_index.specs.Axes.{AxisValue, tuples_at}
-use Rattle.label_align.proofs.LawOfJoins.{law_of}
-use Rattle.label_align.proofs.OuterLaws.{both_given}
+use Rattle.{
+  std.proofs.Common.{◌∙◌, ◌<◌, ◌++◌, List, ℕ, length, ap, sym, subst, All, Ok},
+  multi_index.specs.Axes.{AxisValue, tuples_at},
+  label_align.proofs.{LawOfJoins.{law_of}, OuterLaws.{both_given}},
+}
 use Rattle.label_align.proofs.joins.outer.Goals as goal
 
 pub joined_rows-requires-clause-given : goal.joined_rows-requires-clause-given

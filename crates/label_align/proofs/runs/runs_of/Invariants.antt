@@ -1,6 +1,7 @@
-use Rattle.std.proofs.Common.{◌≡◌, ◌≤◌, ◌+◌, ◌++◌, drop}
-use Rattle.label_align.specs.Both.{tuples_of}
-use Rattle.label_align.specs.Runs.{same_row, no_run, runs_from}
+use Rattle.{
+  std.proofs.Common.{◌≡◌, ◌≤◌, ◌+◌, ◌++◌, drop},
+  label_align.specs.{Both.{tuples_of}, Runs.{same_row, no_run, runs_from}},
+}
 use Rattle.label_align.proofs.runs.runs_of.Given as goal
 
 -- the runs that have ended, and the run that has begun

@@ -1,5 +1,7 @@
-use Rattle.std.proofs.Common.{◌≡◌, ◌≤◌, take}
-use Rattle.label_align.specs.Runs.{counted}
+use Rattle.{
+  std.proofs.Common.{◌≡◌, ◌≤◌, take},
+  label_align.specs.Runs.{counted},
+}
 use Rattle.label_align.proofs.runs.size_of_runs.Given as goal
 
 -- the entries so far are few

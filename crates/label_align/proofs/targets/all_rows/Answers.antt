@@ -1,5 +1,4 @@
-use Rattle.std.proofs.Common.{◌∙◌, ◌++◌, ◌∷◌, [], Some, ap, sym, arith}
-use Rattle.std.proofs.lemmas.List.FromFn.{map-range_with_len_more}
+use Rattle.std.proofs.{Common.{◌∙◌, ◌++◌, ◌∷◌, [], Some, ap, sym, arith}, lemmas.List.FromFn.{map-range_with_len_more}}
 use Rattle.label_align.proofs.targets.all_rows.Goals as goal
 
 pub loop-row-preserved : goal.loop-row-preserved

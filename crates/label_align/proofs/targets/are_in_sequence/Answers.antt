@@ -1,9 +1,7 @@
-use Rattle.std.proofs.Common.{◌≡◌, ◌∙◌, ◌<◌, List, ℕ, length, ap, sym, arith, slice_index, slice_index_or}
-use Rattle.std.specs.List.{range_with_len}
-use Rattle.std.proofs.lemmas.Bool.{false≢true}
-use Rattle.std.proofs.lemmas.List.{same_lists, get_or_default}
-use Rattle.std.proofs.lemmas.List.FromFn.{length-range_with_len, get_or-range_with_len}
-use Rattle.index_core.proofs.SameLaws.{holds}
+use Rattle.{
+  std.{proofs.{Common.{◌≡◌, ◌∙◌, ◌<◌, List, ℕ, length, ap, sym, arith, slice_index, slice_index_or}, lemmas.{Bool.{false≢true}, List.{same_lists, get_or_default, FromFn.{length-range_with_len, get_or-range_with_len}}}}, specs.List.{range_with_len}},
+  index_core.proofs.SameLaws.{holds},
+}
 use Rattle.label_align.proofs.targets.are_in_sequence.Goals as goal
 
 pub returns-then-codes-place : goal.returns-then-codes-place

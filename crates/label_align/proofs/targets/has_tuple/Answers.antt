@@ -1,5 +1,7 @@
-use Rattle.std.proofs.Common.{◌≡◌, ◌∙◌, [], length, slice_index_or, sym, arith}
-use Rattle.index_core.proofs.SameLaws.{holds, all_same}
+use Rattle.{
+  std.proofs.Common.{◌≡◌, ◌∙◌, [], length, slice_index_or, sym, arith},
+  index_core.proofs.SameLaws.{holds, all_same},
+}
 use Rattle.label_align.proofs.targets.has_tuple.Goals as goal
 
 pub returns : goal.returns

@@ -1,10 +1,8 @@
-use Rattle.std.proofs.Common.{◌∙◌, [], Some, map, ap, sym, length}
-use Rattle.std.specs.List.{range_with_len}
-use Rattle.std.proofs.lemmas.Option.{get_or_from_slice_get}
-use Rattle.row_keys.specs.Buckets.{buckets_of}
-use Rattle.label_align.specs.Targets.{row_below}
-use Rattle.row_keys.proofs.PartnerLaws.{how_many, firsts_counted, left_is, right_is, left_below, right_below, buckets_counted}
-use Rattle.label_align.proofs.TargetLaws.{as_they_are, repeated, found, found_in_sequence}
+use Rattle.{
+  std.{proofs.{Common.{◌∙◌, [], Some, map, ap, sym, length}, lemmas.Option.{get_or_from_slice_get}}, specs.List.{range_with_len}},
+  row_keys.{specs.Buckets.{buckets_of}, proofs.PartnerLaws.{how_many, firsts_counted, left_is, right_is, left_below, right_below, buckets_counted}},
+  label_align.{specs.Targets.{row_below}, proofs.TargetLaws.{as_they_are, repeated, found, found_in_sequence}},
+}
 use Rattle.label_align.proofs.targets.reindex.Goals as goal
 
 pub returns-then-has_tuples : goal.returns-then-has_tuples

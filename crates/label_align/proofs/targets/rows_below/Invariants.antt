@@ -1,5 +1,7 @@
-use Rattle.std.proofs.Common.{◌≡◌, map, take}
-use Rattle.label_align.specs.Targets.{row_below}
+use Rattle.{
+  std.proofs.Common.{◌≡◌, map, take},
+  label_align.specs.Targets.{row_below},
+}
 use Rattle.label_align.proofs.targets.rows_below.Given as goal
 
 abbrev pub invariant-loop-code : goal.invariant-loop-code

@@ -1,5 +1,7 @@
-use Rattle.std.proofs.Common.{◌≡◌, [], map, take, slice_index_or}
-use Rattle.pick_meaning.specs.Rows.{only_row}
+use Rattle.{
+  std.proofs.Common.{◌≡◌, [], map, take, slice_index_or},
+  pick_meaning.specs.Rows.{only_row},
+}
 use Rattle.label_align.proofs.targets.rows_of_codes.Given as goal
 
 -- the rows so far

@@ -1,14 +1,12 @@
-use Rattle.std.proofs.Common.{◌≡◌, ◌∙◌, ap, [], ◌∷◌, ◌++◌, List, Option, rules}
-use Rattle.std.specs.Option.{option_map}
-use Rattle.cell_core.specs.declared.cell.Label.{Label}
-use Rattle.meaning.specs.Operator.{cell_label}
-use Rattle.frame_store.specs.Shown.{headings_value}
-use Rattle.signatures.specs.Bound.{stands_at}
-use Rattle.signatures.specs.Scalars.{scalars}
-use Rattle.label_methods.specs.Levels.{some_labels}
-use Rattle.label_methods.proofs.LevelNameLaws.{listed_names, single_name}
+use Rattle.{
+  std.{proofs.Common.{◌≡◌, ◌∙◌, ap, [], ◌∷◌, ◌++◌, List, Option, rules}, specs.Option.{option_map}},
+  cell_core.specs.declared.cell.Label.{Label},
+  meaning.specs.Operator.{cell_label},
+  frame_store.specs.Shown.{headings_value},
+  signatures.specs.{Bound.{stands_at}, Scalars.{scalars}},
+  label_methods.{specs.Levels.{some_labels}, proofs.{LevelNameLaws.{listed_names, single_name}, axis_names.level_names.Goals.{in-Some+in_ok-push_names-in-Some, in-None+in_ok-push-in-None}}},
+}
 use Rattle.label_methods.proofs.axis_names.level_names.Goals as goal
-use Rattle.label_methods.proofs.axis_names.level_names.Goals.{in-Some+in_ok-push_names-in-Some, in-None+in_ok-push-in-None}
 
 pub returns : goal.returns
 returns c = λ live texts.

@@ -1,9 +1,9 @@
-use Rattle.std.proofs.Common.{◌≡◌, ◌∙◌, ◌<◌, ◌≤◌, ap, sym, [], ◌∷◌, ◌++◌, Some, None, length, arith, rules}
-use Rattle.std.specs.Option.{option_map}
-use Rattle.meaning.specs.Cell.{datum}
-use Rattle.label_methods.proofs.LevelNameLaws.{names_more, names_same, names_all}
+use Rattle.{
+  std.{proofs.Common.{◌≡◌, ◌∙◌, ◌<◌, ◌≤◌, ap, sym, [], ◌∷◌, ◌++◌, Some, None, length, arith, rules}, specs.Option.{option_map}},
+  meaning.specs.Cell.{datum},
+  label_methods.proofs.{LevelNameLaws.{names_more, names_same, names_all}, axis_names.push_names.Goals.{in-Some+in_ok-push, in_default}},
+}
 use Rattle.label_methods.proofs.axis_names.push_names.Goals as goal
-use Rattle.label_methods.proofs.axis_names.push_names.Goals.{in-Some+in_ok-push, in_default}
 
 pub loop-item-preserved : goal.loop-item-preserved
 loop-item-preserved c = λ texts.

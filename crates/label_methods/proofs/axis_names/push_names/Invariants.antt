@@ -1,8 +1,10 @@
-use Rattle.std.proofs.Common.{◌≡◌, ◌++◌, List, drop}
-use Rattle.meaning.specs.Text.{Text}
-use Rattle.frame_store.specs.Shown.{headings_value}
-use Rattle.signatures.specs.Scalars.{scalars}
-use Rattle.label_methods.specs.Levels.{some_labels}
+use Rattle.{
+  std.proofs.Common.{◌≡◌, ◌++◌, List, drop},
+  meaning.specs.Text.{Text},
+  frame_store.specs.Shown.{headings_value},
+  signatures.specs.Scalars.{scalars},
+  label_methods.specs.Levels.{some_labels},
+}
 use Rattle.label_methods.proofs.axis_names.push_names.Given as goal
 
 -- the names so far, before the others

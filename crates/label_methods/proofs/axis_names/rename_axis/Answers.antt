@@ -1,9 +1,11 @@
-use Rattle.std.proofs.Common.{◌≡◌, ◌∙◌, ap, true, length, rules}
-use Rattle.multi_index.specs.Axes.{AxisValue}
-use Rattle.table_meaning.specs.Change.{with_labels}
-use Rattle.form_meaning.specs.Finish.{within_limits}
-use Rattle.frame_store.specs.Parts.{axis_of}
-use Rattle.label_methods.proofs.UnderLaws.{axis_named}
+use Rattle.{
+  std.proofs.Common.{◌≡◌, ◌∙◌, ap, true, length, rules},
+  multi_index.specs.Axes.{AxisValue},
+  table_meaning.specs.Change.{with_labels},
+  form_meaning.specs.Finish.{within_limits},
+  frame_store.specs.Parts.{axis_of},
+  label_methods.proofs.UnderLaws.{axis_named},
+}
 use Rattle.label_methods.proofs.axis_names.rename_axis.Goals as goal
 
 pub returns : goal.returns

@@ -1,6 +1,8 @@
-use Rattle.std.proofs.Common.{◌≡◌, ◌∙◌, true, false, length, rules}
-use Rattle.form_meaning.specs.Finish.{within_limits}
-use Rattle.label_methods.proofs.ResetTableLaws.{range_rows, renumbered_beyond, renumbered_made}
+use Rattle.{
+  std.proofs.Common.{◌≡◌, ◌∙◌, true, false, length, rules},
+  form_meaning.specs.Finish.{within_limits},
+  label_methods.proofs.ResetTableLaws.{range_rows, renumbered_beyond, renumbered_made},
+}
 use Rattle.label_methods.proofs.axis_names.renumber.Goals as goal
 
 pub returns-then-not-within_limits : goal.returns-then-not-within_limits

@@ -1,5 +1,7 @@
-use Rattle.std.proofs.Common.{◌≡◌, map, take}
-use Rattle.label_methods.specs.Labels.{column_tuple}
+use Rattle.{
+  std.proofs.Common.{◌≡◌, map, take},
+  label_methods.specs.Labels.{column_tuple},
+}
 use Rattle.label_methods.proofs.column_labels.column_tuples.Given as goal
 
 -- the tuples of the columns so far

@@ -1,6 +1,8 @@
-use Rattle.std.proofs.Common.{sym, subst}
-use Rattle.multi_index.specs.Axes.{HaveLevels}
-use Rattle.label_methods.proofs.ColumnLabelLaws.{tuples_alike}
+use Rattle.{
+  std.proofs.Common.{sym, subst},
+  multi_index.specs.Axes.{HaveLevels},
+  label_methods.proofs.ColumnLabelLaws.{tuples_alike},
+}
 use Rattle.label_methods.proofs.column_labels.columns_axis.Goals as goal
 
 pub from_tuples-requires-clause-alike : goal.from_tuples-requires-clause-alike

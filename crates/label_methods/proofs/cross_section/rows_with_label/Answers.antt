@@ -1,10 +1,11 @@
-use Rattle.std.proofs.Common.{◌<◌, ◌≡◌, ◌∙◌, [], ap, sym, length, slice_index_or, arith}
-use Rattle.index_core.specs.Labels.{same_number}
-use Rattle.pick_meaning.proofs.RowLaws.{rows_more_yes, rows_more_no}
-use Rattle.multi_index.proofs.SideLaws.{label_there}
-use Rattle.label_methods.specs.Section.{has_number}
+use Rattle.{
+  std.proofs.Common.{◌<◌, ◌≡◌, ◌∙◌, [], ap, sym, length, slice_index_or, arith},
+  index_core.specs.Labels.{same_number},
+  pick_meaning.proofs.RowLaws.{rows_more_yes, rows_more_no},
+  multi_index.proofs.SideLaws.{label_there},
+  label_methods.{specs.Section.{has_number}, proofs.cross_section.rows_with_label.Goals.{then-eq+in_ok-push, else-eq}},
+}
 use Rattle.label_methods.proofs.cross_section.rows_with_label.Goals as goal
-use Rattle.label_methods.proofs.cross_section.rows_with_label.Goals.{then-eq+in_ok-push, else-eq}
 
 pub loop-row-preserved : goal.loop-row-preserved
 loop-row-preserved c =

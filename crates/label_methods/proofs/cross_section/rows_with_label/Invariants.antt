@@ -1,6 +1,8 @@
-use Rattle.std.proofs.Common.{◌≡◌, take}
-use Rattle.pick_meaning.specs.Rows.{rows_where}
-use Rattle.label_methods.specs.Section.{has_number}
+use Rattle.{
+  std.proofs.Common.{◌≡◌, take},
+  pick_meaning.specs.Rows.{rows_where},
+  label_methods.specs.Section.{has_number},
+}
 use Rattle.label_methods.proofs.cross_section.rows_with_label.Given as goal
 
 -- the rows so far

@@ -1,8 +1,9 @@
-use Rattle.std.proofs.Common.{◌∙◌, sym, subst, length}
-use Rattle.table_meaning.specs.Table.{NumberedTable}
-use Rattle.table_meaning.specs.Valid.{IsWhole}
-use Rattle.selections.proofs.PickedLaws.{places_inside}
-use Rattle.label_methods.proofs.SectionLaws.{section_made, section_whole}
+use Rattle.{
+  std.proofs.Common.{◌∙◌, sym, subst, length},
+  table_meaning.specs.{Table.{NumberedTable}, Valid.{IsWhole}},
+  selections.proofs.PickedLaws.{places_inside},
+  label_methods.proofs.SectionLaws.{section_made, section_whole},
+}
 use Rattle.label_methods.proofs.cross_section.rows_without_level.Goals as goal
 
 pub chosen_blocks-requires-clause-columns : goal.chosen_blocks-requires-clause-columns

@@ -1,18 +1,16 @@
-use Rattle.std.proofs.Common.{◌≡◌, ◌∙◌, ◌<◌, ap, sym, subst, refl, length, true, false, ℕ, List, All, arith, rules}
-use Rattle.std.specs.Prelude.{◌≢◌}
-use Rattle.cell_core.specs.declared.code.Code.TheVariants.{NoKey}
-use Rattle.cell_core.specs.declared.cell.Label.{Label}
-use Rattle.meaning.specs.Cell.{label_datum}
-use Rattle.multi_index.specs.Axes.{AxisValue}
-use Rattle.pick_meaning.specs.Rows.{rows_where}
-use Rattle.pick_meaning.proofs.InsideLaws.{rows_inside}
-use Rattle.table_meaning.specs.Table.{table_value}
-use Rattle.form_meaning.specs.Finish.{within_limits}
-use Rattle.method_meaning.specs.Section.{section}
-use Rattle.frame_store.specs.Shown.{Refuses}
-use Rattle.selections.proofs.RefusalLaws.{no_key_settled}
-use Rattle.label_methods.specs.Section.{has_number}
-use Rattle.label_methods.proofs.SectionLaws.{section_missing, section_beyond, section_answer}
+use Rattle.{
+  std.{proofs.Common.{◌≡◌, ◌∙◌, ◌<◌, ap, sym, subst, refl, length, true, false, ℕ, List, All, arith, rules}, specs.Prelude.{◌≢◌}},
+  cell_core.specs.declared.{code.Code.TheVariants.{NoKey}, cell.Label.{Label}},
+  meaning.specs.Cell.{label_datum},
+  multi_index.specs.Axes.{AxisValue},
+  pick_meaning.{specs.Rows.{rows_where}, proofs.InsideLaws.{rows_inside}},
+  table_meaning.specs.Table.{table_value},
+  form_meaning.specs.Finish.{within_limits},
+  method_meaning.specs.Section.{section},
+  frame_store.specs.Shown.{Refuses},
+  selections.proofs.RefusalLaws.{no_key_settled},
+  label_methods.{specs.Section.{has_number}, proofs.SectionLaws.{section_missing, section_beyond, section_answer}},
+}
 use Rattle.label_methods.proofs.cross_section.section.Goals as goal
 
 pub returns-then-len-eq0 : goal.returns-then-len-eq0

@@ -1,7 +1,8 @@
-use Rattle.std.proofs.Common.{◌∙◌, ◌<◌, ap, length, map, arith}
-use Rattle.std.proofs.lemmas.List.{take_all}
-use Rattle.form_parts.specs.Labels.{label_of}
-use Rattle.label_methods.proofs.IndexingLaws.{one_more_label}
+use Rattle.{
+  std.proofs.{Common.{◌∙◌, ◌<◌, ap, length, map, arith}, lemmas.List.{take_all}},
+  form_parts.specs.Labels.{label_of},
+  label_methods.proofs.IndexingLaws.{one_more_label},
+}
 use Rattle.label_methods.proofs.indexing.cell_labels.Goals as goal
 
 pub loop-row-preserved : goal.loop-row-preserved

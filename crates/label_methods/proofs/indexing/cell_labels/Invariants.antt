@@ -1,5 +1,7 @@
-use Rattle.std.proofs.Common.{◌≡◌, map, take}
-use Rattle.form_parts.specs.Labels.{label_of}
+use Rattle.{
+  std.proofs.Common.{◌≡◌, map, take},
+  form_parts.specs.Labels.{label_of},
+}
 use Rattle.label_methods.proofs.indexing.cell_labels.Given as goal
 
 -- the labels so far

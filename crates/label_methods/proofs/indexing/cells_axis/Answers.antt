@@ -1,8 +1,10 @@
-use Rattle.std.proofs.Common.{◌≡◌, ◌∙◌, ap, sym, subst, length, List, ℕ}
-use Rattle.cell_core.specs.declared.cell.Cell.{Cell}
-use Rattle.multi_index.specs.Axes.{HaveLevels, nameless_axis, single_tuples}
-use Rattle.table_meaning.specs.Table.{ColumnOf}
-use Rattle.label_methods.proofs.IndexingLaws.{rows_alike, place_inside, single_column}
+use Rattle.{
+  std.proofs.Common.{◌≡◌, ◌∙◌, ap, sym, subst, length, List, ℕ},
+  cell_core.specs.declared.cell.Cell.{Cell},
+  multi_index.specs.Axes.{HaveLevels, nameless_axis, single_tuples},
+  table_meaning.specs.Table.{ColumnOf},
+  label_methods.proofs.IndexingLaws.{rows_alike, place_inside, single_column},
+}
 use Rattle.label_methods.proofs.indexing.cells_axis.Goals as goal
 
 pub column-requires : goal.column-requires

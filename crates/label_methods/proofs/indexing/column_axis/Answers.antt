@@ -1,8 +1,9 @@
-use Rattle.std.proofs.Common.{◌∙◌, ap, sym, length, List, Option}
-use Rattle.std.proofs.lemmas.List.{length-map, length-replicate}
-use Rattle.cell_core.specs.declared.cell.Label.{Label}
-use Rattle.multi_index.specs.Axes.{AxisValue}
-use Rattle.selections.specs.Selected.{heading_of}
+use Rattle.{
+  std.proofs.{Common.{◌∙◌, ap, sym, length, List, Option}, lemmas.List.{length-map, length-replicate}},
+  cell_core.specs.declared.cell.Label.{Label},
+  multi_index.specs.Axes.{AxisValue},
+  selections.specs.Selected.{heading_of},
+}
 use Rattle.label_methods.proofs.indexing.column_axis.Goals as goal
 
 pub named_axis-requires : goal.named_axis-requires

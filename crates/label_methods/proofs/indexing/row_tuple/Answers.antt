@@ -1,8 +1,7 @@
-use Rattle.std.proofs.Common.{◌≡◌, ◌∙◌, ◌<◌, ◌≤◌, ap, length, take, set, refl, arith}
-use Rattle.std.proofs.lemmas.List.{take_all, length-set}
-use Rattle.label_methods.specs.Levels.{row_labels}
-use Rattle.label_methods.proofs.UnderLaws.{one_more_name}
-use Rattle.label_methods.proofs.IndexingLaws.{label_at, labels_count}
+use Rattle.{
+  std.proofs.{Common.{◌≡◌, ◌∙◌, ◌<◌, ◌≤◌, ap, length, take, set, refl, arith}, lemmas.List.{take_all, length-set}},
+  label_methods.{specs.Levels.{row_labels}, proofs.{UnderLaws.{one_more_name}, IndexingLaws.{label_at, labels_count}}},
+}
 use Rattle.label_methods.proofs.indexing.row_tuple.Goals as goal
 
 pub loop-level-preserved : goal.loop-level-preserved

@@ -1,5 +1,7 @@
-use Rattle.std.proofs.Common.{◌≡◌, length, take}
-use Rattle.label_methods.specs.Levels.{row_labels}
+use Rattle.{
+  std.proofs.Common.{◌≡◌, length, take},
+  label_methods.specs.Levels.{row_labels},
+}
 use Rattle.label_methods.proofs.indexing.row_tuple.Given as goal
 
 -- there is room for four labels, and the first ones are those of the row

@@ -1,6 +1,7 @@
-use Rattle.std.proofs.Common.{◌≡◌, map}
-use Rattle.std.specs.List.{range_with_len}
-use Rattle.label_methods.specs.Levels.{row_labels}
+use Rattle.{
+  std.{proofs.Common.{◌≡◌, map}, specs.List.{range_with_len}},
+  label_methods.specs.Levels.{row_labels},
+}
 use Rattle.label_methods.proofs.indexing.row_tuples.Given as goal
 
 -- the tuples so far

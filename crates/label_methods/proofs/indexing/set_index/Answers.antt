@@ -1,14 +1,13 @@
-use Rattle.std.proofs.Common.{◌≡◌, ◌<◌, ◌≤◌, ◌∙◌, ap, sym, subst, refl, true, false, length, List, Option, arith, rules}
-use Rattle.std.proofs.lemmas.Result.{err_from_is_err_and}
-use Rattle.cell_core.specs.declared.cell.Label.{Label}
-use Rattle.table_meaning.specs.Table.{table_value}
-use Rattle.form_meaning.specs.Finish.{within_limits, limited}
-use Rattle.method_meaning.specs.Levels.{indexed_by}
-use Rattle.selections.specs.Headings.{NamesRepeated, repeated_heading}
-use Rattle.label_methods.proofs.NamedLaws.{others_inside}
-use Rattle.label_methods.proofs.IndexingLaws.{kept_meant, index_repeated, index_beyond, without_level, beyond_levels, beyond_cells, index_whole, made_index, index_made}
+use Rattle.{
+  std.proofs.{Common.{◌≡◌, ◌<◌, ◌≤◌, ◌∙◌, ap, sym, subst, refl, true, false, length, List, Option, arith, rules}, lemmas.Result.{err_from_is_err_and}},
+  cell_core.specs.declared.cell.Label.{Label},
+  table_meaning.specs.Table.{table_value},
+  form_meaning.specs.Finish.{within_limits, limited},
+  method_meaning.specs.Levels.{indexed_by},
+  selections.specs.Headings.{NamesRepeated, repeated_heading},
+  label_methods.proofs.{NamedLaws.{others_inside}, IndexingLaws.{kept_meant, index_repeated, index_beyond, without_level, beyond_levels, beyond_cells, index_whole, made_index, index_made}, indexing.set_index.Goals.{then-levels-eq0-via-then-levels-eq0, then-levels-eq0-via-else-levels-eq0+then-levels-gt4, then-levels-eq0-via-else-levels-eq0+else-levels-gt4+then-not-within_limits}},
+}
 use Rattle.label_methods.proofs.indexing.set_index.Goals as goal
-use Rattle.label_methods.proofs.indexing.set_index.Goals.{then-levels-eq0-via-then-levels-eq0, then-levels-eq0-via-else-levels-eq0+then-levels-gt4, then-levels-eq0-via-else-levels-eq0+else-levels-gt4+then-not-within_limits}
 
 pub headings_at-requires : goal.headings_at-requires
 headings_at-requires c = others_inside c.args.places.now c.in_ok-kept.kept c.columns.result (length c.args.on.now.columns) c.in_ok-kept.ensures c.columns.ensures

@@ -1,6 +1,7 @@
-use Rattle.std.proofs.Common.{◌∙◌, arith}
-use Rattle.std.proofs.lemmas.Result.{err_from_is_err_and}
-use Rattle.label_methods.proofs.LevelColumnLaws.{held_step, held_refused, held_ends}
+use Rattle.{
+  std.proofs.{Common.{◌∙◌, arith}, lemmas.Result.{err_from_is_err_and}},
+  label_methods.proofs.LevelColumnLaws.{held_step, held_refused, held_ends},
+}
 use Rattle.label_methods.proofs.level_columns.column_of_kind.Goals as goal
 
 pub returns-in_err-push_held : goal.returns-in_err-push_held

@@ -1,8 +1,9 @@
-use Rattle.std.proofs.Common.{◌≡◌, List}
-use Rattle.meaning.specs.Text.{Text}
-use Rattle.frame_store.specs.Shown.{cells_value}
-use Rattle.label_methods.specs.LevelColumns.{level_cells, held_column}
-use Rattle.label_methods.proofs.LevelColumnLaws.{held_from}
+use Rattle.{
+  std.proofs.Common.{◌≡◌, List},
+  meaning.specs.Text.{Text},
+  frame_store.specs.Shown.{cells_value},
+  label_methods.{specs.LevelColumns.{level_cells, held_column}, proofs.LevelColumnLaws.{held_from}},
+}
 use Rattle.label_methods.proofs.level_columns.column_of_kind.Given as goal
 
 -- the labels so far, before the others

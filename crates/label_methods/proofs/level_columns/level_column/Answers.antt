@@ -1,9 +1,10 @@
-use Rattle.std.proofs.Common.{subst}
-use Rattle.cell_core.specs.declared.cell.Kind.{Kind}
-use Rattle.form_parts.specs.Makes.{MakesBy}
-use Rattle.frame_store.specs.Shown.{cells_value}
-use Rattle.label_methods.specs.Columns.{seen_column}
-use Rattle.label_methods.specs.LevelColumns.{level_cells, held_column}
+use Rattle.{
+  std.proofs.Common.{subst},
+  cell_core.specs.declared.cell.Kind.{Kind},
+  form_parts.specs.Makes.{MakesBy},
+  frame_store.specs.Shown.{cells_value},
+  label_methods.specs.{Columns.{seen_column}, LevelColumns.{level_cells, held_column}},
+}
 use Rattle.label_methods.proofs.level_columns.level_column.Goals as goal
 
 pub returns : goal.returns

@@ -1,8 +1,8 @@
-use Rattle.std.proofs.Common.{◌∙◌, ◌++◌, ◌∷◌, [], ap, sym, subst, refl, arith, All}
-use Rattle.std.proofs.lemmas.List.Elements.{All-append, All-cons, All-nil}
-use Rattle.std.proofs.lemmas.Result.{err_from_is_err_and}
-use Rattle.frame_store.specs.Parts.{IsSingle, single_block, table_column}
-use Rattle.label_methods.proofs.LevelColumnLaws.{level_step, level_refused, levels_end}
+use Rattle.{
+  std.proofs.{Common.{◌∙◌, ◌++◌, ◌∷◌, [], ap, sym, subst, refl, arith, All}, lemmas.{List.Elements.{All-append, All-cons, All-nil}, Result.{err_from_is_err_and}}},
+  frame_store.specs.Parts.{IsSingle, single_block, table_column},
+  label_methods.proofs.LevelColumnLaws.{level_step, level_refused, levels_end},
+}
 use Rattle.label_methods.proofs.level_columns.level_columns.Goals as goal
 
 pub returns-in_err-column-clause-columns : goal.returns-in_err-column-clause-columns

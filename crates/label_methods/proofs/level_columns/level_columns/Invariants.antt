@@ -1,8 +1,10 @@
-use Rattle.std.proofs.Common.{◌≡◌, List, All}
-use Rattle.meaning.specs.Text.{Text}
-use Rattle.frame_store.specs.Parts.{IsSingle}
+use Rattle.{
+  std.proofs.Common.{◌≡◌, List, All},
+  meaning.specs.Text.{Text},
+  frame_store.specs.Parts.{IsSingle},
+  label_methods.proofs.LevelColumnLaws.{columns_from},
+}
 use Rattle.label_methods.specs.LevelColumns as levels
-use Rattle.label_methods.proofs.LevelColumnLaws.{columns_from}
 use Rattle.label_methods.proofs.level_columns.level_columns.Given as goal
 
 -- the levels so far, before the others

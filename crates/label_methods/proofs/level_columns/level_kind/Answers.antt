@@ -1,5 +1,7 @@
-use Rattle.std.proofs.Common.{Some, None, arith}
-use Rattle.label_methods.proofs.LevelColumnLaws.{kind_step, kind_ends}
+use Rattle.{
+  std.proofs.Common.{Some, None, arith},
+  label_methods.proofs.LevelColumnLaws.{kind_step, kind_ends},
+}
 use Rattle.label_methods.proofs.level_columns.level_kind.Goals as goal
 
 pub returns-in-Some : goal.returns-in-Some

@@ -1,8 +1,10 @@
-use Rattle.std.proofs.Common.{◌≡◌, List, drop}
-use Rattle.meaning.specs.Text.{Text}
-use Rattle.form_meaning.specs.Set.{first_kind}
-use Rattle.frame_store.specs.Shown.{cells_value}
-use Rattle.label_methods.specs.LevelColumns.{level_cells}
+use Rattle.{
+  std.proofs.Common.{◌≡◌, List, drop},
+  meaning.specs.Text.{Text},
+  form_meaning.specs.Set.{first_kind},
+  frame_store.specs.Shown.{cells_value},
+  label_methods.specs.LevelColumns.{level_cells},
+}
 use Rattle.label_methods.proofs.level_columns.level_kind.Given as goal
 
 -- no label so far is present

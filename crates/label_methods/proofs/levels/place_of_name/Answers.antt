@@ -1,7 +1,8 @@
-use Rattle.std.proofs.Common.{◌≡◌, ◌∙◌, ◌<◌, length, ap, sym, true, false, Some, None, slice_get, arith, rules}
-use Rattle.std.proofs.lemmas.Option.{get_or_from_slice_get}
-use Rattle.multi_index.specs.Axes.{AxisValue}
-use Rattle.selections.proofs.PlaceLaws.{heading_settled, place_met, place_passed}
+use Rattle.{
+  std.proofs.{Common.{◌≡◌, ◌∙◌, ◌<◌, length, ap, sym, true, false, Some, None, slice_get, arith, rules}, lemmas.Option.{get_or_from_slice_get}},
+  multi_index.specs.Axes.{AxisValue},
+  selections.proofs.PlaceLaws.{heading_settled, place_met, place_passed},
+}
 use Rattle.label_methods.proofs.levels.place_of_name.Goals as goal
 
 pub same_heading-requires-clause-b : goal.same_heading-requires-clause-b

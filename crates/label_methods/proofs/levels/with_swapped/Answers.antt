@@ -1,11 +1,12 @@
-use Rattle.std.proofs.Common.{◌≡◌, ◌∙◌, ap, subst, Result}
-use Rattle.meaning.specs.Fault.{FaultValue}
-use Rattle.multi_index.specs.Axes.{AxisValue, with_swapped}
-use Rattle.table_meaning.specs.Value.{Entry}
-use Rattle.form_meaning.specs.Finish.{limited}
-use Rattle.frame_store.specs.Parts.{axis_of}
-use Rattle.frame_store.specs.Shown.{Makes}
-use Rattle.label_methods.proofs.LevelMoveLaws.{swapped_seen, swapped_settled}
+use Rattle.{
+  std.proofs.Common.{◌≡◌, ◌∙◌, ap, subst, Result},
+  meaning.specs.Fault.{FaultValue},
+  multi_index.specs.Axes.{AxisValue, with_swapped},
+  table_meaning.specs.Value.{Entry},
+  form_meaning.specs.Finish.{limited},
+  frame_store.specs.{Parts.{axis_of}, Shown.{Makes}},
+  label_methods.proofs.LevelMoveLaws.{swapped_seen, swapped_settled},
+}
 use Rattle.label_methods.proofs.levels.with_swapped.Goals as goal
 
 pub returns : goal.returns

@@ -1,11 +1,12 @@
-use Rattle.std.proofs.Common.{◌≡◌, ◌≤◌, ◌∙◌, ap, sym, subst, length, Result, arith}
-use Rattle.meaning.specs.Fault.{FaultValue}
-use Rattle.multi_index.specs.Axes.{AxisValue, without_level}
-use Rattle.table_meaning.specs.Value.{Entry}
-use Rattle.form_meaning.specs.Finish.{limited}
-use Rattle.frame_store.specs.Parts.{axis_of}
-use Rattle.frame_store.specs.Shown.{Makes}
-use Rattle.label_methods.proofs.LevelMoveLaws.{dropped_seen, dropped_settled, level_stays}
+use Rattle.{
+  std.proofs.Common.{◌≡◌, ◌≤◌, ◌∙◌, ap, sym, subst, length, Result, arith},
+  meaning.specs.Fault.{FaultValue},
+  multi_index.specs.Axes.{AxisValue, without_level},
+  table_meaning.specs.Value.{Entry},
+  form_meaning.specs.Finish.{limited},
+  frame_store.specs.{Parts.{axis_of}, Shown.{Makes}},
+  label_methods.proofs.LevelMoveLaws.{dropped_seen, dropped_settled, level_stays},
+}
 use Rattle.label_methods.proofs.levels.without_level.Goals as goal
 
 pub returns : goal.returns

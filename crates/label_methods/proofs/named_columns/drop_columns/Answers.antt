@@ -1,10 +1,10 @@
-use Rattle.std.proofs.Common.{◌≡◌, ◌∙◌, ◌<◌, ap, sym, subst, length, ℕ, List, All}
-use Rattle.table_meaning.specs.Table.{NumberedTable, table_value}
-use Rattle.form_meaning.specs.Finish.{finished}
-use Rattle.form_meaning.specs.Select.{columns_frame}
-use Rattle.frame_store.specs.Objects.{tables, table_at, table_or}
-use Rattle.label_methods.proofs.AnswerLaws.{forms_so}
-use Rattle.label_methods.proofs.NamedLaws.{others_inside, others_meant}
+use Rattle.{
+  std.proofs.Common.{◌≡◌, ◌∙◌, ◌<◌, ap, sym, subst, length, ℕ, List, All},
+  table_meaning.specs.Table.{NumberedTable, table_value},
+  form_meaning.specs.{Finish.{finished}, Select.{columns_frame}},
+  frame_store.specs.Objects.{tables, table_at, table_or},
+  label_methods.proofs.{AnswerLaws.{forms_so}, NamedLaws.{others_inside, others_meant}},
+}
 use Rattle.label_methods.proofs.named_columns.drop_columns.Goals as goal
 
 pub places_besides-requires : goal.places_besides-requires

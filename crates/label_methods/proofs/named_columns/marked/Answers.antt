@@ -1,6 +1,8 @@
-use Rattle.std.proofs.Common.{◌<◌, refl, length, arith}
-use Rattle.selections.proofs.TakeLaws.{place_inside}
-use Rattle.label_methods.proofs.NamedLaws.{marks_more}
+use Rattle.{
+  std.proofs.Common.{◌<◌, refl, length, arith},
+  selections.proofs.TakeLaws.{place_inside},
+  label_methods.proofs.NamedLaws.{marks_more},
+}
 use Rattle.label_methods.proofs.named_columns.marked.Goals as goal
 
 pub loop-k-preserved : goal.loop-k-preserved

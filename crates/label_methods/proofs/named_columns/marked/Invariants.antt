@@ -1,5 +1,7 @@
-use Rattle.std.proofs.Common.{take}
-use Rattle.label_methods.specs.Named.{AreMarks}
+use Rattle.{
+  std.proofs.Common.{take},
+  label_methods.specs.Named.{AreMarks},
+}
 use Rattle.label_methods.proofs.named_columns.marked.Given as goal
 
 -- the marks of the places so far

@@ -1,18 +1,12 @@
-use Rattle.std.proofs.Common.{◌∙◌, ap, sym, map, ◌∷◌, [], ◌++◌, option_map}
-use Rattle.meaning.specs.Cell.{datum}
-use Rattle.meaning.specs.Operator.{cell_label}
-use Rattle.table_meaning.specs.Table.{Table, table_value}
-use Rattle.table_meaning.specs.Value.{scalar_in}
-use Rattle.form_meaning.specs.Select.{column_places}
-use Rattle.frame_store.specs.Arguments.{items_of}
-use Rattle.frame_store.specs.Objects.{tables, table_at, table_or}
-use Rattle.frame_store.specs.World.{world}
-use Rattle.signatures.specs.Scalars.{scalars}
-use Rattle.signatures.proofs.ScalarLaws.{items_settled, scalars_are}
-use Rattle.signatures.proofs.ToldLaws.{told_settled, some_same}
-use Rattle.label_methods.specs.Named.{first_in}
-use Rattle.label_methods.proofs.AnswerLaws.{known_table}
-use Rattle.label_methods.proofs.NamedLaws.{found_at, label_named, labels_named}
+use Rattle.{
+  std.proofs.Common.{◌∙◌, ap, sym, map, ◌∷◌, [], ◌++◌, option_map},
+  meaning.specs.{Cell.{datum}, Operator.{cell_label}},
+  table_meaning.specs.{Table.{Table, table_value}, Value.{scalar_in}},
+  form_meaning.specs.Select.{column_places},
+  frame_store.specs.{Arguments.{items_of}, Objects.{tables, table_at, table_or}, World.{world}},
+  signatures.{specs.Scalars.{scalars}, proofs.{ScalarLaws.{items_settled, scalars_are}, ToldLaws.{told_settled, some_same}}},
+  label_methods.{specs.Named.{first_in}, proofs.{AnswerLaws.{known_table}, NamedLaws.{found_at, label_named, labels_named}}},
+}
 use Rattle.label_methods.proofs.named_columns.named_places.Goals as goal
 
 -- a label

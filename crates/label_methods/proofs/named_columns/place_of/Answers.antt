@@ -1,8 +1,9 @@
-use Rattle.std.proofs.Common.{◌∙◌, ap, ℕ, List, [], ◌∷◌, ◌++◌}
-use Rattle.std.proofs.lemmas.Result.{err_from_is_err_and}
-use Rattle.selections.proofs.PlaceLaws.{label_settled}
-use Rattle.frame_store.proofs.Settling.{headings_part}
-use Rattle.label_methods.proofs.NamedLaws.{place_found, place_lost}
+use Rattle.{
+  std.proofs.{Common.{◌∙◌, ap, ℕ, List, [], ◌∷◌, ◌++◌}, lemmas.Result.{err_from_is_err_and}},
+  selections.proofs.PlaceLaws.{label_settled},
+  frame_store.proofs.Settling.{headings_part},
+  label_methods.proofs.NamedLaws.{place_found, place_lost},
+}
 use Rattle.label_methods.proofs.named_columns.place_of.Goals as goal
 
 pub column_place-requires-clause-settled : goal.column_place-requires-clause-settled

@@ -1,9 +1,8 @@
-use Rattle.std.proofs.Common.{◌≡◌, ◌∙◌, ◌<◌, true, false, [], ◌∷◌, ◌++◌, nat_eq, length, arith, rules}
-use Rattle.std.specs.List.{list_any}
-use Rattle.std.proofs.lemmas.List.{get_or_default}
-use Rattle.label_methods.proofs.NamedLaws.{other_more, other_same}
+use Rattle.{
+  std.{proofs.{Common.{◌≡◌, ◌∙◌, ◌<◌, true, false, [], ◌∷◌, ◌++◌, nat_eq, length, arith, rules}, lemmas.List.{get_or_default}}, specs.List.{list_any}},
+  label_methods.proofs.{NamedLaws.{other_more, other_same}, named_columns.places_besides.Goals.{then-not-index+in_ok-push, else-not-index}},
+}
 use Rattle.label_methods.proofs.named_columns.places_besides.Goals as goal
-use Rattle.label_methods.proofs.named_columns.places_besides.Goals.{then-not-index+in_ok-push, else-not-index}
 
 pub loop-place-preserved : goal.loop-place-preserved
 loop-place-preserved c =

@@ -1,7 +1,7 @@
-use Rattle.std.proofs.Common.{◌≡◌}
-use Rattle.std.specs.Prelude.{filter}
-use Rattle.std.specs.List.{range_with_len}
-use Rattle.label_methods.proofs.NamedLaws.{is_other}
+use Rattle.{
+  std.{proofs.Common.{◌≡◌}, specs.{Prelude.{filter}, List.{range_with_len}}},
+  label_methods.proofs.NamedLaws.{is_other},
+}
 use Rattle.label_methods.proofs.named_columns.places_besides.Given as goal
 
 -- the other places so far

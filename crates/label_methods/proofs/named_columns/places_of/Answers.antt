@@ -1,9 +1,11 @@
-use Rattle.std.proofs.Common.{◌∙◌, ap, sym, ◌++◌, map}
-use Rattle.meaning.specs.Operator.{cell_label}
-use Rattle.table_meaning.specs.Table.{table_value}
-use Rattle.form_meaning.specs.Select.{column_places}
-use Rattle.frame_store.proofs.Settling.{headings_part}
-use Rattle.label_methods.proofs.NamedLaws.{found_so}
+use Rattle.{
+  std.proofs.Common.{◌∙◌, ap, sym, ◌++◌, map},
+  meaning.specs.Operator.{cell_label},
+  table_meaning.specs.Table.{table_value},
+  form_meaning.specs.Select.{column_places},
+  frame_store.proofs.Settling.{headings_part},
+  label_methods.proofs.NamedLaws.{found_so},
+}
 use Rattle.label_methods.proofs.named_columns.places_of.Goals as goal
 
 pub column_places-requires-clause-settled : goal.column_places-requires-clause-settled

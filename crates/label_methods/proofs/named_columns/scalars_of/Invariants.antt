@@ -1,7 +1,9 @@
-use Rattle.std.proofs.Common.{◌≡◌, List, ◌++◌, drop}
-use Rattle.meaning.specs.Text.{Text}
-use Rattle.frame_store.specs.Shown.{cells_value}
-use Rattle.signatures.specs.Scalars.{scalars}
+use Rattle.{
+  std.proofs.Common.{◌≡◌, List, ◌++◌, drop},
+  meaning.specs.Text.{Text},
+  frame_store.specs.Shown.{cells_value},
+  signatures.specs.Scalars.{scalars},
+}
 use Rattle.label_methods.proofs.named_columns.scalars_of.Given as goal
 
 -- the scalars so far, before the others

@@ -1,10 +1,9 @@
-use Rattle.std.proofs.Common.{◌≡◌, ◌∙◌, ap, sym, true, false, length, rules}
-use Rattle.std.specs.List.{range_with_len}
-use Rattle.table_meaning.specs.Table.{NumberedTable, table_value}
-use Rattle.frame_store.specs.Objects.{tables, table_at, table_or}
-use Rattle.frame_store.specs.World.{world}
-use Rattle.label_methods.specs.Named.{first_in}
-use Rattle.label_methods.proofs.NamedLaws.{all_found, named_meant, found_so}
+use Rattle.{
+  std.{proofs.Common.{◌≡◌, ◌∙◌, ap, sym, true, false, length, rules}, specs.List.{range_with_len}},
+  table_meaning.specs.Table.{NumberedTable, table_value},
+  frame_store.specs.{Objects.{tables, table_at, table_or}, World.{world}},
+  label_methods.{specs.Named.{first_in}, proofs.NamedLaws.{all_found, named_meant, found_so}},
+}
 use Rattle.label_methods.proofs.named_columns.subset_places.Goals as goal
 
 pub returns-then-is_none : goal.returns-then-is_none

@@ -1,8 +1,8 @@
-use Rattle.std.proofs.Common.{◌∙◌, ◌<◌, ap, sym, length, arith, None}
-use Rattle.std.proofs.lemmas.List.{length-set}
-use Rattle.std.proofs.lemmas.Option.{get_or_from_slice_get}
-use Rattle.multi_index.specs.Axes.{AxisValue}
-use Rattle.label_methods.proofs.UnderLaws.{one_more_name, all_names}
+use Rattle.{
+  std.proofs.{Common.{◌∙◌, ◌<◌, ap, sym, length, arith, None}, lemmas.{List.{length-set}, Option.{get_or_from_slice_get}}},
+  multi_index.specs.Axes.{AxisValue},
+  label_methods.proofs.UnderLaws.{one_more_name, all_names},
+}
 use Rattle.label_methods.proofs.reindexing.axis_like.Goals as goal
 
 pub loop-level-preserved : goal.loop-level-preserved

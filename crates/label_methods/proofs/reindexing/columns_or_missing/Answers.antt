@@ -1,8 +1,10 @@
-use Rattle.std.proofs.Common.{◌<◌, ◌∙◌, ap, map, length, arith, take_all}
-use Rattle.cell_core.specs.declared.cell.Cell.TheVariants.{Na}
-use Rattle.method_meaning.specs.Reindex.{column_or_missing}
-use Rattle.form_parts.proofs.GapLaws.{single_on}
-use Rattle.label_methods.proofs.ReindexLaws.{one_more_or_missing, place_there}
+use Rattle.{
+  std.proofs.Common.{◌<◌, ◌∙◌, ap, map, length, arith, take_all},
+  cell_core.specs.declared.cell.Cell.TheVariants.{Na},
+  method_meaning.specs.Reindex.{column_or_missing},
+  form_parts.proofs.GapLaws.{single_on},
+  label_methods.proofs.ReindexLaws.{one_more_or_missing, place_there},
+}
 use Rattle.label_methods.proofs.reindexing.columns_or_missing.Goals as goal
 
 pub column_or_missing-requires : goal.column_or_missing-requires

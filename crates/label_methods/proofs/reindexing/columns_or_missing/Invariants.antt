@@ -1,7 +1,9 @@
-use Rattle.std.proofs.Common.{◌≡◌, take, map, All}
-use Rattle.cell_core.specs.declared.cell.Cell.TheVariants.{Na}
-use Rattle.method_meaning.specs.Reindex.{column_or_missing}
-use Rattle.frame_store.specs.Parts.{block_column, IsSingle}
+use Rattle.{
+  std.proofs.Common.{◌≡◌, take, map, All},
+  cell_core.specs.declared.cell.Cell.TheVariants.{Na},
+  method_meaning.specs.Reindex.{column_or_missing},
+  frame_store.specs.Parts.{block_column, IsSingle},
+}
 use Rattle.label_methods.proofs.reindexing.columns_or_missing.Given as goal
 
 -- the columns so far

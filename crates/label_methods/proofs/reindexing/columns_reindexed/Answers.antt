@@ -1,20 +1,16 @@
-use Rattle.std.proofs.Common.{◌≡◌, ◌∙◌, ap, sym, subst, refl, length, map, true, false, List, Option, None, Ok, Result, ℕ, All, rules}
-use Rattle.std.proofs.lemmas.List.{length-map}
-use Rattle.std.proofs.lemmas.Result.{err_from_is_err_and}
-use Rattle.cell_core.specs.declared.cell.Label.{Label}
-use Rattle.column_core.specs.Moves.{IsPlaceOf}
-use Rattle.meaning.specs.Fault.{FaultValue}
-use Rattle.multi_index.specs.Axes.{AxisValue, HaveLevels}
-use Rattle.table_meaning.specs.Settled.{IsSettled}
-use Rattle.table_meaning.specs.Table.{NumberedTable}
-use Rattle.table_meaning.specs.Valid.{IsWhole}
-use Rattle.form_meaning.specs.Finish.{within_limits}
-use Rattle.form_parts.specs.Makes.{MakesBy}
-use Rattle.frame_store.specs.Shown.{labels_value}
-use Rattle.selections.specs.Headings.{NamesRepeated, repeated_heading}
-use Rattle.label_methods.specs.Labels.{column_tuple}
-use Rattle.label_methods.specs.Reindexed.{heading_of}
-use Rattle.label_methods.proofs.ReindexLaws.{found, own_labels_given, columns_refused, columns_made, columns_whole, columns_repeated, columns_beyond, columns_answer}
+use Rattle.{
+  std.proofs.{Common.{◌≡◌, ◌∙◌, ap, sym, subst, refl, length, map, true, false, List, Option, None, Ok, Result, ℕ, All, rules}, lemmas.{List.{length-map}, Result.{err_from_is_err_and}}},
+  cell_core.specs.declared.cell.Label.{Label},
+  column_core.specs.Moves.{IsPlaceOf},
+  meaning.specs.Fault.{FaultValue},
+  multi_index.specs.Axes.{AxisValue, HaveLevels},
+  table_meaning.specs.{Settled.{IsSettled}, Table.{NumberedTable}, Valid.{IsWhole}},
+  form_meaning.specs.Finish.{within_limits},
+  form_parts.specs.Makes.{MakesBy},
+  frame_store.specs.Shown.{labels_value},
+  selections.specs.Headings.{NamesRepeated, repeated_heading},
+  label_methods.{specs.{Labels.{column_tuple}, Reindexed.{heading_of}}, proofs.ReindexLaws.{found, own_labels_given, columns_refused, columns_made, columns_whole, columns_repeated, columns_beyond, columns_answer}},
+}
 use Rattle.label_methods.proofs.reindexing.columns_reindexed.Goals as goal
 
 pub rows_of_labels-requires-clause-levels : goal.rows_of_labels-requires-clause-levels

@@ -1,7 +1,8 @@
-use Rattle.std.proofs.Common.{◌<◌, ◌≤◌, ◌≡◌, [], sym, length, arith, Some, slice_index_or}
-use Rattle.multi_index.proofs.SideLaws.{one_row_more, every_row, label_there}
-use Rattle.label_methods.specs.Reindexed.{heading_of}
-use Rattle.label_methods.proofs.ReindexLaws.{heading_there}
+use Rattle.{
+  std.proofs.Common.{◌<◌, ◌≤◌, ◌≡◌, [], sym, length, arith, Some, slice_index_or},
+  multi_index.proofs.SideLaws.{one_row_more, every_row, label_there},
+  label_methods.{specs.Reindexed.{heading_of}, proofs.ReindexLaws.{heading_there}},
+}
 use Rattle.label_methods.proofs.reindexing.labels_as_headings.Goals as goal
 
 pub loop-row-preserved : goal.loop-row-preserved

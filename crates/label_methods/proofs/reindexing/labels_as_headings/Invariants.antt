@@ -1,5 +1,7 @@
-use Rattle.std.proofs.Common.{◌≡◌, map, take}
-use Rattle.label_methods.specs.Reindexed.{heading_of}
+use Rattle.{
+  std.proofs.Common.{◌≡◌, map, take},
+  label_methods.specs.Reindexed.{heading_of},
+}
 use Rattle.label_methods.proofs.reindexing.labels_as_headings.Given as goal
 
 -- the headings so far

@@ -1,5 +1,7 @@
-use Rattle.frame_store.specs.Objects.{tables}
-use Rattle.label_methods.proofs.ReindexLaws.{list_given}
+use Rattle.{
+  frame_store.specs.Objects.{tables},
+  label_methods.proofs.ReindexLaws.{list_given},
+}
 use Rattle.label_methods.proofs.reindexing.reindex.Goals as goal
 
 pub reindex_rows-requires-clause-items : goal.reindex_rows-requires-clause-items

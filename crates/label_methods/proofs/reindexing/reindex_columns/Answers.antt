@@ -1,15 +1,12 @@
-use Rattle.std.proofs.Common.{◌≡◌, ◌∙◌, ap, sym}
-use Rattle.std.proofs.lemmas.Result.{err_from_is_err_and}
-use Rattle.table_meaning.specs.Table.{NumberedTable, table_value}
-use Rattle.form_parts.proofs.TableMade.{refused_on}
-use Rattle.select_meaning.specs.Keys.{whole_items}
-use Rattle.method_meaning.specs.Reindex.{columns_reindexed}
-use Rattle.frame_store.specs.Arguments.{items_of}
-use Rattle.frame_store.specs.Objects.{tables, table_at, table_or}
-use Rattle.frame_store.specs.Shown.{labels_value}
-use Rattle.frame_store.specs.World.{world}
-use Rattle.label_methods.proofs.AnswerLaws.{known_table}
-use Rattle.label_methods.proofs.ReindexLaws.{keys_given, columns_listed}
+use Rattle.{
+  std.proofs.{Common.{◌≡◌, ◌∙◌, ap, sym}, lemmas.Result.{err_from_is_err_and}},
+  table_meaning.specs.Table.{NumberedTable, table_value},
+  form_parts.proofs.TableMade.{refused_on},
+  select_meaning.specs.Keys.{whole_items},
+  method_meaning.specs.Reindex.{columns_reindexed},
+  frame_store.specs.{Arguments.{items_of}, Objects.{tables, table_at, table_or}, Shown.{labels_value}, World.{world}},
+  label_methods.proofs.{AnswerLaws.{known_table}, ReindexLaws.{keys_given, columns_listed}},
+}
 use Rattle.label_methods.proofs.reindexing.reindex_columns.Goals as goal
 
 pub columns_reindexed-requires-clause-known : goal.columns_reindexed-requires-clause-known

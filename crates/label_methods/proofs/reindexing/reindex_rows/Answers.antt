@@ -1,11 +1,9 @@
-use Rattle.std.proofs.Common.{◌≡◌, ◌∙◌, ap, sym, subst, length}
-use Rattle.std.proofs.lemmas.Result.{err_from_is_err_and}
-use Rattle.multi_index.specs.Axes.{AxisValue, HaveLevels}
-use Rattle.frame_store.specs.Arguments.{items_of}
-use Rattle.frame_store.specs.Objects.{tables, table_at, table_or}
-use Rattle.frame_store.specs.World.{world}
-use Rattle.label_methods.proofs.AnswerLaws.{known_table}
-use Rattle.label_methods.proofs.ReindexLaws.{keys_given, rows_listed, rows_unlisted}
+use Rattle.{
+  std.proofs.{Common.{◌≡◌, ◌∙◌, ap, sym, subst, length}, lemmas.Result.{err_from_is_err_and}},
+  multi_index.specs.Axes.{AxisValue, HaveLevels},
+  frame_store.specs.{Arguments.{items_of}, Objects.{tables, table_at, table_or}, World.{world}},
+  label_methods.proofs.{AnswerLaws.{known_table}, ReindexLaws.{keys_given, rows_listed, rows_unlisted}},
+}
 use Rattle.label_methods.proofs.reindexing.reindex_rows.Goals as goal
 
 pub rows_reindexed-requires-clause-known : goal.rows_reindexed-requires-clause-known

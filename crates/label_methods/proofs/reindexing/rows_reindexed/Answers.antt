@@ -1,19 +1,15 @@
-use Rattle.std.proofs.Common.{◌≡◌, ◌∙◌, ap, sym, subst, refl, length, true, false, List, Option, Ok, Result, ℕ, All, rules}
-use Rattle.std.proofs.lemmas.Result.{err_from_is_err_and}
-use Rattle.column_core.specs.Moves.{IsPlaceOf}
-use Rattle.meaning.specs.Cell.{na_cell}
-use Rattle.meaning.specs.Fault.{FaultValue}
-use Rattle.multi_index.specs.Axes.{AxisValue, HaveLevels}
-use Rattle.table_meaning.specs.Settled.{IsSettled}
-use Rattle.table_meaning.specs.Table.{NumberedTable, table_value}
-use Rattle.table_meaning.specs.Valid.{IsWhole}
-use Rattle.form_meaning.specs.Finish.{within_limits, limited}
-use Rattle.form_parts.specs.Makes.{MakesBy}
-use Rattle.form_parts.proofs.TableMade.{refused_on}
-use Rattle.method_meaning.specs.Reindex.{rows_at}
-use Rattle.frame_store.specs.Shown.{labels_value}
-use Rattle.frame_store.proofs.Settling.{labels_part}
-use Rattle.label_methods.proofs.ReindexLaws.{found, rows_made, rows_whole, rows_beyond, rows_answer}
+use Rattle.{
+  std.proofs.{Common.{◌≡◌, ◌∙◌, ap, sym, subst, refl, length, true, false, List, Option, Ok, Result, ℕ, All, rules}, lemmas.Result.{err_from_is_err_and}},
+  column_core.specs.Moves.{IsPlaceOf},
+  meaning.specs.{Cell.{na_cell}, Fault.{FaultValue}},
+  multi_index.specs.Axes.{AxisValue, HaveLevels},
+  table_meaning.specs.{Settled.{IsSettled}, Table.{NumberedTable, table_value}, Valid.{IsWhole}},
+  form_meaning.specs.Finish.{within_limits, limited},
+  form_parts.{specs.Makes.{MakesBy}, proofs.TableMade.{refused_on}},
+  method_meaning.specs.Reindex.{rows_at},
+  frame_store.{specs.Shown.{labels_value}, proofs.Settling.{labels_part}},
+  label_methods.proofs.ReindexLaws.{found, rows_made, rows_whole, rows_beyond, rows_answer},
+}
 use Rattle.label_methods.proofs.reindexing.rows_reindexed.Goals as goal
 
 pub axis_like-requires : goal.axis_like-requires

@@ -1,5 +1,7 @@
-use Rattle.std.proofs.Common.{◌≡◌, ◌<◌, length, true, false, arith, rules}
-use Rattle.label_methods.proofs.ResetLaws.{label_settled, label_met, label_passed}
+use Rattle.{
+  std.proofs.Common.{◌≡◌, ◌<◌, length, true, false, arith, rules},
+  label_methods.proofs.ResetLaws.{label_settled, label_met, label_passed},
+}
 use Rattle.label_methods.proofs.resetting.has_label.Goals as goal
 
 pub same_heading-requires-clause-b : goal.same_heading-requires-clause-b

@@ -1,10 +1,10 @@
-use Rattle.std.proofs.Common.{◌≡◌, Some}
-use Rattle.std.specs.List.{list_any}
-use Rattle.table_meaning.specs.Table.{heading_value}
-use Rattle.form_meaning.specs.Finish.{same_heading}
-use Rattle.frame_store.specs.Shown.{headings_value}
-use Rattle.label_methods.specs.Resets.{frame_headings}
-use Rattle.label_methods.proofs.ResetLaws.{stands_from}
+use Rattle.{
+  std.{proofs.Common.{◌≡◌, Some}, specs.List.{list_any}},
+  table_meaning.specs.Table.{heading_value},
+  form_meaning.specs.Finish.{same_heading},
+  frame_store.specs.Shown.{headings_value},
+  label_methods.{specs.Resets.{frame_headings}, proofs.ResetLaws.{stands_from}},
+}
 use Rattle.label_methods.proofs.resetting.has_label.Given as goal
 
 -- no column so far has the label

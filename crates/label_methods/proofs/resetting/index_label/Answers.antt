@@ -1,7 +1,8 @@
-use Rattle.std.proofs.Common.{◌≡◌, ◌∙◌, ap, sym, not, true, false, length, Some, arith, rules}
-use Rattle.std.specs.Prelude.{codes}
+use Rattle.{
+  std.{proofs.Common.{◌≡◌, ◌∙◌, ap, sym, not, true, false, length, Some, arith, rules}, specs.Prelude.{codes}},
+  label_methods.proofs.ResetLaws.{interned, text_seen, text_settled, one_nameless, label_if},
+}
 use Rattle.cell_core.specs.declared.cell.Label.TheVariants as label
-use Rattle.label_methods.proofs.ResetLaws.{interned, text_seen, text_settled, one_nameless, label_if}
 use Rattle.label_methods.proofs.resetting.index_label.Goals as goal
 
 pub returns-then-has_label-clause-label : goal.returns-then-has_label-clause-label

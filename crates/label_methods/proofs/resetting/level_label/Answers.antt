@@ -1,9 +1,10 @@
-use Rattle.std.proofs.Common.{◌≡◌, ◌∙◌, ap, sym, subst, refl, Some, None, slice_get}
-use Rattle.std.specs.Prelude.{IfOk}
-use Rattle.meaning.specs.Cell.{LabelValue, label_datum}
-use Rattle.multi_index.specs.Axes.{AxisValue}
-use Rattle.form_parts.proofs.LabelLaws.{heading_label}
-use Rattle.label_methods.proofs.ResetLaws.{level_named, name_settled}
+use Rattle.{
+  std.{proofs.Common.{◌≡◌, ◌∙◌, ap, sym, subst, refl, Some, None, slice_get}, specs.Prelude.{IfOk}},
+  meaning.specs.Cell.{LabelValue, label_datum},
+  multi_index.specs.Axes.{AxisValue},
+  form_parts.proofs.LabelLaws.{heading_label},
+  label_methods.proofs.ResetLaws.{level_named, name_settled},
+}
 use Rattle.label_methods.proofs.resetting.level_label.Goals as goal
 
 pub returns-in-Some-clause-given : goal.returns-in-Some-clause-given

@@ -1,7 +1,9 @@
-use Rattle.std.proofs.Common.{◌≡◌, ap, length, arith}
-use Rattle.multi_index.specs.Axes.{AxisValue}
-use Rattle.frame_store.proofs.Settling.{longer_twice}
-use Rattle.label_methods.proofs.ResetLaws.{one_more_level, one_more_given, all_levels}
+use Rattle.{
+  std.proofs.Common.{◌≡◌, ap, length, arith},
+  multi_index.specs.Axes.{AxisValue},
+  frame_store.proofs.Settling.{longer_twice},
+  label_methods.proofs.ResetLaws.{one_more_level, one_more_given, all_levels},
+}
 use Rattle.label_methods.proofs.resetting.level_labels.Goals as goal
 
 pub loop-level-preserved : goal.loop-level-preserved

@@ -1,11 +1,10 @@
-use Rattle.std.proofs.Common.{◌≡◌, map, Some}
-use Rattle.std.specs.List.{range_with_len}
-use Rattle.meaning.specs.Cell.{IsLonger}
-use Rattle.table_meaning.specs.Settled.{IsSettled}
-use Rattle.table_meaning.specs.Table.{table_value}
-use Rattle.method_meaning.specs.Levels.{level_label}
-use Rattle.method_meaning.specs.Methods.{as_frame}
-use Rattle.frame_store.specs.Shown.{headings_value}
+use Rattle.{
+  std.{proofs.Common.{◌≡◌, map, Some}, specs.List.{range_with_len}},
+  meaning.specs.Cell.{IsLonger},
+  table_meaning.specs.{Settled.{IsSettled}, Table.{table_value}},
+  method_meaning.specs.{Levels.{level_label}, Methods.{as_frame}},
+  frame_store.specs.Shown.{headings_value},
+}
 use Rattle.label_methods.proofs.resetting.level_labels.Given as goal
 
 -- the labels of the levels so far

@@ -1,10 +1,11 @@
-use Rattle.std.proofs.Common.{◌∙◌, ap, sym}
-use Rattle.std.specs.Prelude.{unwrap_or}
-use Rattle.meaning.specs.Cell.{text}
-use Rattle.table_meaning.specs.Table.{heading_value}
-use Rattle.method_meaning.specs.Levels.{numbered_label}
-use Rattle.form_parts.proofs.LabelLaws.{heading_label}
-use Rattle.label_methods.proofs.ResetLaws.{text_seen, text_settled}
+use Rattle.{
+  std.{proofs.Common.{◌∙◌, ap, sym}, specs.Prelude.{unwrap_or}},
+  meaning.specs.Cell.{text},
+  table_meaning.specs.Table.{heading_value},
+  method_meaning.specs.Levels.{numbered_label},
+  form_parts.proofs.LabelLaws.{heading_label},
+  label_methods.proofs.ResetLaws.{text_seen, text_settled},
+}
 use Rattle.label_methods.proofs.resetting.nameless_label.Goals as goal
 
 pub returns-in-Some-clause-given : goal.returns-in-Some-clause-given

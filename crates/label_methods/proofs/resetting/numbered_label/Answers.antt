@@ -1,6 +1,4 @@
-use Rattle.std.proofs.Common.{◌≡◌, ◌++◌, ap, sym, arith}
-use Rattle.std.specs.Prelude.{codes, decimal}
-use Rattle.std.specs.Fmt.{digits}
+use Rattle.std.{proofs.Common.{◌≡◌, ◌++◌, ap, sym, arith}, specs.{Prelude.{codes, decimal}, Fmt.{digits}}}
 use Rattle.label_methods.proofs.resetting.numbered_label.Goals as goal
 
 pub returns-in-0 : goal.returns-in-0

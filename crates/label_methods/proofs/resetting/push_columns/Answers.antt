@@ -1,6 +1,8 @@
-use Rattle.std.proofs.Common.{◌∙◌, ◌<◌, ◌++◌, ◌∷◌, [], ap, length, arith}
-use Rattle.column_core.specs.Columns.{CellColumn}
-use Rattle.label_methods.proofs.ResetLaws.{one_more_column, one_more_single}
+use Rattle.{
+  std.proofs.Common.{◌∙◌, ◌<◌, ◌++◌, ◌∷◌, [], ap, length, arith},
+  column_core.specs.Columns.{CellColumn},
+  label_methods.proofs.ResetLaws.{one_more_column, one_more_single},
+}
 use Rattle.label_methods.proofs.resetting.push_columns.Goals as goal
 
 pub loop-place-preserved : goal.loop-place-preserved

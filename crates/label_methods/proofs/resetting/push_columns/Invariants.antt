@@ -1,5 +1,7 @@
-use Rattle.std.proofs.Common.{◌≡◌, ◌++◌, map, take, All}
-use Rattle.frame_store.specs.Parts.{block_column, IsSingle}
+use Rattle.{
+  std.proofs.Common.{◌≡◌, ◌++◌, map, take, All},
+  frame_store.specs.Parts.{block_column, IsSingle},
+}
 use Rattle.label_methods.proofs.resetting.push_columns.Given as goal
 
 -- the columns so far

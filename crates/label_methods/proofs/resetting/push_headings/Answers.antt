@@ -1,5 +1,7 @@
-use Rattle.std.proofs.Common.{◌<◌, length, arith}
-use Rattle.label_methods.proofs.ResetLaws.{one_more_heading}
+use Rattle.{
+  std.proofs.Common.{◌<◌, length, arith},
+  label_methods.proofs.ResetLaws.{one_more_heading},
+}
 use Rattle.label_methods.proofs.resetting.push_headings.Goals as goal
 
 pub loop-place-preserved : goal.loop-place-preserved

@@ -1,5 +1,7 @@
-use Rattle.std.proofs.Common.{◌≡◌, ◌++◌, take}
-use Rattle.label_methods.specs.Resets.{frame_headings}
+use Rattle.{
+  std.proofs.Common.{◌≡◌, ◌++◌, take},
+  label_methods.specs.Resets.{frame_headings},
+}
 use Rattle.label_methods.proofs.resetting.push_headings.Given as goal
 
 -- the labels of the columns so far

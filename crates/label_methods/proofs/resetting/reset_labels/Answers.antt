@@ -1,6 +1,8 @@
-use Rattle.table_meaning.specs.Table.{table_value}
-use Rattle.frame_store.proofs.Settling.{settled_later}
-use Rattle.label_methods.proofs.ResetLaws.{labels_given, labels_meant}
+use Rattle.{
+  table_meaning.specs.Table.{table_value},
+  frame_store.proofs.Settling.{settled_later},
+  label_methods.proofs.ResetLaws.{labels_given, labels_meant},
+}
 use Rattle.label_methods.proofs.resetting.reset_labels.Goals as goal
 
 pub returns-clause-given : goal.returns-clause-given

@@ -1,16 +1,13 @@
-use Rattle.std.proofs.Common.{◌∙◌, ap, sym, subst, length, All, List, Option, Result}
-use Rattle.std.specs.Prelude.{IsSome}
-use Rattle.std.proofs.lemmas.Result.{err_from_is_err_and}
-use Rattle.cell_core.specs.declared.cell.Label.{Label}
-use Rattle.meaning.specs.Fault.{FaultValue}
-use Rattle.table_meaning.specs.Table.{table_value}
-use Rattle.table_meaning.specs.Value.{Entry}
-use Rattle.form_meaning.specs.Finish.{finished}
-use Rattle.form_parts.specs.Makes.{blocks_value}
-use Rattle.frame_store.specs.Shown.{headings_value, Makes}
-use Rattle.frame_store.proofs.Settling.{settled_later}
-use Rattle.label_methods.specs.Resets.{reset_frame}
-use Rattle.label_methods.proofs.ResetTableLaws.{reset_refused, reset_made, reset_some, reset_count, columns_are}
+use Rattle.{
+  std.{proofs.{Common.{◌∙◌, ap, sym, subst, length, All, List, Option, Result}, lemmas.Result.{err_from_is_err_and}}, specs.Prelude.{IsSome}},
+  cell_core.specs.declared.cell.Label.{Label},
+  meaning.specs.Fault.{FaultValue},
+  table_meaning.specs.{Table.{table_value}, Value.{Entry}},
+  form_meaning.specs.Finish.{finished},
+  form_parts.specs.Makes.{blocks_value},
+  frame_store.{specs.Shown.{headings_value, Makes}, proofs.Settling.{settled_later}},
+  label_methods.{specs.Resets.{reset_frame}, proofs.ResetTableLaws.{reset_refused, reset_made, reset_some, reset_count, columns_are}},
+}
 use Rattle.label_methods.proofs.resetting.reset_levels.Goals as goal
 
 pub returns-in_err-blocks-clause-answer : goal.returns-in_err-blocks-clause-answer

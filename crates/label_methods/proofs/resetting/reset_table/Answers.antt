@@ -1,11 +1,11 @@
-use Rattle.std.proofs.Common.{◌≡◌, ◌∙◌, refl, true, false, length, rules}
-use Rattle.std.proofs.lemmas.Result.{err_from_is_err_and}
-use Rattle.table_meaning.specs.Table.{table_value}
-use Rattle.form_meaning.specs.Finish.{within_limits}
-use Rattle.form_parts.specs.Makes.{blocks_value}
-use Rattle.frame_store.specs.Shown.{headings_value}
-use Rattle.label_methods.specs.Resets.{reset_frame}
-use Rattle.label_methods.proofs.ResetTableLaws.{made_parts, parts_whole, parts_repeated, parts_beyond, parts_made}
+use Rattle.{
+  std.proofs.{Common.{◌≡◌, ◌∙◌, refl, true, false, length, rules}, lemmas.Result.{err_from_is_err_and}},
+  table_meaning.specs.Table.{table_value},
+  form_meaning.specs.Finish.{within_limits},
+  form_parts.specs.Makes.{blocks_value},
+  frame_store.specs.Shown.{headings_value},
+  label_methods.{specs.Resets.{reset_frame}, proofs.ResetTableLaws.{made_parts, parts_whole, parts_repeated, parts_beyond, parts_made}},
+}
 use Rattle.label_methods.proofs.resetting.reset_table.Goals as goal
 
 pub returns-in_err-headings : goal.returns-in_err-headings

@@ -1,6 +1,8 @@
-use Rattle.std.proofs.Common.{◌∙◌, ap, ◌<◌, ◌≤◌, ◌∷◌, [], length, arith}
-use Rattle.column_core.specs.Columns.{CellColumn}
-use Rattle.label_methods.proofs.UnderLaws.{one_more_column, one_more_single, all_columns}
+use Rattle.{
+  std.proofs.Common.{◌∙◌, ap, ◌<◌, ◌≤◌, ◌∷◌, [], length, arith},
+  column_core.specs.Columns.{CellColumn},
+  label_methods.proofs.UnderLaws.{one_more_column, one_more_single, all_columns},
+}
 use Rattle.label_methods.proofs.under.copied_columns.Goals as goal
 
 pub loop-k-preserved : goal.loop-k-preserved

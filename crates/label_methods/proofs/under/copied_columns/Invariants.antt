@@ -1,6 +1,8 @@
-use Rattle.std.proofs.Common.{◌≡◌, map, take, All}
-use Rattle.table_meaning.specs.Table.{column_at}
-use Rattle.frame_store.specs.Parts.{block_column, IsSingle}
+use Rattle.{
+  std.proofs.Common.{◌≡◌, map, take, All},
+  table_meaning.specs.Table.{column_at},
+  frame_store.specs.Parts.{block_column, IsSingle},
+}
 use Rattle.label_methods.proofs.under.copied_columns.Given as goal
 
 -- the columns so far

@@ -1,7 +1,8 @@
-use Rattle.std.proofs.Common.{◌∙◌, ◌<◌, ap, length, arith}
-use Rattle.std.proofs.lemmas.List.{length-set}
-use Rattle.multi_index.specs.Axes.{AxisValue}
-use Rattle.label_methods.proofs.UnderLaws.{next_name, all_names}
+use Rattle.{
+  std.proofs.{Common.{◌∙◌, ◌<◌, ap, length, arith}, lemmas.List.{length-set}},
+  multi_index.specs.Axes.{AxisValue},
+  label_methods.proofs.UnderLaws.{next_name, all_names},
+}
 use Rattle.label_methods.proofs.under.named_axis.Goals as goal
 
 pub loop-level-preserved : goal.loop-level-preserved

@@ -1,9 +1,11 @@
-use Rattle.std.proofs.Common.{◌∙◌, ap, sym, subst, length}
-use Rattle.cell_core.specs.declared.grid.Shape.{Shape}
-use Rattle.table_meaning.specs.Valid.{IsWhole}
-use Rattle.frame_store.specs.Parts.{table_of}
-use Rattle.selections.proofs.PickedLaws.{places_inside}
-use Rattle.label_methods.proofs.UnderLaws.{whole_under, table_under}
+use Rattle.{
+  std.proofs.Common.{◌∙◌, ap, sym, subst, length},
+  cell_core.specs.declared.grid.Shape.{Shape},
+  table_meaning.specs.Valid.{IsWhole},
+  frame_store.specs.Parts.{table_of},
+  selections.proofs.PickedLaws.{places_inside},
+  label_methods.proofs.UnderLaws.{whole_under, table_under},
+}
 use Rattle.label_methods.proofs.under.table_under_axis.Goals as goal
 
 pub copied_columns-requires : goal.copied_columns-requires

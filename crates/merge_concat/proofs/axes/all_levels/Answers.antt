@@ -1,8 +1,9 @@
-use Rattle.std.proofs.Common.{◌≡◌, ◌∙◌, ◌+◌, ◌-◌, ◌<◌, List, true, ap, subst, arith}
-use Rattle.cell_core.specs.declared.cell.Label.{Label}
-use Rattle.multi_index.specs.Axes.{AxisValue, HaveLevels, nameless_axis, single_tuples, with_level}
-use Rattle.merge_concat.specs.Axes.{levels_of_first, tuples_in}
-use Rattle.merge_concat.proofs.AxisLaws.{one_level, level_more, no_level}
+use Rattle.{
+  std.proofs.Common.{◌≡◌, ◌∙◌, ◌+◌, ◌-◌, ◌<◌, List, true, ap, subst, arith},
+  cell_core.specs.declared.cell.Label.{Label},
+  multi_index.specs.Axes.{AxisValue, HaveLevels, nameless_axis, single_tuples, with_level},
+  merge_concat.{specs.Axes.{levels_of_first, tuples_in}, proofs.AxisLaws.{one_level, level_more, no_level}},
+}
 use Rattle.merge_concat.proofs.axes.all_levels.Goals as goal
 
 pub loop-level-init : goal.loop-level-init

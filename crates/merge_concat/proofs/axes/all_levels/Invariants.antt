@@ -1,6 +1,8 @@
-use Rattle.std.proofs.Common.{◌≡◌, ◌<◌, ◌-◌, drop, map}
-use Rattle.multi_index.specs.Axes.{nameless_axis}
-use Rattle.merge_concat.specs.Axes.{levels_of_first, tuples_in}
+use Rattle.{
+  std.proofs.Common.{◌≡◌, ◌<◌, ◌-◌, drop, map},
+  multi_index.specs.Axes.{nameless_axis},
+  merge_concat.specs.Axes.{levels_of_first, tuples_in},
+}
 use Rattle.merge_concat.proofs.axes.all_levels.Given as goal
 
 -- the labels from a level on

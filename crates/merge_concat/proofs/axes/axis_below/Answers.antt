@@ -1,9 +1,9 @@
-use Rattle.std.proofs.Common.{◌∙◌, List, true, length, ap, sym, subst}
-use Rattle.std.proofs.lemmas.Result.{IfOk-weaker}
-use Rattle.cell_core.specs.declared.cell.Label.{Label}
-use Rattle.multi_index.specs.Axes.{AxisValue, nameless_axis, with_level}
-use Rattle.merge_concat.specs.Axes.{tuples_of_each, levels_of_first, tuples_below, levels_below, AreKeysOf}
-use Rattle.merge_concat.proofs.AxisLaws.{lists_of_axes, keyed, keys_as_many}
+use Rattle.{
+  std.proofs.{Common.{◌∙◌, List, true, length, ap, sym, subst}, lemmas.Result.{IfOk-weaker}},
+  cell_core.specs.declared.cell.Label.{Label},
+  multi_index.specs.Axes.{AxisValue, nameless_axis, with_level},
+  merge_concat.{specs.Axes.{tuples_of_each, levels_of_first, tuples_below, levels_below, AreKeysOf}, proofs.AxisLaws.{lists_of_axes, keyed, keys_as_many}},
+}
 use Rattle.merge_concat.proofs.axes.axis_below.Goals as goal
 
 pub returns-in_default : goal.returns-in_default

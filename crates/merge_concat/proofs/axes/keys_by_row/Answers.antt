@@ -1,8 +1,8 @@
-use Rattle.std.proofs.Common.{◌≡◌, ◌∙◌, ◌+◌, ◌<◌, ◌++◌, suc, false, [], length, take, replicate, slice_index_or, ap, sym, arith}
-use Rattle.std.proofs.lemmas.List.{length-map}
+use Rattle.{
+  std.proofs.{Common.{◌≡◌, ◌∙◌, ◌+◌, ◌<◌, ◌++◌, suc, false, [], length, take, replicate, slice_index_or, ap, sym, arith}, lemmas.List.{length-map}},
+  merge_concat.{specs.Axes.{tuples_of_each, keys_below}, proofs.AxisLaws.{keys_more, tuples_there}},
+}
 use Rattle.cell_core.specs.declared.cell.Label.TheVariants as label
-use Rattle.merge_concat.specs.Axes.{tuples_of_each, keys_below}
-use Rattle.merge_concat.proofs.AxisLaws.{keys_more, tuples_there}
 use Rattle.merge_concat.proofs.axes.keys_by_row.Goals as goal
 
 pub loop-place-preserved : goal.loop-place-preserved

@@ -1,6 +1,8 @@
-use Rattle.std.proofs.Common.{◌≡◌, take, map}
-use Rattle.row_keys.specs.Keys.{label_in}
-use Rattle.merge_concat.specs.Axes.{tuples_in}
+use Rattle.{
+  std.proofs.Common.{◌≡◌, take, map},
+  row_keys.specs.Keys.{label_in},
+  merge_concat.specs.Axes.{tuples_in},
+}
 use Rattle.merge_concat.proofs.axes.labels_at.Given as goal
 
 -- the labels of the axes so far

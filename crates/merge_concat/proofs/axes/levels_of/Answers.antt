@@ -1,9 +1,8 @@
-use Rattle.std.proofs.Common.{◌∙◌, ◌≤◌, List, length, ap, sym, subst, arith}
-use Rattle.std.specs.Borrow.{Bor}
-use Rattle.std.proofs.lemmas.List.{take_all}
-use Rattle.multi_index.specs.Axes.{AxisValue, HaveLevels}
-use Rattle.merge_concat.specs.Axes.{levels_of_first, tuples_in}
-use Rattle.merge_concat.proofs.AxisLaws.{levels_more}
+use Rattle.{
+  std.{proofs.{Common.{◌∙◌, ◌≤◌, List, length, ap, sym, subst, arith}, lemmas.List.{take_all}}, specs.Borrow.{Bor}},
+  multi_index.specs.Axes.{AxisValue, HaveLevels},
+  merge_concat.{specs.Axes.{levels_of_first, tuples_in}, proofs.AxisLaws.{levels_more}},
+}
 use Rattle.merge_concat.proofs.axes.levels_of.Goals as goal
 
 pub loop-axis-preserved : goal.loop-axis-preserved

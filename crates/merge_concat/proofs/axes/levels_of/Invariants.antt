@@ -1,6 +1,8 @@
-use Rattle.std.proofs.Common.{◌≡◌, ◌≤◌, take}
-use Rattle.multi_index.specs.Axes.{HaveLevels}
-use Rattle.merge_concat.specs.Axes.{levels_of_first, tuples_in}
+use Rattle.{
+  std.proofs.Common.{◌≡◌, ◌≤◌, take},
+  multi_index.specs.Axes.{HaveLevels},
+  merge_concat.specs.Axes.{levels_of_first, tuples_in},
+}
 use Rattle.merge_concat.proofs.axes.levels_of.Given as goal
 
 -- the axes so far have these levels

@@ -1,5 +1,7 @@
-use Rattle.std.proofs.Common.{◌∙◌, ◌++◌, ◌∷◌, [], replicate, ap, append_assoc}
-use Rattle.merge_concat.proofs.AxisLaws.{times_more}
+use Rattle.{
+  std.proofs.Common.{◌∙◌, ◌++◌, ◌∷◌, [], replicate, ap, append_assoc},
+  merge_concat.proofs.AxisLaws.{times_more},
+}
 use Rattle.merge_concat.proofs.axes.push_times.Goals as goal
 
 pub loop-preserved : goal.loop-preserved

@@ -1,8 +1,7 @@
-use Rattle.std.proofs.Common.{◌∙◌, length, ap, sym, arith}
-use Rattle.std.proofs.lemmas.List.Folds.{length-flat_map-take}
-use Rattle.std.proofs.lemmas.List.Concat.{length-flat_map}
-use Rattle.merge_concat.specs.Parts.{part_cells}
-use Rattle.merge_concat.proofs.GrowLaws.{rows_counted}
+use Rattle.{
+  std.proofs.{Common.{◌∙◌, length, ap, sym, arith}, lemmas.List.{Folds.{length-flat_map-take}, Concat.{length-flat_map}}},
+  merge_concat.{specs.Parts.{part_cells}, proofs.GrowLaws.{rows_counted}},
+}
 use Rattle.merge_concat.proofs.below.column_of.Goals as goal
 
 pub with_part-requires-clause-few : goal.with_part-requires-clause-few

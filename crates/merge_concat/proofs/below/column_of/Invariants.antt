@@ -1,6 +1,7 @@
-use Rattle.std.proofs.Common.{◌≡◌, take}
-use Rattle.merge_concat.specs.Growing.{cells_of_rows}
-use Rattle.merge_concat.specs.Parts.{cells_below}
+use Rattle.{
+  std.proofs.Common.{◌≡◌, take},
+  merge_concat.specs.{Growing.{cells_of_rows}, Parts.{cells_below}},
+}
 use Rattle.merge_concat.proofs.below.column_of.Given as goal
 
 -- the cells of the parts so far

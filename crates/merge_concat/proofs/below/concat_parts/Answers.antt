@@ -1,5 +1,7 @@
-use Rattle.std.proofs.Common.{◌∙◌, sym, arith}
-use Rattle.merge_concat.proofs.BelowLaws.{is_mixed, is_too_large, is_made, parts_at_kind}
+use Rattle.{
+  std.proofs.Common.{◌∙◌, sym, arith},
+  merge_concat.proofs.BelowLaws.{is_mixed, is_too_large, is_made, parts_at_kind},
+}
 use Rattle.merge_concat.proofs.below.concat_parts.Goals as goal
 
 pub returns-in_default : goal.returns-in_default

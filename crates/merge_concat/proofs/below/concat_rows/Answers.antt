@@ -1,10 +1,10 @@
-use Rattle.std.proofs.Common.{◌∙◌, sym, ap, subst, map}
-use Rattle.std.proofs.lemmas.Simd.{map-map}
-use Rattle.cell_core.specs.declared.cell.Kind.TheVariants.{Int64}
-use Rattle.column_core.specs.Columns.{column_value}
-use Rattle.join_meaning.specs.Concat.{rows_concatenated}
-use Rattle.merge_concat.specs.Concats.{ConcatsBy}
-use Rattle.merge_concat.specs.Parts.{part_column}
+use Rattle.{
+  std.proofs.{Common.{◌∙◌, sym, ap, subst, map}, lemmas.Simd.{map-map}},
+  cell_core.specs.declared.cell.Kind.TheVariants.{Int64},
+  column_core.specs.Columns.{column_value},
+  join_meaning.specs.Concat.{rows_concatenated},
+  merge_concat.specs.{Concats.{ConcatsBy}, Parts.{part_column}},
+}
 use Rattle.merge_concat.proofs.below.concat_rows.Goals as goal
 
 pub returns : goal.returns

@@ -1,5 +1,7 @@
-use Rattle.std.proofs.Common.{◌≡◌, ◌≤◌, take}
-use Rattle.merge_concat.specs.Parts.{count_below}
+use Rattle.{
+  std.proofs.Common.{◌≡◌, ◌≤◌, take},
+  merge_concat.specs.Parts.{count_below},
+}
 use Rattle.merge_concat.proofs.below.count_of.Given as goal
 
 -- the cells so far are few

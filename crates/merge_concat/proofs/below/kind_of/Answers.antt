@@ -1,9 +1,8 @@
-use Rattle.std.proofs.Common.{◌∙◌, ◌-◌, length, take, drop, sym, ap, true, Some}
-use Rattle.std.specs.List.{list_all}
-use Rattle.std.proofs.lemmas.List.{take_all}
-use Rattle.join_meaning.specs.Concat.{same_kind}
-use Rattle.merge_concat.specs.Parts.{part_kind}
-use Rattle.merge_concat.proofs.BelowLaws.{kind_told}
+use Rattle.{
+  std.{proofs.{Common.{◌∙◌, ◌-◌, length, take, drop, sym, ap, true, Some}, lemmas.List.{take_all}}, specs.List.{list_all}},
+  join_meaning.specs.Concat.{same_kind},
+  merge_concat.{specs.Parts.{part_kind}, proofs.BelowLaws.{kind_told}},
+}
 use Rattle.merge_concat.proofs.below.kind_of.Goals as goal
 
 pub returns : goal.returns

@@ -1,7 +1,8 @@
-use Rattle.std.proofs.Common.{◌≡◌, take, true}
-use Rattle.std.specs.List.{list_all}
-use Rattle.join_meaning.specs.Concat.{same_kind}
-use Rattle.merge_concat.specs.Parts.{part_kind}
+use Rattle.{
+  std.{proofs.Common.{◌≡◌, take, true}, specs.List.{list_all}},
+  join_meaning.specs.Concat.{same_kind},
+  merge_concat.specs.Parts.{part_kind},
+}
 use Rattle.merge_concat.proofs.below.kind_of.Given as goal
 
 -- the parts so far have the kind of the first

@@ -1,6 +1,8 @@
-use Rattle.std.proofs.Common.{◌≡◌, take, map}
-use Rattle.cell_core.specs.declared.cell.Kind.TheVariants.{Int64}
-use Rattle.merge_concat.specs.Parts.{part_column}
+use Rattle.{
+  std.proofs.Common.{◌≡◌, take, map},
+  cell_core.specs.declared.cell.Kind.TheVariants.{Int64},
+  merge_concat.specs.Parts.{part_column},
+}
 use Rattle.merge_concat.proofs.below.parts_of.Given as goal
 
 -- the parts so far

@@ -1,6 +1,7 @@
-use Rattle.std.proofs.Common.{◌∙◌, ◌++◌}
-use Rattle.std.proofs.lemmas.Result.{IfOk-weaker}
-use Rattle.merge_concat.proofs.UnitedLaws.{different_at, different_there}
+use Rattle.{
+  std.proofs.{Common.{◌∙◌, ◌++◌}, lemmas.Result.{IfOk-weaker}},
+  merge_concat.proofs.UnitedLaws.{different_at, different_there},
+}
 use Rattle.merge_concat.proofs.beside.different.Goals as goal
 
 pub tuples_at-requires : goal.tuples_at-requires

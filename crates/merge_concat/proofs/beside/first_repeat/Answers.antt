@@ -1,11 +1,10 @@
-use Rattle.std.proofs.Common.{◌≡◌, ◌∙◌, ◌+◌, ◌<◌, suc, [], length, take, ap, sym, arith}
-use Rattle.std.proofs.lemmas.List.{length-map}
-use Rattle.align_meaning.specs.Targets.{first_repeated}
-use Rattle.join_meaning.specs.Concat.{repeated_on_any}
-use Rattle.row_keys.specs.Keys.{same_tuple}
-use Rattle.merge_concat.specs.Axes.{tuples_of_each}
-use Rattle.merge_concat.proofs.AxisLaws.{tuples_there}
-use Rattle.merge_concat.proofs.UnitedLaws.{none_more, told_at}
+use Rattle.{
+  std.proofs.{Common.{◌≡◌, ◌∙◌, ◌+◌, ◌<◌, suc, [], length, take, ap, sym, arith}, lemmas.List.{length-map}},
+  align_meaning.specs.Targets.{first_repeated},
+  join_meaning.specs.Concat.{repeated_on_any},
+  row_keys.specs.Keys.{same_tuple},
+  merge_concat.{specs.Axes.{tuples_of_each}, proofs.{AxisLaws.{tuples_there}, UnitedLaws.{none_more, told_at}}},
+}
 use Rattle.merge_concat.proofs.beside.first_repeat.Goals as goal
 
 pub returns-in-Some : goal.returns-in-Some

@@ -1,7 +1,9 @@
-use Rattle.std.proofs.Common.{◌≡◌, take, None}
-use Rattle.join_meaning.specs.Concat.{repeated_on_any}
-use Rattle.row_keys.specs.Keys.{same_tuple}
-use Rattle.merge_concat.specs.Axes.{tuples_of_each}
+use Rattle.{
+  std.proofs.Common.{◌≡◌, take, None},
+  join_meaning.specs.Concat.{repeated_on_any},
+  row_keys.specs.Keys.{same_tuple},
+  merge_concat.specs.Axes.{tuples_of_each},
+}
 use Rattle.merge_concat.proofs.beside.first_repeat.Given as goal
 
 -- no tuple repeats on the axes so far

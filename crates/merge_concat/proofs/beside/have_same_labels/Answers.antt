@@ -1,8 +1,7 @@
-use Rattle.std.proofs.Common.{◌∙◌, ◌-◌, ◌&&◌, length, take, drop, slice_index_or, sym, ap, true, false}
-use Rattle.std.specs.List.{list_all}
-use Rattle.std.proofs.lemmas.List.{take_all}
-use Rattle.std.proofs.lemmas.List.Folds.{list_all_at, list_all_more}
-use Rattle.merge_concat.proofs.EqualLaws.{has_labels_of, labels_told, equal_told}
+use Rattle.{
+  std.{proofs.{Common.{◌∙◌, ◌-◌, ◌&&◌, length, take, drop, slice_index_or, sym, ap, true, false}, lemmas.List.{take_all, Folds.{list_all_at, list_all_more}}}, specs.List.{list_all}},
+  merge_concat.proofs.EqualLaws.{has_labels_of, labels_told, equal_told},
+}
 use Rattle.merge_concat.proofs.beside.have_same_labels.Goals as goal
 
 pub loop-other-preserved : goal.loop-other-preserved

@@ -1,6 +1,7 @@
-use Rattle.std.proofs.Common.{◌≡◌, take, true}
-use Rattle.std.specs.List.{list_all}
-use Rattle.merge_concat.proofs.EqualLaws.{has_labels_of}
+use Rattle.{
+  std.{proofs.Common.{◌≡◌, take, true}, specs.List.{list_all}},
+  merge_concat.proofs.EqualLaws.{has_labels_of},
+}
 use Rattle.merge_concat.proofs.beside.have_same_labels.Given as goal
 
 -- the axes so far have the labels of the first

@@ -1,6 +1,7 @@
-use Rattle.std.proofs.Common.{◌∙◌, ◌<◌, ◌++◌, ◌∷◌, [], length, ap, sym, arith}
-use Rattle.merge_concat.proofs.UnitedLaws.{one_kept, none_kept}
-use Rattle.merge_concat.proofs.beside.those_on.Goals.{then-not-is_empty+in_ok-push, else-not-is_empty}
+use Rattle.{
+  std.proofs.Common.{◌∙◌, ◌<◌, ◌++◌, ◌∷◌, [], length, ap, sym, arith},
+  merge_concat.proofs.{UnitedLaws.{one_kept, none_kept}, beside.those_on.Goals.{then-not-is_empty+in_ok-push, else-not-is_empty}},
+}
 use Rattle.merge_concat.proofs.beside.those_on.Goals as goal
 
 pub loop-row-preserved : goal.loop-row-preserved

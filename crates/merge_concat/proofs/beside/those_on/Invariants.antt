@@ -1,6 +1,7 @@
-use Rattle.std.proofs.Common.{◌≡◌, take}
-use Rattle.std.specs.List.{filter, list_any}
-use Rattle.row_keys.specs.Keys.{same_tuple}
+use Rattle.{
+  std.{proofs.Common.{◌≡◌, take}, specs.List.{filter, list_any}},
+  row_keys.specs.Keys.{same_tuple},
+}
 use Rattle.merge_concat.proofs.beside.those_on.Given as goal
 
 -- those of the tuples so far

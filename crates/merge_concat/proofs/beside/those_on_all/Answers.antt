@@ -1,15 +1,11 @@
-use Rattle.std.proofs.Common.{◌≡◌, ◌∙◌, ◌+◌, ◌<◌, ◌&&◌, List, [], length, take, ap, sym, subst, arith}
-use Rattle.std.specs.List.{filter, list_any, list_all}
-use Rattle.std.proofs.lemmas.List.{length-map}
-use Rattle.std.proofs.lemmas.List.Folds.{list_all_more}
-use Rattle.std.proofs.lemmas.List.Elements.{All-filter}
-use Rattle.cell_core.specs.declared.cell.Label.{Label}
-use Rattle.multi_index.specs.Axes.{HaveLevels}
-use Rattle.row_keys.specs.Keys.{same_tuple}
-use Rattle.merge_concat.specs.Axes.{tuples_of_each}
-use Rattle.merge_concat.proofs.AxisLaws.{tuples_there}
-use Rattle.factorize.proofs.NumberLaws.{filter_all}
-use Rattle.merge_concat.proofs.UnitedLaws.{both_pass}
+use Rattle.{
+  std.{proofs.{Common.{◌≡◌, ◌∙◌, ◌+◌, ◌<◌, ◌&&◌, List, [], length, take, ap, sym, subst, arith}, lemmas.List.{length-map, Folds.{list_all_more}, Elements.{All-filter}}}, specs.List.{filter, list_any, list_all}},
+  cell_core.specs.declared.cell.Label.{Label},
+  multi_index.specs.Axes.{HaveLevels},
+  row_keys.specs.Keys.{same_tuple},
+  merge_concat.{specs.Axes.{tuples_of_each}, proofs.{AxisLaws.{tuples_there}, UnitedLaws.{both_pass}}},
+  factorize.proofs.NumberLaws.{filter_all},
+}
 use Rattle.merge_concat.proofs.beside.those_on_all.Goals as goal
 
 pub loop-other-init : goal.loop-other-init

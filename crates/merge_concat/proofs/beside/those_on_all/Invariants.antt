@@ -1,8 +1,9 @@
-use Rattle.std.proofs.Common.{◌≡◌, take}
-use Rattle.std.specs.List.{filter, list_any, list_all}
-use Rattle.multi_index.specs.Axes.{HaveLevels}
-use Rattle.row_keys.specs.Keys.{same_tuple}
-use Rattle.merge_concat.specs.Axes.{tuples_of_each}
+use Rattle.{
+  std.{proofs.Common.{◌≡◌, take}, specs.List.{filter, list_any, list_all}},
+  multi_index.specs.Axes.{HaveLevels},
+  row_keys.specs.Keys.{same_tuple},
+  merge_concat.specs.Axes.{tuples_of_each},
+}
 use Rattle.merge_concat.proofs.beside.those_on_all.Given as goal
 
 -- the tuples that stand on the axes so far

@@ -1,6 +1,4 @@
-use Rattle.std.proofs.Common.{◌∙◌, ◌<◌, ◌++◌, ◌∷◌, [], length, take, ap, sym, arith}
-use Rattle.std.proofs.lemmas.List.{take_more}
-use Rattle.std.proofs.lemmas.Option.{get_or_from_slice_get}
+use Rattle.std.proofs.{Common.{◌∙◌, ◌<◌, ◌++◌, ◌∷◌, [], length, take, ap, sym, arith}, lemmas.{List.{take_more}, Option.{get_or_from_slice_get}}}
 use Rattle.merge_concat.proofs.beside.tuples_of.Goals as goal
 
 pub loop-row-preserved : goal.loop-row-preserved

@@ -1,11 +1,11 @@
-use Rattle.std.proofs.Common.{◌∙◌, ap, sym}
-use Rattle.std.proofs.lemmas.Result.{IfOk-weaker}
-use Rattle.meaning.specs.Reduce.{distinct}
-use Rattle.join_meaning.specs.Concat.{united}
-use Rattle.multi_index.specs.Axes.{AxisValue}
-use Rattle.row_keys.specs.Keys.{same_tuple}
-use Rattle.merge_concat.specs.Axes.{tuples_of_each}
-use Rattle.merge_concat.proofs.UnitedLaws.{united_any}
+use Rattle.{
+  std.proofs.{Common.{◌∙◌, ap, sym}, lemmas.Result.{IfOk-weaker}},
+  meaning.specs.Reduce.{distinct},
+  join_meaning.specs.Concat.{united},
+  multi_index.specs.Axes.{AxisValue},
+  row_keys.specs.Keys.{same_tuple},
+  merge_concat.{specs.Axes.{tuples_of_each}, proofs.UnitedLaws.{united_any}},
+}
 use Rattle.merge_concat.proofs.beside.union_of.Goals as goal
 
 pub returns : goal.returns

@@ -1,7 +1,7 @@
-use Rattle.std.proofs.Common.{◌∙◌, ◌++◌, ap}
-use Rattle.std.proofs.lemmas.Result.{IfOk-weaker}
-use Rattle.merge_concat.specs.Growing.{cells_of_rows}
-use Rattle.merge_concat.proofs.GrowLaws.{side_cells}
+use Rattle.{
+  std.proofs.{Common.{◌∙◌, ◌++◌, ap}, lemmas.Result.{IfOk-weaker}},
+  merge_concat.{specs.Growing.{cells_of_rows}, proofs.GrowLaws.{side_cells}},
+}
 use Rattle.merge_concat.proofs.growing.with_lane.Goals as goal
 
 pub returns-in-Some : goal.returns-in-Some

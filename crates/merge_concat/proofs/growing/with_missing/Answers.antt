@@ -1,7 +1,7 @@
-use Rattle.std.proofs.Common.{◌∙◌, ◌+◌, ◌++◌, replicate, false, ap, arith}
-use Rattle.std.specs.Vec.{vec_len}
-use Rattle.merge_concat.specs.Growing.{cells_of_values, cells_of_rows}
-use Rattle.merge_concat.proofs.GrowLaws.{cells_append, cells_missing, resized}
+use Rattle.{
+  std.{proofs.Common.{◌∙◌, ◌+◌, ◌++◌, replicate, false, ap, arith}, specs.Vec.{vec_len}},
+  merge_concat.{specs.Growing.{cells_of_values, cells_of_rows}, proofs.GrowLaws.{cells_append, cells_missing, resized}},
+}
 use Rattle.merge_concat.proofs.growing.with_missing.Goals as goal
 
 pub returns : goal.returns

@@ -1,7 +1,8 @@
-use Rattle.std.proofs.Common.{subst}
-use Rattle.column_core.specs.Lanes.{lane_row, IsPushed}
-use Rattle.merge_concat.specs.Growing.{cells_of_rows}
-use Rattle.merge_concat.proofs.GrowLaws.{one_row_more}
+use Rattle.{
+  std.proofs.Common.{subst},
+  column_core.specs.Lanes.{lane_row, IsPushed},
+  merge_concat.{specs.Growing.{cells_of_rows}, proofs.GrowLaws.{one_row_more}},
+}
 use Rattle.merge_concat.proofs.growing.with_rows.Goals as goal
 
 pub loop-row-preserved : goal.loop-row-preserved

@@ -1,7 +1,9 @@
-use Rattle.std.proofs.Common.{◌≡◌, ◌++◌}
-use Rattle.meaning.specs.Column.{tabulate}
-use Rattle.column_core.specs.Lanes.{lane_row}
-use Rattle.merge_concat.specs.Growing.{cells_of_rows}
+use Rattle.{
+  std.proofs.Common.{◌≡◌, ◌++◌},
+  meaning.specs.Column.{tabulate},
+  column_core.specs.Lanes.{lane_row},
+  merge_concat.specs.Growing.{cells_of_rows},
+}
 use Rattle.merge_concat.proofs.growing.with_rows.Given as goal
 
 -- the lane's rows so far stand behind the others

@@ -1,6 +1,7 @@
-use Rattle.std.proofs.Common.{◌∙◌}
-use Rattle.merge_concat.specs.Growing.{cells_of_values}
-use Rattle.merge_concat.proofs.GrowLaws.{cells_append}
+use Rattle.{
+  std.proofs.Common.{◌∙◌},
+  merge_concat.{specs.Growing.{cells_of_values}, proofs.GrowLaws.{cells_append}},
+}
 use Rattle.merge_concat.proofs.growing.with_side.Goals as goal
 
 pub returns : goal.returns

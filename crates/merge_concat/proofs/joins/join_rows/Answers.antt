@@ -1,8 +1,8 @@
-use Rattle.std.proofs.Common.{◌∙◌, sym, subst}
-use Rattle.join_meaning.specs.Pairs.{within_limit}
-use Rattle.merge_concat.specs.Codes.{code_pairs}
-use Rattle.merge_concat.specs.Pairs.{JoinsBy}
-use Rattle.merge_concat.proofs.JoinLaws.{few_left, few_right, left_below, right_below, refused_left, refused_right, allowed, law_of}
+use Rattle.{
+  std.proofs.Common.{◌∙◌, sym, subst},
+  join_meaning.specs.Pairs.{within_limit},
+  merge_concat.{specs.{Codes.{code_pairs}, Pairs.{JoinsBy}}, proofs.JoinLaws.{few_left, few_right, left_below, right_below, refused_left, refused_right, allowed, law_of}},
+}
 use Rattle.merge_concat.proofs.joins.join_rows.Goals as goal
 
 pub of-lefts-requires : goal.of-lefts-requires

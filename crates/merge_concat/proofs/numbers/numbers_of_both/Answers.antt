@@ -1,6 +1,8 @@
-use Rattle.std.proofs.Common.{◌∙◌, ◌++◌, map}
-use Rattle.row_keys.specs.Keys.{place_among, same_tuple}
-use Rattle.merge_concat.specs.Codes.{keys_of}
+use Rattle.{
+  std.proofs.Common.{◌∙◌, ◌++◌, map},
+  row_keys.specs.Keys.{place_among, same_tuple},
+  merge_concat.specs.Codes.{keys_of},
+}
 use Rattle.merge_concat.proofs.numbers.numbers_of_both.Goals as goal
 
 pub returns-clause-codes : goal.returns-clause-codes

@@ -1,9 +1,9 @@
-use Rattle.std.proofs.Common.{◌≡◌, ◌∙◌, ◌+◌, ◌*◌, ◌<◌, ℕ, List, ap, sym, max, length, arith, inl, inr}
-use Rattle.std.proofs.lemmas.Bool.{cases_lt}
-use Rattle.align_meaning.specs.Joins.{most_rows}
-use Rattle.row_keys.specs.Buckets.{rows_of_code}
-use Rattle.merge_concat.specs.Codes.{count_of, counted_by_key}
-use Rattle.merge_concat.proofs.CountLaws.{counted_more, counted_within}
+use Rattle.{
+  std.proofs.{Common.{◌≡◌, ◌∙◌, ◌+◌, ◌*◌, ◌<◌, ℕ, List, ap, sym, max, length, arith, inl, inr}, lemmas.Bool.{cases_lt}},
+  align_meaning.specs.Joins.{most_rows},
+  row_keys.specs.Buckets.{rows_of_code},
+  merge_concat.{specs.Codes.{count_of, counted_by_key}, proofs.CountLaws.{counted_more, counted_within}},
+}
 use Rattle.merge_concat.proofs.pairs.count_by_key.Goals as goal
 
 pub returns-in_default : goal.returns-in_default

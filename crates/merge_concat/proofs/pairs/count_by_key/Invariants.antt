@@ -1,5 +1,7 @@
-use Rattle.std.proofs.Common.{◌≡◌, ◌≤◌}
-use Rattle.merge_concat.specs.Codes.{counted_by_key}
+use Rattle.{
+  std.proofs.Common.{◌≡◌, ◌≤◌},
+  merge_concat.specs.Codes.{counted_by_key},
+}
 use Rattle.merge_concat.proofs.pairs.count_by_key.Given as goal
 
 -- the pairs so far are few

@@ -1,5 +1,7 @@
-use Rattle.std.proofs.Common.{◌≡◌, ◌≤◌, take}
-use Rattle.merge_concat.specs.Codes.{counted_by_row}
+use Rattle.{
+  std.proofs.Common.{◌≡◌, ◌≤◌, take},
+  merge_concat.specs.Codes.{counted_by_row},
+}
 use Rattle.merge_concat.proofs.pairs.count_by_row.Given as goal
 
 -- the pairs so far are few

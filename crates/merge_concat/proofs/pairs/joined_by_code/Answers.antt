@@ -1,8 +1,8 @@
-use Rattle.std.proofs.Common.{sym, subst, true, nat_eq}
-use Rattle.join_meaning.specs.Pairs.{pairs_from, within_limit}
-use Rattle.merge_concat.specs.Codes.{code_pairs}
-use Rattle.merge_concat.specs.Pairs.{IsJoined}
-use Rattle.merge_concat.proofs.CountLaws.{exchanged_joined}
+use Rattle.{
+  std.proofs.Common.{sym, subst, true, nat_eq},
+  join_meaning.specs.Pairs.{pairs_from, within_limit},
+  merge_concat.{specs.{Codes.{code_pairs}, Pairs.{IsJoined}}, proofs.CountLaws.{exchanged_joined}},
+}
 use Rattle.merge_concat.proofs.pairs.joined_by_code.Goals as goal
 
 pub returns-in_ok-joined_by_row-in-Right : goal.returns-in_ok-joined_by_row-in-Right

@@ -1,7 +1,8 @@
-use Rattle.std.proofs.Common.{◌∙◌, sym}
-use Rattle.join_meaning.specs.Pairs.{within_limit}
-use Rattle.merge_concat.specs.Codes.{outer_pairs, counted_by_key}
-use Rattle.merge_concat.proofs.CountLaws.{length-outer, too_many, few_enough}
+use Rattle.{
+  std.proofs.Common.{◌∙◌, sym},
+  join_meaning.specs.Pairs.{within_limit},
+  merge_concat.{specs.Codes.{outer_pairs, counted_by_key}, proofs.CountLaws.{length-outer, too_many, few_enough}},
+}
 use Rattle.merge_concat.proofs.pairs.joined_by_key.Goals as goal
 
 pub returns : goal.returns

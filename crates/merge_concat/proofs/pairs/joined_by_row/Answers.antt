@@ -1,7 +1,8 @@
-use Rattle.std.proofs.Common.{◌∙◌, ap, sym, nat_eq}
-use Rattle.join_meaning.specs.Pairs.{pairs_from, within_limit}
-use Rattle.merge_concat.specs.Codes.{counted_by_row}
-use Rattle.merge_concat.proofs.CountLaws.{length-from, too_many, few_enough}
+use Rattle.{
+  std.proofs.Common.{◌∙◌, ap, sym, nat_eq},
+  join_meaning.specs.Pairs.{pairs_from, within_limit},
+  merge_concat.{specs.Codes.{counted_by_row}, proofs.CountLaws.{length-from, too_many, few_enough}},
+}
 use Rattle.merge_concat.proofs.pairs.joined_by_row.Goals as goal
 
 pub returns : goal.returns

@@ -1,7 +1,7 @@
-use Rattle.std.proofs.Common.{◌≡◌, sym, subst, arith}
-use Rattle.merge_concat.specs.Codes.{outer_pairs, pairs_of}
-use Rattle.merge_concat.specs.Pairs.{ArePairs, AreListed, HasMore}
-use Rattle.merge_concat.proofs.PairLaws.{outer_more, pairs_more, pairs_listed}
+use Rattle.{
+  std.proofs.Common.{◌≡◌, sym, subst, arith},
+  merge_concat.{specs.{Codes.{outer_pairs, pairs_of}, Pairs.{ArePairs, AreListed, HasMore}}, proofs.PairLaws.{outer_more, pairs_more, pairs_listed}},
+}
 use Rattle.merge_concat.proofs.pairs.pairs_by_key.Goals as goal
 
 pub loop-code-preserved : goal.loop-code-preserved

@@ -1,5 +1,4 @@
-use Rattle.merge_concat.specs.Codes.{outer_pairs}
-use Rattle.merge_concat.specs.Pairs.{AreListed}
+use Rattle.merge_concat.specs.{Codes.{outer_pairs}, Pairs.{AreListed}}
 use Rattle.merge_concat.proofs.pairs.pairs_by_key.Given as goal
 
 -- the pairs of the numbers so far

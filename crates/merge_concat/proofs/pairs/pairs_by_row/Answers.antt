@@ -1,9 +1,9 @@
-use Rattle.std.proofs.Common.{◌≤◌, ◌<◌, ◌∙◌, ap, sym, subst, length, map, take, nat_eq, Some, arith}
-use Rattle.std.proofs.lemmas.List.{take_all}
-use Rattle.join_meaning.specs.Pairs.{pair, partners, pairs_from}
-use Rattle.row_keys.specs.Buckets.{rows_of_code}
-use Rattle.merge_concat.specs.Pairs.{ArePairs, AreListed, HasMore}
-use Rattle.merge_concat.proofs.PairLaws.{from_more, pairs_more, pairs_listed}
+use Rattle.{
+  std.proofs.{Common.{◌≤◌, ◌<◌, ◌∙◌, ap, sym, subst, length, map, take, nat_eq, Some, arith}, lemmas.List.{take_all}},
+  join_meaning.specs.Pairs.{pair, partners, pairs_from},
+  row_keys.specs.Buckets.{rows_of_code},
+  merge_concat.{specs.Pairs.{ArePairs, AreListed, HasMore}, proofs.PairLaws.{from_more, pairs_more, pairs_listed}},
+}
 use Rattle.merge_concat.proofs.pairs.pairs_by_row.Goals as goal
 
 pub loop-row-preserved : goal.loop-row-preserved

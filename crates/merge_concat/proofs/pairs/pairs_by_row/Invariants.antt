@@ -1,6 +1,8 @@
-use Rattle.std.proofs.Common.{take, nat_eq}
-use Rattle.join_meaning.specs.Pairs.{pairs_from}
-use Rattle.merge_concat.specs.Pairs.{AreListed}
+use Rattle.{
+  std.proofs.Common.{take, nat_eq},
+  join_meaning.specs.Pairs.{pairs_from},
+  merge_concat.specs.Pairs.{AreListed},
+}
 use Rattle.merge_concat.proofs.pairs.pairs_by_row.Given as goal
 
 -- the pairs of the rows so far

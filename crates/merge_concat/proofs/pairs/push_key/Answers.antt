@@ -1,10 +1,8 @@
-use Rattle.std.proofs.Common.{arith, ◌<◌, ℕ, List, Some, length, ap, sym, ◌∙◌, subst}
-use Rattle.std.specs.List.{flat_map}
-use Rattle.std.proofs.lemmas.List.{take_all}
-use Rattle.join_meaning.specs.Pairs.{Pair}
-use Rattle.merge_concat.specs.Codes.{pairs_with}
-use Rattle.merge_concat.specs.Pairs.{HasMore}
-use Rattle.merge_concat.proofs.PairLaws.{of_some, flat_more, more_more, more_none}
+use Rattle.{
+  std.{proofs.{Common.{arith, ◌<◌, ℕ, List, Some, length, ap, sym, ◌∙◌, subst}, lemmas.List.{take_all}}, specs.List.{flat_map}},
+  join_meaning.specs.Pairs.{Pair},
+  merge_concat.{specs.{Codes.{pairs_with}, Pairs.{HasMore}}, proofs.PairLaws.{of_some, flat_more, more_more, more_none}},
+}
 use Rattle.merge_concat.proofs.pairs.push_key.Goals as goal
 
 pub loop-left-init : goal.loop-left-init

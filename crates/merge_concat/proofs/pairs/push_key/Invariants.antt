@@ -1,7 +1,7 @@
-use Rattle.std.proofs.Common.{Some, take}
-use Rattle.std.specs.List.{flat_map}
-use Rattle.merge_concat.specs.Codes.{pairs_with}
-use Rattle.merge_concat.specs.Pairs.{HasMore}
+use Rattle.{
+  std.{proofs.Common.{Some, take}, specs.List.{flat_map}},
+  merge_concat.specs.{Codes.{pairs_with}, Pairs.{HasMore}},
+}
 use Rattle.merge_concat.proofs.pairs.push_key.Given as goal
 
 abbrev pub invariant-loop-left : goal.invariant-loop-left

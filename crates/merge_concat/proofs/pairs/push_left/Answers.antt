@@ -1,8 +1,8 @@
-use Rattle.std.proofs.Common.{arith, ◌<◌, Some, map, length, ap, ◌∙◌, subst}
-use Rattle.std.proofs.lemmas.List.{take_all}
-use Rattle.join_meaning.specs.Pairs.{pair}
-use Rattle.merge_concat.specs.Pairs.{HasMore}
-use Rattle.merge_concat.proofs.PairLaws.{with_some}
+use Rattle.{
+  std.proofs.{Common.{arith, ◌<◌, Some, map, length, ap, ◌∙◌, subst}, lemmas.List.{take_all}},
+  join_meaning.specs.Pairs.{pair},
+  merge_concat.{specs.Pairs.{HasMore}, proofs.PairLaws.{with_some}},
+}
 use Rattle.merge_concat.proofs.pairs.push_left.Goals as goal
 
 pub returns : goal.returns

@@ -1,6 +1,8 @@
-use Rattle.std.proofs.Common.{map, Some, take}
-use Rattle.join_meaning.specs.Pairs.{pair}
-use Rattle.merge_concat.specs.Pairs.{HasMore}
+use Rattle.{
+  std.proofs.Common.{map, Some, take},
+  join_meaning.specs.Pairs.{pair},
+  merge_concat.specs.Pairs.{HasMore},
+}
 use Rattle.merge_concat.proofs.pairs.push_left.Given as goal
 
 abbrev pub invariant-loop-right : goal.invariant-loop-right

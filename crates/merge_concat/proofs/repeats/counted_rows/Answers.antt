@@ -1,7 +1,7 @@
-use Rattle.std.proofs.Common.{◌≡◌, ◌∙◌, ◌<◌, ◌≤◌, ◌+◌, length, slice_index, min, ap, subst, arith}
-use Rattle.std.proofs.lemmas.List.{take_all, get_or_read}
-use Rattle.merge_concat.specs.Codes.{AreCounts}
-use Rattle.merge_concat.proofs.CodeLaws.{counts_more}
+use Rattle.{
+  std.proofs.{Common.{◌≡◌, ◌∙◌, ◌<◌, ◌≤◌, ◌+◌, length, slice_index, min, ap, subst, arith}, lemmas.List.{take_all, get_or_read}},
+  merge_concat.{specs.Codes.{AreCounts}, proofs.CodeLaws.{counts_more}},
+}
 use Rattle.merge_concat.proofs.repeats.counted_rows.Goals as goal
 
 pub loop-row-preserved : goal.loop-row-preserved

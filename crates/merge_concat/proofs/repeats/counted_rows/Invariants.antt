@@ -1,5 +1,7 @@
-use Rattle.std.proofs.Common.{take}
-use Rattle.merge_concat.specs.Codes.{AreCounts}
+use Rattle.{
+  std.proofs.Common.{take},
+  merge_concat.specs.Codes.{AreCounts},
+}
 use Rattle.merge_concat.proofs.repeats.counted_rows.Given as goal
 
 -- the rows so far are counted

@@ -1,5 +1,7 @@
-use Rattle.std.proofs.Common.{◌≡◌, drop}
-use Rattle.merge_concat.specs.Codes.{repeated_from}
+use Rattle.{
+  std.proofs.Common.{◌≡◌, drop},
+  merge_concat.specs.Codes.{repeated_from},
+}
 use Rattle.merge_concat.proofs.repeats.first_repeat.Given as goal
 
 -- none repeats so far

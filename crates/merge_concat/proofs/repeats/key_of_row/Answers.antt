@@ -1,6 +1,7 @@
-use Rattle.std.proofs.Common.{◌≡◌, ◌∙◌, ◌<◌, [], length, take, ap, sym, slice_index_or, arith}
-use Rattle.std.proofs.lemmas.List.{take_all, length-set}
-use Rattle.multi_index.proofs.SideLaws.{one_label_more}
+use Rattle.{
+  std.proofs.{Common.{◌≡◌, ◌∙◌, ◌<◌, [], length, take, ap, sym, slice_index_or, arith}, lemmas.List.{take_all, length-set}},
+  multi_index.proofs.SideLaws.{one_label_more},
+}
 use Rattle.merge_concat.proofs.repeats.key_of_row.Goals as goal
 
 pub loop-level-preserved : goal.loop-level-preserved

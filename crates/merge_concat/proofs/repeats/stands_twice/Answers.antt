@@ -1,6 +1,8 @@
-use Rattle.std.proofs.Common.{length, slice_index}
-use Rattle.row_keys.specs.Buckets.{rows_of_code}
-use Rattle.merge_concat.proofs.CodeLaws.{told_twice}
+use Rattle.{
+  std.proofs.Common.{length, slice_index},
+  row_keys.specs.Buckets.{rows_of_code},
+  merge_concat.proofs.CodeLaws.{told_twice},
+}
 use Rattle.merge_concat.proofs.repeats.stands_twice.Goals as goal
 
 pub returns : goal.returns

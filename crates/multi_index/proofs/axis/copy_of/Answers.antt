@@ -1,5 +1,7 @@
-use Rattle.std.proofs.Common.{◌<◌, ◌∙◌, ap, sym, arith, length, Some}
-use Rattle.multi_index.proofs.TupleLaws.{one_more_copied}
+use Rattle.{
+  std.proofs.Common.{◌<◌, ◌∙◌, ap, sym, arith, length, Some},
+  multi_index.proofs.TupleLaws.{one_more_copied},
+}
 use Rattle.multi_index.proofs.axis.copy_of.Goals as goal
 
 pub loop-row-preserved : goal.loop-row-preserved

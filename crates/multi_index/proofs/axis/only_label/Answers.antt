@@ -1,6 +1,7 @@
-use Rattle.std.proofs.Common.{◌≡◌, ap, sym, subst, length, Some}
-use Rattle.std.specs.Prelude.{IfSome}
-use Rattle.multi_index.proofs.TupleLaws.{only_label_is}
+use Rattle.{
+  std.{proofs.Common.{◌≡◌, ap, sym, subst, length, Some}, specs.Prelude.{IfSome}},
+  multi_index.proofs.TupleLaws.{only_label_is},
+}
 use Rattle.multi_index.proofs.axis.only_label.Goals as goal
 
 pub returns-in-Some : goal.returns-in-Some

@@ -1,5 +1,7 @@
-use Rattle.std.proofs.Common.{◌<◌, arith, length}
-use Rattle.multi_index.proofs.TupleLaws.{one_more_single}
+use Rattle.{
+  std.proofs.Common.{◌<◌, arith, length},
+  multi_index.proofs.TupleLaws.{one_more_single},
+}
 use Rattle.multi_index.proofs.axis.single_level.Goals as goal
 
 pub loop-row-preserved : goal.loop-row-preserved

@@ -1,5 +1,7 @@
-use Rattle.std.proofs.Common.{◌≡◌, take}
-use Rattle.multi_index.specs.Axes.{single_tuples}
+use Rattle.{
+  std.proofs.Common.{◌≡◌, take},
+  multi_index.specs.Axes.{single_tuples},
+}
 use Rattle.multi_index.proofs.axis.single_level.Given as goal
 
 abbrev pub invariant-loop-row : goal.invariant-loop-row

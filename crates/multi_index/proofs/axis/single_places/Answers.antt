@@ -1,7 +1,8 @@
-use Rattle.std.proofs.Common.{◌∙◌, ◌∷◌, [], ap, refl}
-use Rattle.pick_meaning.specs.Faults.{pick_seen}
-use Rattle.multi_index.specs.Picks.{as_it_is}
-use Rattle.multi_index.proofs.PickLaws.{rows_seen, fault_lifted}
+use Rattle.{
+  std.proofs.Common.{◌∙◌, ◌∷◌, [], ap, refl},
+  pick_meaning.specs.Faults.{pick_seen},
+  multi_index.{specs.Picks.{as_it_is}, proofs.PickLaws.{rows_seen, fault_lifted}},
+}
 use Rattle.multi_index.proofs.axis.single_places.Goals as goal
 
 pub returns-in-Ok : goal.returns-in-Ok

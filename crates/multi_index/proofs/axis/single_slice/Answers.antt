@@ -1,7 +1,8 @@
-use Rattle.std.proofs.Common.{◌∙◌, ◌∷◌, [], ap, refl}
-use Rattle.pick_meaning.specs.Faults.{pick_seen}
-use Rattle.pick_meaning.specs.Rows.{rows_of}
-use Rattle.multi_index.proofs.PickLaws.{slice_seen, fault_lifted}
+use Rattle.{
+  std.proofs.Common.{◌∙◌, ◌∷◌, [], ap, refl},
+  pick_meaning.specs.{Faults.{pick_seen}, Rows.{rows_of}},
+  multi_index.proofs.PickLaws.{slice_seen, fault_lifted},
+}
 use Rattle.multi_index.proofs.axis.single_slice.Goals as goal
 
 pub returns-in-Ok-clause-rows : goal.returns-in-Ok-clause-rows

@@ -1,5 +1,7 @@
-use Rattle.std.proofs.Common.{◌<◌, ◌∙◌, ap, sym, arith, length, Some}
-use Rattle.multi_index.proofs.TupleLaws.{one_more_taken}
+use Rattle.{
+  std.proofs.Common.{◌<◌, ◌∙◌, ap, sym, arith, length, Some},
+  multi_index.proofs.TupleLaws.{one_more_taken},
+}
 use Rattle.multi_index.proofs.axis.taken.Goals as goal
 
 pub loop-k-preserved : goal.loop-k-preserved

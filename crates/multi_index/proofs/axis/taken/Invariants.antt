@@ -1,5 +1,7 @@
-use Rattle.std.proofs.Common.{◌≡◌, take}
-use Rattle.multi_index.specs.Axes.{tuples_at}
+use Rattle.{
+  std.proofs.Common.{◌≡◌, take},
+  multi_index.specs.Axes.{tuples_at},
+}
 use Rattle.multi_index.proofs.axis.taken.Given as goal
 
 abbrev pub invariant-loop-k : goal.invariant-loop-k

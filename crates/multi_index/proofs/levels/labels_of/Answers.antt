@@ -1,8 +1,8 @@
-use Rattle.std.proofs.Common.{◌<◌, ◌≤◌, ◌∙◌, ◌∷◌, [], ap, sym, length, arith}
-use Rattle.std.proofs.lemmas.List.{map-append}
-use Rattle.index_core.specs.Labels.{labels_at}
-use Rattle.multi_index.specs.Axes.{single_tuples}
-use Rattle.multi_index.proofs.SideLaws.{one_row_more, every_row, label_there}
+use Rattle.{
+  std.proofs.{Common.{◌<◌, ◌≤◌, ◌∙◌, ◌∷◌, [], ap, sym, length, arith}, lemmas.List.{map-append}},
+  index_core.specs.Labels.{labels_at},
+  multi_index.{specs.Axes.{single_tuples}, proofs.SideLaws.{one_row_more, every_row, label_there}},
+}
 use Rattle.multi_index.proofs.levels.labels_of.Goals as goal
 
 pub loop-row-preserved : goal.loop-row-preserved

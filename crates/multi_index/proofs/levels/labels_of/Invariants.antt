@@ -1,6 +1,8 @@
-use Rattle.std.proofs.Common.{◌≡◌, ◌∷◌, [], map, take}
-use Rattle.index_core.specs.Labels.{labels_at}
-use Rattle.multi_index.specs.Axes.{single_tuples}
+use Rattle.{
+  std.proofs.Common.{◌≡◌, ◌∷◌, [], map, take},
+  index_core.specs.Labels.{labels_at},
+  multi_index.specs.Axes.{single_tuples},
+}
 use Rattle.multi_index.proofs.levels.labels_of.Given as goal
 
 -- the labels so far

@@ -1,7 +1,7 @@
-use Rattle.std.proofs.Common.{◌≡◌, ◌∙◌, ◌<◌, None, length, map, take, ap, sym, slice_index_or, arith}
-use Rattle.std.proofs.lemmas.List.{take_all, length-set}
-use Rattle.std.proofs.lemmas.Option.{get_or_from_slice_get}
-use Rattle.multi_index.proofs.LevelLaws.{one_read_more}
+use Rattle.{
+  std.proofs.{Common.{◌≡◌, ◌∙◌, ◌<◌, None, length, map, take, ap, sym, slice_index_or, arith}, lemmas.{List.{take_all, length-set}, Option.{get_or_from_slice_get}}},
+  multi_index.proofs.LevelLaws.{one_read_more},
+}
 use Rattle.multi_index.proofs.levels.names_of.Goals as goal
 
 pub loop-k-preserved : goal.loop-k-preserved

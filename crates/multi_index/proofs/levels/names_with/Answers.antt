@@ -1,8 +1,7 @@
-use Rattle.std.proofs.Common.{◌≡◌, ◌∙◌, ◌<◌, ◌≤◌, ◌+◌, None, ap, length, take, sym, arith}
-use Rattle.std.proofs.lemmas.List.{length-take-le}
-use Rattle.std.proofs.lemmas.Option.{get_or_from_slice_get}
-use Rattle.multi_index.specs.Axes.{first_of}
-use Rattle.multi_index.proofs.AddedLaws.{next_written, end_written, four_long}
+use Rattle.{
+  std.proofs.{Common.{◌≡◌, ◌∙◌, ◌<◌, ◌≤◌, ◌+◌, None, ap, length, take, sym, arith}, lemmas.{List.{length-take-le}, Option.{get_or_from_slice_get}}},
+  multi_index.{specs.Axes.{first_of}, proofs.AddedLaws.{next_written, end_written, four_long}},
+}
 use Rattle.multi_index.proofs.levels.names_with.Goals as goal
 
 pub loop-level-preserved : goal.loop-level-preserved

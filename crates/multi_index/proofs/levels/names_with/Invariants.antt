@@ -1,5 +1,7 @@
-use Rattle.std.proofs.Common.{◌≡◌, None, take}
-use Rattle.multi_index.proofs.AddedLaws.{four_with}
+use Rattle.{
+  std.proofs.Common.{◌≡◌, None, take},
+  multi_index.proofs.AddedLaws.{four_with},
+}
 use Rattle.multi_index.proofs.levels.names_with.Given as goal
 
 -- the names so far stand there, and none in all other places

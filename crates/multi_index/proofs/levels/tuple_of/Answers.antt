@@ -1,8 +1,8 @@
-use Rattle.std.proofs.Common.{◌≡◌, ◌∙◌, ◌<◌, [], length, map, take, ap, sym, slice_index_or, arith}
-use Rattle.std.proofs.lemmas.List.{take_all, length-set}
-use Rattle.cell_core.specs.declared.cell.Label.TheVariants.{Na}
-use Rattle.multi_index.proofs.LevelLaws.{one_read_more}
-use Rattle.multi_index.proofs.SideLaws.{label_there}
+use Rattle.{
+  std.proofs.{Common.{◌≡◌, ◌∙◌, ◌<◌, [], length, map, take, ap, sym, slice_index_or, arith}, lemmas.List.{take_all, length-set}},
+  cell_core.specs.declared.cell.Label.TheVariants.{Na},
+  multi_index.proofs.{LevelLaws.{one_read_more}, SideLaws.{label_there}},
+}
 use Rattle.multi_index.proofs.levels.tuple_of.Goals as goal
 
 pub loop-k-preserved : goal.loop-k-preserved

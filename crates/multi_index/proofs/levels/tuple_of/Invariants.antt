@@ -1,5 +1,7 @@
-use Rattle.std.proofs.Common.{◌≡◌, [], length, map, take, slice_index_or}
-use Rattle.cell_core.specs.declared.cell.Label.TheVariants.{Na}
+use Rattle.{
+  std.proofs.Common.{◌≡◌, [], length, map, take, slice_index_or},
+  cell_core.specs.declared.cell.Label.TheVariants.{Na},
+}
 use Rattle.multi_index.proofs.levels.tuple_of.Given as goal
 
 -- there is room for four labels, and the first ones are those of the levels so far

@@ -1,9 +1,8 @@
-use Rattle.std.proofs.Common.{◌≡◌, ◌∙◌, ◌<◌, ◌≤◌, ◌+◌, [], length, sym, slice_index_or, arith}
-use Rattle.std.proofs.lemmas.List.{get_or_default}
-use Rattle.cell_core.specs.declared.cell.Label.TheVariants.{Na}
-use Rattle.multi_index.specs.Axes.{first_of}
-use Rattle.multi_index.proofs.AddedLaws.{next_written, end_written}
-use Rattle.multi_index.proofs.SideLaws.{label_there}
+use Rattle.{
+  std.proofs.{Common.{◌≡◌, ◌∙◌, ◌<◌, ◌≤◌, ◌+◌, [], length, sym, slice_index_or, arith}, lemmas.List.{get_or_default}},
+  cell_core.specs.declared.cell.Label.TheVariants.{Na},
+  multi_index.{specs.Axes.{first_of}, proofs.{AddedLaws.{next_written, end_written}, SideLaws.{label_there}}},
+}
 use Rattle.multi_index.proofs.levels.tuple_with.Goals as goal
 
 pub loop-level-preserved : goal.loop-level-preserved

@@ -1,5 +1,7 @@
-use Rattle.std.proofs.Common.{◌≡◌, [], take, slice_index_or}
-use Rattle.multi_index.proofs.AddedLaws.{four_with}
+use Rattle.{
+  std.proofs.Common.{◌≡◌, [], take, slice_index_or},
+  multi_index.proofs.AddedLaws.{four_with},
+}
 use Rattle.multi_index.proofs.levels.tuple_with.Given as goal
 
 -- the labels so far stand there, and the new one in all other places

@@ -1,6 +1,8 @@
-use Rattle.std.proofs.Common.{◌<◌, ◌≤◌, [], length, arith}
-use Rattle.index_core.specs.Labels.{labels_at}
-use Rattle.multi_index.proofs.SideLaws.{one_row_more, every_row}
+use Rattle.{
+  std.proofs.Common.{◌<◌, ◌≤◌, [], length, arith},
+  index_core.specs.Labels.{labels_at},
+  multi_index.proofs.SideLaws.{one_row_more, every_row},
+}
 use Rattle.multi_index.proofs.levels.tuples_of.Goals as goal
 
 pub loop-row-preserved : goal.loop-row-preserved

@@ -1,5 +1,7 @@
-use Rattle.std.proofs.Common.{◌≡◌, map, take}
-use Rattle.index_core.specs.Labels.{labels_at}
+use Rattle.{
+  std.proofs.Common.{◌≡◌, map, take},
+  index_core.specs.Labels.{labels_at},
+}
 use Rattle.multi_index.proofs.levels.tuples_of.Given as goal
 
 -- the tuples so far

@@ -1,7 +1,7 @@
-use Rattle.std.proofs.Common.{◌∙◌, ◌<◌, ◌≤◌, length, arith}
-use Rattle.std.proofs.lemmas.List.{take_all}
-use Rattle.multi_index.specs.Axes.{tuples_with}
-use Rattle.multi_index.proofs.AddedLaws.{added_next}
+use Rattle.{
+  std.proofs.{Common.{◌∙◌, ◌<◌, ◌≤◌, length, arith}, lemmas.List.{take_all}},
+  multi_index.{specs.Axes.{tuples_with}, proofs.AddedLaws.{added_next}},
+}
 use Rattle.multi_index.proofs.levels.tuples_with.Goals as goal
 
 pub loop-row-preserved : goal.loop-row-preserved

@@ -1,5 +1,7 @@
-use Rattle.std.proofs.Common.{◌≡◌, take}
-use Rattle.multi_index.specs.Axes.{tuples_with}
+use Rattle.{
+  std.proofs.Common.{◌≡◌, take},
+  multi_index.specs.Axes.{tuples_with},
+}
 use Rattle.multi_index.proofs.levels.tuples_with.Given as goal
 
 -- the tuples so far

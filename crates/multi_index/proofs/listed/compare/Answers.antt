@@ -1,9 +1,9 @@
-use Rattle.std.proofs.Common.{◌≡◌, ◌∙◌, sym, slice_index_or, arith, rules}
-use Rattle.std.specs.declared.cmp.Ordering.TheVariants.{Equal}
-use Rattle.std.proofs.lemmas.Option.{get_or_from_slice_get}
-use Rattle.cell_core.specs.declared.cell.Label.TheVariants.{Na}
-use Rattle.index_core.specs.Labels.{order_in}
-use Rattle.multi_index.proofs.ListedLaws.{stands_on, stands_apart, stands_short, stands_equal}
+use Rattle.{
+  std.{proofs.{Common.{◌≡◌, ◌∙◌, sym, slice_index_or, arith, rules}, lemmas.Option.{get_or_from_slice_get}}, specs.declared.cmp.Ordering.TheVariants.{Equal}},
+  cell_core.specs.declared.cell.Label.TheVariants.{Na},
+  index_core.specs.Labels.{order_in},
+  multi_index.proofs.ListedLaws.{stands_on, stands_apart, stands_short, stands_equal},
+}
 use Rattle.multi_index.proofs.listed.compare.Goals as goal
 
 pub returns-then-ne : goal.returns-then-ne

@@ -1,6 +1,8 @@
-use Rattle.std.proofs.Common.{◌≡◌, drop}
-use Rattle.pick_meaning.specs.Leading.{leading_cmp}
-use Rattle.index_core.specs.Labels.{order_in}
+use Rattle.{
+  std.proofs.Common.{◌≡◌, drop},
+  pick_meaning.specs.Leading.{leading_cmp},
+  index_core.specs.Labels.{order_in},
+}
 use Rattle.multi_index.proofs.listed.compare.Given as goal
 
 -- the labels so far tie

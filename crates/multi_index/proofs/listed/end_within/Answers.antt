@@ -1,10 +1,10 @@
-use Rattle.std.proofs.Common.{◌≡◌, ◌∙◌, List, false, ap, sym, slice_index_or, arith, below_more}
-use Rattle.std.specs.Ordering.{is_gt}
-use Rattle.std.proofs.lemmas.Option.{get_or_from_slice_get}
-use Rattle.cell_core.specs.declared.cell.Label.{Label}
-use Rattle.pick_meaning.specs.Leading.{leading_cmp}
-use Rattle.index_core.specs.Labels.{order_in}
-use Rattle.multi_index.proofs.ListedLaws.{ends_at}
+use Rattle.{
+  std.{proofs.{Common.{◌≡◌, ◌∙◌, List, false, ap, sym, slice_index_or, arith, below_more}, lemmas.Option.{get_or_from_slice_get}}, specs.Ordering.{is_gt}},
+  cell_core.specs.declared.cell.Label.{Label},
+  pick_meaning.specs.Leading.{leading_cmp},
+  index_core.specs.Labels.{order_in},
+  multi_index.proofs.ListedLaws.{ends_at},
+}
 use Rattle.multi_index.proofs.listed.end_within.Goals as goal
 
 pub loop-row-preserved : goal.loop-row-preserved

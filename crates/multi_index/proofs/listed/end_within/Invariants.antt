@@ -1,8 +1,9 @@
-use Rattle.std.proofs.Common.{◌≡◌, ◌<◌, ℕ, List, false, slice_index_or}
-use Rattle.std.specs.Ordering.{is_gt}
-use Rattle.cell_core.specs.declared.cell.Label.{Label}
-use Rattle.pick_meaning.specs.Leading.{leading_cmp}
-use Rattle.index_core.specs.Labels.{order_in}
+use Rattle.{
+  std.{proofs.Common.{◌≡◌, ◌<◌, ℕ, List, false, slice_index_or}, specs.Ordering.{is_gt}},
+  cell_core.specs.declared.cell.Label.{Label},
+  pick_meaning.specs.Leading.{leading_cmp},
+  index_core.specs.Labels.{order_in},
+}
 use Rattle.multi_index.proofs.listed.end_within.Given as goal
 
 -- the rows so far aren't above the bound

@@ -1,10 +1,10 @@
-use Rattle.std.proofs.Common.{◌≡◌, ◌∙◌, List, true, ap, sym, slice_index_or, arith, below_more}
-use Rattle.std.specs.Ordering.{is_lt}
-use Rattle.std.proofs.lemmas.Option.{get_or_from_slice_get}
-use Rattle.cell_core.specs.declared.cell.Label.{Label}
-use Rattle.pick_meaning.specs.Leading.{leading_cmp}
-use Rattle.index_core.specs.Labels.{order_in}
-use Rattle.multi_index.proofs.ListedLaws.{begins_at}
+use Rattle.{
+  std.{proofs.{Common.{◌≡◌, ◌∙◌, List, true, ap, sym, slice_index_or, arith, below_more}, lemmas.Option.{get_or_from_slice_get}}, specs.Ordering.{is_lt}},
+  cell_core.specs.declared.cell.Label.{Label},
+  pick_meaning.specs.Leading.{leading_cmp},
+  index_core.specs.Labels.{order_in},
+  multi_index.proofs.ListedLaws.{begins_at},
+}
 use Rattle.multi_index.proofs.listed.first_reached.Goals as goal
 
 pub loop-row-preserved : goal.loop-row-preserved

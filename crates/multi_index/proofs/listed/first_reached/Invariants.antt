@@ -1,8 +1,9 @@
-use Rattle.std.proofs.Common.{◌≡◌, ◌<◌, ℕ, List, true, slice_index_or}
-use Rattle.std.specs.Ordering.{is_lt}
-use Rattle.cell_core.specs.declared.cell.Label.{Label}
-use Rattle.pick_meaning.specs.Leading.{leading_cmp}
-use Rattle.index_core.specs.Labels.{order_in}
+use Rattle.{
+  std.{proofs.Common.{◌≡◌, ◌<◌, ℕ, List, true, slice_index_or}, specs.Ordering.{is_lt}},
+  cell_core.specs.declared.cell.Label.{Label},
+  pick_meaning.specs.Leading.{leading_cmp},
+  index_core.specs.Labels.{order_in},
+}
 use Rattle.multi_index.proofs.listed.first_reached.Given as goal
 
 -- the rows so far are below the bound

@@ -1,9 +1,8 @@
-use Rattle.std.proofs.Common.{arith, ◌≡◌, ◌∙◌, ◌-◌, [], ap, sym, slice_index_or}
-use Rattle.std.specs.Ordering.{is_lt}
-use Rattle.std.proofs.lemmas.Option.{get_or_from_slice_get}
-use Rattle.index_core.specs.Labels.{order_in}
-use Rattle.pick_meaning.specs.Leading.{leading_cmp}
-use Rattle.pick_meaning.proofs.OrderLaws.{order_goes_on, order_broken, order_kept}
+use Rattle.{
+  std.{proofs.{Common.{arith, ◌≡◌, ◌∙◌, ◌-◌, [], ap, sym, slice_index_or}, lemmas.Option.{get_or_from_slice_get}}, specs.Ordering.{is_lt}},
+  index_core.specs.Labels.{order_in},
+  pick_meaning.{specs.Leading.{leading_cmp}, proofs.OrderLaws.{order_goes_on, order_broken, order_kept}},
+}
 use Rattle.multi_index.proofs.listed.is_sorted.Goals as goal
 
 pub loop-row-preserved : goal.loop-row-preserved

@@ -1,7 +1,8 @@
-use Rattle.std.proofs.Common.{◌≡◌, ◌-◌, drop}
-use Rattle.pick_meaning.specs.Leading.{leading_cmp}
-use Rattle.pick_meaning.specs.Slices.{is_in_order}
-use Rattle.index_core.specs.Labels.{order_in}
+use Rattle.{
+  std.proofs.Common.{◌≡◌, ◌-◌, drop},
+  pick_meaning.specs.{Leading.{leading_cmp}, Slices.{is_in_order}},
+  index_core.specs.Labels.{order_in},
+}
 use Rattle.multi_index.proofs.listed.is_sorted.Given as goal
 
 -- all are in order where those from the last row on are

@@ -1,8 +1,9 @@
-use Rattle.std.proofs.Common.{◌≡◌, ◌∙◌, true, false, slice_index_or, arith, rules}
-use Rattle.std.proofs.lemmas.Option.{get_or_from_slice_get}
-use Rattle.cell_core.specs.declared.cell.Label.TheVariants.{Na}
-use Rattle.index_core.specs.Labels.{same_number}
-use Rattle.multi_index.proofs.ListedLaws.{leads_more, leads_not, leads_all, leads_short}
+use Rattle.{
+  std.proofs.{Common.{◌≡◌, ◌∙◌, true, false, slice_index_or, arith, rules}, lemmas.Option.{get_or_from_slice_get}},
+  cell_core.specs.declared.cell.Label.TheVariants.{Na},
+  index_core.specs.Labels.{same_number},
+  multi_index.proofs.ListedLaws.{leads_more, leads_not, leads_all, leads_short},
+}
 use Rattle.multi_index.proofs.listed.leads.Goals as goal
 
 pub returns-then-ne : goal.returns-then-ne

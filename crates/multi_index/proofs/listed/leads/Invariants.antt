@@ -1,6 +1,8 @@
-use Rattle.std.proofs.Common.{◌≡◌, drop}
-use Rattle.pick_meaning.specs.Leading.{leads}
-use Rattle.index_core.specs.Labels.{same_number}
+use Rattle.{
+  std.proofs.Common.{◌≡◌, drop},
+  pick_meaning.specs.Leading.{leads},
+  index_core.specs.Labels.{same_number},
+}
 use Rattle.multi_index.proofs.listed.leads.Given as goal
 
 -- they lead where those from a level on do

@@ -1,10 +1,10 @@
-use Rattle.std.proofs.Common.{◌∙◌, [], ap, sym, arith}
-use Rattle.std.proofs.lemmas.Option.{get_or_from_slice_get}
-use Rattle.pick_meaning.specs.Leading.{leads}
-use Rattle.index_core.specs.Labels.{same_number}
-use Rattle.pick_meaning.proofs.RowLaws.{rows_more_yes, rows_more_no}
+use Rattle.{
+  std.proofs.{Common.{◌∙◌, [], ap, sym, arith}, lemmas.Option.{get_or_from_slice_get}},
+  pick_meaning.{specs.Leading.{leads}, proofs.RowLaws.{rows_more_yes, rows_more_no}},
+  index_core.specs.Labels.{same_number},
+  multi_index.proofs.listed.places_of.Goals.{then-leads+in_ok-push, else-leads},
+}
 use Rattle.multi_index.proofs.listed.places_of.Goals as goal
-use Rattle.multi_index.proofs.listed.places_of.Goals.{then-leads+in_ok-push, else-leads}
 
 pub loop-row-preserved : goal.loop-row-preserved
 loop-row-preserved c =

@@ -1,7 +1,8 @@
-use Rattle.std.proofs.Common.{◌≡◌, take}
-use Rattle.pick_meaning.specs.Leading.{leads}
-use Rattle.pick_meaning.specs.Rows.{rows_where}
-use Rattle.index_core.specs.Labels.{same_number}
+use Rattle.{
+  std.proofs.Common.{◌≡◌, take},
+  pick_meaning.specs.{Leading.{leads}, Rows.{rows_where}},
+  index_core.specs.Labels.{same_number},
+}
 use Rattle.multi_index.proofs.listed.places_of.Given as goal
 
 -- the rows so far

@@ -1,5 +1,7 @@
-use Rattle.std.proofs.Common.{◌∙◌, sym}
-use Rattle.multi_index.proofs.ListedLaws.{slice_found}
+use Rattle.{
+  std.proofs.Common.{◌∙◌, sym},
+  multi_index.proofs.ListedLaws.{slice_found},
+}
 use Rattle.multi_index.proofs.listed.slice_of.Goals as goal
 
 pub returns-clause-rows : goal.returns-clause-rows

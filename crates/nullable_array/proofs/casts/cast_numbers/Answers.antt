@@ -1,15 +1,10 @@
-use Rattle.std.proofs.Common.{ap, sym, ◌∙◌, Ok, option_map}
-use Rattle.std.specs.Fmt.{signed_decimal}
-use Rattle.cell_core.specs.declared.cell.Kind.TheVariants.{Int64, Boolean, Text as string}
-use Rattle.meaning.specs.Cast.{truth_of_number}
-use Rattle.column_core.specs.Lanes.{lane_row}
-use Rattle.nullable_array.specs.Casts.{partial_cast}
-use Rattle.column_core.specs.Columns.{CellColumn, column_value, number_cell, truth_cell, text_value}
-use Rattle.nullable_array.proofs.ColumnAnswers.{total_cast_column, kept_cast_column, cast_answer}
-use Rattle.column_core.proofs.ColumnLaws.{given-plain}
-use Rattle.nullable_array.proofs.ColumnAnswers.{given_at}
-use Rattle.nullable_array.proofs.CastLaws.{number_cast, decimal_cast, number_truth_cast}
-use Rattle.column_core.specs.Columns.{number_given}
+use Rattle.{
+  std.{proofs.Common.{ap, sym, ◌∙◌, Ok, option_map}, specs.Fmt.{signed_decimal}},
+  cell_core.specs.declared.cell.Kind.TheVariants.{Int64, Boolean, Text as string},
+  meaning.specs.Cast.{truth_of_number},
+  column_core.{specs.{Lanes.{lane_row}, Columns.{CellColumn, column_value, number_cell, truth_cell, text_value, number_given}}, proofs.ColumnLaws.{given-plain}},
+  nullable_array.{specs.Casts.{partial_cast}, proofs.{ColumnAnswers.{total_cast_column, kept_cast_column, cast_answer, given_at}, CastLaws.{number_cast, decimal_cast, number_truth_cast}}},
+}
 use Rattle.nullable_array.proofs.casts.cast_numbers.Goals as goal
 
 pub returns-in_ok-copied_lane-in-Int64-clause-answer : goal.returns-in_ok-copied_lane-in-Int64-clause-answer

@@ -1,13 +1,10 @@
-use Rattle.std.proofs.Common.{ap, sym, subst, ◌∙◌, Ok}
-use Rattle.cell_core.specs.declared.cell.Kind.TheVariants.{Int64, Boolean, Text as string}
-use Rattle.meaning.specs.Cell.{text_of, AreGiven}
-use Rattle.meaning.specs.Cast.{whole_number, truth_value}
-use Rattle.column_core.specs.Lanes.{lane_row}
-use Rattle.nullable_array.specs.Casts.{partial_cast}
-use Rattle.column_core.specs.Columns.{CellColumn, column_value, number_cell, truth_cell, text_cell}
-use Rattle.nullable_array.proofs.ColumnAnswers.{kept_cast_column, cast_answer}
-use Rattle.nullable_array.proofs.ColumnAnswers.{given_at}
-use Rattle.nullable_array.proofs.CastLaws.{text_cast, text_number_cast, text_truth_cast}
+use Rattle.{
+  std.proofs.Common.{ap, sym, subst, ◌∙◌, Ok},
+  cell_core.specs.declared.cell.Kind.TheVariants.{Int64, Boolean, Text as string},
+  meaning.specs.{Cell.{text_of, AreGiven}, Cast.{whole_number, truth_value}},
+  column_core.specs.{Lanes.{lane_row}, Columns.{CellColumn, column_value, number_cell, truth_cell, text_cell}},
+  nullable_array.{specs.Casts.{partial_cast}, proofs.{ColumnAnswers.{kept_cast_column, cast_answer, given_at}, CastLaws.{text_cast, text_number_cast, text_truth_cast}}},
+}
 use Rattle.nullable_array.proofs.casts.cast_texts.Goals as goal
 
 pub returns-in_ok-copied_lane-in-Text-clause-answer : goal.returns-in_ok-copied_lane-in-Text-clause-answer

@@ -1,16 +1,11 @@
-use Rattle.std.proofs.Common.{ap, sym, subst, ◌∙◌, Ok, option_map}
-use Rattle.cell_core.specs.declared.cell.Kind.{Kind}
-use Rattle.cell_core.specs.declared.cell.Kind.TheVariants.{Boolean, Text as string}
-use Rattle.meaning.specs.Cast.{truth_text, cast_column}
+use Rattle.{
+  std.proofs.Common.{ap, sym, subst, ◌∙◌, Ok, option_map},
+  cell_core.specs.declared.cell.Kind.{Kind, TheVariants.{Boolean, Text as string}},
+  meaning.specs.Cast.{truth_text, cast_column},
+  column_core.{specs.{Views.{borrowed_column}, Columns.{CellColumn, column_value, truth_cell, text_value, truth_given}}, proofs.ColumnLaws.{given-plain}},
+  nullable_array.{specs.Answers.{Answers}, proofs.{ColumnAnswers.{total_cast_column, kept_cast_column, given_at}, CastLaws.{truth_cast, word_cast}}},
+}
 use Rattle.column_core.specs.declared.columns.Borrowed.TheVariants as Borrowed
-use Rattle.column_core.specs.Views.{borrowed_column}
-use Rattle.nullable_array.specs.Answers.{Answers}
-use Rattle.column_core.specs.Columns.{CellColumn, column_value, truth_cell, text_value}
-use Rattle.nullable_array.proofs.ColumnAnswers.{total_cast_column, kept_cast_column}
-use Rattle.column_core.proofs.ColumnLaws.{given-plain}
-use Rattle.nullable_array.proofs.ColumnAnswers.{given_at}
-use Rattle.nullable_array.proofs.CastLaws.{truth_cast, word_cast}
-use Rattle.column_core.specs.Columns.{truth_given}
 use Rattle.nullable_array.proofs.casts.cast_truths.Goals as goal
 
 pub returns-in_ok-copied_lane-in-Boolean-clause-answer : goal.returns-in_ok-copied_lane-in-Boolean-clause-answer

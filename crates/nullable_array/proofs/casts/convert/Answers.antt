@@ -1,8 +1,8 @@
-use Rattle.std.proofs.Common.{ap, sym, ◌∙◌, Ok}
-use Rattle.meaning.specs.Column.{not_cast}
-use Rattle.column_core.specs.Columns.{column_value}
-use Rattle.column_core.proofs.CellRows.{made_column}
-use Rattle.column_core.proofs.ColumnLaws.{given-plain}
+use Rattle.{
+  std.proofs.Common.{ap, sym, ◌∙◌, Ok},
+  meaning.specs.Column.{not_cast},
+  column_core.{specs.Columns.{column_value}, proofs.{CellRows.{made_column}, ColumnLaws.{given-plain}}},
+}
 use Rattle.nullable_array.proofs.casts.convert.Goals as goal
 
 pub returns-in-Ok-clause-answer : goal.returns-in-Ok-clause-answer

@@ -1,6 +1,8 @@
-use Rattle.std.proofs.Common.{ap, ◌∙◌}
-use Rattle.meaning.specs.Cast.{numeral_value}
-use Rattle.nullable_array.proofs.CastLaws.{numeral_no_text}
+use Rattle.{
+  std.proofs.Common.{ap, ◌∙◌},
+  meaning.specs.Cast.{numeral_value},
+  nullable_array.proofs.CastLaws.{numeral_no_text},
+}
 use Rattle.nullable_array.proofs.casts.number_of_bytes.Goals as goal
 
 pub returns-in-Ok : goal.returns-in-Ok

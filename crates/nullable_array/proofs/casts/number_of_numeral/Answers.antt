@@ -1,6 +1,7 @@
-use Rattle.std.proofs.Common.{ap, sym, subst, ◌∙◌, ℤ, Some, FitsSigned, w64}
-use Rattle.std.proofs.Math.Facts.{to_z-of_z}
-use Rattle.nullable_array.proofs.CastLaws.{numeral_read, numeral_refused}
+use Rattle.{
+  std.proofs.{Common.{ap, sym, subst, ◌∙◌, ℤ, Some, FitsSigned, w64}, Math.Facts.{to_z-of_z}},
+  nullable_array.proofs.CastLaws.{numeral_read, numeral_refused},
+}
 use Rattle.nullable_array.proofs.casts.number_of_numeral.Goals as goal
 
 pub returns-in-Ok : goal.returns-in-Ok

@@ -1,6 +1,8 @@
-use Rattle.std.proofs.Common.{length, ap, sym, ◌∙◌}
-use Rattle.meaning.specs.Cast.{numeral_value, without_spaces}
-use Rattle.nullable_array.proofs.SpaceLaws.{nothing_left_out}
+use Rattle.{
+  std.proofs.Common.{length, ap, sym, ◌∙◌},
+  meaning.specs.Cast.{numeral_value, without_spaces},
+  nullable_array.proofs.SpaceLaws.{nothing_left_out},
+}
 use Rattle.nullable_array.proofs.casts.number_of_text.Goals as goal
 
 pub returns-then-bytes-text : goal.returns-then-bytes-text

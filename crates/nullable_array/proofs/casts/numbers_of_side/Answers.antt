@@ -1,14 +1,10 @@
-use Rattle.std.proofs.Common.{refl, ap, sym, ◌∙◌, Ok}
-use Rattle.cell_core.specs.declared.cell.Kind.TheVariants.{Int64, Boolean}
-use Rattle.meaning.specs.Column.{not_cast}
-use Rattle.meaning.specs.Cast.{number_of_truth}
-use Rattle.column_core.specs.Columns.{column_value, number_cell, truth_cell, number_given}
-use Rattle.column_core.proofs.CellRows.{made_column}
-use Rattle.column_core.proofs.ColumnLaws.{given-plain}
-use Rattle.column_core.proofs.RowsMade.{rows_written}
-use Rattle.nullable_array.specs.Casts.{total_cast}
-use Rattle.nullable_array.proofs.ColumnAnswers.{cast_answer}
-use Rattle.nullable_array.proofs.CastLaws.{truth_number_cast}
+use Rattle.{
+  std.proofs.Common.{refl, ap, sym, ◌∙◌, Ok},
+  cell_core.specs.declared.cell.Kind.TheVariants.{Int64, Boolean},
+  meaning.specs.{Column.{not_cast}, Cast.{number_of_truth}},
+  column_core.{specs.Columns.{column_value, number_cell, truth_cell, number_given}, proofs.{CellRows.{made_column}, ColumnLaws.{given-plain}, RowsMade.{rows_written}}},
+  nullable_array.{specs.Casts.{total_cast}, proofs.{ColumnAnswers.{cast_answer}, CastLaws.{truth_number_cast}}},
+}
 use Rattle.nullable_array.proofs.casts.numbers_of_side.Goals as goal
 
 pub returns-clause-answer : goal.returns-clause-answer

@@ -1,13 +1,10 @@
-use Rattle.std.proofs.Common.{refl, subst}
-use Rattle.cell_core.specs.declared.cell.Kind.TheVariants.{Int64, Boolean}
-use Rattle.meaning.specs.Cast.{number_of_truth, cast_column}
-use Rattle.column_core.specs.Lanes.{lane_row}
-use Rattle.column_core.specs.Columns.{CellColumn, column_value, number_cell, truth_cell}
-use Rattle.column_core.proofs.CellRows.{same_column}
-use Rattle.nullable_array.specs.Answers.{Answers}
-use Rattle.nullable_array.specs.Casts.{total_cast}
-use Rattle.nullable_array.proofs.ColumnAnswers.{cast_answer}
-use Rattle.nullable_array.proofs.CastLaws.{truth_number_cast}
+use Rattle.{
+  std.proofs.Common.{refl, subst},
+  cell_core.specs.declared.cell.Kind.TheVariants.{Int64, Boolean},
+  meaning.specs.Cast.{number_of_truth, cast_column},
+  column_core.{specs.{Lanes.{lane_row}, Columns.{CellColumn, column_value, number_cell, truth_cell}}, proofs.CellRows.{same_column}},
+  nullable_array.{specs.{Answers.{Answers}, Casts.{total_cast}}, proofs.{ColumnAnswers.{cast_answer}, CastLaws.{truth_number_cast}}},
+}
 use Rattle.nullable_array.proofs.casts.numbers_of_truths.Goals as goal
 
 pub returns-in-Some-clause-answer : goal.returns-in-Some-clause-answer

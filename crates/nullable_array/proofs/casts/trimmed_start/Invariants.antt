@@ -1,5 +1,7 @@
-use Rattle.std.proofs.Common.{◌≡◌, length}
-use Rattle.meaning.specs.Cast.{after_spaces}
+use Rattle.{
+  std.proofs.Common.{◌≡◌, length},
+  meaning.specs.Cast.{after_spaces},
+}
 use Rattle.nullable_array.proofs.casts.trimmed_start.Given as goal
 
 -- only spaces were left out

@@ -1,10 +1,10 @@
-use Rattle.std.proofs.Common.{subst}
-use Rattle.cell_core.specs.declared.cell.Kind.TheVariants.{Int64}
-use Rattle.meaning.specs.Cumulate.{cumulate_column}
-use Rattle.column_core.specs.Columns.{CellColumn, column_value, number_cell}
-use Rattle.column_core.proofs.CellRows.{same_column}
-use Rattle.nullable_array.specs.Answers.{Answers}
-use Rattle.nullable_array.specs.Folds.{cumulation_of}
+use Rattle.{
+  std.proofs.Common.{subst},
+  cell_core.specs.declared.cell.Kind.TheVariants.{Int64},
+  meaning.specs.Cumulate.{cumulate_column},
+  column_core.{specs.Columns.{CellColumn, column_value, number_cell}, proofs.CellRows.{same_column}},
+  nullable_array.specs.{Answers.{Answers}, Folds.{cumulation_of}},
+}
 use Rattle.nullable_array.proofs.cumulations.cumulate_numbers.Goals as goal
 
 pub returns-in-Some-clause-answer : goal.returns-in-Some-clause-answer

@@ -1,12 +1,10 @@
-use Rattle.std.proofs.Common.{ap, sym, ◌∙◌, Ok}
-use Rattle.cell_core.specs.declared.cell.Kind.TheVariants.{Int64, Boolean}
-use Rattle.meaning.specs.Cumulate.{cumulate_column}
-use Rattle.nullable_array.specs.declared.ops.Cumulation.{Cumulation}
-use Rattle.column_core.specs.Lanes.{lane_row}
-use Rattle.column_core.specs.Columns.{CellColumn, column_value, column_with, number_cell, truth_cell, number_given}
-use Rattle.nullable_array.specs.Folds.{cumulation_of}
-use Rattle.column_core.proofs.ColumnLaws.{given-plain}
-use Rattle.nullable_array.proofs.RunningLaws.{truth_sums}
+use Rattle.{
+  std.proofs.Common.{ap, sym, ◌∙◌, Ok},
+  cell_core.specs.declared.cell.Kind.TheVariants.{Int64, Boolean},
+  meaning.specs.Cumulate.{cumulate_column},
+  nullable_array.{specs.{declared.ops.Cumulation.{Cumulation}, Folds.{cumulation_of}}, proofs.RunningLaws.{truth_sums}},
+  column_core.{specs.{Lanes.{lane_row}, Columns.{CellColumn, column_value, column_with, number_cell, truth_cell, number_given}}, proofs.ColumnLaws.{given-plain}},
+}
 use Rattle.nullable_array.proofs.cumulations.cumulate_truths.Goals as goal
 
 pub returns-in_ok-run-in-Sum-clause-given : goal.returns-in_ok-run-in-Sum-clause-given

@@ -1,7 +1,8 @@
-use Rattle.std.proofs.Common.{refl, Some}
-use Rattle.nullable_array.specs.Folds.{running_row}
-use Rattle.column_core.proofs.CellRows.{total_made}
-use Rattle.column_core.proofs.RowsMade.{rows_written}
+use Rattle.{
+  std.proofs.Common.{refl, Some},
+  nullable_array.specs.Folds.{running_row},
+  column_core.proofs.{CellRows.{total_made}, RowsMade.{rows_written}},
+}
 use Rattle.nullable_array.proofs.cumulations.run.Goals as goal
 
 pub returns : goal.returns

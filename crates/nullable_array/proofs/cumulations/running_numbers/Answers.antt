@@ -1,11 +1,10 @@
-use Rattle.std.proofs.Common.{ap, sym, ◌∙◌, Ok}
-use Rattle.cell_core.specs.declared.cell.Kind.TheVariants.{Int64}
-use Rattle.meaning.specs.Cumulate.{cumulate_column}
-use Rattle.nullable_array.specs.declared.ops.Cumulation.{Cumulation}
-use Rattle.column_core.specs.Columns.{CellColumn, column_value, column_with, number_cell, number_given}
-use Rattle.nullable_array.specs.Folds.{cumulation_of}
-use Rattle.column_core.proofs.ColumnLaws.{given-plain}
-use Rattle.nullable_array.proofs.RunningLaws.{number_sums, number_leasts, number_greatests}
+use Rattle.{
+  std.proofs.Common.{ap, sym, ◌∙◌, Ok},
+  cell_core.specs.declared.cell.Kind.TheVariants.{Int64},
+  meaning.specs.Cumulate.{cumulate_column},
+  nullable_array.{specs.{declared.ops.Cumulation.{Cumulation}, Folds.{cumulation_of}}, proofs.RunningLaws.{number_sums, number_leasts, number_greatests}},
+  column_core.{specs.Columns.{CellColumn, column_value, column_with, number_cell, number_given}, proofs.ColumnLaws.{given-plain}},
+}
 use Rattle.nullable_array.proofs.cumulations.running_numbers.Goals as goal
 
 pub returns-in_ok-run-in-Sum-clause-given : goal.returns-in_ok-run-in-Sum-clause-given

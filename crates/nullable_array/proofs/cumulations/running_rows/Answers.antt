@@ -1,8 +1,7 @@
-use Rattle.std.proofs.Common.{◌≡◌, ◌+◌, ap, sym, ◌∙◌, arith, Some, None, is_some, cond}
-use Rattle.std.proofs.lemmas.Grind.{common_steps}
-use Rattle.nullable_array.specs.Folds.{step_row, folded, running_row}
-use Rattle.nullable_array.proofs.FoldLaws.{folded_more}
-use Rattle.nullable_array.proofs.PairRows.{row_pushed}
+use Rattle.{
+  std.proofs.{Common.{◌≡◌, ◌+◌, ap, sym, ◌∙◌, arith, Some, None, is_some, cond}, lemmas.Grind.{common_steps}},
+  nullable_array.{specs.Folds.{step_row, folded, running_row}, proofs.{FoldLaws.{folded_more}, PairRows.{row_pushed}}},
+}
 use Rattle.nullable_array.proofs.cumulations.running_rows.Goals as goal
 
 pub loop-row-preserved : goal.loop-row-preserved

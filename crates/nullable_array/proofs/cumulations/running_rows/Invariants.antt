@@ -1,7 +1,8 @@
-use Rattle.std.proofs.Common.{◌≡◌, ◌≤◌, length, Some, None}
-use Rattle.std.specs.Prelude.{vec_len, vec_capacity}
-use Rattle.nullable_array.specs.Folds.{folded, running_row}
-use Rattle.column_core.specs.Rows.{AreWritten}
+use Rattle.{
+  std.{proofs.Common.{◌≡◌, ◌≤◌, length, Some, None}, specs.Prelude.{vec_len, vec_capacity}},
+  nullable_array.specs.Folds.{folded, running_row},
+  column_core.specs.Rows.{AreWritten},
+}
 use Rattle.nullable_array.proofs.cumulations.running_rows.Given as goal
 
 -- what the rows so far come to, the rows that are written, and room for all

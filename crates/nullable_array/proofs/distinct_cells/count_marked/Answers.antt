@@ -1,6 +1,8 @@
-use Rattle.std.proofs.Common.{◌≡◌, ◌∙◌, Bool, true, false, cond, refl, arith}
 use mir.Val.{bool_byte}
-use Rattle.nullable_array.proofs.PlaceLaws.{marked_step, one_at_most, all_counted}
+use Rattle.{
+  std.proofs.Common.{◌≡◌, ◌∙◌, Bool, true, false, cond, refl, arith},
+  nullable_array.proofs.PlaceLaws.{marked_step, one_at_most, all_counted},
+}
 use Rattle.nullable_array.proofs.distinct_cells.count_marked.Goals as goal
 
 byte : (b : Bool) → bool_byte b ≡ cond b 1 0

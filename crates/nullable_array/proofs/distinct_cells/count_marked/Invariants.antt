@@ -1,8 +1,8 @@
-use Rattle.std.proofs.Common.{◌≡◌, ◌≤◌, [], length}
-use Rattle.std.specs.Ordering.{int_eq}
-use Rattle.indexmap.specs.IndexSet.{insert_key}
-use Rattle.nullable_array.specs.Distincts.{AreMarked}
-use Rattle.nullable_array.specs.Folds.{folded}
+use Rattle.{
+  std.{proofs.Common.{◌≡◌, ◌≤◌, [], length}, specs.Ordering.{int_eq}},
+  indexmap.specs.IndexSet.{insert_key},
+  nullable_array.specs.{Distincts.{AreMarked}, Folds.{folded}},
+}
 use Rattle.nullable_array.proofs.distinct_cells.count_marked.Given as goal
 
 -- the different numbers of the rows so far have marks, and are counted

@@ -1,7 +1,8 @@
-use Rattle.std.proofs.Common.{◌≡◌, ap, ◌∙◌, length, arith}
-use Rattle.meaning.specs.Reduce.{distinct}
-use Rattle.std.specs.Ordering.{int_eq}
-use Rattle.nullable_array.proofs.OrderedLaws.{ordered_counted}
+use Rattle.{
+  std.{proofs.Common.{◌≡◌, ap, ◌∙◌, length, arith}, specs.Ordering.{int_eq}},
+  meaning.specs.Reduce.{distinct},
+  nullable_array.proofs.OrderedLaws.{ordered_counted},
+}
 use Rattle.nullable_array.proofs.distinct_cells.count_ordered.Goals as goal
 
 pub returns : goal.returns

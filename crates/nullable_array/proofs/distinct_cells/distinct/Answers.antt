@@ -1,13 +1,9 @@
-use Rattle.std.proofs.Common.{◌<◌, length, refl, ap, sym, subst, ◌∙◌}
-use Rattle.meaning.specs.Cell.{AreGiven}
-use Rattle.meaning.specs.Reduce.{distinct_count}
-use Rattle.column_core.specs.Lanes.{lane_row}
-use Rattle.column_core.specs.Columns.{CellColumn, column_value, number_cell, truth_cell, text_cell}
-use Rattle.column_core.specs.Views.{borrowed_column}
-use Rattle.column_core.proofs.ColumnLaws.{given-row}
-use Rattle.nullable_array.proofs.DistinctLaws.{if_ok_same, distinct_seen, anything, given_value, numbers_apart, truths_apart, texts_apart}
-use Rattle.std.proofs.Math.Bool.{beq}
-use Rattle.nullable_array.proofs.TruthLaws.{truths_counted}
+use Rattle.{
+  std.proofs.{Common.{◌<◌, length, refl, ap, sym, subst, ◌∙◌}, Math.Bool.{beq}},
+  meaning.specs.{Cell.{AreGiven}, Reduce.{distinct_count}},
+  column_core.{specs.{Lanes.{lane_row}, Columns.{CellColumn, column_value, number_cell, truth_cell, text_cell}, Views.{borrowed_column}}, proofs.ColumnLaws.{given-row}},
+  nullable_array.proofs.{DistinctLaws.{if_ok_same, distinct_seen, anything, given_value, numbers_apart, truths_apart, texts_apart}, TruthLaws.{truths_counted}},
+}
 use Rattle.nullable_array.proofs.distinct_cells.distinct.Goals as goal
 
 pub returns-in-Ints : goal.returns-in-Ints

@@ -1,8 +1,8 @@
-use Rattle.std.proofs.Common.{◌≡◌, [], length, arith, ap, sym, ◌∙◌}
-use Rattle.indexmap.specs.IndexSet.{insert_key}
-use Rattle.nullable_array.specs.Folds.{step_row, folded}
-use Rattle.nullable_array.proofs.FoldLaws.{folded_more}
-use Rattle.nullable_array.proofs.DistinctLaws.{each_value_once}
+use Rattle.{
+  std.proofs.Common.{◌≡◌, [], length, arith, ap, sym, ◌∙◌},
+  indexmap.specs.IndexSet.{insert_key},
+  nullable_array.{specs.Folds.{step_row, folded}, proofs.{FoldLaws.{folded_more}, DistinctLaws.{each_value_once}}},
+}
 use Rattle.nullable_array.proofs.distinct_cells.distinct_values.Goals as goal
 
 pub loop-row-preserved : goal.loop-row-preserved

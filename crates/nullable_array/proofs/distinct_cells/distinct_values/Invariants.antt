@@ -1,6 +1,8 @@
-use Rattle.std.proofs.Common.{◌≡◌, []}
-use Rattle.indexmap.specs.IndexSet.{insert_key}
-use Rattle.nullable_array.specs.Folds.{folded}
+use Rattle.{
+  std.proofs.Common.{◌≡◌, []},
+  indexmap.specs.IndexSet.{insert_key},
+  nullable_array.specs.Folds.{folded},
+}
 use Rattle.nullable_array.proofs.distinct_cells.distinct_values.Given as goal
 
 -- the different values of the rows so far

@@ -1,8 +1,7 @@
-use Rattle.std.proofs.Common.{◌≡◌, [], arith, ap, sym, ◌∙◌}
-use Rattle.nullable_array.specs.Distincts.{then_value}
-use Rattle.nullable_array.specs.Folds.{step_row, folded}
-use Rattle.nullable_array.proofs.FoldLaws.{folded_more}
-use Rattle.nullable_array.proofs.OrderedLaws.{values_kept}
+use Rattle.{
+  std.proofs.Common.{◌≡◌, [], arith, ap, sym, ◌∙◌},
+  nullable_array.{specs.{Distincts.{then_value}, Folds.{step_row, folded}}, proofs.{FoldLaws.{folded_more}, OrderedLaws.{values_kept}}},
+}
 use Rattle.nullable_array.proofs.distinct_cells.present_numbers.Goals as goal
 
 pub loop-row-preserved : goal.loop-row-preserved

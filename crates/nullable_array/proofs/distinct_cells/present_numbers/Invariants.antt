@@ -1,6 +1,7 @@
-use Rattle.std.proofs.Common.{◌≡◌, []}
-use Rattle.nullable_array.specs.Distincts.{then_value}
-use Rattle.nullable_array.specs.Folds.{folded}
+use Rattle.{
+  std.proofs.Common.{◌≡◌, []},
+  nullable_array.specs.{Distincts.{then_value}, Folds.{folded}},
+}
 use Rattle.nullable_array.proofs.distinct_cells.present_numbers.Given as goal
 
 -- the numbers of the rows so far

@@ -1,10 +1,7 @@
-use Rattle.std.proofs.Common.{rules, FitsSigned, Some, None, ap, ◌∙◌, arith}
-use Rattle.std.proofs.Math.Facts.{to_z-of_z}
-use Rattle.std.specs.Int.{w64}
-use Rattle.std.specs.Ordering.{int_cmp}
-use Rattle.std.proofs.lemmas.Int.{ints}
-use Rattle.nullable_array.specs.Folds.{folded, greatest_step}
-use Rattle.nullable_array.proofs.ExtremeLaws.{least, least_alone, least_first, seen}
+use Rattle.{
+  std.{proofs.{Common.{rules, FitsSigned, Some, None, ap, ◌∙◌, arith}, Math.Facts.{to_z-of_z}, lemmas.Int.{ints}}, specs.{Int.{w64}, Ordering.{int_cmp}}},
+  nullable_array.{specs.Folds.{folded, greatest_step}, proofs.ExtremeLaws.{least, least_alone, least_first, seen}},
+}
 use Rattle.nullable_array.proofs.extremes.greatest_number.Goals as goal
 
 pub last_or-best-requires-clause-first : goal.last_or-best-requires-clause-first

@@ -1,11 +1,8 @@
-use Rattle.std.proofs.Common.{◌≡◌, ◌+◌, rules, FitsSigned, None, unwrap_or, sym, ap, ◌∙◌}
 use mir.Val.{of_z, to_z}
-use Rattle.std.proofs.Math.Facts.{to_z-of_z}
-use Rattle.std.specs.Prelude.{if◌then◌else◌}
-use Rattle.std.specs.Int.{w64}
-use Rattle.std.specs.Ordering.{is_lt}
-use Rattle.nullable_array.specs.Folds.{folded, greatest_step}
-use Rattle.nullable_array.proofs.ExtremeLaws.{last_more}
+use Rattle.{
+  std.{proofs.{Common.{◌≡◌, ◌+◌, rules, FitsSigned, None, unwrap_or, sym, ap, ◌∙◌}, Math.Facts.{to_z-of_z}}, specs.{Prelude.{if◌then◌else◌}, Int.{w64}, Ordering.{is_lt}}},
+  nullable_array.{specs.Folds.{folded, greatest_step}, proofs.ExtremeLaws.{last_more}},
+}
 use Rattle.nullable_array.proofs.extremes.last_or.Goals as goal
 
 pub loop-row-preserved : goal.loop-row-preserved

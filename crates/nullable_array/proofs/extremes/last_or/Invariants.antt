@@ -1,5 +1,7 @@
-use Rattle.std.proofs.Common.{◌≡◌, None, unwrap_or}
-use Rattle.nullable_array.specs.Folds.{folded, greatest_step}
+use Rattle.{
+  std.proofs.Common.{◌≡◌, None, unwrap_or},
+  nullable_array.specs.Folds.{folded, greatest_step},
+}
 use Rattle.nullable_array.proofs.extremes.last_or.Given as goal
 
 -- the last of the rows so far, or the blank

@@ -1,11 +1,7 @@
-use Rattle.std.proofs.Common.{rules, FitsSigned, Some, None, ap, ◌∙◌, arith}
-use Rattle.std.proofs.Math.Facts.{to_z-of_z}
-use Rattle.std.specs.Int.{w64}
-use Rattle.std.specs.Prelude.{unwrap_or}
-use Rattle.std.specs.Ordering.{int_cmp}
-use Rattle.std.proofs.lemmas.Int.{ints}
-use Rattle.nullable_array.specs.Folds.{folded, least_step}
-use Rattle.nullable_array.proofs.ExtremeLaws.{greatest, greatest_alone, greatest_last, seen, turned}
+use Rattle.{
+  std.{proofs.{Common.{rules, FitsSigned, Some, None, ap, ◌∙◌, arith}, Math.Facts.{to_z-of_z}, lemmas.Int.{ints}}, specs.{Int.{w64}, Prelude.{unwrap_or}, Ordering.{int_cmp}}},
+  nullable_array.{specs.Folds.{folded, least_step}, proofs.ExtremeLaws.{greatest, greatest_alone, greatest_last, seen, turned}},
+}
 use Rattle.nullable_array.proofs.extremes.least_number.Goals as goal
 
 pub last_or-best-requires-clause-first : goal.last_or-best-requires-clause-first

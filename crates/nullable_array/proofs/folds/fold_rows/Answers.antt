@@ -1,6 +1,7 @@
-use Rattle.std.proofs.Common.{ap, sym, ◌∙◌}
-use Rattle.nullable_array.specs.Folds.{step_row}
-use Rattle.nullable_array.proofs.FoldLaws.{folded_more}
+use Rattle.{
+  std.proofs.Common.{ap, sym, ◌∙◌},
+  nullable_array.{specs.Folds.{step_row}, proofs.FoldLaws.{folded_more}},
+}
 use Rattle.nullable_array.proofs.folds.fold_rows.Goals as goal
 
 pub loop-row-preserved : goal.loop-row-preserved

@@ -1,6 +1,7 @@
-use Rattle.std.proofs.Common.{◌≡◌, Bool, not, ◌+◌, ◌-◌, ap, sym, subst, ◌∙◌, arith}
-use Rattle.nullable_array.specs.Folds.{step_row, folded}
-use Rattle.nullable_array.proofs.FoldLaws.{folded_more, folded_stays, changed, unchanged}
+use Rattle.{
+  std.proofs.Common.{◌≡◌, Bool, not, ◌+◌, ◌-◌, ap, sym, subst, ◌∙◌, arith},
+  nullable_array.{specs.Folds.{step_row, folded}, proofs.FoldLaws.{folded_more, folded_stays, changed, unchanged}},
+}
 use Rattle.nullable_array.proofs.folds.fold_until.Goals as goal
 
 pub loop-row-preserved : goal.loop-row-preserved

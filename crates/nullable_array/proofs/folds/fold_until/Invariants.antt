@@ -1,5 +1,7 @@
-use Rattle.std.proofs.Common.{◌≡◌}
-use Rattle.nullable_array.specs.Folds.{folded}
+use Rattle.{
+  std.proofs.Common.{◌≡◌},
+  nullable_array.specs.Folds.{folded},
+}
 use Rattle.nullable_array.proofs.folds.fold_until.Given as goal
 
 -- the rows so far change nothing

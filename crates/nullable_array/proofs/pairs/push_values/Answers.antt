@@ -1,6 +1,7 @@
-use Rattle.std.proofs.Common.{ap, ◌∙◌, arith}
-use Rattle.std.proofs.lemmas.Grind.{common_steps}
-use Rattle.nullable_array.proofs.PairRows.{value_pushed}
+use Rattle.{
+  std.proofs.{Common.{ap, ◌∙◌, arith}, lemmas.Grind.{common_steps}},
+  nullable_array.proofs.PairRows.{value_pushed},
+}
 use Rattle.nullable_array.proofs.pairs.push_values.Goals as goal
 
 pub loop-row-preserved : goal.loop-row-preserved

@@ -1,6 +1,7 @@
-use Rattle.std.proofs.Common.{◌≡◌, ◌≤◌, length}
-use Rattle.std.specs.Prelude.{vec_len, vec_capacity}
-use Rattle.nullable_array.specs.Pairs.{AreFlagged}
+use Rattle.{
+  std.{proofs.Common.{◌≡◌, ◌≤◌, length}, specs.Prelude.{vec_len, vec_capacity}},
+  nullable_array.specs.Pairs.{AreFlagged},
+}
 use Rattle.nullable_array.proofs.pairs.row_flags.Given as goal
 
 -- the flags so far, and room for all

@@ -1,5 +1,7 @@
-use Rattle.std.proofs.Common.{◌≡◌, ◌+◌, ◌*◌, subst, arith}
-use Rattle.nullable_array.specs.Pairs.{AreFilled}
+use Rattle.{
+  std.proofs.Common.{◌≡◌, ◌+◌, ◌*◌, subst, arith},
+  nullable_array.specs.Pairs.{AreFilled},
+}
 use Rattle.nullable_array.proofs.pairs.row_values.Goals as goal
 
 pub loop-stretch-preserved : goal.loop-stretch-preserved

@@ -1,5 +1,7 @@
-use Rattle.std.proofs.Common.{◌*◌}
-use Rattle.nullable_array.specs.Pairs.{AreFilled}
+use Rattle.{
+  std.proofs.Common.{◌*◌},
+  nullable_array.specs.Pairs.{AreFilled},
+}
 use Rattle.nullable_array.proofs.pairs.row_values.Given as goal
 
 -- the values of the stretches so far, and room for all

@@ -1,9 +1,10 @@
-use Rattle.std.proofs.Common.{ap, ◌∙◌}
-use Rattle.cell_core.specs.declared.cell.Kind.TheVariants.{Int64}
-use Rattle.meaning.specs.Reduce.{reduction_cell}
-use Rattle.column_core.specs.Columns.{CellColumn, column_value, number_cell}
-use Rattle.nullable_array.specs.Folds.{reduction_of}
-use Rattle.column_core.proofs.CellRows.{same_column}
+use Rattle.{
+  std.proofs.Common.{ap, ◌∙◌},
+  cell_core.specs.declared.cell.Kind.TheVariants.{Int64},
+  meaning.specs.Reduce.{reduction_cell},
+  column_core.{specs.Columns.{CellColumn, column_value, number_cell}, proofs.CellRows.{same_column}},
+  nullable_array.specs.Folds.{reduction_of},
+}
 use Rattle.nullable_array.proofs.reductions.reduce_numbers.Goals as goal
 
 pub returns-in-Some-clause-value : goal.returns-in-Some-clause-value

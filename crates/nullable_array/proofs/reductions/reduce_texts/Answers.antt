@@ -1,19 +1,10 @@
-use Rattle.std.proofs.Common.{◌≡◌, refl, ap, sym, subst, ◌∙◌, pos, ◌+ℤ◌, Ok, rules, FitsSigned}
-use Rattle.std.specs.Int.{int_wrap, w64}
-use Rattle.std.proofs.Math.Facts.{to_z-of_z}
-use Rattle.std.specs.Ordering.{nat_cmp}
-use Rattle.std.specs.Cmp.Lexicographic.{slice_cmp}
-use Rattle.cell_core.specs.declared.cell.Cell.{Cell}
-use Rattle.cell_core.specs.declared.cell.TextId.{TextId}
-use Rattle.cell_core.specs.declared.cell.Kind.TheVariants.{Text as string}
-use Rattle.meaning.specs.Cell.{datum, text_of, IsGiven, int_cell}
-use Rattle.meaning.specs.Reduce.{reduce_column}
-use Rattle.nullable_array.specs.declared.ops.Reduction.{Reduction}
-use Rattle.column_core.specs.Lanes.{lane_row}
-use Rattle.column_core.specs.Columns.{column_value, column_with, text_cell}
-use Rattle.nullable_array.specs.Folds.{reduction_of, sum_step}
-use Rattle.column_core.proofs.ColumnLaws.{given-row}
-use Rattle.nullable_array.proofs.FoldLaws.{folded_seen, least_seen, greatest_seen, least_kept, greatest_kept}
+use Rattle.{
+  std.{proofs.{Common.{◌≡◌, refl, ap, sym, subst, ◌∙◌, pos, ◌+ℤ◌, Ok, rules, FitsSigned}, Math.Facts.{to_z-of_z}}, specs.{Int.{int_wrap, w64}, Ordering.{nat_cmp}, Cmp.Lexicographic.{slice_cmp}}},
+  cell_core.specs.declared.cell.{Cell.{Cell}, TextId.{TextId}, Kind.TheVariants.{Text as string}},
+  meaning.specs.{Cell.{datum, text_of, IsGiven, int_cell}, Reduce.{reduce_column}},
+  nullable_array.{specs.{declared.ops.Reduction.{Reduction}, Folds.{reduction_of, sum_step}}, proofs.FoldLaws.{folded_seen, least_seen, greatest_seen, least_kept, greatest_kept}},
+  column_core.{specs.{Lanes.{lane_row}, Columns.{column_value, column_with, text_cell}}, proofs.ColumnLaws.{given-row}},
+}
 use Rattle.nullable_array.proofs.reductions.reduce_texts.Goals as goal
 
 pub returns-in-Min-clause-answer : goal.returns-in-Min-clause-answer

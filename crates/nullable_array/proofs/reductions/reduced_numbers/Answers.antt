@@ -1,16 +1,10 @@
-use Rattle.std.proofs.Common.{◌≡◌, map, true, false, ◌||◌, ◌&&◌, refl, ap, sym, subst, ◌∙◌, pos, ◌+ℤ◌}
-use Rattle.std.specs.Int.{int_wrap, w64}
-use Rattle.std.proofs.Common.{rules, FitsSigned}
-use Rattle.std.proofs.Math.Facts.{to_z-of_z}
-use Rattle.std.specs.Ordering.{int_cmp}
-use Rattle.cell_core.specs.declared.cell.Cell.{Cell}
-use Rattle.meaning.specs.Cell.{datum, IsGiven, int_cell, truth_cell as truth_value_cell}
-use Rattle.meaning.specs.Column.{tabulate}
-use Rattle.meaning.specs.Reduce.{reduction_cell, number_in, is_true}
-use Rattle.nullable_array.specs.declared.ops.Reduction.{Reduction}
-use Rattle.column_core.specs.Columns.{number_cell, number_given}
-use Rattle.nullable_array.specs.Folds.{reduction_of, sum_step, is_not_zero}
-use Rattle.nullable_array.proofs.FoldLaws.{folded_seen, least_seen, greatest_seen}
+use Rattle.{
+  std.{proofs.{Common.{◌≡◌, map, true, false, ◌||◌, ◌&&◌, refl, ap, sym, subst, ◌∙◌, pos, ◌+ℤ◌, rules, FitsSigned}, Math.Facts.{to_z-of_z}}, specs.{Int.{int_wrap, w64}, Ordering.{int_cmp}}},
+  cell_core.specs.declared.cell.Cell.{Cell},
+  meaning.specs.{Cell.{datum, IsGiven, int_cell, truth_cell as truth_value_cell}, Column.{tabulate}, Reduce.{reduction_cell, number_in, is_true}},
+  nullable_array.{specs.{declared.ops.Reduction.{Reduction}, Folds.{reduction_of, sum_step, is_not_zero}}, proofs.FoldLaws.{folded_seen, least_seen, greatest_seen}},
+  column_core.specs.Columns.{number_cell, number_given},
+}
 use Rattle.nullable_array.proofs.reductions.reduced_numbers.Goals as goal
 
 pub returns-in-Sum-clause-value : goal.returns-in-Sum-clause-value

@@ -1,13 +1,10 @@
-use Rattle.std.proofs.Common.{◌≡◌, map, refl, ap, sym, subst, ◌∙◌}
-use Rattle.std.specs.Ordering.{int_cmp}
-use Rattle.cell_core.specs.declared.cell.Cell.{Cell}
-use Rattle.meaning.specs.Cell.{datum, IsGiven}
-use Rattle.meaning.specs.Column.{tabulate}
-use Rattle.meaning.specs.Reduce.{reduction_cell}
-use Rattle.nullable_array.specs.declared.ops.Reduction.{Reduction}
-use Rattle.column_core.specs.Columns.{number_cell, number_given}
-use Rattle.nullable_array.specs.Folds.{reduction_of}
-use Rattle.nullable_array.proofs.FoldLaws.{least_seen, greatest_seen}
+use Rattle.{
+  std.{proofs.Common.{◌≡◌, map, refl, ap, sym, subst, ◌∙◌}, specs.Ordering.{int_cmp}},
+  cell_core.specs.declared.cell.Cell.{Cell},
+  meaning.specs.{Cell.{datum, IsGiven}, Column.{tabulate}, Reduce.{reduction_cell}},
+  nullable_array.{specs.{declared.ops.Reduction.{Reduction}, Folds.{reduction_of}}, proofs.FoldLaws.{least_seen, greatest_seen}},
+  column_core.specs.Columns.{number_cell, number_given},
+}
 use Rattle.nullable_array.proofs.reductions.reduced_side.Goals as goal
 
 pub returns-in-Min-clause-value : goal.returns-in-Min-clause-value

@@ -1,6 +1,8 @@
-use Rattle.std.proofs.Common.{◌≡◌, ◌<◌, ℕ, List, Option, length, subst, ap, ◌∙◌, arith}
-use Rattle.column_core.specs.Rows.{IsTextRow}
-use Rattle.nullable_array.proofs.TextRows.{longer_trans, text_written}
+use Rattle.{
+  std.proofs.Common.{◌≡◌, ◌<◌, ℕ, List, Option, length, subst, ap, ◌∙◌, arith},
+  column_core.specs.Rows.{IsTextRow},
+  nullable_array.proofs.TextRows.{longer_trans, text_written},
+}
 use Rattle.nullable_array.proofs.texts.fill_texts.Goals as goal
 
 pub loop-row-preserved : goal.loop-row-preserved

@@ -1,5 +1,7 @@
-use Rattle.meaning.specs.Cell.{IsLonger}
-use Rattle.column_core.specs.Rows.{AreTexts}
+use Rattle.{
+  meaning.specs.Cell.{IsLonger},
+  column_core.specs.Rows.{AreTexts},
+}
 use Rattle.nullable_array.proofs.texts.fill_texts.Given as goal
 
 -- the dictionary has grown, and the texts so far are written

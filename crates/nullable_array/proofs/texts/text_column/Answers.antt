@@ -1,8 +1,9 @@
-use Rattle.std.proofs.Common.{◌≡◌, length, arith}
-use Rattle.column_core.specs.Lanes.{option_at}
-use Rattle.column_core.specs.Columns.{column_with, text_cell}
-use Rattle.cell_core.specs.declared.cell.Kind.TheVariants.{Text as string}
-use Rattle.nullable_array.proofs.TextRows.{column_made, texts_made, texts_given}
+use Rattle.{
+  std.proofs.Common.{◌≡◌, length, arith},
+  column_core.specs.{Lanes.{option_at}, Columns.{column_with, text_cell}},
+  cell_core.specs.declared.cell.Kind.TheVariants.{Text as string},
+  nullable_array.proofs.TextRows.{column_made, texts_made, texts_given},
+}
 use Rattle.nullable_array.proofs.texts.text_column.Goals as goal
 
 pub returns-clause-cells : goal.returns-clause-cells

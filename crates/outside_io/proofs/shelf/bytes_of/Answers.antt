@@ -1,7 +1,7 @@
-use Rattle.std.proofs.Common.{◌∙◌, ◌<◌, ap, sym, length, arith}
-use Rattle.outside_io.specs.declared.shelf.HeldFile.{HeldFile}
-use Rattle.outside_io.specs.Shelf.{reading_bytes, least_held}
-use Rattle.outside_io.proofs.Held.{bytes_at-get}
+use Rattle.{
+  std.proofs.Common.{◌∙◌, ◌<◌, ap, sym, length, arith},
+  outside_io.{specs.{declared.shelf.HeldFile.{HeldFile}, Shelf.{reading_bytes, least_held}}, proofs.Held.{bytes_at-get}},
+}
 use Rattle.outside_io.proofs.shelf.bytes_of.Goals as goal
 
 pub returns-in-Held : goal.returns-in-Held

@@ -1,6 +1,7 @@
-use Rattle.std.proofs.Common.{◌∙◌, ℕ, ap, sym, set}
-use Rattle.std.specs.Global.{Vec}
-use Rattle.outside_io.proofs.Held.{bytes_at-get, set-with_bytes}
+use Rattle.{
+  std.{proofs.Common.{◌∙◌, ℕ, ap, sym, set}, specs.Global.{Vec}},
+  outside_io.proofs.Held.{bytes_at-get, set-with_bytes},
+}
 use Rattle.outside_io.proofs.shelf.replace_bytes.Goals as goal
 
 pub returns-clause-old : goal.returns-clause-old

@@ -1,6 +1,7 @@
-use Rattle.std.proofs.Common.{◌≡◌, ◌≤◌, ◌-◌, ◌+◌, length}
-use Rattle.outside_io.specs.Files.{Serves}
-use Rattle.outside_io.proofs.ReadOff.{IsReadOff}
+use Rattle.{
+  std.proofs.Common.{◌≡◌, ◌≤◌, ◌-◌, ◌+◌, length},
+  outside_io.{specs.Files.{Serves}, proofs.ReadOff.{IsReadOff}},
+}
 use Rattle.outside_io.proofs.whole.read_rest.Given as goal
 
 abbrev pub invariant-reading : goal.invariant-reading

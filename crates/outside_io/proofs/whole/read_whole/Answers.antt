@@ -1,5 +1,7 @@
-use Rattle.std.proofs.lemmas.Result.{IfOk-weaker}
-use Rattle.outside_io.proofs.ReadOff.{whole-from_rest, longer-from_rest}
+use Rattle.{
+  std.proofs.lemmas.Result.{IfOk-weaker},
+  outside_io.proofs.ReadOff.{whole-from_rest, longer-from_rest},
+}
 use Rattle.outside_io.proofs.whole.read_whole.Goals as goal
 
 pub returns-clause-told : goal.returns-clause-told

@@ -1,8 +1,8 @@
-use Rattle.std.proofs.Common.{◌<◌, ◌≤◌, ℕ, length, subst, arith, All}
-use Rattle.std.proofs.lemmas.List.{take_all}
-use Rattle.cell_core.specs.declared.cell.Label.{Label}
-use Rattle.row_keys.proofs.DistinctLaws.{get_is}
-use Rattle.row_keys.proofs.PairLaws.{greatest_more}
+use Rattle.{
+  std.proofs.{Common.{◌<◌, ◌≤◌, ℕ, length, subst, arith, All}, lemmas.List.{take_all}},
+  cell_core.specs.declared.cell.Label.{Label},
+  row_keys.proofs.{DistinctLaws.{get_is}, PairLaws.{greatest_more}},
+}
 use Rattle.row_keys.proofs.codes.greatest.Goals as goal
 
 pub loop-row-preserved : goal.loop-row-preserved

@@ -1,5 +1,7 @@
-use Rattle.std.proofs.Common.{◌≤◌, ℕ, take, All}
-use Rattle.cell_core.specs.declared.cell.Label.{Label}
+use Rattle.{
+  std.proofs.Common.{◌≤◌, ℕ, take, All},
+  cell_core.specs.declared.cell.Label.{Label},
+}
 use Rattle.row_keys.proofs.codes.greatest.Given as goal
 
 abbrev pub invariant-loop-row : goal.invariant-loop-row

@@ -1,9 +1,9 @@
-use Rattle.std.proofs.Common.{rules}
-use Rattle.cell_core.specs.declared.cell.Label.TheVariants.{Na}
-use Rattle.index_core.specs.Labels.{same_number}
-use Rattle.row_keys.specs.Keys.{same_pair}
-use Rattle.row_keys.specs.Numbers.{StandFor}
-use Rattle.row_keys.proofs.StandLaws.{codes_stand}
+use Rattle.{
+  std.proofs.Common.{rules},
+  cell_core.specs.declared.cell.Label.TheVariants.{Na},
+  index_core.specs.Labels.{same_number},
+  row_keys.{specs.{Keys.{same_pair}, Numbers.{StandFor}}, proofs.StandLaws.{codes_stand}},
+}
 use Rattle.row_keys.proofs.codes.pair_codes.Goals as goal
 
 pub returns-clause-codes : goal.returns-clause-codes

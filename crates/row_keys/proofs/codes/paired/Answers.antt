@@ -1,11 +1,8 @@
-use Rattle.std.proofs.Common.{◌≡◌, ◌<◌, ◌+◌, ◌*◌, ◌^◌, ℕ, length, map, ap, sym, ◌∙◌, arith, rules}
-use Rattle.std.specs.Prelude.{slice_index, slice_index_or}
-use Rattle.std.specs.List.{range_with_len}
-use Rattle.std.proofs.lemmas.Grind.{common_steps}
-use Rattle.cell_core.specs.declared.cell.Label.TheVariants.{Na}
-use Rattle.row_keys.proofs.ZipLaws.{get_at}
-use Rattle.row_keys.proofs.StandLaws.{row_more}
-use Rattle.row_keys.proofs.PairLaws.{pair_number, pair_below, pairs_below, pairs_stand}
+use Rattle.{
+  std.{proofs.{Common.{◌≡◌, ◌<◌, ◌+◌, ◌*◌, ◌^◌, ℕ, length, map, ap, sym, ◌∙◌, arith, rules}, lemmas.Grind.{common_steps}}, specs.{Prelude.{slice_index, slice_index_or}, List.{range_with_len}}},
+  cell_core.specs.declared.cell.Label.TheVariants.{Na},
+  row_keys.proofs.{ZipLaws.{get_at}, StandLaws.{row_more}, PairLaws.{pair_number, pair_below, pairs_below, pairs_stand}},
+}
 use Rattle.row_keys.proofs.codes.paired.Goals as goal
 
 pub pack-requires : goal.pack-requires

@@ -1,6 +1,7 @@
-use Rattle.std.proofs.Common.{◌≡◌, map}
-use Rattle.std.specs.List.{range_with_len}
-use Rattle.row_keys.proofs.PairLaws.{pair_number}
+use Rattle.{
+  std.{proofs.Common.{◌≡◌, map}, specs.List.{range_with_len}},
+  row_keys.proofs.PairLaws.{pair_number},
+}
 use Rattle.row_keys.proofs.codes.paired.Given as goal
 
 abbrev pub invariant-loop-row : goal.invariant-loop-row

@@ -1,8 +1,8 @@
-use Rattle.std.proofs.Common.{◌≡◌, ◌<◌, ◌≤◌, ◌++◌, ◌∷◌, [], length, ap, ◌∙◌, arith, cond}
-use Rattle.row_keys.proofs.DistinctLaws.{get_is}
-use Rattle.row_keys.proofs.NotedLaws.{none_noted, one_noted, added_new, added_none, all_seen, all_coded, all_first}
+use Rattle.{
+  std.proofs.Common.{◌≡◌, ◌<◌, ◌≤◌, ◌++◌, ◌∷◌, [], length, ap, ◌∙◌, arith, cond},
+  row_keys.proofs.{DistinctLaws.{get_is}, NotedLaws.{none_noted, one_noted, added_new, added_none, all_seen, all_coded, all_first}, factor.factorize.Goals.{then-new+in_ok-push-2, else-new}},
+}
 use Rattle.row_keys.proofs.factor.factorize.Goals as goal
-use Rattle.row_keys.proofs.factor.factorize.Goals.{then-new+in_ok-push-2, else-new}
 
 pub loop-row-init : goal.loop-row-init
 loop-row-init g c = none_noted g.K.PartialEq.eq (g.R.KeyRows.keys c.args.rows.now) c.new-seen.result.keys c.in_ok-codes.codes.items c.new-firsts.result.items c.new-seen.ensures.empty c.in_ok-codes.ensures.items c.new-firsts.ensures.items

@@ -1,5 +1,7 @@
-use Rattle.std.proofs.Common.{◌<◌, ◌≤◌, ◌++◌, [], length, slice_index_or, arith}
-use Rattle.multi_index.proofs.SideLaws.{one_row_more, every_row}
+use Rattle.{
+  std.proofs.Common.{◌<◌, ◌≤◌, ◌++◌, [], length, slice_index_or, arith},
+  multi_index.proofs.SideLaws.{one_row_more, every_row},
+}
 use Rattle.row_keys.proofs.levels.tuples_at.Goals as goal
 
 pub loop-row-preserved : goal.loop-row-preserved

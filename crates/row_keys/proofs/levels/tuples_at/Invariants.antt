@@ -1,5 +1,7 @@
-use Rattle.std.proofs.Common.{◌≡◌, ◌++◌, take}
-use Rattle.multi_index.specs.Axes.{tuples_at}
+use Rattle.{
+  std.proofs.Common.{◌≡◌, ◌++◌, take},
+  multi_index.specs.Axes.{tuples_at},
+}
 use Rattle.row_keys.proofs.levels.tuples_at.Given as goal
 
 -- the tuples so far

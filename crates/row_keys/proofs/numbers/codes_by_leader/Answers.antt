@@ -1,9 +1,8 @@
-use Rattle.std.proofs.Common.{◌≡◌, ◌<◌, ◌+◌, ◌++◌, ◌∷◌, [], length, ap, refl, ◌∙◌, arith, rules}
-use Rattle.std.specs.Prelude.{slice_index}
-use Rattle.std.proofs.lemmas.List.{get_or_read}
-use Rattle.row_keys.proofs.NotedLaws.{AreCoded, none_coded, new_coded, code_inside, led_coded}
+use Rattle.{
+  std.{proofs.{Common.{◌≡◌, ◌<◌, ◌+◌, ◌++◌, ◌∷◌, [], length, ap, refl, ◌∙◌, arith, rules}, lemmas.List.{get_or_read}}, specs.Prelude.{slice_index}},
+  row_keys.proofs.{NotedLaws.{AreCoded, none_coded, new_coded, code_inside, led_coded}, numbers.codes_by_leader.Goals.{then-leader-row+in_ok-push+in_ok-push-2, else-leader-row+in_ok-push-3}},
+}
 use Rattle.row_keys.proofs.numbers.codes_by_leader.Goals as goal
-use Rattle.row_keys.proofs.numbers.codes_by_leader.Goals.{then-leader-row+in_ok-push+in_ok-push-2, else-leader-row+in_ok-push-3}
 
 pub loop-row-init : goal.loop-row-init
 loop-row-init c = none_coded c.args.leaders.now c.in_ok-codes.codes.items c.new-firsts.result.items c.in_ok-codes.ensures.items c.new-firsts.ensures.items

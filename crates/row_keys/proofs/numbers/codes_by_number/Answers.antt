@@ -1,7 +1,7 @@
-use Rattle.std.proofs.Common.{sym, subst, nat_eq, rules}
-use Rattle.row_keys.specs.Numbers.{LeadBack, AreLeaders}
-use Rattle.row_keys.proofs.StandLaws.{codes_stand}
-use Rattle.row_keys.proofs.LeaderLaws.{leaders_stand, leaders_back}
+use Rattle.{
+  std.proofs.Common.{sym, subst, nat_eq, rules},
+  row_keys.{specs.Numbers.{LeadBack, AreLeaders}, proofs.{StandLaws.{codes_stand}, LeaderLaws.{leaders_stand, leaders_back}}},
+}
 use Rattle.row_keys.proofs.numbers.codes_by_number.Goals as goal
 
 pub codes_by_leader-requires : goal.codes_by_leader-requires

@@ -1,9 +1,7 @@
-use Rattle.std.proofs.Common.{◌≡◌, ◌<◌, ◌≤◌, ℕ, length, refl, ap, ◌∙◌, min, arith}
-use Rattle.std.specs.Prelude.{slice_index}
-use Rattle.std.proofs.lemmas.Grind.{common_steps}
-use Rattle.std.proofs.lemmas.List.{length-set}
-use Rattle.row_keys.specs.Numbers.{first_with}
-use Rattle.row_keys.proofs.LeaderLaws.{table_leads, table_more, leaders_more}
+use Rattle.{
+  std.{proofs.{Common.{◌≡◌, ◌<◌, ◌≤◌, ℕ, length, refl, ap, ◌∙◌, min, arith}, lemmas.{Grind.{common_steps}, List.{length-set}}}, specs.Prelude.{slice_index}},
+  row_keys.{specs.Numbers.{first_with}, proofs.LeaderLaws.{table_leads, table_more, leaders_more}},
+}
 use Rattle.row_keys.proofs.numbers.leaders_by_table.Goals as goal
 
 pub loop-row-preserved : goal.loop-row-preserved

@@ -1,6 +1,7 @@
-use Rattle.std.proofs.Common.{◌≡◌, ◌+◌, map, take, length}
-use Rattle.row_keys.specs.Numbers.{first_with}
-use Rattle.row_keys.proofs.LeaderLaws.{IsTable}
+use Rattle.{
+  std.proofs.Common.{◌≡◌, ◌+◌, map, take, length},
+  row_keys.{specs.Numbers.{first_with}, proofs.LeaderLaws.{IsTable}},
+}
 use Rattle.row_keys.proofs.numbers.leaders_by_table.Given as goal
 
 -- the table and the leaders of the rows so far

@@ -1,5 +1,7 @@
-use Rattle.std.proofs.Common.{◌∙◌, length}
-use Rattle.row_keys.proofs.PartnerLaws.{firsts_counted, left_is, right_is, right_below, partners_are, partners_below}
+use Rattle.{
+  std.proofs.Common.{◌∙◌, length},
+  row_keys.proofs.PartnerLaws.{firsts_counted, left_is, right_is, right_below, partners_are, partners_below},
+}
 use Rattle.row_keys.proofs.partners.find_partners.Goals as goal
 
 pub rows_by_code-requires-clause-known : goal.rows_by_code-requires-clause-known

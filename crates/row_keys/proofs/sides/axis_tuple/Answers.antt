@@ -1,6 +1,7 @@
-use Rattle.std.proofs.Common.{◌≡◌, ◌∙◌, ◌<◌, [], length, take, ap, sym, Some, slice_index_or, arith}
-use Rattle.std.proofs.lemmas.List.{take_all, length-set}
-use Rattle.multi_index.proofs.SideLaws.{tuple_there, label_there, one_label_more}
+use Rattle.{
+  std.proofs.{Common.{◌≡◌, ◌∙◌, ◌<◌, [], length, take, ap, sym, Some, slice_index_or, arith}, lemmas.List.{take_all, length-set}},
+  multi_index.proofs.SideLaws.{tuple_there, label_there, one_label_more},
+}
 use Rattle.row_keys.proofs.sides.axis_tuple.Goals as goal
 
 pub loop-level-preserved : goal.loop-level-preserved

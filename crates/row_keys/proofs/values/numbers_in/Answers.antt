@@ -1,11 +1,9 @@
-use Rattle.std.proofs.Common.{◌≡◌, ◌<◌, ◌≤◌, ◌^◌, ℤ, length, arith, rules, ◌∙◌, ap, sym, subst}
-use Rattle.std.proofs.lemmas.Int.{to_z-of_z}
 use mir.Syntax.{w64}
 use mir.Val.{SFits}
-use Rattle.std.specs.Prelude.{slice_index_or}
-use Rattle.row_keys.specs.Values.{number_in}
-use Rattle.row_keys.proofs.DistinctLaws.{get_is}
-use Rattle.row_keys.proofs.ValueLaws.{label_below, numbers_more, labels_below, labels_stand}
+use Rattle.{
+  std.{proofs.{Common.{◌≡◌, ◌<◌, ◌≤◌, ◌^◌, ℤ, length, arith, rules, ◌∙◌, ap, sym, subst}, lemmas.Int.{to_z-of_z}}, specs.Prelude.{slice_index_or}},
+  row_keys.{specs.Values.{number_in}, proofs.{DistinctLaws.{get_is}, ValueLaws.{label_below, numbers_more, labels_below, labels_stand}}},
+}
 use Rattle.row_keys.proofs.values.numbers_in.Goals as goal
 
 pub number_of-requires : goal.number_of-requires

@@ -1,5 +1,7 @@
-use Rattle.std.proofs.Common.{◌≡◌, map, take}
-use Rattle.row_keys.specs.Values.{number_in}
+use Rattle.{
+  std.proofs.Common.{◌≡◌, map, take},
+  row_keys.specs.Values.{number_in},
+}
 use Rattle.row_keys.proofs.values.numbers_in.Given as goal
 
 abbrev pub invariant-loop-row : goal.invariant-loop-row

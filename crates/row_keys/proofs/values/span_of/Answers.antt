@@ -1,8 +1,7 @@
-use Rattle.std.proofs.Common.{◌<◌, ◌≤◌, length, subst, arith, All}
-use Rattle.std.proofs.lemmas.List.{take_all}
-use Rattle.row_keys.specs.Values.{IsSpanned}
-use Rattle.row_keys.proofs.DistinctLaws.{get_is}
-use Rattle.row_keys.proofs.ValueLaws.{spanned_more}
+use Rattle.{
+  std.proofs.{Common.{◌<◌, ◌≤◌, length, subst, arith, All}, lemmas.List.{take_all}},
+  row_keys.{specs.Values.{IsSpanned}, proofs.{DistinctLaws.{get_is}, ValueLaws.{spanned_more}}},
+}
 use Rattle.row_keys.proofs.values.span_of.Goals as goal
 
 pub loop-row-preserved : goal.loop-row-preserved

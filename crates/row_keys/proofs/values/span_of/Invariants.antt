@@ -1,5 +1,7 @@
-use Rattle.std.proofs.Common.{take, All}
-use Rattle.row_keys.specs.Values.{IsSpanned}
+use Rattle.{
+  std.proofs.Common.{take, All},
+  row_keys.specs.Values.{IsSpanned},
+}
 use Rattle.row_keys.proofs.values.span_of.Given as goal
 
 abbrev pub invariant-loop-row : goal.invariant-loop-row

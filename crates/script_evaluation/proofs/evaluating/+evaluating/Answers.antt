@@ -1,52 +1,26 @@
-use Rattle.std.proofs.Common.{refl, [], ◌∷◌, ◌++◌, length, codes, ◌≡◌, sym, ◌∙◌, ap, subst, Some, None, drop, ◌+◌, ◌≤◌, max, suc, arith, true, Option, Err}
-use Rattle.std.specs.Prelude.{List, is_some, option_map, IsErrAnd, IfSome}
-use Rattle.std.proofs.lemmas.List.{append-nil}
-use Rattle.language_meaning.specs.Tree.{arg_list, named_args, arg_pairs}
-use Rattle.language_meaning.specs.Depth.{depth, step_depth, optional_arg_depth, arg_depth, list_depth, args_depth, pairs_depth}
-use Rattle.meaning.specs.Cell.{label_datum}
-use Rattle.meaning.specs.Operator.{cell_label}
-use Rattle.table_meaning.specs.Value.{Entry, cell, GivenSub, nothing, one, row, many, entries, key_given, span_given, more_given, more_entries, no_given, no_entries}
-use Rattle.form_meaning.specs.Signature.{function_named}
-use Rattle.form_meaning.specs.Infix.{infix_result, sign_result}
-use Rattle.form_meaning.specs.Select.{length_result}
-use Rattle.select_meaning.specs.Select.{plain, through, select_result}
+use Rattle.{
+  std.{proofs.{Common.{refl, [], ◌∷◌, ◌++◌, length, codes, ◌≡◌, sym, ◌∙◌, ap, subst, Some, None, drop, ◌+◌, ◌≤◌, max, suc, arith, true, Option, Err}, lemmas.List.{append-nil}}, specs.Prelude.{List, is_some, option_map, IsErrAnd, IfSome}},
+  language_meaning.specs.{Tree.{arg_list, named_args, arg_pairs}, Depth.{depth, step_depth, optional_arg_depth, arg_depth, list_depth, args_depth, pairs_depth}},
+  meaning.specs.{Cell.{label_datum}, Operator.{cell_label}, Text.{Text}},
+  table_meaning.specs.Value.{Entry, cell, GivenSub, nothing, one, row, many, entries, key_given, span_given, more_given, more_entries, no_given, no_entries, Given, NamedGiven},
+  form_meaning.specs.{Signature.{function_named}, Infix.{infix_result, sign_result}, Select.{length_result}},
+  select_meaning.specs.Select.{plain, through, select_result},
+  method_meaning.specs.Calls.{has_method, call_result},
+  frame_store.{proofs.RowLaws.{item_of-Row, argument_of-Table}, specs.{declared.arguments.{Named.{Named}, Argument.{Argument}, NamedList.{NamedList}}, World.{World, entry_in, IsKnownArgument, AreKnownArguments}}},
+  script_tokens.specs.View.{binary_of},
+  script_meaning.specs.{Reading.{Reads, at_once, gives, then_read}, Expression.{where_named, is_minus, made, named_by, value_of, stepped, named_of, parts_of as parts_given, part_of, pairs_of, given_of, sub_of, second_of, brackets_of, bound_of, stride_of, cell_of}},
+  script_tree.{specs.View.{unary_of, expr_of, step_of, arg_of, accessor_of, optional_arg, parts_of, named_parts_of, pair_parts_of, sub_of as view_sub, literal_of}, proofs.Rows.{expr_of-Make, step_of-Method, step_of-Group, step_of-Rolling, step_of-Expanding, arg_of-Many, arg_of-Row, arg_of-Table}},
+  selections.specs.Selected.{way_of},
+  script_evaluation.{specs.{Parts.{optional_sub, optional_expr, brackets_in}, Evaluates.{item_in, items_in, argument_in, pairs_in, arguments_in, subscript_in}, Links.{link_name, chain_behind, chain_meant, after_brackets, after_link, linked}, declared.link.Link.{Link, TheVariants.{Groupby, Rolling, Expanding}}}, proofs.{Seconds.{seconds_stop, seconds, strides_stop, strides}, Evaluations.{evaluates_by, runs_out, stops, goes_on, adds, makes, stays, as_value, forms, knows, knows_none, names_value, writes_out, value_if}, Gathering.{gathered, gathers_next, gathers_none, gathers_out}, Parts.{join_parts, join_pairs, parts_end, pairs_end, items_push, pairs_push, arguments_push, items_known, pairs_known, arguments_known, item_known, argument_known, nothing_known, many_known, tuple_known, key_known, span_known, row_known, table_known}, Trees.{drop_item, drop_end, item_depth, named_depth, pair_depth, sub_of-Span, step_of-Access}}},
+  script_work.{specs.{Faults.{IsNoAttribute}, Work.{world_of, state_in}}, proofs.{Worlds.{keeps_both, value_seen, value_kept, subscript_seen, subscript_kept, items_seen, items_kept, pairs_seen, pairs_kept, arguments_seen, arguments_kept, argument_seen, argument_kept, brackets_seen, brackets_kept}, Rides.{both_then, then_gives}}},
+  fault_laws.proofs.{FormFaults.{sign_result_fault, infix_result_fault, length_result_fault}, SelectFaults.{select_result_fault}, CallFaults.{call_result_fault}},
+  label_methods.specs.Chains.{chain_in, IsKnownChain},
+  cell_core.specs.declared.words.Words.{Words},
+}
 use Rattle.method_meaning.specs.Calls as calls
-use Rattle.method_meaning.specs.Calls.{has_method, call_result}
-use Rattle.frame_store.proofs.RowLaws.{item_of-Row, argument_of-Table}
 use Rattle.frame_store.specs.declared.arguments.Argument.TheVariants as argument
 use Rattle.frame_store.specs.declared.arguments.Item.TheVariants as item
 use Rattle.frame_store.specs.declared.arguments.Subscript.TheVariants as subscript
-use Rattle.frame_store.specs.declared.arguments.Named.{Named}
-use Rattle.script_tokens.specs.View.{binary_of}
-use Rattle.script_meaning.specs.Reading.{Reads, at_once, gives, then_read}
-use Rattle.script_meaning.specs.Expression.{where_named, is_minus, made, named_by, value_of, stepped, named_of, parts_of as parts_given, part_of, pairs_of, given_of, sub_of, second_of, brackets_of, bound_of, stride_of, cell_of}
-use Rattle.script_tree.specs.View.{unary_of, expr_of, step_of, arg_of, accessor_of, optional_arg, parts_of, named_parts_of, pair_parts_of, sub_of as view_sub, literal_of}
-use Rattle.script_tree.proofs.Rows.{expr_of-Make, step_of-Method, step_of-Group, step_of-Rolling, step_of-Expanding, arg_of-Many, arg_of-Row, arg_of-Table}
-use Rattle.selections.specs.Selected.{way_of}
-use Rattle.script_evaluation.specs.Parts.{optional_sub, optional_expr, brackets_in}
-use Rattle.frame_store.specs.World.{World, entry_in, IsKnownArgument, AreKnownArguments}
-use Rattle.script_evaluation.specs.Evaluates.{item_in, items_in, argument_in, pairs_in, arguments_in, subscript_in}
-use Rattle.script_work.specs.Faults.{IsNoAttribute}
-use Rattle.script_work.specs.Work.{world_of, state_in}
-use Rattle.script_work.proofs.Worlds.{keeps_both, value_seen, value_kept, subscript_seen, subscript_kept, items_seen, items_kept, pairs_seen, pairs_kept, arguments_seen, arguments_kept, argument_seen, argument_kept, brackets_seen, brackets_kept}
-use Rattle.script_evaluation.proofs.Seconds.{seconds_stop, seconds, strides_stop, strides}
-use Rattle.script_evaluation.proofs.Evaluations.{evaluates_by, runs_out, stops, goes_on, adds, makes, stays, as_value, forms, knows, knows_none, names_value, writes_out, value_if}
-use Rattle.script_evaluation.proofs.Gathering.{gathered, gathers_next, gathers_none, gathers_out}
-use Rattle.script_evaluation.proofs.Parts.{join_parts, join_pairs, parts_end, pairs_end, items_push, pairs_push, arguments_push, items_known, pairs_known, arguments_known, item_known, argument_known, nothing_known, many_known, tuple_known, key_known, span_known, row_known, table_known}
-use Rattle.fault_laws.proofs.FormFaults.{sign_result_fault, infix_result_fault, length_result_fault}
-use Rattle.fault_laws.proofs.SelectFaults.{select_result_fault}
-use Rattle.fault_laws.proofs.CallFaults.{call_result_fault}
-use Rattle.meaning.specs.Text.{Text}
-use Rattle.label_methods.specs.Chains.{chain_in, IsKnownChain}
-use Rattle.table_meaning.specs.Value.{Given, NamedGiven}
-use Rattle.script_evaluation.specs.Links.{link_name, chain_behind, chain_meant, after_brackets, after_link, linked}
-use Rattle.script_evaluation.specs.declared.link.Link.{Link}
-use Rattle.script_evaluation.specs.declared.link.Link.TheVariants.{Groupby, Rolling, Expanding}
-use Rattle.cell_core.specs.declared.words.Words.{Words}
-use Rattle.frame_store.specs.declared.arguments.Argument.{Argument}
-use Rattle.frame_store.specs.declared.arguments.NamedList.{NamedList}
-use Rattle.script_work.proofs.Rides.{both_then, then_gives}
-use Rattle.script_evaluation.proofs.Trees.{drop_item, drop_end, item_depth, named_depth, pair_depth, sub_of-Span, step_of-Access}
 use Rattle.script_evaluation.proofs.evaluating.+evaluating.Goals as goal
 
 pub evaluate-returns-in-Name : goal.evaluate-returns-in-Name

@@ -1,14 +1,12 @@
-use Rattle.std.proofs.Common.{drop, ◌*◌, ◌+◌, ◌++◌, max}
-use Rattle.language_meaning.specs.Tree.{arg_list, named_args, arg_pairs}
-use Rattle.language_meaning.specs.Depth.{depth, step_depth, sub_depth, optional_sub_depth, optional_arg_depth, arg_depth, list_depth, args_depth, pairs_depth}
-use Rattle.script_meaning.specs.Expression.{parts_of as parts_given, named_of, pairs_of}
-use Rattle.script_tree.specs.View.{expr_of, step_of, sub_of, arg_of, optional_arg, parts_of, named_parts_of, pair_parts_of}
-use Rattle.script_evaluation.specs.Parts.{optional_sub}
-use Rattle.script_evaluation.specs.Evaluates.{moment, items_in, pairs_in, arguments_in}
-use Rattle.frame_store.specs.World.{AreKnownItems, AreKnownPairs, AreKnownArguments}
-use Rattle.script_work.specs.Work.{world_of}
-use Rattle.script_evaluation.proofs.Gathering.{Gathers}
-use Rattle.script_evaluation.proofs.Parts.{join_parts, join_pairs}
+use Rattle.{
+  std.proofs.Common.{drop, ◌*◌, ◌+◌, ◌++◌, max},
+  language_meaning.specs.{Tree.{arg_list, named_args, arg_pairs}, Depth.{depth, step_depth, sub_depth, optional_sub_depth, optional_arg_depth, arg_depth, list_depth, args_depth, pairs_depth}},
+  script_meaning.specs.Expression.{parts_of as parts_given, named_of, pairs_of},
+  script_tree.specs.View.{expr_of, step_of, sub_of, arg_of, optional_arg, parts_of, named_parts_of, pair_parts_of},
+  script_evaluation.{specs.{Parts.{optional_sub}, Evaluates.{moment, items_in, pairs_in, arguments_in}}, proofs.{Gathering.{Gathers}, Parts.{join_parts, join_pairs}}},
+  frame_store.specs.World.{AreKnownItems, AreKnownPairs, AreKnownArguments},
+  script_work.specs.Work.{world_of},
+}
 use Rattle.script_evaluation.proofs.evaluating.+evaluating.Given as goal
 
 abbrev pub invariant-arguments-loop-i : goal.invariant-arguments-loop-i

@@ -1,18 +1,14 @@
-use Rattle.std.proofs.Common.{refl, ◌∙◌, ap, None, Option}
-use Rattle.std.specs.Prelude.{Err, option_map}
-use Rattle.table_meaning.specs.Value.{GivenSub, key_given}
-use Rattle.select_meaning.specs.Select.{plain, through}
+use Rattle.{
+  std.{proofs.Common.{refl, ◌∙◌, ap, None, Option}, specs.Prelude.{Err, option_map}},
+  table_meaning.specs.Value.{GivenSub, key_given},
+  select_meaning.specs.Select.{plain, through},
+  script_meaning.specs.{Reading.{gives}, Expression.{Target, target_of}},
+  script_tree.specs.View.{step_of, accessor_of},
+  script_evaluation.{specs.Evaluates.{subscript_in}, proofs.{Evaluations.{evaluates_by, stops, makes}, Parts.{key_known}, Trees.{step_of-Access}}},
+  script_work.{specs.Work.{world_of, state_in}, proofs.Rides.{both_then}},
+}
 use Rattle.frame_store.specs.declared.arguments.Selector.TheVariants as selector
 use Rattle.frame_store.specs.declared.arguments.Subscript.TheVariants as subscript
-use Rattle.script_meaning.specs.Reading.{gives}
-use Rattle.script_meaning.specs.Expression.{Target, target_of}
-use Rattle.script_tree.specs.View.{step_of, accessor_of}
-use Rattle.script_evaluation.specs.Evaluates.{subscript_in}
-use Rattle.script_work.specs.Work.{world_of, state_in}
-use Rattle.script_evaluation.proofs.Evaluations.{evaluates_by, stops, makes}
-use Rattle.script_evaluation.proofs.Parts.{key_known}
-use Rattle.script_work.proofs.Rides.{both_then}
-use Rattle.script_evaluation.proofs.Trees.{step_of-Access}
 use Rattle.script_evaluation.proofs.target.last_step.Goals as goal
 
 pub returns-in_err-key-in-Item : goal.returns-in_err-key-in-Item

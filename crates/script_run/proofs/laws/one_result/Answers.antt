@@ -1,6 +1,7 @@
-use Rattle.std.proofs.Common.{map}
-use Rattle.std.specs.Prelude.{string_bytes}
-use Rattle.script_run.proofs.OneResult.{run_one}
+use Rattle.{
+  std.{proofs.Common.{map}, specs.Prelude.{string_bytes}},
+  script_run.proofs.OneResult.{run_one},
+}
 use Rattle.script_run.proofs.laws.one_result.Goals as goal
 
 pub returns : goal.returns

@@ -1,19 +1,11 @@
-use Rattle.std.proofs.Common.{◌≡◌, ◌∙◌, Option, ap, map, refl, subst, sym, inr}
-use Rattle.std.specs.Prelude.{IfNone, IfSome, string_bytes}
-use Rattle.outside_io.specs.Count.{HasRisen}
-use Rattle.outside_io.specs.Files.{FilesValue}
-use Rattle.outside_io.specs.Sink.{SinkValue, appended}
-use Rattle.script_meaning.specs.Run.{RunWords, IsRunResult, IsWordsResult, not_found_line, run_in, usage, usage_line, with_line, with_script}
-use Rattle.script_work.proofs.Rides.{serves_self}
-use Rattle.script_steps.specs.Ends.{Outside, outside, Ends, Is}
-use Rattle.script_steps.proofs.RunLaws.{early_none, ends_with_line}
-use Rattle.script_steps.proofs.Options.{none-always, some-always}
-use Rattle.script_run.proofs.FileLaws.{complete_run, ends_unbegun, not_unread}
-use Rattle.script_steps.specs.Errors.{RunLeaves}
-use Rattle.script_steps.proofs.ErrorLaws.{warns_none}
-use Rattle.script_run.proofs.OneResult.{run_one}
-use Rattle.script_steps.specs.declared.status.Status.{Status}
-use Rattle.script_steps.specs.declared.status.Status.TheVariants.{Usage}
+use Rattle.{
+  std.{proofs.Common.{◌≡◌, ◌∙◌, Option, ap, map, refl, subst, sym, inr}, specs.Prelude.{IfNone, IfSome, string_bytes}},
+  outside_io.specs.{Count.{HasRisen}, Files.{FilesValue}, Sink.{SinkValue, appended}},
+  script_meaning.specs.Run.{RunWords, IsRunResult, IsWordsResult, not_found_line, run_in, usage, usage_line, with_line, with_script},
+  script_work.proofs.Rides.{serves_self},
+  script_steps.{specs.{Ends.{Outside, outside, Ends, Is}, Errors.{RunLeaves}, declared.status.Status.{Status, TheVariants.{Usage}}}, proofs.{RunLaws.{early_none, ends_with_line}, Options.{none-always, some-always}, ErrorLaws.{warns_none}}},
+  script_run.proofs.{FileLaws.{complete_run, ends_unbegun, not_unread}, OneResult.{run_one}},
+}
 use Rattle.script_run.proofs.running.run.Goals as goal
 
 pub returns-in_default-clause-told : goal.returns-in_default-clause-told

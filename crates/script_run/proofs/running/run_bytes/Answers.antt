@@ -1,16 +1,11 @@
-use Rattle.std.proofs.Common.{inl, inr, refl}
-use Rattle.script_meaning.specs.State.{no_names}
-use Rattle.script_meaning.specs.Run.{IsScriptResult, statements_result, syntax_line, too_large_line, syntax}
-use Rattle.script_tree.specs.ScriptView.{statements_of}
-use Rattle.script_work.specs.Reads.{files_in}
-use Rattle.script_work.proofs.Rides.{serves_self}
-use Rattle.script_steps.specs.Ends.{Outside, outside, Ends, Is}
-use Rattle.script_steps.specs.declared.status.Status.TheVariants.{Syntax}
-use Rattle.script_steps.proofs.Options.{some-always, some-weaker}
-use Rattle.script_run.proofs.FileLaws.{ends_script, ends_syntax, ends_too_large, ends_unbegun}
-use Rattle.script_steps.proofs.RunLaws.{ends_with_line}
-use Rattle.script_steps.proofs.ErrorLaws.{never_usage, run_leaves, run_leaves_line, warns_none}
-use Rattle.script_run.proofs.OneResult.{script_one}
+use Rattle.{
+  std.proofs.Common.{inl, inr, refl},
+  script_meaning.specs.{State.{no_names}, Run.{IsScriptResult, statements_result, syntax_line, too_large_line, syntax}},
+  script_tree.specs.ScriptView.{statements_of},
+  script_work.{specs.Reads.{files_in}, proofs.Rides.{serves_self}},
+  script_steps.{specs.{Ends.{Outside, outside, Ends, Is}, declared.status.Status.TheVariants.{Syntax}}, proofs.{Options.{some-always, some-weaker}, RunLaws.{ends_with_line}, ErrorLaws.{never_usage, run_leaves, run_leaves_line, warns_none}}},
+  script_run.proofs.{FileLaws.{ends_script, ends_syntax, ends_too_large, ends_unbegun}, OneResult.{script_one}},
+}
 use Rattle.script_run.proofs.running.run_bytes.Goals as goal
 
 pub returns-in-Ok-clause-told : goal.returns-in-Ok-clause-told

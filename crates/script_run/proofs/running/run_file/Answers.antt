@@ -1,15 +1,10 @@
-use Rattle.std.proofs.Common.{◌≡◌, List, ℕ, Some, inl, refl, subst, arith}
-use Rattle.std.specs.FinMap.{get}
-use Rattle.script_meaning.specs.Run.{RunWords, IsScriptResult, IsWordsResult, not_found_line, too_large_line, usage, syntax}
-use Rattle.script_work.specs.Reads.{files_in, paths_of}
-use Rattle.script_work.proofs.Rides.{serves_both}
-use Rattle.script_steps.specs.Ends.{Outside, outside, Ends}
-use Rattle.script_steps.specs.declared.status.Status.TheVariants.{Syntax, Usage}
-use Rattle.script_steps.proofs.Options.{some-always, some-both, some-weaker}
-use Rattle.script_run.proofs.FileLaws.{does_fetch, ends_held, ends_absent, ends_too_large, ends_unbegun, ends_unread}
-use Rattle.script_steps.proofs.RunLaws.{ends_with_line}
-use Rattle.script_steps.proofs.ErrorLaws.{absent_said, never_absent, run_leaves_later, run_leaves_line, says_unread, warns_none}
-use Rattle.script_run.proofs.OneResult.{words_one}
+use Rattle.{
+  std.{proofs.Common.{◌≡◌, List, ℕ, Some, inl, refl, subst, arith}, specs.FinMap.{get}},
+  script_meaning.specs.Run.{RunWords, IsScriptResult, IsWordsResult, not_found_line, too_large_line, usage, syntax},
+  script_work.{specs.Reads.{files_in, paths_of}, proofs.Rides.{serves_both}},
+  script_steps.{specs.{Ends.{Outside, outside, Ends}, declared.status.Status.TheVariants.{Syntax, Usage}}, proofs.{Options.{some-always, some-both, some-weaker}, RunLaws.{ends_with_line}, ErrorLaws.{absent_said, never_absent, run_leaves_later, run_leaves_line, says_unread, warns_none}}},
+  script_run.proofs.{FileLaws.{does_fetch, ends_held, ends_absent, ends_too_large, ends_unbegun, ends_unread}, OneResult.{words_one}},
+}
 use Rattle.script_run.proofs.running.run_file.Goals as goal
 
 pub returns-in-Ok-clause-told : goal.returns-in-Ok-clause-told

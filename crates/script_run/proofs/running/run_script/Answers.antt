@@ -1,20 +1,12 @@
-use Rattle.std.proofs.Common.{◌∙◌, ◌+◌, sym, ap, subst, drop, arith}
-use Rattle.meaning.specs.Text.{Contents}
-use Rattle.script_meaning.specs.Reading.{Reading}
-use Rattle.script_meaning.specs.State.{no_names}
-use Rattle.script_meaning.specs.Statement.{Answer, statement_result}
-use Rattle.script_meaning.specs.Run.{RunResult, statements_result}
-use Rattle.script_tree.specs.View.{form_of, statement_of}
-use Rattle.script_tree.specs.ScriptView.{statements_of}
-use Rattle.script_work.specs.Reads.{files_in, paths_of}
-use Rattle.script_session.specs.Session.{state_of}
-use Rattle.script_work.proofs.Rides.{serves_self, serves_both}
-use Rattle.script_steps.specs.Ends.{Outside, outside, Ends, Is}
-use Rattle.script_steps.specs.Steps.{ComesTo, GoesOn, Stops}
-use Rattle.script_steps.specs.declared.status.Status.TheVariants.{Done}
-use Rattle.script_steps.proofs.Options.{some-always, some-both, some-weaker}
-use Rattle.script_steps.proofs.RunLaws.{comes_none, comes_more, ends_come, ends_done, next-result}
-use Rattle.script_steps.proofs.ErrorLaws.{warns_none, warns_both, leaves_later}
+use Rattle.{
+  std.proofs.Common.{◌∙◌, ◌+◌, sym, ap, subst, drop, arith},
+  meaning.specs.Text.{Contents},
+  script_meaning.specs.{Reading.{Reading}, State.{no_names}, Statement.{Answer, statement_result}, Run.{RunResult, statements_result}},
+  script_tree.specs.{View.{form_of, statement_of}, ScriptView.{statements_of}},
+  script_work.{specs.Reads.{files_in, paths_of}, proofs.Rides.{serves_self, serves_both}},
+  script_session.specs.Session.{state_of},
+  script_steps.{specs.{Ends.{Outside, outside, Ends, Is}, Steps.{ComesTo, GoesOn, Stops}, declared.status.Status.TheVariants.{Done}}, proofs.{Options.{some-always, some-both, some-weaker}, RunLaws.{comes_none, comes_more, ends_come, ends_done, next-result}, ErrorLaws.{warns_none, warns_both, leaves_later}}},
+}
 use Rattle.script_run.proofs.running.run_script.Goals as goal
 
 pub loop-i-init : goal.loop-i-init

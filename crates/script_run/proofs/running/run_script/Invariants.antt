@@ -1,14 +1,12 @@
-use Rattle.std.proofs.Common.{◌≤◌, drop}
-use Rattle.std.specs.Prelude.{IfSome}
-use Rattle.outside_io.specs.Files.{Serves}
-use Rattle.script_meaning.specs.State.{no_names}
-use Rattle.script_meaning.specs.Run.{statements_result}
-use Rattle.script_tree.specs.ScriptView.{statements_of}
-use Rattle.script_work.specs.Reads.{files_in}
-use Rattle.script_session.specs.Session.{state_of}
-use Rattle.script_steps.specs.Errors.{Warns}
-use Rattle.script_steps.specs.Ends.{outside}
-use Rattle.script_steps.specs.Steps.{ComesTo}
+use Rattle.{
+  std.{proofs.Common.{◌≤◌, drop}, specs.Prelude.{IfSome}},
+  outside_io.specs.Files.{Serves},
+  script_meaning.specs.{State.{no_names}, Run.{statements_result}},
+  script_tree.specs.ScriptView.{statements_of},
+  script_work.specs.Reads.{files_in},
+  script_session.specs.Session.{state_of},
+  script_steps.specs.{Errors.{Warns}, Ends.{outside}, Steps.{ComesTo}},
+}
 use Rattle.script_run.proofs.running.run_script.Given as goal
 
 -- the steps that were done, and then those of the statements that are left, are the steps of all statements

@@ -1,6 +1,8 @@
-use Rattle.std.proofs.Common.{◌≡◌, [], drop, map, string_bytes}
-use Rattle.script_meaning.specs.Run.{pairs_after}
-use Rattle.script_work.specs.Reads.{paths_of}
+use Rattle.{
+  std.proofs.Common.{◌≡◌, [], drop, map, string_bytes},
+  script_meaning.specs.Run.{pairs_after},
+  script_work.specs.Reads.{paths_of},
+}
 use Rattle.script_run.proofs.words.names_in.Given as goal
 
 -- the pairs of all words are those so far, and then those of the words that are left

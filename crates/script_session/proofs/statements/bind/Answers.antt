@@ -1,16 +1,11 @@
-use Rattle.std.proofs.Common.{refl, [], ap, sym, ◌∙◌, false}
-use Rattle.std.proofs.lemmas.Result.{err_from_is_err_and}
-use Rattle.script_meaning.specs.Reading.{at_once}
-use Rattle.script_meaning.specs.Expression.{named_by}
-use Rattle.script_meaning.specs.Statement.{done, with_value}
-use Rattle.script_tree.specs.View.{expr_of}
-use Rattle.frame_store.specs.World.{entry_in}
-use Rattle.script_work.specs.Bindings.{bound, state_over}
-use Rattle.script_work.specs.Work.{names_in, world_of, state_in}
-use Rattle.script_work.proofs.States.{state_kept, bind_state}
-use Rattle.script_work.proofs.Worlds.{keeps_both, keeps_same}
-use Rattle.script_work.proofs.Rides.{goes_value, goes_spends, halts_first, spends_then}
-use Rattle.script_session.proofs.Answering.{refusal, step_halts, done_same}
+use Rattle.{
+  std.proofs.{Common.{refl, [], ap, sym, ◌∙◌, false}, lemmas.Result.{err_from_is_err_and}},
+  script_meaning.specs.{Reading.{at_once}, Expression.{named_by}, Statement.{done, with_value}},
+  script_tree.specs.View.{expr_of},
+  frame_store.specs.World.{entry_in},
+  script_work.{specs.{Bindings.{bound, state_over}, Work.{names_in, world_of, state_in}}, proofs.{States.{state_kept, bind_state}, Worlds.{keeps_both, keeps_same}, Rides.{goes_value, goes_spends, halts_first, spends_then}}},
+  script_session.proofs.Answering.{refusal, step_halts, done_same},
+}
 use Rattle.script_session.proofs.statements.bind.Goals as goal
 
 pub returns-in_err-value-clause-answers : goal.returns-in_err-value-clause-answers

@@ -1,21 +1,13 @@
-use Rattle.std.proofs.Common.{refl, [], ap, sym, ◌∙◌, false, Some, Ok, subst}
-use Rattle.std.specs.Prelude.{option_map}
-use Rattle.std.proofs.lemmas.Result.{err_from_is_err_and}
-use Rattle.select_meaning.specs.Set.{removal_result}
-use Rattle.script_meaning.specs.Reading.{at_once}
-use Rattle.script_meaning.specs.Expression.{value_of_name, value_of}
-use Rattle.script_meaning.specs.Statement.{done, then_answer, set_answer}
-use Rattle.script_tree.specs.View.{expr_of}
-use Rattle.frame_store.specs.World.{entry_in, Sets}
-use Rattle.script_work.specs.Bindings.{value_at, state_over}
-use Rattle.script_work.specs.Reads.{files_in}
-use Rattle.script_work.specs.Work.{names_in, world_of, state_in}
-use Rattle.script_work.proofs.States.{state_kept}
-use Rattle.script_work.proofs.Worlds.{keeps_both, value_seen, value_kept, set_failed}
-use Rattle.fault_laws.proofs.SetFaults.{removal_result_fault}
-use Rattle.script_work.proofs.Rides.{then_gives, goes_by, goes_to, goes_value, halts_by, halts_first}
-use Rattle.script_session.proofs.Answering.{refusal, step_halts, set_state, set_refused, done_same, unnamed_answers}
-use Rattle.script_session.proofs.Settings.{set_apart}
+use Rattle.{
+  std.{proofs.{Common.{refl, [], ap, sym, ◌∙◌, false, Some, Ok, subst}, lemmas.Result.{err_from_is_err_and}}, specs.Prelude.{option_map}},
+  select_meaning.specs.Set.{removal_result},
+  script_meaning.specs.{Reading.{at_once}, Expression.{value_of_name, value_of}, Statement.{done, then_answer, set_answer}},
+  script_tree.specs.View.{expr_of},
+  frame_store.specs.World.{entry_in, Sets},
+  script_work.{specs.{Bindings.{value_at, state_over}, Reads.{files_in}, Work.{names_in, world_of, state_in}}, proofs.{States.{state_kept}, Worlds.{keeps_both, value_seen, value_kept, set_failed}, Rides.{then_gives, goes_by, goes_to, goes_value, halts_by, halts_first}}},
+  fault_laws.proofs.SetFaults.{removal_result_fault},
+  script_session.proofs.{Answering.{refusal, step_halts, set_state, set_refused, done_same, unnamed_answers}, Settings.{set_apart}},
+}
 use Rattle.script_session.proofs.statements.drop_column.Goals as goal
 
 pub returns-in_err-on-clause-answers : goal.returns-in_err-on-clause-answers

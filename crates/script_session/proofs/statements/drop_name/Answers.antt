@@ -1,9 +1,9 @@
-use Rattle.std.proofs.Common.{refl, [], ap, sym, ◌∙◌, false}
-use Rattle.script_meaning.specs.State.{without_name}
-use Rattle.script_meaning.specs.Reading.{at_once}
-use Rattle.script_meaning.specs.Statement.{done}
-use Rattle.script_work.specs.Work.{names_in, world_of, state_in}
-use Rattle.script_session.proofs.Answering.{named_answers, done_same}
+use Rattle.{
+  std.proofs.Common.{refl, [], ap, sym, ◌∙◌, false},
+  script_meaning.specs.{State.{without_name}, Reading.{at_once}, Statement.{done}},
+  script_work.specs.Work.{names_in, world_of, state_in},
+  script_session.proofs.Answering.{named_answers, done_same},
+}
 use Rattle.script_session.proofs.statements.drop_name.Goals as goal
 
 pub returns-clause-answers : goal.returns-clause-answers

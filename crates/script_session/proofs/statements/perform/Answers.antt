@@ -1,9 +1,10 @@
-use Rattle.std.proofs.Common.{ap}
-use Rattle.script_meaning.specs.Statement.{statement_result}
-use Rattle.script_tree.specs.View.{form_of}
-use Rattle.script_work.specs.Reads.{files_in}
-use Rattle.script_work.specs.Work.{world_of, state_in}
-use Rattle.script_session.proofs.Answering.{performs_by, performs_once}
+use Rattle.{
+  std.proofs.Common.{ap},
+  script_meaning.specs.Statement.{statement_result},
+  script_tree.specs.View.{form_of},
+  script_work.specs.{Reads.{files_in}, Work.{world_of, state_in}},
+  script_session.proofs.Answering.{performs_by, performs_once},
+}
 use Rattle.script_session.proofs.statements.perform.Goals as goal
 
 pub returns-in-Bind-clause-answers : goal.returns-in-Bind-clause-answers

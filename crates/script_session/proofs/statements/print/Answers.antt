@@ -1,12 +1,10 @@
-use Rattle.std.proofs.Common.{refl, ◌++◌, ap, sym, ◌∙◌, false}
-use Rattle.std.proofs.lemmas.Result.{err_from_is_err_and}
-use Rattle.script_meaning.specs.Reading.{at_once}
-use Rattle.script_meaning.specs.Statement.{done, entry_text}
-use Rattle.frame_store.specs.World.{entry_in}
-use Rattle.script_work.specs.Work.{world_of, state_in}
-use Rattle.script_work.proofs.States.{state_kept}
-use Rattle.script_work.proofs.Rides.{goes_value, goes_spends, halts_first, spends_then}
-use Rattle.script_session.proofs.Answering.{refusal, step_halts, done_same}
+use Rattle.{
+  std.proofs.{Common.{refl, ◌++◌, ap, sym, ◌∙◌, false}, lemmas.Result.{err_from_is_err_and}},
+  script_meaning.specs.{Reading.{at_once}, Statement.{done, entry_text}},
+  frame_store.specs.World.{entry_in},
+  script_work.{specs.Work.{world_of, state_in}, proofs.{States.{state_kept}, Rides.{goes_value, goes_spends, halts_first, spends_then}}},
+  script_session.proofs.Answering.{refusal, step_halts, done_same},
+}
 use Rattle.script_session.proofs.statements.print.Goals as goal
 
 pub returns-in_err-value-clause-answers : goal.returns-in_err-value-clause-answers

@@ -1,25 +1,15 @@
-use Rattle.std.proofs.Common.{refl, [], ap, sym, ◌∙◌, subst}
-use Rattle.std.specs.Prelude.{Ok, Err, option_map}
-use Rattle.std.proofs.lemmas.Result.{err_from_is_err_and}
-use Rattle.frame_store.specs.Arguments.{argument_of, subscript_of}
-use Rattle.selections.specs.Selected.{way_of}
-use Rattle.script_meaning.specs.Reading.{at_once, gives}
-use Rattle.script_meaning.specs.Expression.{named_by, value_of, target_of}
-use Rattle.script_meaning.specs.Statement.{done, then_answer, set_answer, assigned, is_chained}
-use Rattle.script_tree.specs.View.{expr_of, step_of}
-use Rattle.script_work.specs.Bindings.{IsOf, state_over}
-use Rattle.script_evaluation.specs.Parts.{target_seen}
-use Rattle.script_work.specs.Reads.{files_in}
-use Rattle.frame_store.specs.World.{entry_in, Sets}
-use Rattle.settings.specs.Assigned.{without}
-use Rattle.script_work.specs.Work.{names_in, world_of, state_in}
-use Rattle.script_work.proofs.States.{state_kept}
-use Rattle.script_work.proofs.Worlds.{keeps_both, value_seen, value_kept, argument_seen, argument_kept, set_failed}
-use Rattle.fault_laws.proofs.SetFaults.{assign_result_fault}
-use Rattle.script_work.proofs.Rides.{serves_both, goes_by, goes_to, goes_both, goes_value, halts_by, halts_first, halts_later}
-use Rattle.script_session.proofs.Answering.{refusal, step_halts, set_state, set_refused, done_same}
-use Rattle.script_session.proofs.Settings.{set_apart}
-use Rattle.script_work.proofs.Spending.{spent_state}
+use Rattle.{
+  std.{proofs.{Common.{refl, [], ap, sym, ◌∙◌, subst}, lemmas.Result.{err_from_is_err_and}}, specs.Prelude.{Ok, Err, option_map}},
+  frame_store.specs.{Arguments.{argument_of, subscript_of}, World.{entry_in, Sets}},
+  selections.specs.Selected.{way_of},
+  script_meaning.specs.{Reading.{at_once, gives}, Expression.{named_by, value_of, target_of}, Statement.{done, then_answer, set_answer, assigned, is_chained}},
+  script_tree.specs.View.{expr_of, step_of},
+  script_work.{specs.{Bindings.{IsOf, state_over}, Reads.{files_in}, Work.{names_in, world_of, state_in}}, proofs.{States.{state_kept}, Worlds.{keeps_both, value_seen, value_kept, argument_seen, argument_kept, set_failed}, Rides.{serves_both, goes_by, goes_to, goes_both, goes_value, halts_by, halts_first, halts_later}, Spending.{spent_state}}},
+  script_evaluation.specs.Parts.{target_seen},
+  settings.specs.Assigned.{without},
+  fault_laws.proofs.SetFaults.{assign_result_fault},
+  script_session.proofs.{Answering.{refusal, step_halts, set_state, set_refused, done_same}, Settings.{set_apart}},
+}
 use Rattle.script_session.proofs.statements.put.Goals as goal
 
 pub returns-in_err-value-clause-answers : goal.returns-in_err-value-clause-answers

@@ -1,20 +1,13 @@
-use Rattle.std.proofs.Common.{refl}
-use Rattle.std.specs.FinMap.{empty}
-use Rattle.std.proofs.lemmas.Result.{IfErr-weaker, err_from_is_err_and, on_ok_weaker}
-use Rattle.outside_io.specs.Files.{FilesValue}
-use Rattle.meaning.specs.Text.{Contents}
-use Rattle.meaning.specs.FaultOf.{fault_of}
-use Rattle.script_meaning.specs.Reading.{Reading}
-use Rattle.script_meaning.specs.Statement.{Answer, done, refused, statement_result}
-use Rattle.script_tree.specs.View.{form_of}
-use Rattle.script_work.specs.Reads.{files_in, paths_of}
-use Rattle.script_session.specs.Session.{state_of, texts_of}
-use Rattle.script_steps.specs.Ends.{Outside, outside}
-use Rattle.script_steps.specs.Steps.{GoesOn, Stops}
-use Rattle.script_steps.specs.declared.status.Status.TheVariants.{Input}
-use Rattle.script_steps.proofs.Options.{some-always, some-told}
-use Rattle.script_steps.proofs.RunLaws.{front_of_part, reach_told, stuck_told, goes_on, stops_input, stops_memory, stops_refused, stops_refused_warning, stops_showing, stops_warning}
-use Rattle.script_steps.proofs.ErrorLaws.{warns_none, warns_line, given_files, says_unread, leaves_cut, leaves_fault, leaves_unwritten}
+use Rattle.{
+  std.{proofs.{Common.{refl}, lemmas.Result.{IfErr-weaker, err_from_is_err_and, on_ok_weaker}}, specs.FinMap.{empty}},
+  outside_io.specs.Files.{FilesValue},
+  meaning.specs.{Text.{Contents}, FaultOf.{fault_of}},
+  script_meaning.specs.{Reading.{Reading}, Statement.{Answer, done, refused, statement_result}},
+  script_tree.specs.View.{form_of},
+  script_work.specs.Reads.{files_in, paths_of},
+  script_session.specs.Session.{state_of, texts_of},
+  script_steps.{specs.{Ends.{Outside, outside}, Steps.{GoesOn, Stops}, declared.status.Status.TheVariants.{Input}}, proofs.{Options.{some-always, some-told}, RunLaws.{front_of_part, reach_told, stuck_told, goes_on, stops_input, stops_memory, stops_refused, stops_refused_warning, stops_showing, stops_warning}, ErrorLaws.{warns_none, warns_line, given_files, says_unread, leaves_cut, leaves_fault, leaves_unwritten}}},
+}
 use Rattle.script_steps.proofs.advancing.advance.Goals as goal
 
 pub returns-in_err-warn-in-Ok-clause-stops : goal.returns-in_err-warn-in-Ok-clause-stops

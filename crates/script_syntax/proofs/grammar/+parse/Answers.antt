@@ -1,7 +1,9 @@
-use Rattle.std.proofs.Common.{◌+◌, ◌-◌, arith}
-use Rattle.language_meaning.specs.Depth.{depth, arg_depth}
-use Rattle.script_tokens.specs.View.{tokens_of}
-use Rattle.script_tree.specs.View.{expr_of, arg_of}
+use Rattle.{
+  std.proofs.Common.{◌+◌, ◌-◌, arith},
+  language_meaning.specs.Depth.{depth, arg_depth},
+  script_tokens.specs.View.{tokens_of},
+  script_tree.specs.View.{expr_of, arg_of},
+}
 use Rattle.script_syntax.proofs.Rooms as rooms
 use Rattle.script_syntax.proofs.grammar.+parse.Goals as goal
 

@@ -1,9 +1,9 @@
-use Rattle.std.proofs.Common.{◌<◌, ◌+◌, ◌∙◌, length, sym, subst, arith}
-use Rattle.std.proofs.lemmas.Result.{err_from_is_err_and}
-use Rattle.language_meaning.specs.Pieces.{pieces}
-use Rattle.script_tree.specs.ScriptView.{statements_of}
-use Rattle.script_syntax.specs.PieceRead.{Reads}
-use Rattle.script_syntax.proofs.ScriptLaws.{settled, unsettled, reads_first, reads_all, some_bytes, no_bytes}
+use Rattle.{
+  std.proofs.{Common.{◌<◌, ◌+◌, ◌∙◌, length, sym, subst, arith}, lemmas.Result.{err_from_is_err_and}},
+  language_meaning.specs.Pieces.{pieces},
+  script_tree.specs.ScriptView.{statements_of},
+  script_syntax.{specs.PieceRead.{Reads}, proofs.ScriptLaws.{settled, unsettled, reads_first, reads_all, some_bytes, no_bytes}},
+}
 use Rattle.script_syntax.proofs.pieces.parse_pieces.Goals as goal
 
 pub returns-in_err-left : goal.returns-in_err-left

@@ -1,7 +1,9 @@
-use Rattle.std.proofs.Common.{length, ◌+◌, ◌≤◌}
-use Rattle.language_meaning.specs.Pieces.{pieces}
-use Rattle.script_tree.specs.ScriptView.{statements_of}
-use Rattle.script_syntax.specs.PieceRead.{Reads}
+use Rattle.{
+  std.proofs.Common.{length, ◌+◌, ◌≤◌},
+  language_meaning.specs.Pieces.{pieces},
+  script_tree.specs.ScriptView.{statements_of},
+  script_syntax.specs.PieceRead.{Reads},
+}
 use Rattle.script_syntax.proofs.pieces.parse_pieces.Given as goal
 
 abbrev pub invariant-pieces : goal.invariant-pieces

@@ -1,10 +1,10 @@
-use Rattle.std.proofs.Common.{◌≡◌, subst, Some, None}
-use Rattle.language_meaning.specs.Script.{IsBlank}
-use Rattle.script_tree.specs.View.{form_of}
-use Rattle.script_syntax.specs.Found.{Fails}
-use Rattle.script_syntax.specs.Reading.{form_read}
-use Rattle.script_tokens.specs.View.{tokens_of}
-use Rattle.script_syntax.proofs.PieceLaws.{blank_is_none, no_statement, one_statement, filled_of, lexes_of}
+use Rattle.{
+  std.proofs.Common.{◌≡◌, subst, Some, None},
+  language_meaning.specs.Script.{IsBlank},
+  script_tree.specs.View.{form_of},
+  script_syntax.{specs.{Found.{Fails}, Reading.{form_read}}, proofs.PieceLaws.{blank_is_none, no_statement, one_statement, filled_of, lexes_of}},
+  script_tokens.specs.View.{tokens_of},
+}
 use Rattle.script_syntax.proofs.pieces.read_piece.Goals as goal
 
 pub returns-then-is_blank : goal.returns-then-is_blank

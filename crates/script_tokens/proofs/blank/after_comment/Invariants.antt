@@ -1,5 +1,7 @@
-use Rattle.std.proofs.Common.{◌≡◌, ◌≤◌, length}
-use Rattle.language_meaning.specs.Token.{skip_comment}
+use Rattle.{
+  std.proofs.Common.{◌≡◌, ◌≤◌, length},
+  language_meaning.specs.Token.{skip_comment},
+}
 use Rattle.script_tokens.proofs.blank.after_comment.Given as goal
 
 abbrev pub invariant-passing : goal.invariant-passing

@@ -1,5 +1,7 @@
-use Rattle.std.proofs.Common.{◌≡◌, length}
-use Rattle.language_meaning.specs.Token.{skip}
+use Rattle.{
+  std.proofs.Common.{◌≡◌, length},
+  language_meaning.specs.Token.{skip},
+}
 use Rattle.script_tokens.proofs.blank.skip.Given as goal
 
 abbrev pub invariant-skipping : goal.invariant-skipping

@@ -1,7 +1,8 @@
-use Rattle.std.proofs.Common.{◌≡◌, ◌<◌, false, length, get_or, refl, arith, rules}
-use Rattle.language_meaning.specs.Token.{begins_word, is_digit}
-use Rattle.script_tokens.proofs.Signs.{first_and_rest}
-use Rattle.script_tokens.proofs.LexLaws.{no_token_short, no_text, only_signs, IsUtf8-after_quote}
+use Rattle.{
+  std.proofs.Common.{◌≡◌, ◌<◌, false, length, get_or, refl, arith, rules},
+  language_meaning.specs.Token.{begins_word, is_digit},
+  script_tokens.proofs.{Signs.{first_and_rest}, LexLaws.{no_token_short, no_text, only_signs, IsUtf8-after_quote}},
+}
 use Rattle.script_tokens.proofs.lexing.token_at.Goals as goal
 
 pub returns-in_default : goal.returns-in_default

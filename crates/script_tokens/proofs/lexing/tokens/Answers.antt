@@ -1,6 +1,7 @@
-use Rattle.std.proofs.Common.{◌<◌, ◌≡◌, length, rules}
-use Rattle.script_tokens.specs.View.{token_of, tokens_of}
-use Rattle.script_tokens.proofs.LexLaws.{lexed_stops, lexed_pushed, lexed_shorter, lexed_end, Lexes-unique, IsUtf8-after_lexed}
+use Rattle.{
+  std.proofs.Common.{◌<◌, ◌≡◌, length, rules},
+  script_tokens.{specs.View.{token_of, tokens_of}, proofs.LexLaws.{lexed_stops, lexed_pushed, lexed_shorter, lexed_end, Lexes-unique, IsUtf8-after_lexed}},
+}
 use Rattle.script_tokens.proofs.lexing.tokens.Goals as goal
 
 pub returns-in_default-clause-found : goal.returns-in_default-clause-found

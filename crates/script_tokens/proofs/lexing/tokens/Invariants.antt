@@ -1,7 +1,7 @@
-use Rattle.std.proofs.Common.{length}
-use Rattle.std.specs.Str.{IsUtf8}
-use Rattle.script_tokens.specs.View.{tokens_of}
-use Rattle.script_tokens.proofs.LexLaws.{IsLexedTo}
+use Rattle.{
+  std.{proofs.Common.{length}, specs.Str.{IsUtf8}},
+  script_tokens.{specs.View.{tokens_of}, proofs.LexLaws.{IsLexedTo}},
+}
 use Rattle.script_tokens.proofs.lexing.tokens.Given as goal
 
 abbrev pub invariant-lexing : goal.invariant-lexing

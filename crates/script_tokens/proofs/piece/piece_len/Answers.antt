@@ -1,6 +1,7 @@
-use Rattle.std.proofs.Common.{arith}
-use Rattle.script_tokens.specs.View.{mode_of}
-use Rattle.script_tokens.proofs.FirstPiece.{pieces_first, rest_len-none}
+use Rattle.{
+  std.proofs.Common.{arith},
+  script_tokens.{specs.View.{mode_of}, proofs.FirstPiece.{pieces_first, rest_len-none}},
+}
 use Rattle.script_tokens.proofs.piece.piece_len.Goals as goal
 
 pub returns-clause-first : goal.returns-clause-first

@@ -1,7 +1,8 @@
-use Rattle.std.proofs.Common.{◌≡◌, ◌+◌, ◌≤◌, length}
-use Rattle.language_meaning.specs.Pieces.{plain}
-use Rattle.script_tokens.specs.View.{mode_of}
-use Rattle.script_tokens.proofs.FirstPiece.{rest_len}
+use Rattle.{
+  std.proofs.Common.{◌≡◌, ◌+◌, ◌≤◌, length},
+  language_meaning.specs.Pieces.{plain},
+  script_tokens.{specs.View.{mode_of}, proofs.FirstPiece.{rest_len}},
+}
 use Rattle.script_tokens.proofs.piece.piece_len.Given as goal
 
 abbrev pub invariant-cutting : goal.invariant-cutting

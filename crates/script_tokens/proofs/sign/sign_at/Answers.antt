@@ -1,6 +1,7 @@
-use Rattle.std.proofs.Common.{refl, arith, ◌<◌, length}
-use Rattle.script_tokens.proofs.Signs.{first_and_rest, short_operator_stands, mark_stands, no_sign}
-use Rattle.script_tokens.specs.View.{binary_of, mark_of}
+use Rattle.{
+  std.proofs.Common.{refl, arith, ◌<◌, length},
+  script_tokens.{proofs.Signs.{first_and_rest, short_operator_stands, mark_stands, no_sign}, specs.View.{binary_of, mark_of}},
+}
 use Rattle.script_tokens.proofs.sign.sign_at.Goals as goal
 
 pub returns-in-Some-short_operator : goal.returns-in-Some-short_operator

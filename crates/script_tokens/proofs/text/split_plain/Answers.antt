@@ -1,6 +1,7 @@
-use Rattle.std.proofs.Common.{arith}
-use Rattle.script_tokens.specs.Quoted.{is_plain}
-use Rattle.script_tokens.proofs.Runs.{prefix_len-le, run_at}
+use Rattle.{
+  std.proofs.Common.{arith},
+  script_tokens.{specs.Quoted.{is_plain}, proofs.Runs.{prefix_len-le, run_at}},
+}
 use Rattle.script_tokens.proofs.text.split_plain.Goals as goal
 
 pub split_at-requires : goal.split_at-requires

@@ -1,6 +1,7 @@
-use Rattle.std.proofs.Common.{length}
-use Rattle.std.specs.Str.{IsUtf8}
-use Rattle.script_tokens.proofs.Texts.{IsReadTo}
+use Rattle.{
+  std.{proofs.Common.{length}, specs.Str.{IsUtf8}},
+  script_tokens.proofs.Texts.{IsReadTo},
+}
 use Rattle.script_tokens.proofs.text.text_before.Given as goal
 
 abbrev pub invariant-reading : goal.invariant-reading

@@ -1,6 +1,8 @@
-use Rattle.std.proofs.Common.{subst, ℕ, List}
-use Rattle.language_meaning.specs.Token.{is_digit, IsRun}
-use Rattle.script_tokens.proofs.TokenLaws.{run_is_some, no_int}
+use Rattle.{
+  std.proofs.Common.{subst, ℕ, List},
+  language_meaning.specs.Token.{is_digit, IsRun},
+  script_tokens.proofs.TokenLaws.{run_is_some, no_int},
+}
 use Rattle.script_tokens.proofs.word.int_at.Goals as goal
 
 pub value_of-requires-clause-digits : goal.value_of-requires-clause-digits

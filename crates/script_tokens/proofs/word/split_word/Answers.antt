@@ -1,6 +1,8 @@
-use Rattle.std.proofs.Common.{arith}
-use Rattle.language_meaning.specs.Token.{continues_word}
-use Rattle.script_tokens.proofs.Runs.{prefix_len-le, run_at}
+use Rattle.{
+  std.proofs.Common.{arith},
+  language_meaning.specs.Token.{continues_word},
+  script_tokens.proofs.Runs.{prefix_len-le, run_at},
+}
 use Rattle.script_tokens.proofs.word.split_word.Goals as goal
 
 pub split_at-requires : goal.split_at-requires

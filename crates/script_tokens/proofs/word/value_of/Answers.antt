@@ -1,9 +1,9 @@
-use Rattle.std.proofs.Common.{◌≡◌, length, get_or, arith}
-use Rattle.language_meaning.specs.Token.{is_digit}
-use Rattle.script_tokens.proofs.Runs.{IsUtf8-run}
-use Rattle.script_tokens.proofs.TokenLaws.{digit_is_ascii, digits_spell, number_parses, no_leading_zero, too_great}
+use Rattle.{
+  std.proofs.Common.{◌≡◌, length, get_or, arith},
+  language_meaning.specs.Token.{is_digit},
+  script_tokens.proofs.{Runs.{IsUtf8-run}, TokenLaws.{digit_is_ascii, digits_spell, number_parses, no_leading_zero, too_great}, word.value_of.Goals.{else-digits-gt1-via-then-digits-gt1+else-digits-eq48, else-digits-gt1-via-else-digits-gt1}},
+}
 use Rattle.script_tokens.proofs.word.value_of.Goals as goal
-use Rattle.script_tokens.proofs.word.value_of.Goals.{else-digits-gt1-via-then-digits-gt1+else-digits-eq48, else-digits-gt1-via-else-digits-gt1}
 
 pub text_of-requires : goal.text_of-requires
 text_of-requires c = IsUtf8-run is_digit digit_is_ascii c.args.digits.now c.requires.digits

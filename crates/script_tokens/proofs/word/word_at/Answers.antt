@@ -1,7 +1,8 @@
-use Rattle.std.proofs.Common.{sym, subst, ℕ, List}
-use Rattle.language_meaning.specs.Token.{continues_word, IsToken, word}
-use Rattle.script_tokens.proofs.Runs.{IsUtf8-run}
-use Rattle.script_tokens.proofs.TokenLaws.{word_is_ascii, run_begins_word}
+use Rattle.{
+  std.proofs.Common.{sym, subst, ℕ, List},
+  language_meaning.specs.Token.{continues_word, IsToken, word},
+  script_tokens.proofs.{Runs.{IsUtf8-run}, TokenLaws.{word_is_ascii, run_begins_word}},
+}
 use Rattle.script_tokens.proofs.word.word_at.Goals as goal
 
 pub text_of-requires : goal.text_of-requires

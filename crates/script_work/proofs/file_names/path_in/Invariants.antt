@@ -1,6 +1,8 @@
-use Rattle.std.proofs.Common.{◌≡◌, length}
-use Rattle.script_meaning.specs.Reading.{path_of_name}
-use Rattle.script_work.specs.Reads.{paths_of}
+use Rattle.{
+  std.proofs.Common.{◌≡◌, length},
+  script_meaning.specs.Reading.{path_of_name},
+  script_work.specs.Reads.{paths_of},
+}
 use Rattle.script_work.proofs.file_names.path_in.Given as goal
 
 abbrev pub invariant-loop-rest : goal.invariant-loop-rest

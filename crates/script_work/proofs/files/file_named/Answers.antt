@@ -1,7 +1,7 @@
-use Rattle.std.proofs.Common.{ap, sym, refl}
-use Rattle.std.specs.Prelude.{Err}
-use Rattle.script_work.proofs.Fetching.{unnamed_file, whole_file, absent_file, long_file, failed_file, spent_file}
-use Rattle.script_work.proofs.Rides.{serves_self}
+use Rattle.{
+  std.{proofs.Common.{ap, sym, refl}, specs.Prelude.{Err}},
+  script_work.proofs.{Fetching.{unnamed_file, whole_file, absent_file, long_file, failed_file, spent_file}, Rides.{serves_self}},
+}
 use Rattle.script_work.proofs.files.file_named.Goals as goal
 
 pub returns-in-Ok-clause-reads : goal.returns-in-Ok-clause-reads

@@ -1,5 +1,7 @@
-use Rattle.std.proofs.Common.{sym, ◌∙◌}
-use Rattle.script_work.proofs.Bindings.{value_at-bindings_of}
+use Rattle.{
+  std.proofs.Common.{sym, ◌∙◌},
+  script_work.proofs.Bindings.{value_at-bindings_of},
+}
 use Rattle.script_work.proofs.names.find.Goals as goal
 
 pub returns : goal.returns

@@ -1,6 +1,7 @@
-use Rattle.std.proofs.Common.{sym, ◌∙◌, ap}
-use Rattle.script_work.specs.Bindings.{bindings_of}
-use Rattle.script_work.proofs.Bindings.{value_at-bindings_of, bindings_of-remove_entry}
+use Rattle.{
+  std.proofs.Common.{sym, ◌∙◌, ap},
+  script_work.{specs.Bindings.{bindings_of}, proofs.Bindings.{value_at-bindings_of, bindings_of-remove_entry}},
+}
 use Rattle.script_work.proofs.names.unbind.Goals as goal
 
 pub returns-clause-unbound : goal.returns-clause-unbound

@@ -1,7 +1,9 @@
-use Rattle.std.proofs.Common.{◌≡◌, sym, ◌∙◌, subst, IfOk}
-use Rattle.cell_core.specs.declared.grid.Shape.TheVariants.{Series, Frame}
-use Rattle.frame_store.specs.Objects.{tables}
-use Rattle.script_work.proofs.Printed.{object_text}
+use Rattle.{
+  std.proofs.Common.{◌≡◌, sym, ◌∙◌, subst, IfOk},
+  cell_core.specs.declared.grid.Shape.TheVariants.{Series, Frame},
+  frame_store.specs.Objects.{tables},
+  script_work.proofs.Printed.{object_text},
+}
 use Rattle.script_work.proofs.printing.value_text.Goals as goal
 
 pub returns-in-Series : goal.returns-in-Series

@@ -1,7 +1,8 @@
-use Rattle.std.proofs.Common.{sym, ◌∙◌, subst}
-use Rattle.frame_store.specs.Objects.{tables}
-use Rattle.script_work.specs.Bindings.{bindings_of, AreNoted}
-use Rattle.script_work.proofs.LiveObjects.{noted_named, noted_ended, kept_ended}
+use Rattle.{
+  std.proofs.Common.{sym, ◌∙◌, subst},
+  frame_store.specs.Objects.{tables},
+  script_work.{specs.Bindings.{bindings_of, AreNoted}, proofs.LiveObjects.{noted_named, noted_ended, kept_ended}},
+}
 use Rattle.script_work.proofs.sweeping.sweep.Goals as goal
 
 pub loop-id-preserved-then-not-has : goal.loop-id-preserved-then-not-has

@@ -1,6 +1,8 @@
-use Rattle.std.proofs.Common.{vec_len}
-use Rattle.frame_store.specs.Objects.{tables}
-use Rattle.script_work.specs.Bindings.{bindings_of, AreNoted, KeepNamed}
+use Rattle.{
+  std.proofs.Common.{vec_len},
+  frame_store.specs.Objects.{tables},
+  script_work.specs.Bindings.{bindings_of, AreNoted, KeepNamed},
+}
 use Rattle.script_work.proofs.sweeping.sweep.Given as goal
 
 abbrev pub invariant-loop-id : goal.invariant-loop-id

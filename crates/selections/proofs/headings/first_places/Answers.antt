@@ -1,6 +1,7 @@
-use Rattle.std.proofs.Common.{◌≡◌, ◌<◌, ◌+◌, ◌-◌, subst, None, length, drop, arith}
-use Rattle.selections.specs.Headings.{HaveFirstPlaces}
-use Rattle.selections.proofs.HeadingLaws.{first_places_more}
+use Rattle.{
+  std.proofs.Common.{◌≡◌, ◌<◌, ◌+◌, ◌-◌, subst, None, length, drop, arith},
+  selections.{specs.Headings.{HaveFirstPlaces}, proofs.HeadingLaws.{first_places_more}},
+}
 use Rattle.selections.proofs.headings.first_places.Goals as goal
 
 pub loop-place-preserved : goal.loop-place-preserved

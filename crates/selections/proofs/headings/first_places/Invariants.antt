@@ -1,5 +1,7 @@
-use Rattle.std.proofs.Common.{drop}
-use Rattle.selections.specs.Headings.{HaveFirstPlaces}
+use Rattle.{
+  std.proofs.Common.{drop},
+  selections.specs.Headings.{HaveFirstPlaces},
+}
 use Rattle.selections.proofs.headings.first_places.Given as goal
 
 -- the headings from a place on

@@ -1,8 +1,8 @@
-use Rattle.std.proofs.Common.{◌≡◌, ◌∙◌, ◌<◌, ◌+◌, ◌-◌, ap, sym, Option, None, length, drop, arith}
-use Rattle.std.specs.List.{list_any}
-use Rattle.cell_core.specs.declared.cell.Label.{Label}
-use Rattle.selections.specs.Headings.{same_heading, repeated_heading}
-use Rattle.selections.proofs.HeadingLaws.{later_step, repeated_here, repeated_later}
+use Rattle.{
+  std.{proofs.Common.{◌≡◌, ◌∙◌, ◌<◌, ◌+◌, ◌-◌, ap, sym, Option, None, length, drop, arith}, specs.List.{list_any}},
+  cell_core.specs.declared.cell.Label.{Label},
+  selections.{specs.Headings.{same_heading, repeated_heading}, proofs.HeadingLaws.{later_step, repeated_here, repeated_later}},
+}
 use Rattle.selections.proofs.headings.first_repeated.Goals as goal
 
 pub loop-place-preserved-then-not-branch : goal.loop-place-preserved-then-not-branch

@@ -1,7 +1,8 @@
-use Rattle.std.proofs.Common.{◌≡◌, drop, Option}
-use Rattle.std.specs.List.{list_any}
-use Rattle.cell_core.specs.declared.cell.Label.{Label}
-use Rattle.selections.specs.Headings.{same_heading, repeated_heading}
+use Rattle.{
+  std.{proofs.Common.{◌≡◌, drop, Option}, specs.List.{list_any}},
+  cell_core.specs.declared.cell.Label.{Label},
+  selections.specs.Headings.{same_heading, repeated_heading},
+}
 use Rattle.selections.proofs.headings.first_repeated.Given as goal
 
 -- the headings from a place on

@@ -1,8 +1,10 @@
-use Rattle.std.proofs.Common.{◌∙◌, refl, subst, sym}
-use Rattle.table_meaning.specs.Table.{tuple_value}
-use Rattle.form_parts.specs.Makes.{MakesBy}
-use Rattle.frame_store.specs.Arguments.{items_of}
-use Rattle.selections.proofs.KeyLaws.{count_items, full_counted, full_other}
+use Rattle.{
+  std.proofs.Common.{◌∙◌, refl, subst, sym},
+  table_meaning.specs.Table.{tuple_value},
+  form_parts.specs.Makes.{MakesBy},
+  frame_store.specs.Arguments.{items_of},
+  selections.proofs.KeyLaws.{count_items, full_counted, full_other},
+}
 use Rattle.selections.proofs.keys.full_labels.Goals as goal
 
 pub returns-then-items-levels-clause-labels : goal.returns-then-items-levels-clause-labels

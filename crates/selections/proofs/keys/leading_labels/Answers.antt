@@ -1,10 +1,11 @@
-use Rattle.std.proofs.Common.{◌∙◌, refl, subst, sym, arith}
-use Rattle.table_meaning.specs.Table.{tuple_value}
-use Rattle.form_parts.specs.Makes.{MakesBy}
-use Rattle.frame_store.specs.Arguments.{items_of}
-use Rattle.selections.proofs.KeyLaws.{count_items, tuple_within, tuple_empty, tuple_long}
+use Rattle.{
+  std.proofs.Common.{refl, subst, sym, arith},
+  table_meaning.specs.Table.{tuple_value},
+  form_parts.specs.Makes.{MakesBy},
+  frame_store.specs.Arguments.{items_of},
+  selections.proofs.{KeyLaws.{count_items, tuple_within, tuple_empty, tuple_long}, keys.leading_labels.Goals.{then-items-eq0-via-then-items-eq0, then-items-eq0-via-else-items-eq0+then-items-levels}},
+}
 use Rattle.selections.proofs.keys.leading_labels.Goals as goal
-use Rattle.selections.proofs.keys.leading_labels.Goals.{then-items-eq0-via-then-items-eq0, then-items-eq0-via-else-items-eq0+then-items-levels}
 
 pub returns-then-items-eq0-clause-labels : goal.returns-then-items-eq0-clause-labels
 returns-then-items-eq0-clause-labels c = λ live texts.

@@ -1,10 +1,11 @@
-use Rattle.std.proofs.Common.{◌≡◌, List, drop}
-use Rattle.meaning.specs.Text.{Text}
-use Rattle.multi_index.specs.Axes.{HaveLevels}
-use Rattle.select_meaning.specs.Keys.{whole_items}
-use Rattle.frame_store.specs.Objects.{Tables}
-use Rattle.frame_store.specs.Arguments.{items_of}
-use Rattle.selections.proofs.KeyLaws.{keys_after}
+use Rattle.{
+  std.proofs.Common.{◌≡◌, List, drop},
+  meaning.specs.Text.{Text},
+  multi_index.specs.Axes.{HaveLevels},
+  select_meaning.specs.Keys.{whole_items},
+  frame_store.specs.{Objects.{Tables}, Arguments.{items_of}},
+  selections.proofs.KeyLaws.{keys_after},
+}
 use Rattle.selections.proofs.keys.listed_keys.Given as goal
 
 -- the keys so far, before those of the other items

@@ -1,10 +1,9 @@
-use Rattle.std.proofs.Common.{◌≡◌, List, length, take, drop}
-use Rattle.meaning.specs.Text.{Text}
-use Rattle.frame_store.specs.Objects.{Tables}
-use Rattle.frame_store.specs.Arguments.{items_of}
-use Rattle.selections.specs.Reaches.{labels_in}
-use Rattle.selections.specs.Selected.{scalars_in}
-use Rattle.selections.proofs.KeyLaws.{labels_after}
+use Rattle.{
+  std.proofs.Common.{◌≡◌, List, length, take, drop},
+  meaning.specs.Text.{Text},
+  frame_store.specs.{Objects.{Tables}, Arguments.{items_of}},
+  selections.{specs.{Reaches.{labels_in}, Selected.{scalars_in}}, proofs.KeyLaws.{labels_after}},
+}
 use Rattle.selections.proofs.keys.scalar_labels.Given as goal
 
 -- the labels so far, before those of the other scalars

@@ -1,12 +1,11 @@
-use Rattle.std.proofs.Common.{◌∙◌, ap, subst, sym, List}
-use Rattle.table_meaning.specs.Table.{tuple_value}
-use Rattle.select_meaning.specs.Keys.{whole_item}
-use Rattle.form_parts.specs.Makes.{MakesBy}
-use Rattle.frame_store.specs.Arguments.{item_of, items_of}
-use Rattle.frame_store.specs.declared.arguments.Item.{Item}
-use Rattle.frame_store.proofs.RowLaws.{item_of-Row}
-use Rattle.selections.specs.Reaches.{full_tuple}
-use Rattle.selections.proofs.KeyLaws.{item_full}
+use Rattle.{
+  std.proofs.Common.{◌∙◌, ap, subst, sym, List},
+  table_meaning.specs.Table.{tuple_value},
+  select_meaning.specs.Keys.{whole_item},
+  form_parts.specs.Makes.{MakesBy},
+  frame_store.{specs.{Arguments.{item_of, items_of}, declared.arguments.Item.{Item}}, proofs.RowLaws.{item_of-Row}},
+  selections.{specs.Reaches.{full_tuple}, proofs.KeyLaws.{item_full}},
+}
 use Rattle.selections.proofs.keys.whole_item.Goals as goal
 
 pub returns-else-levels-eq1-clause-labels : goal.returns-else-levels-eq1-clause-labels

@@ -1,6 +1,7 @@
-use Rattle.std.proofs.Common.{rules, [], ◌∷◌, ◌++◌, ◌<◌, ◌≡◌, ◌∙◌, ap, refl, length, arith}
-use Rattle.selections.specs.Reaches.{whole_or_fault}
-use Rattle.selections.proofs.KeyLaws.{whole_more, whole_refused, wholes_done}
+use Rattle.{
+  std.proofs.Common.{rules, [], ◌∷◌, ◌++◌, ◌<◌, ◌≡◌, ◌∙◌, ap, refl, length, arith},
+  selections.{specs.Reaches.{whole_or_fault}, proofs.KeyLaws.{whole_more, whole_refused, wholes_done}},
+}
 use Rattle.selections.proofs.keys.wholes_of.Goals as goal
 
 pub returns-in-None : goal.returns-in-None

@@ -1,9 +1,11 @@
-use Rattle.std.proofs.Common.{◌≡◌, List, drop}
-use Rattle.meaning.specs.Text.{Text}
-use Rattle.form_meaning.specs.Finish.{try_all}
-use Rattle.select_meaning.specs.Keys.{whole_cell}
-use Rattle.frame_store.specs.Shown.{cells_value}
-use Rattle.selections.proofs.PlaceLaws.{made_after}
+use Rattle.{
+  std.proofs.Common.{◌≡◌, List, drop},
+  meaning.specs.Text.{Text},
+  form_meaning.specs.Finish.{try_all},
+  select_meaning.specs.Keys.{whole_cell},
+  frame_store.specs.Shown.{cells_value},
+  selections.proofs.PlaceLaws.{made_after},
+}
 use Rattle.selections.proofs.keys.wholes_of.Given as goal
 
 -- the numbers so far, before those of the other cells

@@ -1,11 +1,9 @@
-use Rattle.std.proofs.Common.{◌∙◌, ◌<◌, ◌∷◌, [], ap, length, subst, sym, All, Some, None, arith}
-use Rattle.meaning.specs.Cell.{label_datum}
-use Rattle.meaning.specs.Fault.{no_key}
-use Rattle.std.specs.Option.{option_copied}
-use Rattle.std.proofs.lemmas.List.Elements.{All-push}
-use Rattle.table_meaning.specs.Table.{table_value}
-use Rattle.selections.proofs.PlaceLaws.{listed_settled, looked_up, looked_inside, places_more, place_refused}
-use Rattle.selections.proofs.RefusalLaws.{no_key_settled}
+use Rattle.{
+  std.{proofs.{Common.{◌∙◌, ◌<◌, ◌∷◌, [], ap, length, subst, sym, All, Some, None, arith}, lemmas.List.Elements.{All-push}}, specs.Option.{option_copied}},
+  meaning.specs.{Cell.{label_datum}, Fault.{no_key}},
+  table_meaning.specs.Table.{table_value},
+  selections.proofs.{PlaceLaws.{listed_settled, looked_up, looked_inside, places_more, place_refused}, RefusalLaws.{no_key_settled}},
+}
 use Rattle.selections.proofs.labels.column_places.Goals as goal
 
 pub returns-in_default-clause-answer : goal.returns-in_default-clause-answer

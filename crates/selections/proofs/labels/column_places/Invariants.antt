@@ -1,10 +1,11 @@
-use Rattle.std.proofs.Common.{◌≡◌, ◌<◌, drop, map, length, All}
-use Rattle.meaning.specs.Operator.{cell_label}
-use Rattle.table_meaning.specs.Table.{table_value}
-use Rattle.form_meaning.specs.Finish.{try_all}
-use Rattle.form_meaning.specs.Select.{column_place}
-use Rattle.frame_store.specs.Shown.{cells_value}
-use Rattle.selections.proofs.PlaceLaws.{made_after, labels_seen}
+use Rattle.{
+  std.proofs.Common.{◌≡◌, ◌<◌, drop, map, length, All},
+  meaning.specs.Operator.{cell_label},
+  table_meaning.specs.Table.{table_value},
+  form_meaning.specs.{Finish.{try_all}, Select.{column_place}},
+  frame_store.specs.Shown.{cells_value},
+  selections.proofs.PlaceLaws.{made_after, labels_seen},
+}
 use Rattle.selections.proofs.labels.column_places.Given as goal
 
 -- the places so far, before those of the other labels

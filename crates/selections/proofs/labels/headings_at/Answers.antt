@@ -1,5 +1,7 @@
-use Rattle.std.proofs.Common.{◌<◌, length, arith}
-use Rattle.selections.proofs.PlaceLaws.{headings_more}
+use Rattle.{
+  std.proofs.Common.{◌<◌, length, arith},
+  selections.proofs.PlaceLaws.{headings_more},
+}
 use Rattle.selections.proofs.labels.headings_at.Goals as goal
 
 pub loop-k-preserved : goal.loop-k-preserved

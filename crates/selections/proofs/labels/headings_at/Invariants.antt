@@ -1,5 +1,7 @@
-use Rattle.std.proofs.Common.{◌≡◌, take}
-use Rattle.selections.specs.Selected.{headings_at}
+use Rattle.{
+  std.proofs.Common.{◌≡◌, take},
+  selections.specs.Selected.{headings_at},
+}
 use Rattle.selections.proofs.labels.headings_at.Given as goal
 
 -- the headings so far

@@ -1,5 +1,7 @@
-use Rattle.std.proofs.Common.{◌≡◌, ◌∙◌, ◌<◌, length, sym, true, false, arith, rules}
-use Rattle.selections.proofs.PlaceLaws.{heading_settled, place_met, place_passed, no_place, met_is, absent_is}
+use Rattle.{
+  std.proofs.Common.{◌≡◌, ◌∙◌, ◌<◌, length, sym, true, false, arith, rules},
+  selections.proofs.PlaceLaws.{heading_settled, place_met, place_passed, no_place, met_is, absent_is},
+}
 use Rattle.selections.proofs.labels.place_of_label.Goals as goal
 
 pub same_heading-requires-clause-b : goal.same_heading-requires-clause-b

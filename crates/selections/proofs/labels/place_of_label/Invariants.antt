@@ -1,8 +1,10 @@
-use Rattle.std.proofs.Common.{◌≡◌, drop}
-use Rattle.meaning.specs.Cell.{label_datum}
-use Rattle.form_meaning.specs.Select.{place_of_label}
-use Rattle.frame_store.specs.Shown.{headings_value}
-use Rattle.selections.proofs.PlaceLaws.{moved}
+use Rattle.{
+  std.proofs.Common.{◌≡◌, drop},
+  meaning.specs.Cell.{label_datum},
+  form_meaning.specs.Select.{place_of_label},
+  frame_store.specs.Shown.{headings_value},
+  selections.proofs.PlaceLaws.{moved},
+}
 use Rattle.selections.proofs.labels.place_of_label.Given as goal
 
 -- no column so far has the label

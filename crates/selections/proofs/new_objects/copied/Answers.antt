@@ -1,6 +1,7 @@
-use Rattle.frame_store.specs.Objects.{tables}
-use Rattle.frame_store.proofs.Settling.{object_settled}
-use Rattle.selections.proofs.AnswerLaws.{own_name, own_labels}
+use Rattle.{
+  frame_store.{specs.Objects.{tables}, proofs.Settling.{object_settled}},
+  selections.proofs.AnswerLaws.{own_name, own_labels},
+}
 use Rattle.selections.proofs.new_objects.copied.Goals as goal
 
 pub headed_by-requires-clause-name : goal.headed_by-requires-clause-name

@@ -1,17 +1,11 @@
-use Rattle.std.proofs.Common.{◌∙◌, ℕ, ap, subst, sym, length}
-use Rattle.std.specs.List.{range_with_len}
-use Rattle.table_meaning.specs.Table.{NumberedTable, Table, table_value}
-use Rattle.table_meaning.specs.Valid.{IsWhole}
-use Rattle.form_meaning.specs.Finish.{limited}
-use Rattle.frame_store.specs.Objects.{tables, table_at}
-use Rattle.frame_store.specs.Shown.{shown, FormAnswers}
-use Rattle.select_meaning.specs.Select.{without_leading}
-use Rattle.selections.specs.Chosen.{chosen}
-use Rattle.selections.specs.Plans.{rows_in, TakesAll}
-use Rattle.selections.proofs.PickedLaws.{places_inside, places_count, read_is}
-use Rattle.selections.proofs.PlanLaws.{without_none}
-use Rattle.selections.proofs.TakenLaws.{taken_seen}
-use Rattle.selections.proofs.CutLaws.{whole_chosen}
+use Rattle.{
+  std.{proofs.Common.{◌∙◌, ℕ, ap, subst, sym, length}, specs.List.{range_with_len}},
+  table_meaning.specs.{Table.{NumberedTable, Table, table_value}, Valid.{IsWhole}},
+  form_meaning.specs.Finish.{limited},
+  frame_store.specs.{Objects.{tables, table_at}, Shown.{shown, FormAnswers}},
+  select_meaning.specs.Select.{without_leading},
+  selections.{specs.{Chosen.{chosen}, Plans.{rows_in, TakesAll}}, proofs.{PickedLaws.{places_inside, places_count, read_is}, PlanLaws.{without_none}, TakenLaws.{taken_seen}, CutLaws.{whole_chosen}}},
+}
 use Rattle.selections.proofs.new_objects.headed_by.Goals as goal
 
 pub cut_within-requires-clause-taken : goal.cut_within-requires-clause-taken

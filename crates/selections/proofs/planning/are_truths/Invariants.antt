@@ -1,8 +1,9 @@
-use Rattle.std.proofs.Common.{◌≡◌, drop, List}
-use Rattle.meaning.specs.Text.{Text}
-use Rattle.frame_store.specs.Objects.{Tables}
-use Rattle.frame_store.specs.Arguments.{items_of}
-use Rattle.selections.specs.Selected.{each_truth}
+use Rattle.{
+  std.proofs.Common.{◌≡◌, drop, List},
+  meaning.specs.Text.{Text},
+  frame_store.specs.{Objects.{Tables}, Arguments.{items_of}},
+  selections.specs.Selected.{each_truth},
+}
 use Rattle.selections.proofs.planning.are_truths.Given as goal
 
 -- the parts so far are truth values

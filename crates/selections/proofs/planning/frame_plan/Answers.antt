@@ -1,11 +1,9 @@
-use Rattle.std.proofs.Common.{rules, ◌≡◌, ◌∙◌, ap, sym, subst}
-use Rattle.table_meaning.specs.Settled.{IsSettled}
-use Rattle.frame_store.specs.Objects.{tables}
-use Rattle.frame_store.specs.Arguments.{subscript_of, items_of}
-use Rattle.frame_store.specs.World.{world, IsKnownSubscript}
-use Rattle.frame_store.specs.declared.arguments.Argument.{One, Many}
-use Rattle.frame_store.specs.declared.arguments.Subscript.TheVariants.{Key}
-use Rattle.selections.proofs.BracketLaws.{list_in, value_in}
+use Rattle.{
+  std.proofs.Common.{rules, ◌≡◌, ◌∙◌, ap, sym, subst},
+  table_meaning.specs.Settled.{IsSettled},
+  frame_store.specs.{Objects.{tables}, Arguments.{subscript_of, items_of}, World.{world, IsKnownSubscript}, declared.arguments.{Argument.{One, Many}, Subscript.TheVariants.{Key}}},
+  selections.proofs.BracketLaws.{list_in, value_in},
+}
 use Rattle.selections.proofs.planning.frame_plan.Goals as goal
 
 pub value_plan-requires-clause-value : goal.value_plan-requires-clause-value

@@ -1,11 +1,9 @@
-use Rattle.std.proofs.Common.{rules, ◌≡◌, ◌∙◌, ◌<◌, ap, sym, length}
+use Rattle.{
+  std.proofs.Common.{rules, ◌≡◌, ◌∙◌, ◌<◌, ap, sym, length},
+  frame_store.specs.{Arguments.{subscript_of, items_of}, declared.arguments.{Argument.{Many}, Subscript.{Subscript, TheVariants.{Key}}}},
+  selections.{specs.Selected.{each_truth}, proofs.TruthLaws.{truth_list_is}},
+}
 use Rattle.select_meaning.specs.Select as meant
-use Rattle.frame_store.specs.Arguments.{subscript_of, items_of}
-use Rattle.frame_store.specs.declared.arguments.Argument.{Many}
-use Rattle.frame_store.specs.declared.arguments.Subscript.{Subscript}
-use Rattle.frame_store.specs.declared.arguments.Subscript.TheVariants.{Key}
-use Rattle.selections.specs.Selected.{each_truth}
-use Rattle.selections.proofs.TruthLaws.{truth_list_is}
 use Rattle.selections.proofs.planning.is_truth_list.Goals as goal
 
 pub returns-then-len-gt0 : goal.returns-then-len-gt0

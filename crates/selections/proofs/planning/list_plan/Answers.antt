@@ -1,8 +1,8 @@
-use Rattle.std.proofs.Common.{ap, sym, ◌∙◌}
-use Rattle.std.specs.Option.{option_map}
-use Rattle.frame_store.specs.Arguments.{items_of}
-use Rattle.frame_store.specs.Shown.{cells_value}
-use Rattle.selections.proofs.BracketLaws.{scalars_settled, list_planned, list_whole}
+use Rattle.{
+  std.{proofs.Common.{ap, sym, ◌∙◌}, specs.Option.{option_map}},
+  frame_store.specs.{Arguments.{items_of}, Shown.{cells_value}},
+  selections.proofs.BracketLaws.{scalars_settled, list_planned, list_whole},
+}
 use Rattle.selections.proofs.planning.list_plan.Goals as goal
 
 pub column_places-requires-clause-cells : goal.column_places-requires-clause-cells

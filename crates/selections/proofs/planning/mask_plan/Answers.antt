@@ -1,9 +1,9 @@
-use Rattle.table_meaning.specs.Table.{table_value}
-use Rattle.select_meaning.specs.Keys.{mask_pick}
-use Rattle.frame_store.specs.Objects.{tables}
-use Rattle.frame_store.specs.Arguments.{object_value}
-use Rattle.selections.proofs.PlanLaws.{reached_plan}
-use Rattle.selections.proofs.ReachLaws.{reach_frame}
+use Rattle.{
+  table_meaning.specs.Table.{table_value},
+  select_meaning.specs.Keys.{mask_pick},
+  frame_store.specs.{Objects.{tables}, Arguments.{object_value}},
+  selections.proofs.{PlanLaws.{reached_plan}, ReachLaws.{reach_frame}},
+}
 use Rattle.selections.proofs.planning.mask_plan.Goals as goal
 
 pub returns-clause-plan : goal.returns-clause-plan

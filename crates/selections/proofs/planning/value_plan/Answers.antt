@@ -1,15 +1,11 @@
-use Rattle.std.proofs.Common.{rules, ◌≡◌, ◌∙◌, ◌∷◌, [], ap, sym, subst}
-use Rattle.meaning.specs.Cell.{label_datum}
-use Rattle.meaning.specs.Fault.{then_value}
-use Rattle.table_meaning.specs.Settled.{IsSettled}
-use Rattle.table_meaning.specs.Table.{table_value}
-use Rattle.table_meaning.specs.Value.{one, key_given}
-use Rattle.select_meaning.specs.Select.{frame_reach, column_reach, picked_result}
-use Rattle.frame_store.specs.Objects.{tables}
-use Rattle.frame_store.specs.Arguments.{entry_of}
-use Rattle.frame_store.specs.declared.arguments.Value.{Value}
-use Rattle.selections.proofs.PlaceLaws.{label_settled}
-use Rattle.selections.proofs.BracketLaws.{cell_value_settled, column_planned, column_whole}
+use Rattle.{
+  std.proofs.Common.{rules, ◌≡◌, ◌∙◌, ◌∷◌, [], ap, sym, subst},
+  meaning.specs.{Cell.{label_datum}, Fault.{then_value}},
+  table_meaning.specs.{Settled.{IsSettled}, Table.{table_value}, Value.{one, key_given}},
+  select_meaning.specs.Select.{frame_reach, column_reach, picked_result},
+  frame_store.specs.{Objects.{tables}, Arguments.{entry_of}, declared.arguments.Value.{Value}},
+  selections.proofs.{PlaceLaws.{label_settled}, BracketLaws.{cell_value_settled, column_planned, column_whole}},
+}
 use Rattle.selections.proofs.planning.value_plan.Goals as goal
 
 pub column_place-requires-clause-label : goal.column_place-requires-clause-label

@@ -1,5 +1,7 @@
-use Rattle.std.proofs.Common.{rules, sym, ◌∙◌}
-use Rattle.selections.proofs.SeenKeys.{columns_within, column_within}
+use Rattle.{
+  std.proofs.Common.{rules, sym, ◌∙◌},
+  selections.proofs.SeenKeys.{columns_within, column_within},
+}
 use Rattle.selections.proofs.reaching.all_columns.Goals as goal
 
 pub returns-in-Series-clause-within : goal.returns-in-Series-clause-within

@@ -1,8 +1,9 @@
-use Rattle.std.proofs.Common.{◌∙◌, ap, length}
-use Rattle.multi_index.specs.Axes.{AxisValue}
-use Rattle.std.proofs.lemmas.Result.{err_from_is_err_and}
-use Rattle.frame_store.specs.Arguments.{subscript_of}
-use Rattle.selections.proofs.ReachLaws.{at_refused, at_found, at_repeated}
+use Rattle.{
+  std.proofs.{Common.{◌∙◌, ap, length}, lemmas.Result.{err_from_is_err_and}},
+  multi_index.specs.Axes.{AxisValue},
+  frame_store.specs.Arguments.{subscript_of},
+  selections.proofs.ReachLaws.{at_refused, at_found, at_repeated},
+}
 use Rattle.selections.proofs.reaching.at_rows.Goals as goal
 
 pub returns-in_err-rows-clause-rows : goal.returns-in_err-rows-clause-rows

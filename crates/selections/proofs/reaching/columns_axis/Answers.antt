@@ -1,8 +1,9 @@
-use Rattle.std.proofs.Common.{◌≡◌, ◌∙◌, ◌<◌, arith, length, subst, sym, All, ℕ}
-use Rattle.multi_index.specs.Axes.{HaveLevels}
-use Rattle.selections.proofs.ReachLaws.{axis_levels, heading_more, no_heading, loop_done}
+use Rattle.{
+  std.proofs.Common.{◌≡◌, ◌∙◌, ◌<◌, arith, length, subst, sym, All, ℕ},
+  multi_index.specs.Axes.{HaveLevels},
+  selections.proofs.{ReachLaws.{axis_levels, heading_more, no_heading, loop_done}, reaching.columns_axis.Goals.{in-Some+in_ok-push, in_default}},
+}
 use Rattle.selections.proofs.reaching.columns_axis.Goals as goal
-use Rattle.selections.proofs.reaching.columns_axis.Goals.{in-Some+in_ok-push, in_default}
 
 pub loop-k-preserved : goal.loop-k-preserved
 loop-k-preserved c =

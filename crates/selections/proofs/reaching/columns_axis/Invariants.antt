@@ -1,6 +1,7 @@
-use Rattle.std.proofs.Common.{◌≡◌, map, take, None}
-use Rattle.std.specs.Prelude.{slice_index_or}
-use Rattle.selections.specs.Reaches.{heading_tuple}
+use Rattle.{
+  std.{proofs.Common.{◌≡◌, map, take, None}, specs.Prelude.{slice_index_or}},
+  selections.specs.Reaches.{heading_tuple},
+}
 use Rattle.selections.proofs.reaching.columns_axis.Given as goal
 
 -- the labels so far

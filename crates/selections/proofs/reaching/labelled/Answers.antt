@@ -1,5 +1,7 @@
-use Rattle.std.proofs.Common.{length}
-use Rattle.selections.proofs.SeenKeys.{labels_found, labels_within, labels_left}
+use Rattle.{
+  std.proofs.Common.{length},
+  selections.proofs.SeenKeys.{labels_found, labels_within, labels_left},
+}
 use Rattle.selections.proofs.reaching.labelled.Goals as goal
 
 pub returns-clause-rows : goal.returns-clause-rows

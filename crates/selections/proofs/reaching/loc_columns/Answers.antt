@@ -1,13 +1,10 @@
-use Rattle.std.proofs.Common.{◌∙◌, ◌<◌, ℕ, List, All, ap, subst, sym, length}
-use Rattle.std.specs.Prelude.{IfOk}
-use Rattle.std.specs.List.{range_with_len}
-use Rattle.table_meaning.specs.Settled.{IsSettled}
-use Rattle.multi_index.specs.Axes.{AxisValue}
-use Rattle.frame_store.specs.Arguments.{subscript_of}
-use Rattle.frame_store.proofs.Settling.{headings_part}
-use Rattle.selections.specs.Reaches.{tuples_value, PicksBelow}
-use Rattle.selections.proofs.SeenKeys.{range_below}
-use Rattle.selections.proofs.ReachLaws.{axis_given, columns_found, axis_count}
+use Rattle.{
+  std.{proofs.Common.{◌∙◌, ◌<◌, ℕ, List, All, ap, subst, sym, length}, specs.{Prelude.{IfOk}, List.{range_with_len}}},
+  table_meaning.specs.Settled.{IsSettled},
+  multi_index.specs.Axes.{AxisValue},
+  frame_store.{specs.Arguments.{subscript_of}, proofs.Settling.{headings_part}},
+  selections.{specs.Reaches.{tuples_value, PicksBelow}, proofs.{SeenKeys.{range_below}, ReachLaws.{axis_given, columns_found, axis_count}}},
+}
 use Rattle.selections.proofs.reaching.loc_columns.Goals as goal
 
 pub columns_axis-requires-clause-places : goal.columns_axis-requires-clause-places

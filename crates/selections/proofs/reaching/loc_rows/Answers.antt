@@ -1,12 +1,9 @@
-use Rattle.std.proofs.Common.{◌≡◌, ◌∙◌, ap, subst, sym, length, Option}
-use Rattle.std.specs.Prelude.{IfSome}
-use Rattle.std.specs.Option.{option_map}
-use Rattle.std.proofs.lemmas.Result.{err_from_is_err_and}
-use Rattle.multi_index.specs.Axes.{AxisValue}
-use Rattle.frame_store.specs.declared.object.ObjId.{ObjId}
-use Rattle.frame_store.specs.Objects.{tables}
-use Rattle.frame_store.specs.Arguments.{object_value, subscript_of, IsLiveObject}
-use Rattle.selections.proofs.ReachLaws.{loc_found, loc_refused}
+use Rattle.{
+  std.{proofs.Common.{◌∙◌, ap, subst, sym, length, Option}, specs.{Prelude.{IfSome}, Option.{option_map}}},
+  multi_index.specs.Axes.{AxisValue},
+  frame_store.specs.{declared.object.ObjId.{ObjId}, Objects.{tables}, Arguments.{object_value, subscript_of, IsLiveObject}},
+  selections.proofs.ReachLaws.{loc_found},
+}
 use Rattle.selections.proofs.reaching.loc_rows.Goals as goal
 
 pub mask_rows-requires-clause-mask : goal.mask_rows-requires-clause-mask

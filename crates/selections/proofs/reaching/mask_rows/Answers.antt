@@ -1,12 +1,9 @@
-use Rattle.std.proofs.Common.{rules, ap, subst, Option}
-use Rattle.std.proofs.lemmas.Result.{err_from_is_err_and}
-use Rattle.table_meaning.specs.Settled.{IsSettled}
-use Rattle.table_meaning.specs.Table.{NumberedTable, table_value}
-use Rattle.frame_store.specs.Objects.{table_or, tables}
-use Rattle.frame_store.specs.Arguments.{object_value}
-use Rattle.frame_store.proofs.Settling.{labels_part}
-use Rattle.selections.proofs.AnswerLaws.{table_is_settled}
-use Rattle.selections.proofs.ReachLaws.{mask_refused, mask_found}
+use Rattle.{
+  std.proofs.{Common.{rules, ap, subst, Option}, lemmas.Result.{err_from_is_err_and}},
+  table_meaning.specs.{Settled.{IsSettled}, Table.{NumberedTable, table_value}},
+  frame_store.{specs.{Objects.{table_or, tables}, Arguments.{object_value}}, proofs.Settling.{labels_part}},
+  selections.proofs.{AnswerLaws.{table_is_settled}, ReachLaws.{mask_refused, mask_found}},
+}
 use Rattle.selections.proofs.reaching.mask_rows.Goals as goal
 
 pub returns-in_err-places-clause-rows : goal.returns-in_err-places-clause-rows

@@ -1,6 +1,8 @@
-use Rattle.selections.proofs.SeenKeys.{places_found, places_within, places_left}
+use Rattle.{
+  selections.proofs.SeenKeys.{places_found, places_within, places_left},
+  frame_store.specs.Arguments.{subscript_of},
+}
 use Rattle.select_meaning.specs.Keys as meant
-use Rattle.frame_store.specs.Arguments.{subscript_of}
 use Rattle.selections.proofs.reaching.places_among.Goals as goal
 
 pub returns-clause-places : goal.returns-clause-places

@@ -1,8 +1,7 @@
-use Rattle.std.proofs.lemmas.Result.{err_from_is_err_and}
-use Rattle.frame_store.specs.Objects.{tables}
-use Rattle.frame_store.specs.Arguments.{subscript_of}
-use Rattle.selections.specs.Reaches.{accessor_of}
-use Rattle.selections.proofs.ReachLaws.{joined_settled, two_refused, two_found}
+use Rattle.{
+  frame_store.specs.{Objects.{tables}, Arguments.{subscript_of}},
+  selections.{specs.Reaches.{accessor_of}, proofs.ReachLaws.{joined_settled, two_found}},
+}
 use Rattle.selections.proofs.reaching.rows_by_two.Goals as goal
 
 pub rows_by-requires-clause-key : goal.rows_by-requires-clause-key

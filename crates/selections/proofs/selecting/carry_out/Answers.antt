@@ -1,19 +1,12 @@
-use Rattle.std.proofs.Common.{refl, ◌<◌, ◌∷◌, [], ap, subst, sym, length}
-use Rattle.std.specs.Prelude.{Result}
-use Rattle.meaning.specs.Fault.{FaultValue}
-use Rattle.table_meaning.specs.Table.{NumberedTable, table_value}
-use Rattle.table_meaning.specs.Value.{Entry}
-use Rattle.select_meaning.specs.Select.{cut, row_result, shown_as}
-use Rattle.frame_store.specs.Arguments.{object_value}
-use Rattle.frame_store.specs.Objects.{tables, table_at}
-use Rattle.frame_store.specs.World.{world, Forms}
-use Rattle.frame_store.proofs.Settling.{longer_self, object_settled}
-use Rattle.selections.specs.Plans.{has_single_row, has_single_column, cut_by}
-use Rattle.selections.specs.declared.planning.Form.{Form}
+use Rattle.{
+  std.{proofs.Common.{refl, ◌<◌, ◌∷◌, [], ap, subst, sym, length}, specs.Prelude.{Result}},
+  meaning.specs.Fault.{FaultValue},
+  table_meaning.specs.{Table.{NumberedTable, table_value}, Value.{Entry}},
+  select_meaning.specs.Select.{cut, row_result, shown_as},
+  frame_store.{specs.{Arguments.{object_value}, Objects.{tables, table_at}, World.{world, Forms}}, proofs.Settling.{longer_self, object_settled}},
+  selections.{specs.{Plans.{has_single_row, has_single_column, cut_by}, declared.planning.Form.{Form}}, proofs.{PickedLaws.{read_is}, PlanLaws.{only_place}, CarryLaws.{row_inside, plan_meant, cell_made}}},
+}
 use Rattle.selections.specs.declared.planning.Form.TheVariants as answer
-use Rattle.selections.proofs.PickedLaws.{read_is}
-use Rattle.selections.proofs.PlanLaws.{only_place}
-use Rattle.selections.proofs.CarryLaws.{row_inside, plan_meant, cell_made}
 use Rattle.selections.proofs.selecting.carry_out.Goals as goal
 
 pub cell-cell-requires-clause-row : goal.cell-cell-requires-clause-row

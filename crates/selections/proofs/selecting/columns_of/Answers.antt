@@ -1,16 +1,11 @@
-use Rattle.std.proofs.Common.{◌∙◌, ◌<◌, ℕ, List, ap, subst, sym, length, All}
-use Rattle.form_meaning.specs.Select.{columns_frame}
-use Rattle.table_meaning.specs.Table.{NumberedTable, Table, table_value}
-use Rattle.table_meaning.specs.Valid.{IsWhole}
-use Rattle.form_meaning.specs.Finish.{finished}
-use Rattle.frame_store.specs.Objects.{tables, table_at}
-use Rattle.frame_store.specs.World.{world, Forms}
-use Rattle.select_meaning.specs.Select.{cut, without_leading}
-use Rattle.selections.specs.Plans.{rows_in, TakesAll}
-use Rattle.selections.proofs.BracketLaws.{list_whole}
-use Rattle.selections.proofs.PickedLaws.{read_is}
-use Rattle.selections.proofs.PlanLaws.{without_none}
-use Rattle.selections.proofs.CutLaws.{all_rows_cut}
+use Rattle.{
+  std.proofs.Common.{◌∙◌, ◌<◌, ℕ, List, ap, subst, sym, length, All},
+  form_meaning.specs.{Select.{columns_frame}, Finish.{finished}},
+  table_meaning.specs.{Table.{NumberedTable, Table, table_value}, Valid.{IsWhole}},
+  frame_store.specs.{Objects.{tables, table_at}, World.{world, Forms}},
+  select_meaning.specs.Select.{cut, without_leading},
+  selections.{specs.Plans.{rows_in, TakesAll}, proofs.{BracketLaws.{list_whole}, PickedLaws.{read_is}, PlanLaws.{without_none}, CutLaws.{all_rows_cut}}},
+}
 use Rattle.selections.proofs.selecting.columns_of.Goals as goal
 
 pub take_frame-requires-clause-plan : goal.take_frame-requires-clause-plan

@@ -1,11 +1,10 @@
-use Rattle.std.proofs.Common.{rules, ◌≡◌, ap, sym, subst, true, length, Err}
-use Rattle.table_meaning.specs.Settled.{IsSettled}
-use Rattle.form_meaning.specs.Finish.{within_limits}
-use Rattle.frame_store.specs.Shown.{shown}
-use Rattle.frame_store.specs.declared.fault.OpFault.TheVariants.{NoMemory}
-use Rattle.frame_store.proofs.Settling.{longer_self}
-use Rattle.selections.specs.Plans.{rows_in}
-use Rattle.selections.proofs.TakenLaws.{taken_answers}
+use Rattle.{
+  std.proofs.Common.{rules, ◌≡◌, ap, sym, subst, true, length, Err},
+  table_meaning.specs.Settled.{IsSettled},
+  form_meaning.specs.Finish.{within_limits},
+  frame_store.{specs.{Shown.{shown}, declared.fault.OpFault.TheVariants.{NoMemory}}, proofs.Settling.{longer_self}},
+  selections.{specs.Plans.{rows_in}, proofs.TakenLaws.{taken_answers}},
+}
 use Rattle.selections.proofs.selecting.cut_within.Goals as goal
 
 pub returns-in_err-id : goal.returns-in_err-id

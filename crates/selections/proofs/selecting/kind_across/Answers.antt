@@ -1,8 +1,8 @@
-use Rattle.std.specs.Prelude.{◌≢◌}
-use Rattle.std.proofs.Common.{rules, ◌≡◌, ◌∙◌, ◌<◌, refl, sym, length, arith}
-use Rattle.selections.proofs.RowLaws.{first_kind, kinds_refused, kinds_more, kind_next, kind_later, other_kind, same_next, first_is, kinds_done, have_kind}
+use Rattle.{
+  std.{specs.Prelude.{◌≢◌}, proofs.Common.{rules, ◌≡◌, ◌∙◌, ◌<◌, refl, sym, length, arith}},
+  selections.proofs.{RowLaws.{first_kind, kinds_refused, kinds_more, kind_next, kind_later, other_kind, same_next, first_is, kinds_done, have_kind}, selecting.kind_across.Goals.{else-k-gt0-via-then-k-gt0+else-ne, else-k-gt0-via-else-k-gt0}},
+}
 use Rattle.selections.proofs.selecting.kind_across.Goals as goal
-use Rattle.selections.proofs.selecting.kind_across.Goals.{else-k-gt0-via-then-k-gt0+else-ne, else-k-gt0-via-else-k-gt0}
 
 pub returns-then-ne-clause-kind : goal.returns-then-ne-clause-kind
 returns-then-ne-clause-kind c = λ texts.

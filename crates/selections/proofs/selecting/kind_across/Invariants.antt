@@ -1,5 +1,7 @@
-use Rattle.std.proofs.Common.{◌≡◌, drop}
-use Rattle.selections.proofs.RowLaws.{first_kind, kind_after, all_of}
+use Rattle.{
+  std.proofs.Common.{◌≡◌, drop},
+  selections.proofs.RowLaws.{first_kind, kind_after, all_of},
+}
 use Rattle.selections.proofs.selecting.kind_across.Given as goal
 
 -- the columns so far are of the first one's kind

@@ -1,14 +1,12 @@
-use Rattle.std.proofs.Common.{◌≡◌, ◌<◌, ◌∙◌, ap, sym, subst, length, All, Some, IfOk}
-use Rattle.cell_core.specs.Grids.{AreRowsBelow}
-use Rattle.multi_index.specs.Axes.{AxisValue, taken_axis}
-use Rattle.pick_meaning.specs.Rows.{rows_of}
-use Rattle.table_meaning.specs.Table.{NumberedTable}
-use Rattle.frame_store.specs.Objects.{tables, table_at, with_object}
-use Rattle.selections.specs.Plans.{AreTakenFrom, taken_table}
-use Rattle.selections.specs.declared.planning.Taken.{Taken}
-use Rattle.selections.specs.Chosen.{chosen, chosen_under}
-use Rattle.selections.proofs.PickedLaws.{read_is}
-use Rattle.selections.proofs.TakenLaws.{cut_is_chosen, slice_count}
+use Rattle.{
+  std.proofs.Common.{◌≡◌, ◌<◌, ◌∙◌, ap, sym, subst, length, All, Some, IfOk},
+  cell_core.specs.Grids.{AreRowsBelow},
+  multi_index.specs.Axes.{AxisValue, taken_axis},
+  pick_meaning.specs.Rows.{rows_of},
+  table_meaning.specs.Table.{NumberedTable},
+  frame_store.specs.Objects.{tables, table_at, with_object},
+  selections.{specs.{Plans.{AreTakenFrom, taken_table}, declared.planning.Taken.{Taken}, Chosen.{chosen, chosen_under}}, proofs.{PickedLaws.{read_is}, TakenLaws.{cut_is_chosen, slice_count}}},
+}
 use Rattle.selections.proofs.selecting.make_taken.Goals as goal
 
 pub sliced_axis-requires : goal.sliced_axis-requires

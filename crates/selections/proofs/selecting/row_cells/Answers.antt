@@ -1,5 +1,7 @@
-use Rattle.std.proofs.Common.{◌<◌, length, arith}
-use Rattle.selections.proofs.RowLaws.{cell_more}
+use Rattle.{
+  std.proofs.Common.{◌<◌, length, arith},
+  selections.proofs.RowLaws.{cell_more},
+}
 use Rattle.selections.proofs.selecting.row_cells.Goals as goal
 
 pub loop-k-preserved : goal.loop-k-preserved

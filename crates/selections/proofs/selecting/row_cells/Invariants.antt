@@ -1,5 +1,7 @@
-use Rattle.std.proofs.Common.{◌≡◌, take}
-use Rattle.selections.specs.Across.{cells_across}
+use Rattle.{
+  std.proofs.Common.{◌≡◌, take},
+  selections.specs.Across.{cells_across},
+}
 use Rattle.selections.proofs.selecting.row_cells.Given as goal
 
 -- the cells so far

@@ -1,8 +1,8 @@
-use Rattle.std.proofs.Common.{◌≡◌, ◌≢◌, ◌∙◌, ap, sym, subst, length, List, []}
-use Rattle.std.specs.Prelude.{slice_get, slice_index_or, Some, option_and_then}
-use Rattle.cell_core.specs.declared.cell.Label.{Label}
-use Rattle.multi_index.specs.Axes.{AxisValue, HaveLevels, label_at}
-use Rattle.selections.proofs.SeriesLaws.{label_first, name_of_one, name_of_several}
+use Rattle.{
+  std.{proofs.Common.{◌≡◌, ◌∙◌, sym, subst, []}, specs.Prelude.{slice_index_or, Some}},
+  multi_index.specs.Axes.{AxisValue, HaveLevels, label_at},
+  selections.proofs.SeriesLaws.{label_first, name_of_one, name_of_several},
+}
 use Rattle.selections.proofs.selecting.row_name.Goals as goal
 
 pub returns-then-levels-eq1 : goal.returns-then-levels-eq1

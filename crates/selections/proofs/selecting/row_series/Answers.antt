@@ -1,11 +1,10 @@
-use Rattle.std.proofs.Common.{rules, ◌≡◌, ◌∙◌, ◌<◌, ◌∷◌, [], ap, sym, subst, refl, ℕ, All, map, true, false, length}
-use Rattle.std.proofs.lemmas.Result.{err_from_is_err_and}
-use Rattle.form_meaning.specs.Finish.{within_limits}
-use Rattle.frame_store.specs.Parts.{block_column, table_with}
-use Rattle.cell_core.specs.declared.grid.Shape.TheVariants.{Series}
-use Rattle.selections.specs.Across.{cell_across}
-use Rattle.selections.specs.Reaches.{columns_axis}
-use Rattle.selections.proofs.SeriesLaws.{row_heading, row_made, row_beyond, row_refused}
+use Rattle.{
+  std.proofs.{Common.{rules, ◌≡◌, ◌∙◌, ◌<◌, ◌∷◌, [], ap, sym, subst, refl, ℕ, All, map, true, false, length}, lemmas.Result.{err_from_is_err_and}},
+  form_meaning.specs.Finish.{within_limits},
+  frame_store.specs.Parts.{block_column, table_with},
+  cell_core.specs.declared.grid.Shape.TheVariants.{Series},
+  selections.{specs.{Across.{cell_across}, Reaches.{columns_axis}}, proofs.SeriesLaws.{row_heading, row_made, row_beyond, row_refused}},
+}
 use Rattle.selections.proofs.selecting.row_series.Goals as goal
 
 pub returns-in_err-kind : goal.returns-in_err-kind

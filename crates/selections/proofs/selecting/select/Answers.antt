@@ -1,14 +1,9 @@
-use Rattle.std.proofs.Common.{subst}
-use Rattle.std.specs.Option.{option_map}
-use Rattle.std.proofs.lemmas.Result.{err_from_is_err_and}
-use Rattle.table_meaning.specs.Table.{NumberedTable}
-use Rattle.frame_store.specs.Objects.{tables}
-use Rattle.frame_store.specs.World.{world, subscript_in}
-use Rattle.frame_store.proofs.Settling.{object_settled}
-use Rattle.selections.specs.Plans.{IsPlanFor}
-use Rattle.selections.specs.Selected.{way_of}
-use Rattle.selections.proofs.PickedLaws.{read_is}
-use Rattle.selections.proofs.CarryLaws.{select_refused, select_made}
+use Rattle.{
+  std.{proofs.{Common.{subst}, lemmas.Result.{err_from_is_err_and}}, specs.Option.{option_map}},
+  table_meaning.specs.Table.{NumberedTable},
+  frame_store.{specs.{Objects.{tables}, World.{world, subscript_in}}, proofs.Settling.{object_settled}},
+  selections.{specs.{Plans.{IsPlanFor}, Selected.{way_of}}, proofs.{PickedLaws.{read_is}, CarryLaws.{select_refused, select_made}}},
+}
 use Rattle.selections.proofs.selecting.select.Goals as goal
 
 pub plan_for-requires-clause-known : goal.plan_for-requires-clause-known

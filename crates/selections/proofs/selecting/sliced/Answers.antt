@@ -1,18 +1,12 @@
-use Rattle.std.proofs.Common.{◌≡◌, ◌∙◌, ap, subst, length}
-use Rattle.std.specs.List.{range_with_len}
-use Rattle.cell_core.specs.declared.grid.Shape.{Shape}
-use Rattle.pick_meaning.specs.Rows.{rows_of}
-use Rattle.table_meaning.specs.Table.{NumberedTable, Table, table_value}
-use Rattle.table_meaning.specs.Valid.{IsWhole}
-use Rattle.form_meaning.specs.Finish.{limited}
-use Rattle.frame_store.specs.Objects.{tables, table_at}
-use Rattle.frame_store.specs.World.{world, Forms}
-use Rattle.selections.specs.Chosen.{chosen}
-use Rattle.selections.specs.declared.planning.Taken.TheVariants.{Slice}
-use Rattle.selections.proofs.AnswerLaws.{table_is_settled}
-use Rattle.selections.proofs.PickedLaws.{read_is}
-use Rattle.selections.proofs.CutLaws.{own_headings, all_taken, own_given}
-use Rattle.selections.proofs.TakenLaws.{chosen_rows}
+use Rattle.{
+  std.{proofs.Common.{◌≡◌, ◌∙◌, ap, subst, length}, specs.List.{range_with_len}},
+  cell_core.specs.declared.grid.Shape.{Shape},
+  pick_meaning.specs.Rows.{rows_of},
+  table_meaning.specs.{Table.{NumberedTable, Table, table_value}, Valid.{IsWhole}},
+  form_meaning.specs.Finish.{limited},
+  frame_store.specs.{Objects.{tables, table_at}, World.{world, Forms}},
+  selections.{specs.{Chosen.{chosen}, declared.planning.Taken.TheVariants.{Slice}}, proofs.{AnswerLaws.{table_is_settled}, PickedLaws.{read_is}, CutLaws.{own_headings, all_taken, own_given}, TakenLaws.{chosen_rows}}},
+}
 use Rattle.selections.proofs.selecting.sliced.Goals as goal
 
 pub cut_within-requires-clause-taken : goal.cut_within-requires-clause-taken

@@ -1,10 +1,10 @@
-use Rattle.std.proofs.Common.{rules, ◌≡◌, ◌∙◌, ◌<◌, ap, sym, subst, arith, map, ℕ, length}
-use Rattle.std.specs.Prelude.{IfOk}
-use Rattle.std.specs.List.{range_with_len}
-use Rattle.cell_core.specs.Grids.{place_from}
-use Rattle.indexers.proofs.SpanLaws.{place_pushed}
-use Rattle.multi_index.specs.Axes.{AxisValue}
-use Rattle.selections.proofs.PlanLaws.{whole_axis, spaced_below}
+use Rattle.{
+  std.{proofs.Common.{rules, ◌≡◌, ◌∙◌, ◌<◌, ap, sym, subst, arith, map, ℕ, length}, specs.{Prelude.{IfOk}, List.{range_with_len}}},
+  cell_core.specs.Grids.{place_from},
+  indexers.proofs.SpanLaws.{place_pushed},
+  multi_index.specs.Axes.{AxisValue},
+  selections.proofs.PlanLaws.{whole_axis, spaced_below},
+}
 use Rattle.selections.proofs.selecting.sliced_axis.Goals as goal
 
 pub returns-then-rows-count : goal.returns-then-rows-count

@@ -1,14 +1,10 @@
-use Rattle.std.proofs.Common.{rules, ◌≡◌, ◌<◌, ◌∷◌, [], subst, sym, length, All, None}
-use Rattle.table_meaning.specs.Table.{NumberedTable, Table}
-use Rattle.form_meaning.specs.Finish.{limited}
-use Rattle.frame_store.specs.Objects.{tables, table_at}
-use Rattle.frame_store.specs.World.{world, Forms}
-use Rattle.selections.proofs.AnswerLaws.{table_is_settled}
-use Rattle.selections.proofs.PickedLaws.{read_is}
-use Rattle.selections.proofs.PlanLaws.{first_of, only_place}
-use Rattle.selections.proofs.TakeLaws.{place_inside}
-use Rattle.selections.proofs.CutLaws.{series_taken, series_shown, series_given}
-use Rattle.selections.proofs.CarryLaws.{single_heading}
+use Rattle.{
+  std.proofs.Common.{rules, ◌≡◌, ◌<◌, ◌∷◌, [], subst, sym, length, All, None},
+  table_meaning.specs.Table.{NumberedTable, Table},
+  form_meaning.specs.Finish.{limited},
+  frame_store.specs.{Objects.{tables, table_at}, World.{world, Forms}},
+  selections.proofs.{AnswerLaws.{table_is_settled}, PickedLaws.{read_is}, PlanLaws.{first_of, only_place}, TakeLaws.{place_inside}, CutLaws.{series_taken, series_shown, series_given}, CarryLaws.{single_heading}},
+}
 use Rattle.selections.proofs.selecting.take_column.Goals as goal
 
 pub at-requires : goal.at-requires

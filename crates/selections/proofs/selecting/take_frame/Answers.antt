@@ -1,20 +1,11 @@
-use Rattle.std.proofs.Common.{◌∙◌, ◌<◌, ap, subst, sym, length, List, Option, All}
-use Rattle.std.proofs.lemmas.Result.{err_from_is_err_and}
-use Rattle.cell_core.specs.declared.cell.Label.{Label}
-use Rattle.meaning.specs.Fault.{FaultValue}
-use Rattle.std.specs.Prelude.{Result}
-use Rattle.table_meaning.specs.Table.{NumberedTable}
-use Rattle.table_meaning.specs.Valid.{IsWhole}
-use Rattle.table_meaning.specs.Value.{Entry}
-use Rattle.frame_store.specs.Objects.{tables, table_at}
-use Rattle.frame_store.specs.World.{world, Forms}
-use Rattle.frame_store.proofs.Settling.{headings_part}
-use Rattle.selections.specs.Headings.{NamesRepeated, repeated_heading}
-use Rattle.selections.specs.Plans.{rows_in, levels_lost}
-use Rattle.selections.proofs.AnswerLaws.{table_is_settled}
-use Rattle.selections.proofs.PickedLaws.{read_is}
-use Rattle.selections.proofs.CutLaws.{frame_taken, frame_given, frame_meant, frame_refused}
-use Rattle.selections.proofs.CarryLaws.{gathered, gathered_with}
+use Rattle.{
+  std.{proofs.{Common.{◌∙◌, ◌<◌, ap, subst, sym, length, List, Option, All}, lemmas.Result.{err_from_is_err_and}}, specs.Prelude.{Result}},
+  cell_core.specs.declared.cell.Label.{Label},
+  meaning.specs.Fault.{FaultValue},
+  table_meaning.specs.{Table.{NumberedTable}, Valid.{IsWhole}, Value.{Entry}},
+  frame_store.{specs.{Objects.{tables, table_at}, World.{world, Forms}}, proofs.Settling.{headings_part}},
+  selections.{specs.{Headings.{NamesRepeated, repeated_heading}, Plans.{rows_in, levels_lost}}, proofs.{AnswerLaws.{table_is_settled}, PickedLaws.{read_is}, CutLaws.{frame_taken, frame_given, frame_meant, frame_refused}, CarryLaws.{gathered, gathered_with}}},
+}
 use Rattle.selections.proofs.selecting.take_frame.Goals as goal
 
 pub headings_at-requires : goal.headings_at-requires

@@ -1,9 +1,9 @@
-use Rattle.std.proofs.Common.{◌≡◌, length, List}
-use Rattle.meaning.specs.Text.{Text}
-use Rattle.frame_store.specs.Objects.{Tables}
-use Rattle.frame_store.specs.Arguments.{items_of}
-use Rattle.selections.specs.Selected.{scalars_in}
-use Rattle.selections.proofs.SubscriptLaws.{scalars_after}
+use Rattle.{
+  std.proofs.Common.{◌≡◌, length, List},
+  meaning.specs.Text.{Text},
+  frame_store.specs.{Objects.{Tables}, Arguments.{items_of}},
+  selections.{specs.Selected.{scalars_in}, proofs.SubscriptLaws.{scalars_after}},
+}
 use Rattle.selections.proofs.subscripts.scalars_of.Given as goal
 
 -- the scalars so far, before the others

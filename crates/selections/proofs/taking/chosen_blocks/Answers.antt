@@ -1,5 +1,7 @@
-use Rattle.std.proofs.Common.{◌<◌, length, arith}
-use Rattle.selections.proofs.TakeLaws.{one_more_chosen, one_more_single}
+use Rattle.{
+  std.proofs.Common.{◌<◌, length, arith},
+  selections.proofs.TakeLaws.{one_more_chosen, one_more_single},
+}
 use Rattle.selections.proofs.taking.chosen_blocks.Goals as goal
 
 pub loop-k-preserved : goal.loop-k-preserved

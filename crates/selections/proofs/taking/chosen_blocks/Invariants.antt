@@ -1,6 +1,8 @@
-use Rattle.std.proofs.Common.{◌≡◌, map, take, All}
-use Rattle.frame_store.specs.Parts.{block_column, IsSingle}
-use Rattle.selections.specs.Chosen.{columns_at}
+use Rattle.{
+  std.proofs.Common.{◌≡◌, map, take, All},
+  frame_store.specs.Parts.{block_column, IsSingle},
+  selections.specs.Chosen.{columns_at},
+}
 use Rattle.selections.proofs.taking.chosen_blocks.Given as goal
 
 -- the columns so far

@@ -1,11 +1,9 @@
-use Rattle.std.proofs.Common.{◌≡◌, ◌<◌, ◌∙◌, ℕ, ap, sym, subst, All, IfOk}
-use Rattle.cell_core.specs.declared.cell.Kind.TheVariants.{Int64, Boolean, Text}
-use Rattle.column_core.specs.Columns.{CellColumn, number_cell, truth_cell, text_cell}
-use Rattle.column_core.specs.Lanes.{lane_row}
-use Rattle.column_core.specs.Views.{borrowed_column}
-use Rattle.column_core.proofs.ColumnLaws.{length-column}
-use Rattle.selections.specs.Chosen.{cells_by_place}
-use Rattle.selections.proofs.TakeLaws.{chosen_seen}
+use Rattle.{
+  std.proofs.Common.{◌≡◌, ◌<◌, ◌∙◌, ℕ, ap, sym, subst, All, IfOk},
+  cell_core.specs.declared.cell.Kind.TheVariants.{Int64, Boolean, Text},
+  column_core.{specs.{Columns.{CellColumn, number_cell, truth_cell, text_cell}, Lanes.{lane_row}, Views.{borrowed_column}}, proofs.ColumnLaws.{length-column}},
+  selections.{specs.Chosen.{cells_by_place}, proofs.TakeLaws.{chosen_seen}},
+}
 use Rattle.selections.proofs.taking.chosen_column.Goals as goal
 
 pub chosen_lane-requires : goal.chosen_lane-requires

@@ -1,7 +1,7 @@
-use Rattle.std.proofs.Common.{◌≡◌, refl, subst, length, IfOk}
-use Rattle.std.specs.Prelude.{slice_index}
-use Rattle.column_core.specs.Columns.{CellColumn}
-use Rattle.column_core.proofs.CellRows.{same_column}
+use Rattle.{
+  std.{proofs.Common.{◌≡◌, refl, subst, length, IfOk}, specs.Prelude.{slice_index}},
+  column_core.{specs.Columns.{CellColumn}, proofs.CellRows.{same_column}},
+}
 use Rattle.selections.proofs.taking.chosen_lane.Goals as goal
 
 pub returns-in-Some : goal.returns-in-Some

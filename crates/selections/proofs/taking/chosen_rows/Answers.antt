@@ -1,5 +1,7 @@
-use Rattle.std.proofs.Common.{refl}
-use Rattle.column_core.proofs.CellRows.{total_made}
+use Rattle.{
+  std.proofs.Common.{refl},
+  column_core.proofs.CellRows.{total_made},
+}
 use Rattle.selections.proofs.taking.chosen_rows.Goals as goal
 
 pub returns-in-Ok : goal.returns-in-Ok

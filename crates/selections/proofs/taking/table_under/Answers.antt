@@ -1,11 +1,11 @@
-use Rattle.std.proofs.Common.{◌∙◌, ap, List, subst, sym}
-use Rattle.cell_core.specs.declared.cell.Cell.{Cell}
-use Rattle.table_meaning.specs.Table.{ColumnOf}
-use Rattle.table_meaning.specs.Valid.{IsWhole}
-use Rattle.multi_index.specs.Axes.{AxisValue, taken_axis, without_leading}
-use Rattle.frame_store.specs.Parts.{table_with}
-use Rattle.selections.specs.Chosen.{columns_at}
-use Rattle.selections.proofs.TakeLaws.{under_whole}
+use Rattle.{
+  std.proofs.Common.{◌∙◌, ap, List, subst, sym},
+  cell_core.specs.declared.cell.Cell.{Cell},
+  table_meaning.specs.{Table.{ColumnOf}, Valid.{IsWhole}},
+  multi_index.specs.Axes.{AxisValue, taken_axis, without_leading},
+  frame_store.specs.Parts.{table_with},
+  selections.{specs.Chosen.{columns_at}, proofs.TakeLaws.{under_whole}},
+}
 use Rattle.selections.proofs.taking.table_under.Goals as goal
 
 pub new-requires-clause-whole : goal.new-requires-clause-whole

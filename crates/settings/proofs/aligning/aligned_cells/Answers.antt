@@ -1,21 +1,14 @@
-use Rattle.std.proofs.Common.{◌∙◌, length, ap, refl, sym, subst, Ok, List, Option, Result, ℕ, All}
-use Rattle.std.proofs.lemmas.List.{length-map}
-use Rattle.std.proofs.lemmas.Result.{err_from_is_err_and}
-use Rattle.cell_core.specs.declared.cell.Cell.{Cell}
-use Rattle.cell_core.specs.declared.cell.Cell.TheVariants.{Na}
-use Rattle.column_core.specs.Columns.{CellColumn}
-use Rattle.column_core.specs.Moves.{IsPlaceOf}
-use Rattle.meaning.specs.Cell.{AreGiven, CellValue}
-use Rattle.meaning.specs.Column.{gap_cell}
-use Rattle.meaning.specs.Fault.{FaultValue, then_value}
-use Rattle.table_meaning.specs.Table.{ColumnOf, table_value, column_at}
-use Rattle.select_meaning.specs.Set.{aligned_rows, aligned_column, column_at_rows}
-use Rattle.frame_store.specs.Shown.{cells_value, labels_value}
-use Rattle.selections.specs.Selected.{as_it_is}
-use Rattle.settings.specs.Aligned.{cells_in}
-use Rattle.settings.specs.Assigned.{column_seen}
-use Rattle.settings.proofs.AlignLaws.{refused_then, taken_given}
-use Rattle.settings.proofs.PutCases.{column_is_given, has_column, taken_column}
+use Rattle.{
+  std.proofs.{Common.{◌∙◌, length, ap, refl, sym, subst, Ok, List, Option, Result, ℕ, All}, lemmas.{List.{length-map}, Result.{err_from_is_err_and}}},
+  cell_core.specs.declared.cell.Cell.{Cell, TheVariants.{Na}},
+  column_core.specs.{Columns.{CellColumn}, Moves.{IsPlaceOf}},
+  meaning.specs.{Cell.{AreGiven, CellValue}, Column.{gap_cell}, Fault.{FaultValue, then_value}},
+  table_meaning.specs.Table.{ColumnOf, table_value, column_at},
+  select_meaning.specs.Set.{aligned_rows, aligned_column, column_at_rows},
+  frame_store.specs.Shown.{cells_value, labels_value},
+  selections.specs.Selected.{as_it_is},
+  settings.{specs.{Aligned.{cells_in}, Assigned.{column_seen}}, proofs.{AlignLaws.{refused_then, taken_given}, PutCases.{column_is_given, has_column, taken_column}}},
+}
 use Rattle.settings.proofs.aligning.aligned_cells.Goals as goal
 
 pub returns-in_err-rows-clause-cells : goal.returns-in_err-rows-clause-cells

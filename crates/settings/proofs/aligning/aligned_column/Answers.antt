@@ -1,21 +1,15 @@
-use Rattle.std.proofs.Common.{◌≡◌, ◌∙◌, length, true, ap, refl, sym, subst, Ok, List, Option, Result, ℕ, All}
-use Rattle.std.proofs.lemmas.List.{length-map}
-use Rattle.std.proofs.lemmas.Result.{err_from_is_err_and}
-use Rattle.cell_core.specs.declared.cell.Cell.{Cell}
-use Rattle.cell_core.specs.declared.cell.Cell.TheVariants.{Na}
-use Rattle.column_core.specs.Columns.{CellColumn}
-use Rattle.column_core.specs.Moves.{IsPlaceOf}
-use Rattle.meaning.specs.Cell.{AreGiven}
-use Rattle.meaning.specs.Column.{gap_cell}
-use Rattle.meaning.specs.Fault.{FaultValue, then_value}
-use Rattle.form_meaning.specs.Infix.{same_tuples}
-use Rattle.table_meaning.specs.Table.{table_value, column_at}
-use Rattle.select_meaning.specs.Set.{aligned_rows, column_at_rows}
-use Rattle.frame_store.specs.Shown.{labels_value}
-use Rattle.selections.specs.Selected.{as_it_is}
-use Rattle.settings.specs.Assigned.{column_seen}
-use Rattle.settings.proofs.AlignLaws.{own_column, refused_then, taken_given}
-use Rattle.settings.proofs.PutCases.{column_is_given, has_column, own_cells, own_seen, rows_as_many, series_column, taken_column}
+use Rattle.{
+  std.proofs.{Common.{◌≡◌, ◌∙◌, length, true, ap, refl, sym, subst, Ok, List, Option, Result, ℕ, All}, lemmas.{List.{length-map}, Result.{err_from_is_err_and}}},
+  cell_core.specs.declared.cell.Cell.{Cell, TheVariants.{Na}},
+  column_core.specs.{Columns.{CellColumn}, Moves.{IsPlaceOf}},
+  meaning.specs.{Cell.{AreGiven}, Column.{gap_cell}, Fault.{FaultValue, then_value}},
+  form_meaning.specs.Infix.{same_tuples},
+  table_meaning.specs.Table.{table_value, column_at},
+  select_meaning.specs.Set.{aligned_rows, column_at_rows},
+  frame_store.specs.Shown.{labels_value},
+  selections.specs.Selected.{as_it_is},
+  settings.{specs.Assigned.{column_seen}, proofs.{AlignLaws.{own_column, refused_then, taken_given}, PutCases.{column_is_given, has_column, own_cells, own_seen, rows_as_many, series_column, taken_column}}},
+}
 use Rattle.settings.proofs.aligning.aligned_column.Goals as goal
 
 pub returns-then-same_rows-clause-column : goal.returns-then-same_rows-clause-column

@@ -1,18 +1,17 @@
-use Rattle.std.proofs.Common.{◌≡◌, ◌∙◌, length, refl, sym, subst, Err, Ok, List, Option, Result, ℕ, All}
-use Rattle.multi_index.specs.Axes.{AxisValue}
-use Rattle.table_meaning.specs.Settled.{IsSettled}
-use Rattle.meaning.specs.Fault.{FaultValue}
-use Rattle.column_core.specs.Moves.{IsPlaceOf}
-use Rattle.align_meaning.specs.Targets.{reindexed}
-use Rattle.row_keys.specs.Keys.{same_tuple}
-use Rattle.label_align.specs.Answers.{AlignsBy, as_it_is as as_rows}
-use Rattle.label_align.specs.declared.fault.AlignFault.{AlignFault}
-use Rattle.form_parts.specs.Makes.{MakesBy}
-use Rattle.frame_store.specs.Shown.{labels_value}
-use Rattle.frame_store.specs.declared.fault.OpFault.{OpFault}
-use Rattle.frame_store.proofs.Settling.{labels_part}
-use Rattle.selections.specs.Selected.{as_it_is}
-use Rattle.settings.proofs.AlignLaws.{found_rows, levels_refused, rows_below, rows_counted, rows_looked_up, rows_met, rows_refused}
+use Rattle.{
+  std.proofs.Common.{◌≡◌, ◌∙◌, length, refl, sym, subst, Err, Ok, List, Option, Result, ℕ, All},
+  multi_index.specs.Axes.{AxisValue},
+  table_meaning.specs.Settled.{IsSettled},
+  meaning.specs.Fault.{FaultValue},
+  column_core.specs.Moves.{IsPlaceOf},
+  align_meaning.specs.Targets.{reindexed},
+  row_keys.specs.Keys.{same_tuple},
+  label_align.specs.{Answers.{AlignsBy, as_it_is as as_rows}, declared.fault.AlignFault.{AlignFault}},
+  form_parts.specs.Makes.{MakesBy},
+  frame_store.{specs.{Shown.{labels_value}, declared.fault.OpFault.{OpFault}}, proofs.Settling.{labels_part}},
+  selections.specs.Selected.{as_it_is},
+  settings.proofs.AlignLaws.{found_rows, levels_refused, rows_below, rows_counted, rows_looked_up, rows_met, rows_refused},
+}
 use Rattle.settings.proofs.aligning.aligned_rows.Goals as goal
 
 pub reindex-requires : goal.reindex-requires

@@ -1,8 +1,9 @@
-use Rattle.std.proofs.Common.{◌≡◌, ◌∙◌, ◌<◌, length, ap, arith}
-use Rattle.cell_core.specs.declared.cell.Cell.TheVariants.{Na}
-use Rattle.meaning.specs.Column.{taken}
-use Rattle.settings.proofs.AlignLaws.{gap_more, place_there}
-use Rattle.settings.proofs.FillLaws.{take_whole}
+use Rattle.{
+  std.proofs.Common.{◌≡◌, ◌∙◌, ◌<◌, length, ap, arith},
+  cell_core.specs.declared.cell.Cell.TheVariants.{Na},
+  meaning.specs.Column.{taken},
+  settings.proofs.{AlignLaws.{gap_more, place_there}, FillLaws.{take_whole}},
+}
 use Rattle.settings.proofs.aligning.cells_at.Goals as goal
 
 pub cell_or_na-requires : goal.cell_or_na-requires

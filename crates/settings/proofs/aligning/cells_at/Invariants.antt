@@ -1,6 +1,8 @@
-use Rattle.std.proofs.Common.{◌≡◌, take}
-use Rattle.cell_core.specs.declared.cell.Cell.TheVariants.{Na}
-use Rattle.meaning.specs.Column.{taken}
+use Rattle.{
+  std.proofs.Common.{◌≡◌, take},
+  cell_core.specs.declared.cell.Cell.TheVariants.{Na},
+  meaning.specs.Column.{taken},
+}
 use Rattle.settings.proofs.aligning.cells_at.Given as goal
 
 -- the cells so far

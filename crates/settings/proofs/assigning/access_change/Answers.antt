@@ -1,16 +1,12 @@
-use Rattle.std.proofs.Common.{◌≡◌, ◌∙◌, ap, sym, subst, length, Err, Result}
-use Rattle.std.proofs.lemmas.Result.{err_from_is_err_and}
-use Rattle.std.specs.Option.{option_map}
-use Rattle.meaning.specs.Fault.{FaultValue, then_value}
-use Rattle.multi_index.specs.Axes.{HaveLevels}
-use Rattle.table_meaning.specs.Table.{table_value}
-use Rattle.select_meaning.specs.Set.{Target, target_by, target_set}
-use Rattle.frame_store.specs.Objects.{tables}
-use Rattle.frame_store.specs.Arguments.{subscript_of}
-use Rattle.selections.specs.Reaches.{accessor_of}
-use Rattle.settings.specs.Assigned.{new_value}
-use Rattle.settings.specs.Values.{target_value, value_in}
-use Rattle.settings.proofs.SetLaws.{access_is, changes_so, part_refused}
+use Rattle.{
+  std.{proofs.{Common.{◌∙◌, ap, sym, Err, Result}, lemmas.Result.{err_from_is_err_and}}, specs.Option.{option_map}},
+  meaning.specs.Fault.{FaultValue, then_value},
+  table_meaning.specs.Table.{table_value},
+  select_meaning.specs.Set.{Target, target_by, target_set},
+  frame_store.specs.{Objects.{tables}, Arguments.{subscript_of}},
+  selections.specs.Reaches.{accessor_of},
+  settings.{specs.{Assigned.{new_value}, Values.{target_value, value_in}}, proofs.SetLaws.{access_is, changes_so, part_refused}},
+}
 use Rattle.settings.proofs.assigning.access_change.Goals as goal
 
 pub target_of-requires-clause-table : goal.target_of-requires-clause-table

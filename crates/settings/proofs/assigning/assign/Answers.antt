@@ -1,16 +1,10 @@
-use Rattle.std.proofs.Common.{◌≡◌, sym, subst, Option, Some}
-use Rattle.std.proofs.lemmas.Result.{err_from_is_err_and}
-use Rattle.std.specs.Prelude.{IfSome}
-use Rattle.select_meaning.specs.Set.{assign_result}
-use Rattle.frame_store.specs.Objects.{tables, table_at, with_object}
-use Rattle.frame_store.specs.Arguments.{entry_of, subscript_of}
-use Rattle.frame_store.specs.World.{world}
-use Rattle.frame_store.specs.declared.object.ObjId.{ObjId}
-use Rattle.frame_store.proofs.Settling.{object_settled}
-use Rattle.selections.specs.Selected.{way_of}
-use Rattle.settings.specs.Assigned.{moved_object, new_value, second_in}
-use Rattle.settings.specs.Changes.{ended, table_after, MayEnd}
-use Rattle.settings.proofs.SetLaws.{assign_set, may_end, set_left}
+use Rattle.{
+  std.{proofs.{Common.{◌≡◌, sym, subst, Option, Some}, lemmas.Result.{err_from_is_err_and}}, specs.Prelude.{IfSome}},
+  select_meaning.specs.Set.{assign_result},
+  frame_store.{specs.{Objects.{tables, table_at, with_object}, Arguments.{entry_of, subscript_of}, World.{world}, declared.object.ObjId.{ObjId}}, proofs.Settling.{object_settled}},
+  selections.specs.Selected.{way_of},
+  settings.{specs.{Assigned.{moved_object, new_value, second_in}, Changes.{ended, table_after, MayEnd}}, proofs.SetLaws.{assign_set, may_end, set_left}},
+}
 use Rattle.settings.proofs.assigning.assign.Goals as goal
 
 pub setting_for-requires-clause-known : goal.setting_for-requires-clause-known

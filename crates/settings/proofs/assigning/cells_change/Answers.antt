@@ -1,16 +1,12 @@
-use Rattle.std.proofs.Common.{◌∙◌, refl, ap, sym, subst, Ok, Err}
-use Rattle.std.proofs.lemmas.Result.{err_from_is_err_and}
-use Rattle.cell_core.specs.declared.code.Code.TheVariants.{Limit, WrongKind}
-use Rattle.table_meaning.specs.Settled.{IsSettled}
-use Rattle.table_meaning.specs.Table.{NumberedTable, table_value}
+use Rattle.{
+  std.proofs.{Common.{◌∙◌, refl, ap, sym, subst, Ok, Err}, lemmas.Result.{err_from_is_err_and}},
+  cell_core.specs.declared.code.Code.TheVariants.{Limit, WrongKind},
+  table_meaning.specs.{Settled.{IsSettled}, Table.{NumberedTable, table_value}},
+  frame_store.specs.{Objects.{tables}, Shown.{cells_value}},
+  selections.specs.Reaches.{accessor_of},
+  settings.{specs.{Grown.{grown_table}, Values.{target_value, value_in}}, proofs.{CellLaws.{cells_then, fit_held, grown_settled, has_kinds, not_lacking, set_beyond, set_filled, set_given, set_misfits, set_within}, SetLaws.{changes_so, part_refused, refused_by}}},
+}
 use Rattle.select_meaning.specs.Set as meant
-use Rattle.frame_store.specs.Objects.{tables}
-use Rattle.frame_store.specs.Shown.{cells_value}
-use Rattle.selections.specs.Reaches.{accessor_of}
-use Rattle.settings.specs.Grown.{grown_table}
-use Rattle.settings.specs.Values.{target_value, value_in}
-use Rattle.settings.proofs.CellLaws.{cells_then, fit_held, grown_settled, has_kinds, not_lacking, set_beyond, set_filled, set_given, set_misfits, set_within}
-use Rattle.settings.proofs.SetLaws.{changes_so, part_refused, refused_by}
 use Rattle.settings.proofs.assigning.cells_change.Goals as goal
 
 pub returns-in_err-values-clause-change : goal.returns-in_err-values-clause-change

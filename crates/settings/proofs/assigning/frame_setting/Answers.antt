@@ -1,21 +1,11 @@
-use Rattle.std.proofs.Common.{◌≡◌, ◌∙◌, ap, sym, subst, Ok, Option, Result}
-use Rattle.std.proofs.lemmas.Result.{err_from_is_err_and}
-use Rattle.std.specs.Prelude.{IfOk}
-use Rattle.meaning.specs.Cell.{label_datum}
-use Rattle.meaning.specs.Fault.{FaultValue, then_value}
-use Rattle.table_meaning.specs.Table.{table_value}
-use Rattle.table_meaning.specs.Value.{one, table}
-use Rattle.select_meaning.specs.Set.{SetValue, column_set, set_value}
-use Rattle.frame_store.specs.Objects.{tables}
-use Rattle.frame_store.specs.Arguments.{object_value, subscript_of}
-use Rattle.frame_store.specs.declared.object.ObjId.{ObjId}
-use Rattle.settings.specs.Assigned.{moved_object, new_value, IsLiveNew}
-use Rattle.settings.specs.Changes.{table_after, IsSettingOf}
-use Rattle.settings.specs.Values.{value_in}
-use Rattle.settings.specs.declared.changes.Setting.TheVariants.{Change}
-use Rattle.settings.specs.declared.values.NewValue.{NewValue}
-use Rattle.settings.proofs.MoveLaws.{column_moves, series_shape}
-use Rattle.settings.proofs.SetLaws.{frame_is, gives_so, key_label_settled, part_refused, refuses_so}
+use Rattle.{
+  std.{proofs.{Common.{◌≡◌, ◌∙◌, ap, sym, subst, Ok, Option, Result}, lemmas.Result.{err_from_is_err_and}}, specs.Prelude.{IfOk}},
+  meaning.specs.{Cell.{label_datum}, Fault.{FaultValue, then_value}},
+  table_meaning.specs.{Table.{table_value}, Value.{one, table}},
+  select_meaning.specs.Set.{SetValue, column_set, set_value},
+  frame_store.specs.{Objects.{tables}, Arguments.{object_value, subscript_of}, declared.object.ObjId.{ObjId}},
+  settings.{specs.{Assigned.{moved_object, new_value, IsLiveNew}, Changes.{table_after, IsSettingOf}, Values.{value_in}, declared.{changes.Setting.TheVariants.{Change}, values.NewValue.{NewValue}}}, proofs.{MoveLaws.{column_moves, series_shape}, SetLaws.{frame_is, gives_so, key_label_settled, part_refused, refuses_so}}},
+}
 use Rattle.settings.proofs.assigning.frame_setting.Goals as goal
 
 pub column_change-requires-clause-label : goal.column_change-requires-clause-label

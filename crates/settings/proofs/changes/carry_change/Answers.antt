@@ -1,8 +1,8 @@
-use Rattle.std.proofs.Common.{◌∙◌, ap, sym, Some}
-use Rattle.std.specs.Prelude.{is_some}
-use Rattle.frame_store.specs.Objects.{tables, table_at, with_object}
-use Rattle.settings.specs.Changes.{changed}
-use Rattle.settings.proofs.PutLaws.{another, kept_there, table_there, replaced}
+use Rattle.{
+  std.{proofs.Common.{◌∙◌, ap, sym, Some}, specs.Prelude.{is_some}},
+  frame_store.specs.Objects.{tables, table_at, with_object},
+  settings.{specs.Changes.{changed}, proofs.PutLaws.{another, kept_there, table_there, replaced}},
+}
 use Rattle.settings.proofs.changes.carry_change.Goals as goal
 
 pub replace-requires-clause-live : goal.replace-requires-clause-live

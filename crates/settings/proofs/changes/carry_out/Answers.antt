@@ -1,8 +1,8 @@
-use Rattle.std.proofs.Common.{◌∙◌, ap, sym, Some}
-use Rattle.frame_store.specs.Objects.{tables, table_at, with_object}
-use Rattle.settings.specs.Changes.{changed, ended, table_after}
-use Rattle.settings.specs.declared.changes.Setting.{Setting}
-use Rattle.settings.proofs.MoveLaws.{ended_beside, others_kept}
+use Rattle.{
+  std.proofs.Common.{◌∙◌, ap, sym, Some},
+  frame_store.specs.Objects.{tables, table_at, with_object},
+  settings.{specs.{Changes.{changed, ended, table_after}, declared.changes.Setting.{Setting}}, proofs.MoveLaws.{ended_beside, others_kept}},
+}
 use Rattle.settings.proofs.changes.carry_out.Goals as goal
 
 pub end-requires : goal.end-requires

@@ -1,7 +1,9 @@
-use Rattle.std.proofs.Common.{◌∙◌, ◌<◌, length, ap, arith}
-use Rattle.meaning.specs.Cell.{datum, holds}
-use Rattle.column_core.specs.Columns.{CellColumn}
-use Rattle.settings.proofs.ColumnLaws.{cell_passes, one_pushed}
+use Rattle.{
+  std.proofs.Common.{◌∙◌, ◌<◌, length, ap, arith},
+  meaning.specs.Cell.{datum, holds},
+  column_core.specs.Columns.{CellColumn},
+  settings.proofs.ColumnLaws.{cell_passes, one_pushed},
+}
 use Rattle.settings.proofs.columns.column_of.Goals as goal
 
 pub push-requires : goal.push-requires

@@ -1,5 +1,7 @@
-use Rattle.std.proofs.Common.{◌<◌, length, arith}
-use Rattle.settings.proofs.ColumnLaws.{kind_met, kind_passed, no_kind}
+use Rattle.{
+  std.proofs.Common.{◌<◌, length, arith},
+  settings.proofs.ColumnLaws.{kind_met, kind_passed, no_kind},
+}
 use Rattle.settings.proofs.columns.first_kind.Goals as goal
 
 pub returns-in-Some : goal.returns-in-Some

@@ -1,6 +1,8 @@
-use Rattle.std.proofs.Common.{◌≡◌, List}
-use Rattle.meaning.specs.Text.{Text}
-use Rattle.settings.proofs.ColumnLaws.{kind_from}
+use Rattle.{
+  std.proofs.Common.{◌≡◌, List},
+  meaning.specs.Text.{Text},
+  settings.proofs.ColumnLaws.{kind_from},
+}
 use Rattle.settings.proofs.columns.first_kind.Given as goal
 
 -- no cell so far is present

@@ -1,6 +1,8 @@
-use Rattle.std.proofs.Common.{◌≡◌, ◌<◌, length, true, false, arith, rules}
-use Rattle.meaning.specs.Cell.{holds}
-use Rattle.selections.proofs.SubscriptLaws.{test_passed, test_failed, tests_done}
+use Rattle.{
+  std.proofs.Common.{◌≡◌, ◌<◌, length, true, false, arith, rules},
+  meaning.specs.Cell.{holds},
+  selections.proofs.SubscriptLaws.{test_passed, test_failed, tests_done},
+}
 use Rattle.settings.proofs.columns.holds_all.Goals as goal
 
 pub returns-then-not-holds : goal.returns-then-not-holds

@@ -1,7 +1,8 @@
-use Rattle.std.proofs.Common.{◌≡◌, List}
-use Rattle.meaning.specs.Text.{Text}
-use Rattle.meaning.specs.Cell.{holds}
-use Rattle.selections.proofs.SubscriptLaws.{all_from}
+use Rattle.{
+  std.proofs.Common.{◌≡◌, List},
+  meaning.specs.{Text.{Text}, Cell.{holds}},
+  selections.proofs.SubscriptLaws.{all_from},
+}
 use Rattle.settings.proofs.columns.holds_all.Given as goal
 
 -- the kind holds all so far

@@ -1,6 +1,8 @@
-use Rattle.std.proofs.Common.{◌∙◌, ap, sym, Ok}
-use Rattle.column_core.specs.Columns.{CellColumn}
-use Rattle.settings.specs.Assigned.{column_seen}
+use Rattle.{
+  std.proofs.Common.{◌∙◌, ap, sym, Ok},
+  column_core.specs.Columns.{CellColumn},
+  settings.specs.Assigned.{column_seen},
+}
 use Rattle.settings.proofs.columns.list_column.Goals as goal
 
 pub returns-clause-answer : goal.returns-clause-answer

@@ -1,5 +1,7 @@
-use Rattle.std.proofs.Common.{◌≡◌, ◌∙◌, sym, true, false, rules, refl}
-use Rattle.settings.proofs.ColumnLaws.{list_refused, list_made}
+use Rattle.{
+  std.proofs.Common.{◌≡◌, ◌∙◌, sym, true, false, rules, refl},
+  settings.proofs.ColumnLaws.{list_refused, list_made},
+}
 use Rattle.settings.proofs.columns.list_kind.Goals as goal
 
 pub returns-then-not-holds_all-clause-answer : goal.returns-then-not-holds_all-clause-answer

@@ -1,7 +1,8 @@
-use Rattle.std.proofs.Common.{◌<◌, length, subst, sym, All, arith}
-use Rattle.std.proofs.lemmas.List.Elements.{All-push}
-use Rattle.frame_store.specs.Parts.{IsSingle}
-use Rattle.settings.proofs.ColumnLaws.{one_missing, missing_single}
+use Rattle.{
+  std.proofs.{Common.{◌<◌, length, subst, sym, All, arith}, lemmas.List.Elements.{All-push}},
+  frame_store.specs.Parts.{IsSingle},
+  settings.proofs.ColumnLaws.{one_missing, missing_single},
+}
 use Rattle.settings.proofs.columns.missing_columns.Goals as goal
 
 pub loop-place-preserved : goal.loop-place-preserved

@@ -1,6 +1,8 @@
-use Rattle.std.proofs.Common.{◌≡◌, map, take, All}
-use Rattle.frame_store.specs.Parts.{block_column, IsSingle}
-use Rattle.settings.specs.Assigned.{missing_cells}
+use Rattle.{
+  std.proofs.Common.{◌≡◌, map, take, All},
+  frame_store.specs.Parts.{block_column, IsSingle},
+  settings.specs.Assigned.{missing_cells},
+}
 use Rattle.settings.proofs.columns.missing_columns.Given as goal
 
 -- the columns so far

@@ -1,6 +1,7 @@
-use Rattle.std.proofs.Common.{◌∙◌, sym}
-use Rattle.std.proofs.lemmas.Result.{IfOk-weaker}
-use Rattle.settings.proofs.ColumnLaws.{scalar_is}
+use Rattle.{
+  std.proofs.{Common.{◌∙◌, sym}, lemmas.Result.{IfOk-weaker}},
+  settings.proofs.ColumnLaws.{scalar_is},
+}
 use Rattle.settings.proofs.columns.scalar_column.Goals as goal
 
 pub returns-clause-seen : goal.returns-clause-seen

@@ -1,5 +1,7 @@
-use Rattle.std.proofs.Common.{◌<◌, length, arith}
-use Rattle.settings.proofs.FillLaws.{cell_more}
+use Rattle.{
+  std.proofs.Common.{◌<◌, length, arith},
+  settings.proofs.FillLaws.{cell_more},
+}
 use Rattle.settings.proofs.filling.cells_of.Goals as goal
 
 pub loop-row-preserved : goal.loop-row-preserved

@@ -1,5 +1,7 @@
-use Rattle.std.proofs.Common.{◌≡◌, ◌<◌, length, arith, true, false, rules}
-use Rattle.settings.proofs.FillLaws.{fit_done, fit_fails, fit_more, kind_is}
+use Rattle.{
+  std.proofs.Common.{◌≡◌, ◌<◌, length, arith, true, false, rules},
+  settings.proofs.FillLaws.{fit_done, fit_fails, fit_more, kind_is},
+}
 use Rattle.settings.proofs.filling.expect_fit.Goals as goal
 
 pub returns-then-not-holds : goal.returns-then-not-holds

@@ -1,9 +1,11 @@
-use Rattle.std.proofs.Common.{◌≡◌, List, drop}
-use Rattle.meaning.specs.Text.{Text}
-use Rattle.table_meaning.specs.Table.{Table}
-use Rattle.select_meaning.specs.Set.{fit_from}
-use Rattle.frame_store.specs.Shown.{cells_value}
-use Rattle.settings.specs.Values.{HasKinds}
+use Rattle.{
+  std.proofs.Common.{◌≡◌, List, drop},
+  meaning.specs.Text.{Text},
+  table_meaning.specs.Table.{Table},
+  select_meaning.specs.Set.{fit_from},
+  frame_store.specs.Shown.{cells_value},
+  settings.specs.Values.{HasKinds},
+}
 use Rattle.settings.proofs.filling.expect_fit.Given as goal
 
 -- whether the values from this one on fit

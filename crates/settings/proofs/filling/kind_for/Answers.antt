@@ -1,11 +1,11 @@
-use Rattle.std.proofs.Common.{sym, subst}
-use Rattle.select_meaning.specs.Set.{kind_of_value}
-use Rattle.form_parts.specs.Makes.{MakesBy}
-use Rattle.frame_store.specs.Objects.{tables}
-use Rattle.selections.specs.Selected.{as_it_is}
-use Rattle.settings.specs.Values.{value_in}
-use Rattle.settings.specs.declared.values.SetValue.{SetValue}
-use Rattle.settings.proofs.FillLaws.{kind_listed}
+use Rattle.{
+  std.proofs.Common.{sym, subst},
+  select_meaning.specs.Set.{kind_of_value},
+  form_parts.specs.Makes.{MakesBy},
+  frame_store.specs.Objects.{tables},
+  selections.specs.Selected.{as_it_is},
+  settings.{specs.{Values.{value_in}, declared.values.SetValue.{SetValue}}, proofs.FillLaws.{kind_listed}},
+}
 use Rattle.settings.proofs.filling.kind_for.Goals as goal
 
 pub returns-in-Listed : goal.returns-in-Listed

@@ -1,17 +1,13 @@
-use Rattle.std.proofs.Common.{◌≡◌, ◌∙◌, length, ap, sym, subst, List, Result}
-use Rattle.std.proofs.lemmas.List.{length-map}
-use Rattle.std.specs.Prelude.{IfOk}
-use Rattle.cell_core.specs.declared.cell.Cell.{Cell}
-use Rattle.cell_core.specs.declared.cell.Label.{Label}
-use Rattle.meaning.specs.Cell.{CellValue}
-use Rattle.meaning.specs.Fault.{FaultValue}
-use Rattle.table_meaning.specs.Table.{heading_value, table_value}
-use Rattle.select_meaning.specs.Set.{aligned_column, reached_labels}
-use Rattle.form_parts.specs.Makes.{MakesBy}
-use Rattle.frame_store.specs.Shown.{cells_value, labels_value}
-use Rattle.settings.specs.Aligned.{cells_in}
-use Rattle.settings.specs.Values.{reached_value}
-use Rattle.settings.proofs.CellLaws.{reached_seen, reached_settled}
+use Rattle.{
+  std.{proofs.{Common.{◌≡◌, ◌∙◌, length, ap, sym, subst, List, Result}, lemmas.List.{length-map}}, specs.Prelude.{IfOk}},
+  cell_core.specs.declared.cell.{Cell.{Cell}, Label.{Label}},
+  meaning.specs.{Cell.{CellValue}, Fault.{FaultValue}},
+  table_meaning.specs.Table.{heading_value, table_value},
+  select_meaning.specs.Set.{aligned_column, reached_labels},
+  form_parts.specs.Makes.{MakesBy},
+  frame_store.specs.Shown.{cells_value, labels_value},
+  settings.{specs.{Aligned.{cells_in}, Values.{reached_value}}, proofs.CellLaws.{reached_seen, reached_settled}},
+}
 use Rattle.settings.proofs.filling.values_by_label.Goals as goal
 
 pub aligned_cells-requires-clause-labels : goal.aligned_cells-requires-clause-labels

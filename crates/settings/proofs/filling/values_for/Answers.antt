@@ -1,17 +1,12 @@
-use Rattle.std.proofs.Common.{◌≡◌, ◌∙◌, ◌*◌, ap, sym, arith, length, replicate, Ok}
-use Rattle.std.proofs.lemmas.List.{length-map}
-use Rattle.meaning.specs.Cell.{datum}
-use Rattle.table_meaning.specs.Table.{table_value}
+use Rattle.{
+  std.proofs.{Common.{◌≡◌, ◌∙◌, ◌*◌, ap, sym, arith, length, replicate, Ok}, lemmas.List.{length-map}},
+  meaning.specs.Cell.{datum},
+  table_meaning.specs.Table.{table_value},
+  frame_store.{specs.{Objects.{tables}, Shown.{cells_value}}, proofs.Settling.{object_settled}},
+  selections.specs.Reaches.{accessor_of},
+  settings.{specs.{Values.{target_value, value_in}, declared.values.SetValue.{SetValue}}, proofs.{ColumnLaws.{map-replicate}, FillLaws.{count_one, listed_count}, PutCases.{filled_given, listed_given, same_settled}}},
+}
 use Rattle.select_meaning.specs.Set as meant
-use Rattle.frame_store.specs.Objects.{tables}
-use Rattle.frame_store.specs.Shown.{cells_value}
-use Rattle.frame_store.proofs.Settling.{object_settled}
-use Rattle.selections.specs.Reaches.{accessor_of}
-use Rattle.settings.specs.Values.{target_value, value_in}
-use Rattle.settings.specs.declared.values.SetValue.{SetValue}
-use Rattle.settings.proofs.ColumnLaws.{map-replicate}
-use Rattle.settings.proofs.FillLaws.{count_one, listed_count}
-use Rattle.settings.proofs.PutCases.{filled_given, listed_given, same_settled}
 use Rattle.settings.proofs.filling.values_for.Goals as goal
 
 pub series_values-requires-clause-given : goal.series_values-requires-clause-given

@@ -1,8 +1,9 @@
-use Rattle.std.proofs.Common.{◌≡◌, ◌∙◌, ◌<◌, List, [], ◌∷◌, ◌++◌, length, ap, subst, arith}
-use Rattle.multi_index.specs.Axes.{HaveLevels}
-use Rattle.cell_core.specs.declared.cell.Label.{Label}
-use Rattle.settings.proofs.FillLaws.{label_more, take_whole}
-use Rattle.settings.proofs.GrowLaws.{axis_made, one_level}
+use Rattle.{
+  std.proofs.Common.{◌≡◌, ◌∙◌, ◌<◌, List, [], ◌∷◌, ◌++◌, length, ap, subst, arith},
+  multi_index.specs.Axes.{HaveLevels},
+  cell_core.specs.declared.cell.Label.{Label},
+  settings.proofs.{FillLaws.{label_more, take_whole}, GrowLaws.{axis_made, one_level}},
+}
 use Rattle.settings.proofs.growing.axis_with.Goals as goal
 
 pub loop-row-preserved : goal.loop-row-preserved

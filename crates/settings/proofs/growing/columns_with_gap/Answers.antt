@@ -1,7 +1,7 @@
-use Rattle.std.proofs.Common.{◌≡◌, ◌∙◌, ◌<◌, length, map, ap, arith}
-use Rattle.settings.specs.Grown.{with_gap}
-use Rattle.settings.proofs.FillLaws.{take_whole}
-use Rattle.settings.proofs.GrowLaws.{gap_more, gap_single}
+use Rattle.{
+  std.proofs.Common.{◌≡◌, ◌∙◌, ◌<◌, length, map, ap, arith},
+  settings.{specs.Grown.{with_gap}, proofs.{FillLaws.{take_whole}, GrowLaws.{gap_more, gap_single}}},
+}
 use Rattle.settings.proofs.growing.columns_with_gap.Goals as goal
 
 pub loop-place-preserved : goal.loop-place-preserved

@@ -1,6 +1,8 @@
-use Rattle.std.proofs.Common.{◌≡◌, map, take, All}
-use Rattle.frame_store.specs.Parts.{block_column, IsSingle}
-use Rattle.settings.specs.Grown.{with_gap}
+use Rattle.{
+  std.proofs.Common.{◌≡◌, map, take, All},
+  frame_store.specs.Parts.{block_column, IsSingle},
+  settings.specs.Grown.{with_gap},
+}
 use Rattle.settings.proofs.growing.columns_with_gap.Given as goal
 
 -- the columns so far

@@ -1,9 +1,9 @@
-use Rattle.std.proofs.Common.{◌∙◌, length, ap, sym, subst, arith, Some, None}
-use Rattle.table_meaning.specs.Change.{with_column, with_values}
-use Rattle.frame_store.specs.Parts.{block_column}
-use Rattle.settings.specs.Grown.{new_column}
-use Rattle.settings.specs.Values.{IsFreshIn}
-use Rattle.settings.proofs.GrowLaws.{adds_one, column_filled, fresh_headed, grown_by, new_held, one_added}
+use Rattle.{
+  std.proofs.Common.{◌∙◌, length, ap, sym, subst, arith, Some, None},
+  table_meaning.specs.Change.{with_column, with_values},
+  frame_store.specs.Parts.{block_column},
+  settings.{specs.{Grown.{new_column}, Values.{IsFreshIn}}, proofs.GrowLaws.{adds_one, column_filled, fresh_headed, grown_by, new_held, one_added}},
+}
 use Rattle.settings.proofs.growing.filled.Goals as goal
 
 pub new_column-requires-clause-held : goal.new_column-requires-clause-held

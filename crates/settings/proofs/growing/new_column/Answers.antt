@@ -1,11 +1,10 @@
-use Rattle.std.proofs.Common.{◌≡◌, ◌∙◌, ◌<◌, [], ◌∷◌, length, ap, sym, subst, arith}
-use Rattle.cell_core.specs.declared.cell.Cell.TheVariants.{Na}
-use Rattle.table_meaning.specs.Change.{with_values_from}
-use Rattle.frame_store.specs.Parts.{IsHeld}
-use Rattle.frame_store.proofs.PartLaws.{number_inside, single_count, single_rows}
-use Rattle.std.proofs.lemmas.Option.{get_or_from_slice_get}
-use Rattle.settings.proofs.ColumnLaws.{length-replicate, missing_single}
-use Rattle.settings.proofs.GrowLaws.{missing_is, put_done, put_keeps, put_kind, put_more, put_rows}
+use Rattle.{
+  std.proofs.{Common.{◌≡◌, ◌∙◌, ◌<◌, [], ◌∷◌, length, ap, sym, subst, arith}, lemmas.Option.{get_or_from_slice_get}},
+  cell_core.specs.declared.cell.Cell.TheVariants.{Na},
+  table_meaning.specs.Change.{with_values_from},
+  frame_store.{specs.Parts.{IsHeld}, proofs.PartLaws.{number_inside, single_count, single_rows}},
+  settings.proofs.{ColumnLaws.{length-replicate, missing_single}, GrowLaws.{missing_is, put_done, put_keeps, put_kind, put_more, put_rows}},
+}
 use Rattle.settings.proofs.growing.new_column.Goals as goal
 
 pub loop-k-init : goal.loop-k-init

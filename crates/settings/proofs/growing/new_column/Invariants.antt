@@ -1,7 +1,9 @@
-use Rattle.std.proofs.Common.{◌≡◌, [], ◌∷◌, length, drop}
-use Rattle.table_meaning.specs.Change.{with_values_from}
-use Rattle.frame_store.specs.Parts.{block_column, IsSingle}
-use Rattle.settings.specs.Grown.{missing_column}
+use Rattle.{
+  std.proofs.Common.{◌≡◌, [], ◌∷◌, length, drop},
+  table_meaning.specs.Change.{with_values_from},
+  frame_store.specs.Parts.{block_column, IsSingle},
+  settings.specs.Grown.{missing_column},
+}
 use Rattle.settings.proofs.growing.new_column.Given as goal
 
 -- the column with the values so far, and with the others what all make of it

@@ -1,6 +1,7 @@
-use Rattle.std.proofs.Common.{subst}
-use Rattle.settings.specs.Values.{IsFreshIn}
-use Rattle.settings.proofs.GrowLaws.{fresh_headed}
+use Rattle.{
+  std.proofs.Common.{subst},
+  settings.{specs.Values.{IsFreshIn}, proofs.GrowLaws.{fresh_headed}},
+}
 use Rattle.settings.proofs.growing.with_gap_column.Goals as goal
 
 pub put_column-requires-clause-headings : goal.put_column-requires-clause-headings

@@ -1,6 +1,8 @@
-use Rattle.std.proofs.Common.{◌∙◌, sym, subst}
-use Rattle.table_meaning.specs.Valid.{IsWhole}
-use Rattle.settings.proofs.GrowLaws.{row_is_whole, row_made}
+use Rattle.{
+  std.proofs.Common.{◌∙◌, sym, subst},
+  table_meaning.specs.Valid.{IsWhole},
+  settings.proofs.GrowLaws.{row_is_whole, row_made},
+}
 use Rattle.settings.proofs.growing.with_row.Goals as goal
 
 pub new-requires-clause-whole : goal.new-requires-clause-whole

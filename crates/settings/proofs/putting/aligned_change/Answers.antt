@@ -1,14 +1,12 @@
-use Rattle.std.proofs.Common.{◌∙◌, length, ap, sym, Err, Result}
-use Rattle.std.proofs.lemmas.Result.{err_from_is_err_and}
-use Rattle.meaning.specs.Cell.{CellValue, label_datum}
-use Rattle.meaning.specs.Fault.{FaultValue, then_value}
-use Rattle.multi_index.specs.Axes.{AxisValue}
-use Rattle.table_meaning.specs.Table.{ColumnOf, table_value}
-use Rattle.select_meaning.specs.Set.{aligned_column, put_result}
-use Rattle.frame_store.specs.Shown.{labels_value}
-use Rattle.settings.specs.Assigned.{column_seen}
-use Rattle.settings.proofs.PutCases.{aligned_set_is}
-use Rattle.settings.proofs.SetLaws.{changes_so, part_refused}
+use Rattle.{
+  std.proofs.{Common.{◌∙◌, length, ap, sym, Err, Result}, lemmas.Result.{err_from_is_err_and}},
+  meaning.specs.{Cell.{CellValue, label_datum}, Fault.{FaultValue, then_value}},
+  multi_index.specs.Axes.{AxisValue},
+  table_meaning.specs.Table.{ColumnOf, table_value},
+  select_meaning.specs.Set.{aligned_column, put_result},
+  frame_store.specs.Shown.{labels_value},
+  settings.{specs.Assigned.{column_seen}, proofs.{PutCases.{aligned_set_is}, SetLaws.{changes_so, part_refused}}},
+}
 use Rattle.settings.proofs.putting.aligned_change.Goals as goal
 
 pub returns-in_err-column-clause-change : goal.returns-in_err-column-clause-change

@@ -1,18 +1,12 @@
-use Rattle.std.proofs.Common.{◌∙◌, ap, sym, subst, Err, Result}
-use Rattle.std.proofs.lemmas.Result.{err_from_is_err_and}
-use Rattle.meaning.specs.Cell.{AreGiven, CellValue, label_datum}
-use Rattle.meaning.specs.Fault.{FaultValue, then_value}
-use Rattle.table_meaning.specs.Table.{ColumnOf, table_value}
-use Rattle.form_meaning.specs.Set.{list_column}
-use Rattle.select_meaning.specs.Set.{column_set, list_set}
-use Rattle.frame_store.specs.Objects.{tables}
-use Rattle.frame_store.specs.Shown.{cells_value}
-use Rattle.frame_store.proofs.Settling.{object_settled}
-use Rattle.settings.specs.Assigned.{column_seen}
-use Rattle.settings.specs.Values.{value_in}
-use Rattle.settings.specs.declared.values.SetValue.{SetValue}
-use Rattle.settings.proofs.PutCases.{filled_given, listed_given, same_settled}
-use Rattle.settings.proofs.SetLaws.{changes_so, part_refused}
+use Rattle.{
+  std.proofs.{Common.{◌∙◌, ap, sym, subst, Err, Result}, lemmas.Result.{err_from_is_err_and}},
+  meaning.specs.{Cell.{AreGiven, CellValue, label_datum}, Fault.{FaultValue, then_value}},
+  table_meaning.specs.Table.{ColumnOf, table_value},
+  form_meaning.specs.Set.{list_column},
+  select_meaning.specs.Set.{column_set, list_set},
+  frame_store.{specs.{Objects.{tables}, Shown.{cells_value}}, proofs.Settling.{object_settled}},
+  settings.{specs.{Assigned.{column_seen}, Values.{value_in}, declared.values.SetValue.{SetValue}}, proofs.{PutCases.{filled_given, listed_given, same_settled}, SetLaws.{changes_so, part_refused}}},
+}
 use Rattle.settings.proofs.putting.column_change.Goals as goal
 
 pub put_change-requires-clause-given : goal.put_change-requires-clause-given

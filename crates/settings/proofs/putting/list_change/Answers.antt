@@ -1,19 +1,15 @@
-use Rattle.std.proofs.Common.{◌≡◌, ◌∙◌, ◌<◌, ◌++◌, ap, sym, arith, length, None, [], ◌∷◌, Err}
-use Rattle.std.proofs.lemmas.Result.{err_from_is_err_and}
-use Rattle.meaning.specs.Cell.{label_datum}
-use Rattle.table_meaning.specs.Table.{table_value}
-use Rattle.form_meaning.specs.Finish.{default_labels}
-use Rattle.select_meaning.specs.Set.{put_result, with_rows}
-use Rattle.column_core.specs.Columns.{CellColumn}
-use Rattle.frame_store.specs.Shown.{headings_value}
-use Rattle.selections.specs.Selected.{as_it_is}
-use Rattle.settings.specs.Assigned.{column_seen, put_place}
-use Rattle.settings.specs.Changes.{changed}
-use Rattle.settings.proofs.PutCases.{default_rows, list_fits, list_rows, range_count, range_names, range_seen, range_settled, rows_given, rows_meant, rows_put}
-use Rattle.settings.proofs.PutLaws.{put_there}
-use Rattle.settings.proofs.SetLaws.{changes_so, part_refused}
+use Rattle.{
+  std.proofs.{Common.{◌≡◌, ◌∙◌, ◌<◌, ◌++◌, ap, sym, arith, length, None, [], ◌∷◌, Err}, lemmas.Result.{err_from_is_err_and}},
+  meaning.specs.Cell.{label_datum},
+  table_meaning.specs.Table.{table_value},
+  form_meaning.specs.Finish.{default_labels},
+  select_meaning.specs.Set.{put_result, with_rows},
+  column_core.specs.Columns.{CellColumn},
+  frame_store.specs.Shown.{headings_value},
+  selections.specs.Selected.{as_it_is},
+  settings.{specs.{Assigned.{column_seen, put_place}, Changes.{changed}}, proofs.{PutCases.{default_rows, list_fits, list_rows, range_count, range_names, range_seen, range_settled, rows_given, rows_meant, rows_put}, PutLaws.{put_there}, SetLaws.{changes_so, part_refused}, putting.list_change.Goals.{else-rows-eq0-via-then-rows-eq0+else-count-gt0, else-rows-eq0-via-else-rows-eq0}}},
+}
 use Rattle.settings.proofs.putting.list_change.Goals as goal
-use Rattle.settings.proofs.putting.list_change.Goals.{else-rows-eq0-via-then-rows-eq0+else-count-gt0, else-rows-eq0-via-else-rows-eq0}
 
 pub returns-in_err-place-clause-change : goal.returns-in_err-place-clause-change
 returns-in_err-place-clause-change c =

@@ -1,11 +1,11 @@
-use Rattle.std.proofs.Common.{◌≡◌, ap, sym, subst, Some}
-use Rattle.cell_core.specs.declared.cell.Cell.{Cell}
-use Rattle.meaning.specs.Cell.{AreGiven}
-use Rattle.table_meaning.specs.Change.{with_column}
-use Rattle.table_meaning.specs.Table.{ColumnOf}
-use Rattle.frame_store.specs.Parts.{block_column}
-use Rattle.settings.specs.Assigned.{table_column}
-use Rattle.settings.proofs.PutLaws.{put_meant, put_settled}
+use Rattle.{
+  std.proofs.Common.{◌≡◌, ap, sym, subst, Some},
+  cell_core.specs.declared.cell.Cell.{Cell},
+  meaning.specs.Cell.{AreGiven},
+  table_meaning.specs.{Change.{with_column}, Table.{ColumnOf}},
+  frame_store.specs.Parts.{block_column},
+  settings.{specs.Assigned.{table_column}, proofs.PutLaws.{put_meant, put_settled}},
+}
 use Rattle.settings.proofs.putting.put_change.Goals as goal
 
 pub returns-clause-change : goal.returns-clause-change

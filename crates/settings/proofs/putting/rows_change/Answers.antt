@@ -1,11 +1,9 @@
-use Rattle.std.proofs.Common.{◌≡◌, ◌∙◌, ◌≤◌, ap, sym, subst, arith, length, Some}
-use Rattle.std.proofs.lemmas.List.{length-map}
-use Rattle.table_meaning.specs.Change.{put_at, with_column}
-use Rattle.table_meaning.specs.Table.{NumberedTable}
-use Rattle.table_meaning.specs.Valid.{AreHeadings}
-use Rattle.frame_store.specs.Parts.{block_column}
-use Rattle.settings.specs.Assigned.{missing_cells, table_column, with_axis}
-use Rattle.settings.proofs.PutLaws.{rows_made, rows_whole}
+use Rattle.{
+  std.proofs.{Common.{◌≡◌, ◌∙◌, ◌≤◌, ap, sym, subst, arith, length, Some}, lemmas.List.{length-map}},
+  table_meaning.specs.{Change.{put_at, with_column}, Table.{NumberedTable}, Valid.{AreHeadings}},
+  frame_store.specs.Parts.{block_column},
+  settings.{specs.Assigned.{missing_cells, table_column, with_axis}, proofs.PutLaws.{rows_made, rows_whole}},
+}
 use Rattle.settings.proofs.putting.rows_change.Goals as goal
 
 pub new-table-requires-clause-whole : goal.new-table-requires-clause-whole

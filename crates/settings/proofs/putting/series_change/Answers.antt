@@ -1,17 +1,13 @@
-use Rattle.std.proofs.Common.{◌≡◌, ◌∙◌, ◌<◌, ap, sym, subst, arith, length}
-use Rattle.meaning.specs.Cell.{label_datum}
-use Rattle.multi_index.specs.Axes.{AxisValue}
-use Rattle.table_meaning.specs.Settled.{IsSettled}
-use Rattle.table_meaning.specs.Table.{table_value}
-use Rattle.select_meaning.specs.Set.{put_result, with_rows}
-use Rattle.frame_store.specs.Parts.{axis_of}
-use Rattle.frame_store.specs.Shown.{labels_value, headings_value}
-use Rattle.frame_store.proofs.Settling.{labels_part, level_names_part}
-use Rattle.settings.specs.Changes.{changed}
-use Rattle.settings.proofs.PutCases.{column_is_given, has_column, rows_given, rows_meant, series_aligned, series_column, series_rows}
-use Rattle.settings.proofs.SetLaws.{changes_so}
+use Rattle.{
+  std.proofs.Common.{◌≡◌, ◌∙◌, ◌<◌, ap, sym, subst, arith, length},
+  meaning.specs.Cell.{label_datum},
+  multi_index.specs.Axes.{AxisValue},
+  table_meaning.specs.{Settled.{IsSettled}, Table.{table_value}},
+  select_meaning.specs.Set.{put_result, with_rows},
+  frame_store.{specs.{Parts.{axis_of}, Shown.{labels_value, headings_value}}, proofs.Settling.{labels_part, level_names_part}},
+  settings.{specs.Changes.{changed}, proofs.{PutCases.{column_is_given, has_column, rows_given, rows_meant, series_aligned, series_column, series_rows}, SetLaws.{changes_so}, putting.series_change.Goals.{else-rows-eq0-via-then-rows-eq0+else-rows-gt0, else-rows-eq0-via-else-rows-eq0}}},
+}
 use Rattle.settings.proofs.putting.series_change.Goals as goal
-use Rattle.settings.proofs.putting.series_change.Goals.{else-rows-eq0-via-then-rows-eq0+else-rows-gt0, else-rows-eq0-via-else-rows-eq0}
 
 pub returns-then-rows-gt0-clause-change : goal.returns-then-rows-gt0-clause-change
 returns-then-rows-gt0-clause-change c =

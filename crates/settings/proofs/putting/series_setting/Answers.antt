@@ -1,24 +1,14 @@
-use Rattle.std.proofs.Common.{◌≡◌, ◌∙◌, refl, ap, sym, subst, length, true, Ok, rules}
-use Rattle.std.proofs.lemmas.Result.{err_from_is_err_and}
-use Rattle.meaning.specs.Cell.{label_datum}
-use Rattle.multi_index.specs.Axes.{AxisValue}
-use Rattle.table_meaning.specs.Settled.{IsSettled}
-use Rattle.table_meaning.specs.Table.{NumberedTable, table_value, column_at}
-use Rattle.table_meaning.specs.Valid.{IsWhole}
-use Rattle.form_meaning.specs.Infix.{same_tuples}
-use Rattle.select_meaning.specs.Set.{series_set}
-use Rattle.frame_store.specs.Objects.{tables, table_at, table_or}
-use Rattle.frame_store.specs.Shown.{labels_value, headings_value}
-use Rattle.frame_store.specs.World.{IsKnownTable}
-use Rattle.frame_store.proofs.Settling.{labels_part, object_settled}
-use Rattle.selections.specs.Selected.{as_it_is}
-use Rattle.settings.specs.Assigned.{put_place}
-use Rattle.settings.specs.Changes.{table_after}
-use Rattle.settings.specs.declared.changes.Setting.TheVariants.{Change}
-use Rattle.settings.proofs.MoveLaws.{move_meant, move_refused, move_settled}
-use Rattle.settings.proofs.PutCases.{own_cells, rows_as_many}
-use Rattle.settings.proofs.PutLaws.{put_there}
-use Rattle.settings.proofs.SetLaws.{gives_so, part_refused, refuses_so}
+use Rattle.{
+  std.proofs.{Common.{◌≡◌, ◌∙◌, refl, ap, sym, subst, length, true, Ok, rules}, lemmas.Result.{err_from_is_err_and}},
+  meaning.specs.Cell.{label_datum},
+  multi_index.specs.Axes.{AxisValue},
+  table_meaning.specs.{Settled.{IsSettled}, Table.{NumberedTable, table_value, column_at}, Valid.{IsWhole}},
+  form_meaning.specs.Infix.{same_tuples},
+  select_meaning.specs.Set.{series_set},
+  frame_store.{specs.{Objects.{tables, table_at, table_or}, Shown.{labels_value, headings_value}, World.{IsKnownTable}}, proofs.Settling.{labels_part, object_settled}},
+  selections.specs.Selected.{as_it_is},
+  settings.{specs.{Assigned.{put_place}, Changes.{table_after}, declared.changes.Setting.TheVariants.{Change}}, proofs.{MoveLaws.{move_meant, move_refused, move_settled}, PutCases.{own_cells, rows_as_many}, PutLaws.{put_there}, SetLaws.{gives_so, part_refused, refuses_so}}},
+}
 use Rattle.settings.proofs.putting.series_setting.Goals as goal
 
 pub same_rows-requires-clause-b : goal.same_rows-requires-clause-b

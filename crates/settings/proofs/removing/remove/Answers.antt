@@ -1,13 +1,11 @@
-use Rattle.std.proofs.Common.{◌≡◌, ◌∙◌, ◌<◌, length, ap, sym, subst, rules}
-use Rattle.std.proofs.lemmas.Result.{err_from_is_err_and}
-use Rattle.cell_core.specs.declared.grid.Shape.TheVariants.{Frame}
-use Rattle.select_meaning.specs.Set.{removal_result}
-use Rattle.table_meaning.specs.Table.{NumberedTable}
-use Rattle.frame_store.specs.Arguments.{entry_of}
-use Rattle.frame_store.specs.Objects.{tables, table_at, table_or}
-use Rattle.frame_store.proofs.Settling.{headings_part, object_settled}
-use Rattle.settings.proofs.SetLaws.{entry_label_settled, removal_set, removed_headed, set_left}
-use Rattle.table_meaning.specs.Valid.{IsWhole}
+use Rattle.{
+  std.proofs.{Common.{◌≡◌, ◌∙◌, ◌<◌, length, ap, sym, subst, rules}, lemmas.Result.{err_from_is_err_and}},
+  cell_core.specs.declared.grid.Shape.TheVariants.{Frame},
+  select_meaning.specs.Set.{removal_result},
+  table_meaning.specs.{Table.{NumberedTable}, Valid.{IsWhole}},
+  frame_store.{specs.{Arguments.{entry_of}, Objects.{tables, table_at, table_or}}, proofs.Settling.{headings_part, object_settled}},
+  settings.proofs.SetLaws.{entry_label_settled, removal_set, removed_headed, set_left},
+}
 use Rattle.settings.proofs.removing.remove.Goals as goal
 
 pub column_place-requires-clause-settled : goal.column_place-requires-clause-settled

@@ -1,14 +1,14 @@
-use Rattle.std.proofs.Common.{◌≡◌, ◌∙◌, sym, subst, length, Option}
-use Rattle.meaning.specs.Cell.{LabelValue}
-use Rattle.table_meaning.specs.Table.{table_value}
-use Rattle.form_meaning.specs.Finish.{column_labels}
-use Rattle.select_meaning.specs.Keys.{columns_by}
-use Rattle.select_meaning.specs.Set.{or_added, added_label}
-use Rattle.form_parts.specs.Makes.{MakesBy}
-use Rattle.frame_store.specs.Arguments.{subscript_of}
-use Rattle.selections.specs.Reaches.{accessor_of}
-use Rattle.settings.specs.Values.{reached_value, TellsAbsence}
-use Rattle.settings.proofs.TargetLaws.{columns_tell, column_count, fresh_reached, label_settled}
+use Rattle.{
+  std.proofs.Common.{◌≡◌, ◌∙◌, sym, subst, length, Option},
+  meaning.specs.Cell.{LabelValue},
+  table_meaning.specs.Table.{table_value},
+  form_meaning.specs.Finish.{column_labels},
+  select_meaning.specs.{Keys.{columns_by}, Set.{or_added, added_label}},
+  form_parts.specs.Makes.{MakesBy},
+  frame_store.specs.Arguments.{subscript_of},
+  selections.specs.Reaches.{accessor_of},
+  settings.{specs.Values.{reached_value, TellsAbsence}, proofs.TargetLaws.{columns_tell, column_count, fresh_reached, label_settled}},
+}
 use Rattle.settings.proofs.targets.columns_reached.Goals as goal
 
 pub returns-clause-columns : goal.returns-clause-columns

@@ -1,6 +1,8 @@
-use Rattle.std.proofs.Common.{◌∙◌, ap, Err}
-use Rattle.frame_store.specs.declared.fault.OpFault.TheVariants.{Refused}
-use Rattle.settings.proofs.TargetLaws.{as_nothing, added_own, added_settled}
+use Rattle.{
+  std.proofs.Common.{◌∙◌, ap, Err},
+  frame_store.specs.declared.fault.OpFault.TheVariants.{Refused},
+  settings.proofs.TargetLaws.{as_nothing, added_own, added_settled},
+}
 use Rattle.settings.proofs.targets.picked_or_added.Goals as goal
 
 pub returns-in-None-clause-reached : goal.returns-in-None-clause-reached

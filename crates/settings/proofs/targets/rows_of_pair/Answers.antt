@@ -1,8 +1,8 @@
-use Rattle.frame_store.specs.Objects.{tables}
-use Rattle.frame_store.specs.Arguments.{subscript_of}
-use Rattle.selections.specs.Reaches.{accessor_of}
-use Rattle.selections.proofs.ReachLaws.{joined_settled}
-use Rattle.settings.proofs.TargetLaws.{pair_reached}
+use Rattle.{
+  frame_store.specs.{Objects.{tables}, Arguments.{subscript_of}},
+  selections.{specs.Reaches.{accessor_of}, proofs.ReachLaws.{joined_settled}},
+  settings.proofs.TargetLaws.{pair_reached},
+}
 use Rattle.settings.proofs.targets.rows_of_pair.Goals as goal
 
 pub rows_reached-requires-clause-key : goal.rows_reached-requires-clause-key

@@ -1,15 +1,13 @@
-use Rattle.std.proofs.Common.{◌≡◌, ◌∙◌, sym, subst, length, Option}
-use Rattle.std.proofs.lemmas.List.{length-map}
-use Rattle.meaning.specs.Cell.{LabelValue}
-use Rattle.table_meaning.specs.Table.{table_value, tuple_value}
-use Rattle.select_meaning.specs.Keys.{rows_by}
-use Rattle.select_meaning.specs.Set.{or_added}
-use Rattle.form_parts.specs.Makes.{MakesBy}
-use Rattle.frame_store.specs.Objects.{tables}
-use Rattle.frame_store.specs.Arguments.{subscript_of}
-use Rattle.selections.specs.Reaches.{accessor_of}
-use Rattle.settings.specs.Values.{reached_value, TellsAbsence}
-use Rattle.settings.proofs.TargetLaws.{own_on_one, row_settled, rows_tell}
+use Rattle.{
+  std.proofs.{Common.{◌≡◌, ◌∙◌, sym, subst, length, Option}, lemmas.List.{length-map}},
+  meaning.specs.Cell.{LabelValue},
+  table_meaning.specs.Table.{table_value, tuple_value},
+  select_meaning.specs.{Keys.{rows_by}, Set.{or_added}},
+  form_parts.specs.Makes.{MakesBy},
+  frame_store.specs.{Objects.{tables}, Arguments.{subscript_of}},
+  selections.specs.Reaches.{accessor_of},
+  settings.{specs.Values.{reached_value, TellsAbsence}, proofs.TargetLaws.{own_on_one, row_settled, rows_tell}},
+}
 use Rattle.settings.proofs.targets.rows_reached.Goals as goal
 
 pub returns-clause-rows : goal.returns-clause-rows

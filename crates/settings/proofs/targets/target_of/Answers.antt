@@ -1,7 +1,8 @@
-use Rattle.std.proofs.Common.{rules}
-use Rattle.frame_store.specs.Objects.{tables}
-use Rattle.frame_store.specs.World.{world, IsKnownSubscript}
-use Rattle.settings.proofs.TargetLaws.{picked_settled, target_settled}
+use Rattle.{
+  std.proofs.Common.{rules},
+  frame_store.specs.{Objects.{tables}, World.{world, IsKnownSubscript}},
+  settings.proofs.TargetLaws.{picked_settled, target_settled},
+}
 use Rattle.settings.proofs.targets.target_of.Goals as goal
 
 pub returns-in_ok-all_columns-in-None-clause-given : goal.returns-in_ok-all_columns-in-None-clause-given

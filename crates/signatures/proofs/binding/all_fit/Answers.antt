@@ -1,10 +1,9 @@
-use Rattle.std.proofs.Common.{◌≡◌, ◌∙◌, true, false, ap, sym, arith}
-use Rattle.std.proofs.lemmas.Grind.{common_steps}
+use Rattle.{
+  std.proofs.{Common.{◌≡◌, ◌∙◌, true, false, ap, sym, arith}, lemmas.Grind.{common_steps}},
+  frame_store.specs.{Objects.{tables}, Arguments.{arguments_of}},
+  signatures.proofs.{LiveLaws.{live_after}, BindLaws.{after, fit_refused, fit_taken}},
+}
 use Rattle.form_meaning.specs.Binding as plain
-use Rattle.frame_store.specs.Objects.{tables}
-use Rattle.frame_store.specs.Arguments.{arguments_of}
-use Rattle.signatures.proofs.LiveLaws.{live_after}
-use Rattle.signatures.proofs.BindLaws.{after, fit_refused, fit_taken}
 use Rattle.signatures.proofs.binding.all_fit.Goals as goal
 
 pub returns-then-not-fits : goal.returns-then-not-fits

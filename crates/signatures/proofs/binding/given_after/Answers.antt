@@ -1,7 +1,8 @@
-use Rattle.std.proofs.Common.{arith, sym, subst}
-use Rattle.std.proofs.lemmas.Grind.{common_steps}
-use Rattle.frame_store.specs.Arguments.{IsLiveArgument}
-use Rattle.signatures.proofs.LiveLaws.{live_first, live_after}
+use Rattle.{
+  std.proofs.{Common.{arith, sym, subst}, lemmas.Grind.{common_steps}},
+  frame_store.specs.Arguments.{IsLiveArgument},
+  signatures.proofs.LiveLaws.{live_first, live_after},
+}
 use Rattle.signatures.proofs.binding.given_after.Goals as goal
 
 pub returns-then-goes_to-place-clause-live : goal.returns-then-goes_to-place-clause-live

@@ -1,8 +1,9 @@
-use Rattle.std.proofs.Common.{◌≡◌, ◌+◌, ◌<◌, ◌^◌, length, List}
-use Rattle.meaning.specs.Text.{Text}
+use Rattle.{
+  std.proofs.Common.{◌≡◌, ◌+◌, ◌<◌, ◌^◌, length, List},
+  meaning.specs.Text.{Text},
+  frame_store.specs.{Objects.{Tables}, Arguments.{arguments_of, AreLive}},
+}
 use Rattle.form_meaning.specs.Binding as plain
-use Rattle.frame_store.specs.Objects.{Tables}
-use Rattle.frame_store.specs.Arguments.{arguments_of, AreLive}
 use Rattle.signatures.proofs.binding.given_after.Given as goal
 
 abbrev pub invariant-loop-rest : goal.invariant-loop-rest

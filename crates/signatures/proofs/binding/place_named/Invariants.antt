@@ -1,6 +1,7 @@
-use Rattle.std.proofs.Common.{◌≡◌, ◌+◌, length}
-use Rattle.std.specs.List.{position_or_len}
-use Rattle.meaning.specs.Text.{same_text}
+use Rattle.{
+  std.{proofs.Common.{◌≡◌, ◌+◌, length}, specs.List.{position_or_len}},
+  meaning.specs.Text.{same_text},
+}
 use Rattle.form_meaning.specs.Signature as signature
 use Rattle.signatures.proofs.binding.place_named.Given as goal
 

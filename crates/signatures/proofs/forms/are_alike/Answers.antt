@@ -1,8 +1,9 @@
-use Rattle.std.proofs.Common.{◌∙◌, ap, sym}
+use Rattle.{
+  std.proofs.Common.{◌∙◌, ap, sym},
+  frame_store.{specs.Arguments.{item_of, items_of}, proofs.RowLaws.{item_of-Row}},
+}
 use Rattle.table_meaning.specs.Value as value
 use Rattle.form_meaning.specs.Binding as plain
-use Rattle.frame_store.specs.Arguments.{item_of, items_of}
-use Rattle.frame_store.proofs.RowLaws.{item_of-Row}
 use Rattle.signatures.proofs.forms.are_alike.Goals as goal
 
 pub returns-in-Row : goal.returns-in-Row

@@ -1,7 +1,8 @@
-use Rattle.std.proofs.Common.{◌≡◌, length}
+use Rattle.{
+  std.proofs.Common.{◌≡◌, length},
+  frame_store.specs.{Objects.{Tables}, Arguments.{entries_of}},
+}
 use Rattle.form_meaning.specs.Binding as plain
-use Rattle.frame_store.specs.Objects.{Tables}
-use Rattle.frame_store.specs.Arguments.{entries_of}
 use Rattle.signatures.proofs.forms.are_kind_names.Given as goal
 
 abbrev pub invariant-loop-rest : goal.invariant-loop-rest

@@ -1,9 +1,9 @@
-use Rattle.std.proofs.Common.{rules}
-use Rattle.std.specs.Prelude.{◌↔◌, IsTrue}
-use Rattle.std.specs.List.{All}
+use Rattle.{
+  std.{proofs.Common.{rules}, specs.{Prelude.{◌↔◌, IsTrue}, List.{All}}},
+  frame_store.specs.Arguments.{item_of},
+  signatures.proofs.FormLaws.{each_told},
+}
 use Rattle.form_meaning.specs.Binding as plain
-use Rattle.frame_store.specs.Arguments.{item_of}
-use Rattle.signatures.proofs.FormLaws.{each_told}
 use Rattle.signatures.proofs.forms.are_scalars.Goals as goal
 
 pub returns : goal.returns

@@ -1,8 +1,9 @@
-use Rattle.std.proofs.Common.{◌≡◌, length}
-use Rattle.meaning.specs.Cell.{label_datum}
+use Rattle.{
+  std.proofs.Common.{◌≡◌, length},
+  meaning.specs.Cell.{label_datum},
+  frame_store.specs.{Objects.{Tables}, Arguments.{entries_of}},
+}
 use Rattle.form_meaning.specs.Binding as plain
-use Rattle.frame_store.specs.Objects.{Tables}
-use Rattle.frame_store.specs.Arguments.{entries_of}
 use Rattle.signatures.proofs.forms.has_key.Given as goal
 
 abbrev pub invariant-loop-rest : goal.invariant-loop-rest

@@ -1,7 +1,8 @@
-use Rattle.std.proofs.Common.{◌∙◌, ap, sym}
+use Rattle.{
+  std.proofs.Common.{◌∙◌, ap, sym},
+  frame_store.{specs.Arguments.{item_of, items_of}, proofs.RowLaws.{item_of-Row}},
+}
 use Rattle.form_meaning.specs.Binding as plain
-use Rattle.frame_store.specs.Arguments.{item_of, items_of}
-use Rattle.frame_store.proofs.RowLaws.{item_of-Row}
 use Rattle.signatures.proofs.forms.is_key.Goals as goal
 
 pub returns-in-Row : goal.returns-in-Row

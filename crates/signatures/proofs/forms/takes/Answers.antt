@@ -1,8 +1,8 @@
-use Rattle.std.proofs.Common.{◌∙◌, ap, sym}
+use Rattle.{
+  std.proofs.Common.{◌∙◌, ap, sym},
+  frame_store.{specs.{Objects.{tables}, Arguments.{argument_of, entries_of}}, proofs.RowLaws.{argument_of-Table}},
+}
 use Rattle.form_meaning.specs.Binding as plain
-use Rattle.frame_store.specs.Objects.{tables}
-use Rattle.frame_store.specs.Arguments.{argument_of, entries_of}
-use Rattle.frame_store.proofs.RowLaws.{argument_of-Table}
 use Rattle.signatures.proofs.forms.takes.Goals as goal
 
 pub returns-in-Table : goal.returns-in-Table

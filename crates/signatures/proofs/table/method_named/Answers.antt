@@ -1,9 +1,8 @@
-use Rattle.std.proofs.Common.{◌∙◌, sym}
-use Rattle.std.specs.Prelude.{option_map, option_and_then}
-use Rattle.std.specs.Option.{option_copied}
-use Rattle.form_meaning.specs.Signature.{method_at}
-use Rattle.signatures.specs.Names.{meant}
-use Rattle.signatures.proofs.NameLaws.{method_of_row}
+use Rattle.{
+  std.{proofs.Common.{◌∙◌, sym}, specs.{Prelude.{option_map, option_and_then}, Option.{option_copied}}},
+  form_meaning.specs.Signature.{method_at},
+  signatures.{specs.Names.{meant}, proofs.NameLaws.{method_of_row}},
+}
 use Rattle.signatures.proofs.table.method_named.Goals as goal
 
 pub returns-in_err-row : goal.returns-in_err-row

@@ -1,5 +1,7 @@
-use Rattle.std.proofs.Common.{refl}
-use Rattle.form_meaning.specs.Signature.{method_names}
+use Rattle.{
+  std.proofs.Common.{refl},
+  form_meaning.specs.Signature.{method_names},
+}
 use Rattle.signatures.proofs.table.method_names.Goals as goal
 
 pub returns : goal.returns

@@ -1,7 +1,8 @@
-use Rattle.std.proofs.Common.{◌∙◌, length, refl, ap, sym}
-use Rattle.std.specs.Prelude.{is_some}
-use Rattle.frame_store.specs.Objects.{tables, table_or}
-use Rattle.table_tests.proofs.StoreLaws.{apart, first_there, second_there, moved_there, same_headings}
+use Rattle.{
+  std.{proofs.Common.{◌∙◌, length, refl, ap, sym}, specs.Prelude.{is_some}},
+  frame_store.specs.Objects.{tables, table_or},
+  table_tests.proofs.StoreLaws.{apart, first_there, second_there, moved_there, same_headings},
+}
 use Rattle.table_tests.proofs.store.a_series_ends_where_its_column_moves.Goals as goal
 
 pub move_column-requires-clause-live : goal.move_column-requires-clause-live

@@ -1,10 +1,9 @@
-use Rattle.std.proofs.Common.{◌≡◌, ◌∙◌, ◌++◌, [], ◌∷◌, None, Some, map, ap, subst}
-use Rattle.std.specs.Prelude.{IfOk}
-use Rattle.cell_core.specs.declared.grid.Shape.TheVariants.{Series}
-use Rattle.table_meaning.specs.Table.{NumberedTable}
-use Rattle.frame_store.proofs.ObjectLaws.{added_is_live}
-use Rattle.frame_store.specs.Parts.{HeadingList, table_with, block_column}
-use Rattle.frame_store.specs.Objects.{tables, with_object}
+use Rattle.{
+  std.{proofs.Common.{◌≡◌, ◌∙◌, ◌++◌, [], ◌∷◌, None, Some, map, ap, subst}, specs.Prelude.{IfOk}},
+  cell_core.specs.declared.grid.Shape.TheVariants.{Series},
+  table_meaning.specs.Table.{NumberedTable},
+  frame_store.{proofs.ObjectLaws.{added_is_live}, specs.{Parts.{HeadingList, table_with, block_column}, Objects.{tables, with_object}}},
+}
 use Rattle.table_tests.proofs.store.series.Goals as goal
 
 pub returns-clause-live : goal.returns-clause-live

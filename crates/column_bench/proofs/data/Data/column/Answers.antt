@@ -1,9 +1,10 @@
-use Rattle.std.proofs.Common.{[], ◌∷◌, ◌++◌, ap, sym, ◌∙◌, List}
-use Rattle.cell_core.specs.declared.cell.Cell.{Cell}
-use Rattle.meaning.specs.Column.{tabulate}
-use Rattle.column_core.specs.Columns.{CellColumn}
-use Rattle.column_bench.specs.Data.{data_kind, data_cell}
-use Rattle.column_bench.proofs.DataLaws.{tabulate_more}
+use Rattle.{
+  std.proofs.Common.{[], ◌∷◌, ◌++◌, ap, sym, ◌∙◌, List},
+  cell_core.specs.declared.cell.Cell.{Cell},
+  meaning.specs.Column.{tabulate},
+  column_core.specs.Columns.{CellColumn},
+  column_bench.{specs.Data.{data_kind, data_cell}, proofs.DataLaws.{tabulate_more}},
+}
 use Rattle.column_bench.proofs.data.Data.column.Goals as goal
 
 pub loop-row-preserved : goal.loop-row-preserved

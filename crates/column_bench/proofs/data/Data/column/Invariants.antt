@@ -1,5 +1,7 @@
-use Rattle.std.proofs.Common.{◌≡◌}
-use Rattle.column_bench.specs.Data.{data_column}
+use Rattle.{
+  std.proofs.Common.{◌≡◌},
+  column_bench.specs.Data.{data_column},
+}
 use Rattle.column_bench.proofs.data.Data.column.Given as goal
 
 -- the rows so far

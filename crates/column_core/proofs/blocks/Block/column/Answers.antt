@@ -1,11 +1,9 @@
-use Rattle.std.proofs.Common.{◌<◌, ◌*◌, length, ap, sym, ◌∙◌, arith, slice_get, Some, pos}
-use Rattle.cell_core.specs.declared.cell.Cell.TheVariants.{Na}
-use Rattle.meaning.specs.Block.{strided}
-use Rattle.column_core.specs.Columns.{CellColumn}
-use Rattle.column_core.specs.Blocks.{CellBlock}
-use Rattle.column_core.specs.Views.{kept_column}
-use Rattle.column_core.proofs.ColumnLaws.{length-tabulate}
-use Rattle.column_core.proofs.BlockLaws.{columns_of, rows_of, place_within, column_rows, column_cells}
+use Rattle.{
+  std.proofs.Common.{◌<◌, ◌*◌, length, ap, sym, ◌∙◌, arith, slice_get, Some, pos},
+  cell_core.specs.declared.cell.Cell.TheVariants.{Na},
+  meaning.specs.Block.{strided},
+  column_core.{specs.{Columns.{CellColumn}, Blocks.{CellBlock}, Views.{kept_column}}, proofs.{ColumnLaws.{length-tabulate}, BlockLaws.{columns_of, rows_of, place_within, column_rows, column_cells}}},
+}
 use Rattle.column_core.proofs.blocks.Block.column.Goals as goal
 
 pub overflow_mul-rows : goal.overflow_mul-rows

@@ -1,5 +1,4 @@
-use Rattle.column_core.specs.Views.{kept_column}
-use Rattle.column_core.proofs.BlockLaws.{columns_of}
+use Rattle.column_core.{specs.Views.{kept_column}, proofs.BlockLaws.{columns_of}}
 use Rattle.column_core.proofs.blocks.Block.columns.Goals as goal
 
 pub returns : goal.returns

@@ -1,8 +1,8 @@
-use Rattle.std.proofs.Common.{List, ap, ◌∙◌}
-use Rattle.cell_core.specs.declared.cell.Cell.{Cell}
-use Rattle.column_core.specs.Columns.{CellColumn}
-use Rattle.column_core.specs.Blocks.{block_with}
-use Rattle.column_core.proofs.BlockLaws.{blank_cells}
+use Rattle.{
+  std.proofs.Common.{List, ap, ◌∙◌},
+  cell_core.specs.declared.cell.Cell.{Cell},
+  column_core.{specs.{Columns.{CellColumn}, Blocks.{block_with}}, proofs.BlockLaws.{blank_cells}},
+}
 use Rattle.column_core.proofs.blocks.Block.new.Goals as goal
 
 pub returns-in_ok-missing-in-Some : goal.returns-in_ok-missing-in-Some

@@ -1,6 +1,7 @@
-use Rattle.std.proofs.Common.{◌<◌, arith}
-use Rattle.column_core.specs.Views.{kept_column}
-use Rattle.column_core.proofs.BlockLaws.{columns_of, rows_of, place_below, put_block}
+use Rattle.{
+  std.proofs.Common.{◌<◌, arith},
+  column_core.{specs.Views.{kept_column}, proofs.BlockLaws.{columns_of, rows_of, place_below, put_block}},
+}
 use Rattle.column_core.proofs.blocks.Block.put.Goals as goal
 
 pub overflow_mul-column : goal.overflow_mul-column

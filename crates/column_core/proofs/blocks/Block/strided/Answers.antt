@@ -1,9 +1,8 @@
-use Rattle.std.proofs.Common.{ℕ, List, [], ap, sym, subst, ◌∙◌}
-use Rattle.cell_core.specs.Grids.{AreRowsBelow}
-use Rattle.cell_core.specs.declared.cell.Cell.{Cell}
-use Rattle.cell_core.specs.declared.cell.Cell.TheVariants.{Na}
-use Rattle.meaning.specs.Block.{strided}
-use Rattle.std.proofs.lemmas.Option.{get_or_from_slice_get}
+use Rattle.{
+  std.proofs.{Common.{ℕ, List, [], ap, sym, subst, ◌∙◌}, lemmas.Option.{get_or_from_slice_get}},
+  cell_core.specs.{Grids.{AreRowsBelow}, declared.cell.Cell.{Cell, TheVariants.{Na}}},
+  meaning.specs.Block.{strided},
+}
 use Rattle.column_core.proofs.blocks.Block.strided.Goals as goal
 
 pub strided-requires : goal.strided-requires

@@ -1,6 +1,7 @@
-use Rattle.std.proofs.Common.{ap, sym, ◌∙◌, arith}
-use Rattle.column_core.specs.Views.{borrowed_column}
-use Rattle.column_core.proofs.ColumnLaws.{length-column, get-column}
+use Rattle.{
+  std.proofs.Common.{ap, sym, ◌∙◌, arith},
+  column_core.{specs.Views.{borrowed_column}, proofs.ColumnLaws.{length-column, get-column}},
+}
 use Rattle.column_core.proofs.columns.ColRef.cell.Goals as goal
 
 pub get-requires : goal.get-requires

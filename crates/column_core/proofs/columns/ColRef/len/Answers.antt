@@ -1,6 +1,7 @@
-use Rattle.std.proofs.Common.{ap, sym, ◌∙◌}
-use Rattle.column_core.specs.Views.{borrowed_column}
-use Rattle.column_core.proofs.ColumnLaws.{length-column}
+use Rattle.{
+  std.proofs.Common.{ap, sym, ◌∙◌},
+  column_core.{specs.Views.{borrowed_column}, proofs.ColumnLaws.{length-column}},
+}
 use Rattle.column_core.proofs.columns.ColRef.len.Goals as goal
 
 pub returns-in-Ints : goal.returns-in-Ints

@@ -1,12 +1,9 @@
-use Rattle.std.proofs.Common.{ℕ, ap, sym, subst, ◌∙◌}
-use Rattle.cell_core.specs.Grids.{AreRowsBelow}
-use Rattle.cell_core.specs.declared.cell.Cell.TheVariants.{Na}
-use Rattle.meaning.specs.Block.{strided}
-use Rattle.column_core.specs.Lanes.{lane_row}
-use Rattle.column_core.specs.Columns.{CellColumn, number_cell, truth_cell, text_cell}
-use Rattle.column_core.specs.Views.{borrowed_column}
-use Rattle.column_core.proofs.ColumnLaws.{length-column}
-use Rattle.column_core.proofs.StrideLaws.{strided_seen}
+use Rattle.{
+  std.proofs.Common.{ℕ, ap, sym, subst, ◌∙◌},
+  cell_core.specs.{Grids.{AreRowsBelow}, declared.cell.Cell.TheVariants.{Na}},
+  meaning.specs.Block.{strided},
+  column_core.{specs.{Lanes.{lane_row}, Columns.{CellColumn, number_cell, truth_cell, text_cell}, Views.{borrowed_column}}, proofs.{ColumnLaws.{length-column}, StrideLaws.{strided_seen}}},
+}
 use Rattle.column_core.proofs.columns.ColRef.strided.Goals as goal
 
 pub strided-requires : goal.strided-requires

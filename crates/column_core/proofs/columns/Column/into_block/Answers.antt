@@ -1,8 +1,8 @@
-use Rattle.std.proofs.Common.{ℕ, List, length, ap, ◌∙◌}
-use Rattle.cell_core.specs.declared.cell.Cell.{Cell}
-use Rattle.column_core.specs.Columns.{CellColumn}
-use Rattle.column_core.specs.Blocks.{block_with}
-use Rattle.column_core.proofs.BlockLaws.{one_column}
+use Rattle.{
+  std.proofs.Common.{ℕ, List, length, ap, ◌∙◌},
+  cell_core.specs.declared.cell.Cell.{Cell},
+  column_core.{specs.{Columns.{CellColumn}, Blocks.{block_with}}, proofs.BlockLaws.{one_column}},
+}
 use Rattle.column_core.proofs.columns.Column.into_block.Goals as goal
 
 pub returns : goal.returns

@@ -1,8 +1,7 @@
-use Rattle.std.proofs.Common.{rules, ◌≡◌, ◌<◌, ◌*◌, ◌^◌, ℕ, Bool, false, not, cond, length, ap, sym, subst, ◌∙◌, arith, FitsSigned, w64}
-use Rattle.std.proofs.Math.Facts.{to_z-of_z}
-use Rattle.column_core.specs.Lanes.{option_at, lane_place, LaneFits}
-use Rattle.column_core.specs.Moves.{is_ahead, distance_of}
-use Rattle.column_core.proofs.StrideLaws.{first_below, only_row, place_composed, fits_composed, stride_small}
+use Rattle.{
+  std.proofs.{Common.{rules, ◌≡◌, ◌<◌, ◌*◌, ◌^◌, ℕ, Bool, false, not, cond, length, ap, sym, subst, ◌∙◌, arith, FitsSigned, w64}, Math.Facts.{to_z-of_z}},
+  column_core.{specs.{Lanes.{option_at, lane_place, LaneFits}, Moves.{is_ahead, distance_of}}, proofs.StrideLaws.{first_below, only_row, place_composed, fits_composed, stride_small}},
+}
 use Rattle.column_core.proofs.lanes.Lane.strided.Goals as goal
 
 pub returns-then-rows-eq1-clause-rows : goal.returns-then-rows-eq1-clause-rows

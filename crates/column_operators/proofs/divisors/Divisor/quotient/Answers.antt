@@ -1,5 +1,7 @@
-use Rattle.std.proofs.Common.{◌/◌, ◌^◌, ap, ◌∙◌}
-use Rattle.column_operators.proofs.QuotientLaws.{by_inverse}
+use Rattle.{
+  std.proofs.Common.{◌/◌, ◌^◌, ap, ◌∙◌},
+  column_operators.proofs.QuotientLaws.{by_inverse},
+}
 use Rattle.column_operators.proofs.divisors.Divisor.quotient.Goals as goal
 
 pub returns : goal.returns

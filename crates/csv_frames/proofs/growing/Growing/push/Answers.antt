@@ -1,8 +1,9 @@
-use Rattle.std.proofs.Common.{◌≡◌, ◌∙◌, sym, ap, false, is_some, rules}
-use Rattle.csv_meaning.specs.CsvRead.{is_missing}
-use Rattle.csv_frames.proofs.GrowingLaws.{missing_grown, mixed_grown, kept_grown, mixed_up}
+use Rattle.{
+  std.proofs.Common.{◌≡◌, ◌∙◌, sym, ap, false, is_some, rules},
+  csv_meaning.specs.CsvRead.{is_missing},
+  csv_frames.proofs.{GrowingLaws.{missing_grown, mixed_grown, kept_grown, mixed_up}, growing.Growing.push.Goals.{else-not-fits-via-then-not-fits+else-is_none, else-not-fits-via-else-not-fits}},
+}
 use Rattle.csv_frames.proofs.growing.Growing.push.Goals as goal
-use Rattle.csv_frames.proofs.growing.Growing.push.Goals.{else-not-fits-via-then-not-fits+else-is_none, else-not-fits-via-else-not-fits}
 
 pub returns-in_ok-first_value-in-Missing-clause-grown : goal.returns-in_ok-first_value-in-Missing-clause-grown
 returns-in_ok-first_value-in-Missing-clause-grown c = λ fields count grown.

@@ -1,6 +1,7 @@
-use Rattle.std.proofs.Common.{◌∙◌, arith}
-use Rattle.factorize.proofs.LabelLaws.{columns_counted, column_label, no_column, no_row}
-use Rattle.factorize.specs.Keys.{column_keys}
+use Rattle.{
+  std.proofs.Common.{◌∙◌, arith},
+  factorize.{proofs.LabelLaws.{columns_counted, column_label, no_column, no_row}, specs.Keys.{column_keys}},
+}
 use Rattle.factorize.proofs.levels.KeyColumnsKeyLevels.label.Goals as goal
 
 pub returns-then-row-self : goal.returns-then-row-self

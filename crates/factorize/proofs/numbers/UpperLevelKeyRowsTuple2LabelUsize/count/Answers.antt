@@ -1,7 +1,7 @@
-use Rattle.std.proofs.Common.{arith, map}
-use Rattle.std.proofs.lemmas.List.{length-map}
-use Rattle.row_keys.specs.Keys.{label_in}
-use Rattle.row_keys.proofs.ZipLaws.{length_zip}
+use Rattle.{
+  std.proofs.{Common.{arith, map}, lemmas.List.{length-map}},
+  row_keys.{specs.Keys.{label_in}, proofs.ZipLaws.{length_zip}},
+}
 use Rattle.factorize.proofs.numbers.UpperLevelKeyRowsTuple2LabelUsize.count.Goals as goal
 
 pub returns : goal.returns

@@ -1,7 +1,7 @@
-use Rattle.std.proofs.Common.{rules, [], map, slice_index_or}
-use Rattle.std.proofs.lemmas.Option.{slice_get-get_or}
-use Rattle.row_keys.specs.Keys.{label_in}
-use Rattle.row_keys.proofs.ZipLaws.{zip_right, row_of_zip, zip_get_map}
+use Rattle.{
+  std.proofs.{Common.{rules, [], map, slice_index_or}, lemmas.Option.{slice_get-get_or}},
+  row_keys.{specs.Keys.{label_in}, proofs.ZipLaws.{zip_right, row_of_zip, zip_get_map}},
+}
 use Rattle.factorize.proofs.numbers.UpperLevelKeyRowsTuple2LabelUsize.key.Goals as goal
 
 pub offset_bounds-self-row : goal.offset_bounds-self-row

@@ -1,7 +1,8 @@
-use Rattle.std.proofs.Common.{ap, ◌∙◌, Option, sym}
-use Rattle.std.specs.Option.{is_some}
-use Rattle.cell_core.specs.Values.{LabelValue}
-use Rattle.frame_format.proofs.ToldLaws.{column_within, heading_seen, is_some_seen}
+use Rattle.{
+  std.{proofs.Common.{ap, ◌∙◌, Option, sym}, specs.Option.{is_some}},
+  cell_core.specs.Values.{LabelValue},
+  frame_format.proofs.ToldLaws.{column_within, heading_seen, is_some_seen},
+}
 use Rattle.frame_format.proofs.source.Source.has_heading.Goals as goal
 
 pub heading-requires : goal.heading-requires

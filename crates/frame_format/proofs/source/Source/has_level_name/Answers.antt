@@ -1,7 +1,8 @@
-use Rattle.std.proofs.Common.{ap, ◌∙◌, Option, sym}
-use Rattle.std.specs.Option.{is_some}
-use Rattle.cell_core.specs.Values.{LabelValue}
-use Rattle.frame_format.proofs.ToldLaws.{level_within, level_name_seen, is_some_seen}
+use Rattle.{
+  std.{proofs.Common.{ap, ◌∙◌, Option, sym}, specs.Option.{is_some}},
+  cell_core.specs.Values.{LabelValue},
+  frame_format.proofs.ToldLaws.{level_within, level_name_seen, is_some_seen},
+}
 use Rattle.frame_format.proofs.source.Source.has_level_name.Goals as goal
 
 pub level_name-requires : goal.level_name-requires

@@ -1,5 +1,7 @@
-use Rattle.std.proofs.Common.{sym}
-use Rattle.frame_format.proofs.ToldLaws.{column_within, kind_seen}
+use Rattle.{
+  std.proofs.Common.{sym},
+  frame_format.proofs.ToldLaws.{column_within, kind_seen},
+}
 use Rattle.frame_format.proofs.source.Source.kind.Goals as goal
 
 pub kind-requires : goal.kind-requires

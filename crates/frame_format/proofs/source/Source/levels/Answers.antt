@@ -1,6 +1,8 @@
-use Rattle.std.proofs.Common.{length, ap, sym, ◌∙◌}
-use Rattle.table_meaning.specs.Table.{Table}
-use Rattle.frame_format.proofs.ToldLaws.{levels_told, tuple_seen}
+use Rattle.{
+  std.proofs.Common.{length, ap, sym, ◌∙◌},
+  table_meaning.specs.Table.{Table},
+  frame_format.proofs.ToldLaws.{levels_told, tuple_seen},
+}
 use Rattle.frame_format.proofs.source.Source.levels.Goals as goal
 
 pub returns-clause-count : goal.returns-clause-count

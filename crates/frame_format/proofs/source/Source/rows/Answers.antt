@@ -1,6 +1,8 @@
-use Rattle.std.proofs.Common.{length, ap, sym, ◌∙◌}
-use Rattle.table_meaning.specs.Table.{Table}
-use Rattle.frame_format.proofs.ToldLaws.{rows_told}
+use Rattle.{
+  std.proofs.Common.{length, ap, sym, ◌∙◌},
+  table_meaning.specs.Table.{Table},
+  frame_format.proofs.ToldLaws.{rows_told},
+}
 use Rattle.frame_format.proofs.source.Source.rows.Goals as goal
 
 pub returns : goal.returns

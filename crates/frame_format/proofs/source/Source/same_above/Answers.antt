@@ -1,5 +1,7 @@
-use Rattle.std.proofs.Common.{◌<◌, arith, ◌∙◌, sym}
-use Rattle.frame_format.proofs.ToldLaws.{row_within, level_within, same_seen}
+use Rattle.{
+  std.proofs.Common.{◌<◌, arith, ◌∙◌, sym},
+  frame_format.proofs.ToldLaws.{row_within, level_within, same_seen},
+}
 use Rattle.frame_format.proofs.source.Source.same_above.Goals as goal
 
 pub label-above-requires-clause-row : goal.label-above-requires-clause-row

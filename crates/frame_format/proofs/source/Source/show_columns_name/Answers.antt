@@ -1,7 +1,9 @@
-use Rattle.std.proofs.Common.{◌≡◌, OnOk, string_bytes, subst, Option, sym}
-use Rattle.cell_core.specs.Values.{LabelValue}
-use Rattle.format_meaning.specs.Print.{shown_name}
-use Rattle.frame_format.proofs.ToldLaws.{columns_name_seen}
+use Rattle.{
+  std.proofs.Common.{◌≡◌, OnOk, string_bytes, subst, Option, sym},
+  cell_core.specs.Values.{LabelValue},
+  format_meaning.specs.Print.{shown_name},
+  frame_format.proofs.ToldLaws.{columns_name_seen},
+}
 use Rattle.frame_format.proofs.source.Source.show_columns_name.Goals as goal
 
 pub returns : goal.returns

@@ -1,7 +1,9 @@
-use Rattle.std.proofs.Common.{◌≡◌, OnOk, string_bytes, subst, sym}
-use Rattle.cell_core.specs.Values.{LabelValue}
-use Rattle.format_meaning.specs.Print.{shown_label}
-use Rattle.frame_format.proofs.ToldLaws.{row_within, level_within, label_seen}
+use Rattle.{
+  std.proofs.Common.{◌≡◌, OnOk, string_bytes, subst, sym},
+  cell_core.specs.Values.{LabelValue},
+  format_meaning.specs.Print.{shown_label},
+  frame_format.proofs.ToldLaws.{row_within, level_within, label_seen},
+}
 use Rattle.frame_format.proofs.source.Source.show_label.Goals as goal
 
 pub label-requires-clause-row : goal.label-requires-clause-row

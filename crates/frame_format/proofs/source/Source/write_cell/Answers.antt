@@ -1,7 +1,9 @@
-use Rattle.std.proofs.Common.{◌≡◌, OnOk, string_bytes, subst, sym}
-use Rattle.cell_core.specs.Values.{CellValue}
-use Rattle.format_meaning.specs.CsvWrite.{cell_field}
-use Rattle.frame_format.proofs.ToldLaws.{row_within, column_within, cell_seen}
+use Rattle.{
+  std.proofs.Common.{◌≡◌, OnOk, string_bytes, subst, sym},
+  cell_core.specs.Values.{CellValue},
+  format_meaning.specs.CsvWrite.{cell_field},
+  frame_format.proofs.ToldLaws.{row_within, column_within, cell_seen},
+}
 use Rattle.frame_format.proofs.source.Source.write_cell.Goals as goal
 
 pub cell-requires-clause-row : goal.cell-requires-clause-row

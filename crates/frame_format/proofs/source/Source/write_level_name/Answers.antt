@@ -1,7 +1,9 @@
-use Rattle.std.proofs.Common.{◌≡◌, OnOk, string_bytes, subst, Option, sym}
-use Rattle.cell_core.specs.Values.{LabelValue}
-use Rattle.format_meaning.specs.CsvWrite.{name_field}
-use Rattle.frame_format.proofs.ToldLaws.{level_within, level_name_seen}
+use Rattle.{
+  std.proofs.Common.{◌≡◌, OnOk, string_bytes, subst, Option, sym},
+  cell_core.specs.Values.{LabelValue},
+  format_meaning.specs.CsvWrite.{name_field},
+  frame_format.proofs.ToldLaws.{level_within, level_name_seen},
+}
 use Rattle.frame_format.proofs.source.Source.write_level_name.Goals as goal
 
 pub level_name-requires : goal.level_name-requires

@@ -1,5 +1,11 @@
-use Rattle.frame_methods.proofs.OpLaws.{cast_rows}
+use Rattle.frame_methods.proofs.OpLaws.{cast_count, kept_by, column_made}
 use Rattle.frame_methods.proofs.column_ops.CastColumnOp.column.Goals as goal
 
-pub returns-in-Ok-clause-rows : goal.returns-in-Ok-clause-rows
-returns-in-Ok-clause-rows c = cast_rows c.args.self.now.kind c.args.dict.now c.cast.new.dict c.args.a c.in-Ok.column c.in-Ok.ensures.answer
+pub returns-clause-given : goal.returns-clause-given
+returns-clause-given c = kept_by _ _ _ c.column_of.ensures c.cast.ensures.given
+
+pub returns-clause-rows : goal.returns-clause-rows
+returns-clause-rows c = kept_by _ _ _ c.column_of.ensures (cast_count _ _ _ c.args.a _ c.cast.ensures.answer)
+
+pub returns-clause-answer : goal.returns-clause-answer
+returns-clause-answer c = column_made _ _ _ _ c.column_of.ensures c.cast.ensures.answer

@@ -1,7 +1,9 @@
-use Rattle.std.proofs.Common.{◌≡◌, true, refl, subst, arith, rules}
-use Rattle.cell_core.specs.declared.cell.Kind.{Kind}
-use Rattle.meaning.specs.Cell.{holds, datum}
-use Rattle.frame_methods.proofs.OpLaws.{filled_given, filled_answer}
+use Rattle.{
+  std.proofs.Common.{◌≡◌, true, refl, subst, arith, rules},
+  cell_core.specs.declared.cell.Kind.{Kind},
+  meaning.specs.Cell.{holds, datum},
+  frame_methods.proofs.OpLaws.{filled_given, filled_answer},
+}
 use Rattle.frame_methods.proofs.column_ops.FilledColumnOp.column.Goals as goal
 
 pub returns-clause-given : goal.returns-clause-given

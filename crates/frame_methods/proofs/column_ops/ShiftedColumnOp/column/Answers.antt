@@ -1,7 +1,9 @@
-use Rattle.std.proofs.Common.{◌≡◌, ◌∙◌, ap, rules, to_z, of_z, w64}
-use Rattle.cell_core.specs.declared.cell.Cell.TheVariants.{Na}
-use Rattle.meaning.specs.Column.{shifted}
-use Rattle.frame_methods.proofs.OpLaws.{shifted_given, shifted_rows, shifted_answer}
+use Rattle.{
+  std.proofs.Common.{◌≡◌, ◌∙◌, ap, rules, to_z, of_z, w64},
+  cell_core.specs.declared.cell.Cell.TheVariants.{Na},
+  meaning.specs.Column.{shifted},
+  frame_methods.proofs.OpLaws.{shifted_given, shifted_rows, shifted_answer},
+}
 use Rattle.frame_methods.proofs.column_ops.ShiftedColumnOp.column.Goals as goal
 
 pub returns-clause-given : goal.returns-clause-given

@@ -1,7 +1,8 @@
-use Rattle.std.proofs.Common.{◌∙◌, ap, sym, subst, Some}
-use Rattle.table_meaning.specs.Value.{dict_in}
-use Rattle.frame_store.specs.Arguments.{argument_of, entries_of, IsLiveArgument, AreLivePairs}
-use Rattle.frame_store.proofs.RowLaws.{argument_of-Table, IsLiveArgument-Table}
+use Rattle.{
+  std.proofs.Common.{◌∙◌, ap, sym, subst, Some},
+  table_meaning.specs.Value.{dict_in},
+  frame_store.{specs.Arguments.{argument_of, entries_of, IsLiveArgument, AreLivePairs}, proofs.RowLaws.{argument_of-Table, IsLiveArgument-Table}},
+}
 use Rattle.frame_store.proofs.arguments.Argument.dict.Goals as goal
 
 pub returns-in-Table-clause-pairs : goal.returns-in-Table-clause-pairs

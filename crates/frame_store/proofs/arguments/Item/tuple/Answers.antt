@@ -1,7 +1,8 @@
-use Rattle.std.proofs.Common.{◌∙◌, ap, sym, subst, Some}
-use Rattle.table_meaning.specs.Value.{tuple_in}
-use Rattle.frame_store.specs.Arguments.{item_of, items_of, IsLiveItem, AreLiveItems}
-use Rattle.frame_store.proofs.RowLaws.{item_of-Row, IsLiveItem-Row}
+use Rattle.{
+  std.proofs.Common.{◌∙◌, ap, sym, subst, Some},
+  table_meaning.specs.Value.{tuple_in},
+  frame_store.{specs.Arguments.{item_of, items_of, IsLiveItem, AreLiveItems}, proofs.RowLaws.{item_of-Row, IsLiveItem-Row}},
+}
 use Rattle.frame_store.proofs.arguments.Item.tuple.Goals as goal
 
 pub returns-in-Row-clause-parts : goal.returns-in-Row-clause-parts

@@ -1,6 +1,7 @@
-use Rattle.std.proofs.Common.{map}
-use Rattle.frame_store.specs.Parts.{block_column}
-use Rattle.frame_store.proofs.ColumnLaws.{cut_is_whole}
+use Rattle.{
+  std.proofs.Common.{map},
+  frame_store.{specs.Parts.{block_column}, proofs.ColumnLaws.{cut_is_whole}},
+}
 use Rattle.frame_store.proofs.store.Store.derive.Goals as goal
 
 pub add-requires-clause-whole : goal.add-requires-clause-whole

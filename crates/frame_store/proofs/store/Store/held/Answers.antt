@@ -1,5 +1,7 @@
-use Rattle.std.proofs.Common.{◌∙◌, ◌≤◌, ◌-◌, ◌^◌, arith}
-use Rattle.frame_store.proofs.HeldLaws.{none_counted, one_more_counted, all_counted}
+use Rattle.{
+  std.proofs.Common.{◌∙◌, ◌≤◌, ◌-◌, ◌^◌, arith},
+  frame_store.proofs.HeldLaws.{none_counted, one_more_counted, all_counted},
+}
 use Rattle.frame_store.proofs.store.Store.held.Goals as goal
 
 pub loop-table-init : goal.loop-table-init

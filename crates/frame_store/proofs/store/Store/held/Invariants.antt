@@ -1,5 +1,7 @@
-use Rattle.std.proofs.Common.{◌≡◌, ◌+◌, ◌-◌, ◌^◌, ◌≤◌, min, sum_by}
-use Rattle.frame_store.specs.Objects.{cells_in, held_of}
+use Rattle.{
+  std.proofs.Common.{◌≡◌, ◌+◌, ◌-◌, ◌^◌, ◌≤◌, min, sum_by},
+  frame_store.specs.Objects.{cells_in, held_of},
+}
 use Rattle.frame_store.proofs.store.Store.held.Given as goal
 
 -- the cells counted so far, with those of the objects that are left

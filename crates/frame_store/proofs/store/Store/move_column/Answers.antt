@@ -1,8 +1,8 @@
-use Rattle.std.proofs.Common.{◌∙◌, ◌+◌, ◌≤◌, List, Option, sym, subst}
-use Rattle.std.specs.Prelude.{count_by, is_some}
-use Rattle.table_meaning.specs.Table.{NumberedTable, column_at}
-use Rattle.table_meaning.specs.Change.{with_column}
-use Rattle.frame_store.proofs.ObjectLaws.{table_taken, left_as_it_was, put_back}
+use Rattle.{
+  std.{proofs.Common.{◌∙◌, ◌+◌, ◌≤◌, List, Option, sym, subst}, specs.Prelude.{count_by, is_some}},
+  table_meaning.specs.{Table.{NumberedTable, column_at}, Change.{with_column}},
+  frame_store.proofs.ObjectLaws.{table_taken, left_as_it_was, put_back},
+}
 use Rattle.frame_store.proofs.store.Store.move_column.Goals as goal
 
 pub returns-in-Ok-clause-ok : goal.returns-in-Ok-clause-ok

@@ -1,7 +1,8 @@
-use Rattle.std.proofs.lemmas.Result.{on_ok_weaker}
-use Rattle.table_meaning.specs.Change.{with_column}
-use Rattle.frame_store.specs.Parts.{block_column}
-use Rattle.frame_store.proofs.ObjectLaws.{table_changed}
+use Rattle.{
+  std.proofs.lemmas.Result.{on_ok_weaker},
+  table_meaning.specs.Change.{with_column},
+  frame_store.{specs.Parts.{block_column}, proofs.ObjectLaws.{table_changed}},
+}
 use Rattle.frame_store.proofs.store.Store.put_column.Goals as goal
 
 pub returns-clause-ok : goal.returns-clause-ok

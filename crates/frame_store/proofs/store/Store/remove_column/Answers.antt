@@ -1,5 +1,7 @@
-use Rattle.table_meaning.specs.Change.{without_column}
-use Rattle.frame_store.proofs.ObjectLaws.{table_changed}
+use Rattle.{
+  table_meaning.specs.Change.{without_column},
+  frame_store.proofs.ObjectLaws.{table_changed},
+}
 use Rattle.frame_store.proofs.store.Store.remove_column.Goals as goal
 
 pub returns-clause-ok : goal.returns-clause-ok

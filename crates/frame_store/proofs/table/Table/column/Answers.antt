@@ -1,6 +1,8 @@
-use Rattle.std.proofs.Common.{◌<◌, ◌∙◌, length, ap, arith}
-use Rattle.table_meaning.specs.Table.{NumberedTable}
-use Rattle.frame_store.proofs.PartLaws.{count_blocks, first_rows}
+use Rattle.{
+  std.proofs.Common.{◌<◌, ◌∙◌, length, ap, arith},
+  table_meaning.specs.Table.{NumberedTable},
+  frame_store.proofs.PartLaws.{count_blocks, first_rows},
+}
 use Rattle.frame_store.proofs.table.Table.column.Goals as goal
 
 pub returns-clause-rows : goal.returns-clause-rows

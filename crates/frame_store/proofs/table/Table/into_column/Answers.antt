@@ -1,9 +1,8 @@
-use Rattle.std.proofs.Common.{◌<◌, ◌∙◌, length, refl, ap, sym, subst}
-use Rattle.table_meaning.specs.Table.{NumberedTable, column_at}
-use Rattle.frame_store.specs.Parts.{block_column}
-use Rattle.frame_store.specs.Views.{kept_table}
-use Rattle.frame_store.proofs.PartLaws.{column_of_block, block_rows, block_single}
-use Rattle.frame_store.proofs.ColumnLaws.{has_block}
+use Rattle.{
+  std.proofs.Common.{◌<◌, ◌∙◌, length, refl, ap, sym, subst},
+  table_meaning.specs.Table.{NumberedTable, column_at},
+  frame_store.{specs.{Parts.{block_column}, Views.{kept_table}}, proofs.{PartLaws.{column_of_block, block_rows, block_single}, ColumnLaws.{has_block}}},
+}
 use Rattle.frame_store.proofs.table.Table.into_column.Goals as goal
 
 pub remove-requires : goal.remove-requires

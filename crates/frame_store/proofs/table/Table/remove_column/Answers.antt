@@ -1,10 +1,9 @@
-use Rattle.std.proofs.Common.{List, refl, sym, subst, All}
-use Rattle.column_core.specs.Blocks.{CellBlock}
-use Rattle.table_meaning.specs.Table.{NumberedTable}
-use Rattle.table_meaning.specs.Valid.{IsWhole}
-use Rattle.frame_store.specs.Parts.{IsSingle}
-use Rattle.frame_store.specs.Views.{kept_table}
-use Rattle.frame_store.proofs.ColumnLaws.{All-remove, remove_is_whole, remove_is_column}
+use Rattle.{
+  std.proofs.Common.{List, refl, sym, subst, All},
+  column_core.specs.Blocks.{CellBlock},
+  table_meaning.specs.{Table.{NumberedTable}, Valid.{IsWhole}},
+  frame_store.{specs.{Parts.{IsSingle}, Views.{kept_table}}, proofs.ColumnLaws.{All-remove, remove_is_whole, remove_is_column}},
+}
 use Rattle.frame_store.proofs.table.Table.remove_column.Goals as goal
 
 pub returns : goal.returns

@@ -1,13 +1,10 @@
-use Rattle.std.proofs.Common.{◌∙◌, List, Option, refl, ap, sym, subst, All}
-use Rattle.cell_core.specs.declared.cell.Cell.{Cell}
-use Rattle.cell_core.specs.declared.cell.Label.{Label}
-use Rattle.column_core.specs.Blocks.{CellBlock}
-use Rattle.table_meaning.specs.Table.{ColumnOf, NumberedTable}
-use Rattle.table_meaning.specs.Change.{put_at, with_column}
-use Rattle.table_meaning.specs.Valid.{IsWhole}
-use Rattle.frame_store.specs.Parts.{block_column, IsSingle}
-use Rattle.frame_store.specs.Views.{kept_table}
-use Rattle.frame_store.proofs.ColumnLaws.{All-put_at, put_is_whole, put_is_column}
+use Rattle.{
+  std.proofs.Common.{◌∙◌, List, Option, refl, ap, sym, subst, All},
+  cell_core.specs.declared.cell.{Cell.{Cell}, Label.{Label}},
+  column_core.specs.Blocks.{CellBlock},
+  table_meaning.specs.{Table.{ColumnOf, NumberedTable}, Change.{put_at, with_column}, Valid.{IsWhole}},
+  frame_store.{specs.{Parts.{block_column, IsSingle}, Views.{kept_table}}, proofs.ColumnLaws.{All-put_at, put_is_whole, put_is_column}},
+}
 use Rattle.frame_store.proofs.table.Table.take_column.Goals as goal
 
 pub returns-clause-ok : goal.returns-clause-ok

@@ -1,9 +1,9 @@
-use Rattle.std.proofs.Common.{◌∙◌, [], ◌∷◌, ◌++◌, ap, sym, subst}
-use Rattle.cell_core.specs.declared.cell.Kind.{Kind as CellKind}
-use Rattle.meaning.specs.Cell.{int_cell, datum}
-use Rattle.group_by.specs.Cells.{IsCellOf}
-use Rattle.group_by.specs.Gathered.{plus, total_of}
-use Rattle.group_by.proofs.GatherLaws.{total_more}
+use Rattle.{
+  std.proofs.Common.{◌∙◌, [], ◌∷◌, ◌++◌, ap, sym, subst},
+  cell_core.specs.declared.cell.Kind.{Kind as CellKind},
+  meaning.specs.Cell.{int_cell, datum},
+  group_by.{specs.{Cells.{IsCellOf}, Gathered.{plus, total_of}}, proofs.GatherLaws.{total_more}},
+}
 use Rattle.group_by.proofs.gather.TotalGather.step.Goals as goal
 
 pub returns-clause-value : goal.returns-clause-value

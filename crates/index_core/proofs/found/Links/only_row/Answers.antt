@@ -1,5 +1,7 @@
-use Rattle.std.proofs.Common.{◌∙◌, ◌<◌, sym, length, Some, arith}
-use Rattle.index_core.proofs.LinkLaws.{label_there, only_found, more_found, none_found}
+use Rattle.{
+  std.proofs.Common.{◌∙◌, ◌<◌, sym, length, Some, arith},
+  index_core.proofs.LinkLaws.{label_there, only_found, more_found, none_found},
+}
 use Rattle.index_core.proofs.found.Links.only_row.Goals as goal
 
 pub index-requires : goal.index-requires

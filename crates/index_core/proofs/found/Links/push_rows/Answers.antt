@@ -1,9 +1,8 @@
-use Rattle.std.proofs.Common.{◌∙◌, ◌<◌, ◌+◌, ◌++◌, ap, sym, subst, Some}
-use Rattle.std.specs.List.{position_from}
-use Rattle.pick_meaning.specs.Rows.{are_some}
-use Rattle.index_core.specs.Found.{HaveNextRows}
-use Rattle.index_core.specs.Labels.{same_number}
-use Rattle.index_core.proofs.LinkLaws.{rest_from, HasLabel, rows_left, label_there, rows_from_first, read_next, fewer_left, pushed_row, are_some_from}
+use Rattle.{
+  std.{proofs.Common.{◌∙◌, ◌<◌, ◌+◌, ◌++◌, ap, sym, subst, Some}, specs.List.{position_from}},
+  pick_meaning.specs.Rows.{are_some},
+  index_core.{specs.{Found.{HaveNextRows}, Labels.{same_number}}, proofs.LinkLaws.{rest_from, HasLabel, rows_left, label_there, rows_from_first, read_next, fewer_left, pushed_row, are_some_from}},
+}
 use Rattle.index_core.proofs.found.Links.push_rows.Goals as goal
 
 pub loop-rest-init : goal.loop-rest-init

@@ -1,7 +1,8 @@
-use Rattle.std.proofs.Common.{◌≡◌, ◌++◌}
-use Rattle.pick_meaning.specs.Rows.{rows_where}
-use Rattle.index_core.specs.Labels.{same_number}
-use Rattle.index_core.proofs.LinkLaws.{rest_from, HasLabel, rows_left}
+use Rattle.{
+  std.proofs.Common.{◌≡◌, ◌++◌},
+  pick_meaning.specs.Rows.{rows_where},
+  index_core.{specs.Labels.{same_number}, proofs.LinkLaws.{rest_from, HasLabel, rows_left}},
+}
 use Rattle.index_core.proofs.found.Links.push_rows.Given as goal
 
 -- the rows so far, before those that are left

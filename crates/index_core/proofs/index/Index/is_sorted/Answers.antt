@@ -1,8 +1,8 @@
-use Rattle.std.proofs.Common.{◌∙◌, ap, sym}
-use Rattle.pick_meaning.specs.Slices.{is_in_order}
-use Rattle.index_core.specs.Labels.{order_in}
-use Rattle.index_core.specs.Views.{kept_labels}
-use Rattle.index_core.proofs.NumberLaws.{range_in_order}
+use Rattle.{
+  std.proofs.Common.{◌∙◌, ap, sym},
+  pick_meaning.specs.Slices.{is_in_order},
+  index_core.{specs.{Labels.{order_in}, Views.{kept_labels}}, proofs.NumberLaws.{range_in_order}},
+}
 use Rattle.index_core.proofs.index.Index.is_sorted.Goals as goal
 
 pub returns-in-Below : goal.returns-in-Below

@@ -1,8 +1,8 @@
-use Rattle.std.proofs.Common.{◌∙◌, ap, sym}
-use Rattle.pick_meaning.specs.Labels.{all_differ}
-use Rattle.index_core.specs.Labels.{same_number}
-use Rattle.index_core.specs.Views.{kept_labels}
-use Rattle.index_core.proofs.DifferLaws.{range_differs}
+use Rattle.{
+  std.proofs.Common.{◌∙◌, ap, sym},
+  pick_meaning.specs.Labels.{all_differ},
+  index_core.{specs.{Labels.{same_number}, Views.{kept_labels}}, proofs.DifferLaws.{range_differs}},
+}
 use Rattle.index_core.proofs.index.Index.is_unique.Goals as goal
 
 pub returns-in-Below : goal.returns-in-Below

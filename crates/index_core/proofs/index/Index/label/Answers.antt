@@ -1,8 +1,8 @@
-use Rattle.std.proofs.Common.{◌^◌, ◌<◌, ◌∙◌, ap, sym, w64, Some, rules}
-use Rattle.std.proofs.lemmas.Int.{to_z_pos}
-use Rattle.cell_core.specs.declared.cell.Label.TheVariants.{Int}
-use Rattle.index_core.specs.Views.{kept_labels}
-use Rattle.index_core.proofs.RangeLaws.{label_of_range, place_of_range, label_of_list}
+use Rattle.{
+  std.proofs.{Common.{◌^◌, ◌<◌, ◌∙◌, ap, sym, w64, Some, rules}, lemmas.Int.{to_z_pos}},
+  cell_core.specs.declared.cell.Label.TheVariants.{Int},
+  index_core.{specs.Views.{kept_labels}, proofs.RangeLaws.{label_of_range, place_of_range, label_of_list}},
+}
 use Rattle.index_core.proofs.index.Index.label.Goals as goal
 
 place_has_64_bits : (c : goal.In-Below) → c.args.place < 2 ^ 63

@@ -1,6 +1,7 @@
-use Rattle.std.proofs.Common.{◌∙◌, ap, sym}
-use Rattle.index_core.specs.Views.{kept_labels}
-use Rattle.index_core.proofs.RangeLaws.{length_of_range}
+use Rattle.{
+  std.proofs.Common.{◌∙◌, ap, sym},
+  index_core.{specs.Views.{kept_labels}, proofs.RangeLaws.{length_of_range}},
+}
 use Rattle.index_core.proofs.index.Index.len.Goals as goal
 
 pub returns-in-Below : goal.returns-in-Below

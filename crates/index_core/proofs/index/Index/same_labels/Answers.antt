@@ -1,7 +1,7 @@
-use Rattle.std.proofs.Common.{ap, sym, ◌∙◌}
-use Rattle.std.proofs.lemmas.Bool.Decides.{Decides-eqb}
-use Rattle.index_core.specs.Views.{kept_labels}
-use Rattle.index_core.proofs.SameLaws.{ranges_same}
+use Rattle.{
+  std.proofs.{Common.{ap, sym, ◌∙◌}, lemmas.Bool.Decides.{Decides-eqb}},
+  index_core.{specs.Views.{kept_labels}, proofs.SameLaws.{ranges_same}},
+}
 use Rattle.index_core.proofs.index.Index.same_labels.Goals as goal
 
 pub returns-in-Below-Below : goal.returns-in-Below-Below

@@ -1,5 +1,7 @@
-use Rattle.std.proofs.Common.{◌≡◌, length, arith}
-use Rattle.index_core.proofs.SameLaws.{holds, all_same}
+use Rattle.{
+  std.proofs.Common.{◌≡◌, length, arith},
+  index_core.proofs.SameLaws.{holds, all_same},
+}
 use Rattle.index_core.proofs.index.Index.same_places.Goals as goal
 
 pub returns : goal.returns

@@ -1,8 +1,8 @@
-use Rattle.std.proofs.Common.{◌∙◌, ap, sym, subst}
-use Rattle.cell_core.specs.Grids.{AreRowsBelow}
-use Rattle.index_core.specs.Views.{kept_labels}
-use Rattle.index_core.proofs.RangeLaws.{length_of_range}
-use Rattle.index_core.proofs.SplitLaws.{slice_of_range}
+use Rattle.{
+  std.proofs.Common.{◌∙◌, ap, sym, subst},
+  cell_core.specs.Grids.{AreRowsBelow},
+  index_core.{specs.Views.{kept_labels}, proofs.{RangeLaws.{length_of_range}, SplitLaws.{slice_of_range}}},
+}
 use Rattle.index_core.proofs.index.Index.slice_places.Goals as goal
 
 pub returns-in-Below-clause-rows : goal.returns-in-Below-clause-rows

@@ -1,5 +1,7 @@
-use Rattle.std.proofs.Common.{◌<◌, arith, length}
-use Rattle.index_core.proofs.SameLaws.{one_more_label}
+use Rattle.{
+  std.proofs.Common.{◌<◌, arith, length},
+  index_core.proofs.SameLaws.{one_more_label},
+}
 use Rattle.index_core.proofs.index.Index.take.Goals as goal
 
 pub loop-k-preserved : goal.loop-k-preserved

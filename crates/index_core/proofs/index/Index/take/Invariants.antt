@@ -1,5 +1,7 @@
-use Rattle.std.proofs.Common.{◌≡◌, take}
-use Rattle.index_core.specs.Labels.{labels_at}
+use Rattle.{
+  std.proofs.Common.{◌≡◌, take},
+  index_core.specs.Labels.{labels_at},
+}
 use Rattle.index_core.proofs.index.Index.take.Given as goal
 
 abbrev pub invariant-loop-k : goal.invariant-loop-k

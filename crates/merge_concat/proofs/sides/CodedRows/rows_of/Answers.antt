@@ -1,5 +1,7 @@
-use Rattle.std.proofs.Common.{◌∙◌}
-use Rattle.merge_concat.proofs.CodeLaws.{bucket_there, bucket_is}
+use Rattle.{
+  std.proofs.Common.{◌∙◌},
+  merge_concat.proofs.CodeLaws.{bucket_there, bucket_is},
+}
 use Rattle.merge_concat.proofs.sides.CodedRows.rows_of.Goals as goal
 
 pub rows-requires : goal.rows-requires

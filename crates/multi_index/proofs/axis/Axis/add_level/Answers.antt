@@ -1,6 +1,7 @@
-use Rattle.std.proofs.Common.{◌≡◌, ◌≤◌, ◌<◌, ◌∙◌, ◌+◌, ap, sym, subst, take, length, arith}
-use Rattle.multi_index.specs.Axes.{HaveLevels}
-use Rattle.multi_index.proofs.AddedLaws.{levels_with}
+use Rattle.{
+  std.proofs.Common.{◌<◌, ◌∙◌, ◌+◌, ap, sym, subst, take, length, arith},
+  multi_index.{specs.Axes.{HaveLevels}, proofs.AddedLaws.{levels_with}},
+}
 use Rattle.multi_index.proofs.axis.Axis.add_level.Goals as goal
 
 pub invariant_of-result : goal.invariant_of-result

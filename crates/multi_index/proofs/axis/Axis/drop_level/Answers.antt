@@ -1,7 +1,7 @@
-use Rattle.std.proofs.Common.{◌≡◌, ◌∙◌, ◌<◌, ℕ, List, ap, sym, subst, length, remove, arith, All}
-use Rattle.std.specs.Prelude.{IfOk}
-use Rattle.std.proofs.lemmas.List.FromFn.{length-range_with_len}
-use Rattle.multi_index.proofs.LevelLaws.{removed_below, removed_counted, level_removed}
+use Rattle.{
+  std.{proofs.{Common.{◌≡◌, ◌∙◌, ◌<◌, ℕ, List, ap, sym, subst, length, remove, arith, All}, lemmas.List.FromFn.{length-range_with_len}}, specs.Prelude.{IfOk}},
+  multi_index.proofs.LevelLaws.{removed_below, removed_counted, level_removed},
+}
 use Rattle.multi_index.proofs.axis.Axis.drop_level.Goals as goal
 
 pub remove-requires : goal.remove-requires

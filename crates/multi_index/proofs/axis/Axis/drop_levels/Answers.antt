@@ -1,7 +1,7 @@
-use Rattle.std.proofs.Common.{◌≡◌, ◌∙◌, ◌<◌, ℕ, List, ap, sym, subst, length, drop, arith, All}
-use Rattle.std.specs.Prelude.{IfOk}
-use Rattle.std.proofs.lemmas.List.FromFn.{length-range_with_len}
-use Rattle.multi_index.proofs.LevelLaws.{dropped_below, dropped_counted, levels_dropped}
+use Rattle.{
+  std.{proofs.{Common.{◌≡◌, ◌∙◌, ◌<◌, ℕ, List, ap, sym, subst, length, drop, arith, All}, lemmas.List.FromFn.{length-range_with_len}}, specs.Prelude.{IfOk}},
+  multi_index.proofs.LevelLaws.{dropped_below, dropped_counted, levels_dropped},
+}
 use Rattle.multi_index.proofs.axis.Axis.drop_levels.Goals as goal
 
 pub split_at-requires : goal.split_at-requires

@@ -1,7 +1,7 @@
-use Rattle.std.proofs.Common.{arith, ap, refl}
-use Rattle.multi_index.specs.Axes.{single_tuples}
-use Rattle.multi_index.proofs.NameLaws.{axis_is_nameless}
-use Rattle.multi_index.proofs.TupleLaws.{levels_of_single}
+use Rattle.{
+  std.proofs.Common.{arith, ap, refl},
+  multi_index.{specs.Axes.{single_tuples}, proofs.{NameLaws.{axis_is_nameless}, TupleLaws.{levels_of_single}}},
+}
 use Rattle.multi_index.proofs.axis.Axis.from_labels.Goals as goal
 
 pub returns : goal.returns

@@ -1,9 +1,8 @@
-use Rattle.std.proofs.Common.{◌≡◌, ◌∙◌, ap, sym, subst, refl, arith}
-use Rattle.multi_index.specs.Axes.{HaveLevels}
-use Rattle.multi_index.specs.Views.{kept_tuples, IsKeptAs}
-use Rattle.multi_index.proofs.NameLaws.{axis_is_nameless}
+use Rattle.{
+  std.proofs.Common.{◌≡◌, ◌∙◌, ap, sym, subst, refl, arith},
+  multi_index.{specs.{Axes.{HaveLevels}, Views.{kept_tuples, IsKeptAs}}, proofs.{NameLaws.{axis_is_nameless}, axis.Axis.from_tuples.Goals.{then-levels-eq1+in_ok-single_level, else-levels-eq1+in_ok-copy_of}}},
+}
 use Rattle.multi_index.proofs.axis.Axis.from_tuples.Goals as goal
-use Rattle.multi_index.proofs.axis.Axis.from_tuples.Goals.{then-levels-eq1+in_ok-single_level, else-levels-eq1+in_ok-copy_of}
 
 same_tuples : (c : goal.Joined-levels-eq1) → kept_tuples c.if-levels-eq1.rows ≡ c.args.tuples.now
 same_tuples c = elim c.if-levels-eq1.branch [

@@ -1,6 +1,7 @@
-use Rattle.std.proofs.Common.{ap}
-use Rattle.multi_index.specs.Axes.{AxisValue}
-use Rattle.multi_index.proofs.NameLaws.{count_of_names}
+use Rattle.{
+  std.proofs.Common.{ap},
+  multi_index.{specs.Axes.{AxisValue}, proofs.NameLaws.{count_of_names}},
+}
 use Rattle.multi_index.proofs.axis.Axis.levels.Goals as goal
 
 pub returns-clause-count : goal.returns-clause-count

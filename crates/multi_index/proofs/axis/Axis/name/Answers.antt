@@ -1,6 +1,7 @@
-use Rattle.std.proofs.Common.{ap}
-use Rattle.multi_index.specs.Axes.{AxisValue}
-use Rattle.multi_index.proofs.NameLaws.{name_of_level}
+use Rattle.{
+  std.proofs.Common.{ap},
+  multi_index.{specs.Axes.{AxisValue}, proofs.NameLaws.{name_of_level}},
+}
 use Rattle.multi_index.proofs.axis.Axis.name.Goals as goal
 
 pub returns : goal.returns

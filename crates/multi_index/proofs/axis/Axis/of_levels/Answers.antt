@@ -1,10 +1,9 @@
-use Rattle.std.proofs.Common.{◌≡◌, ◌≤◌, ◌∙◌, ap, sym, subst, map, length, arith}
-use Rattle.index_core.specs.Labels.{labels_at}
-use Rattle.multi_index.specs.Axes.{HaveLevels, single_tuples}
-use Rattle.multi_index.specs.Views.{kept_tuples, IsKeptAs}
-use Rattle.multi_index.proofs.LevelLaws.{levels_at, only_place}
+use Rattle.{
+  std.proofs.Common.{◌≡◌, ◌≤◌, ◌∙◌, ap, sym, subst, map, length, arith},
+  index_core.specs.Labels.{labels_at},
+  multi_index.{specs.{Axes.{HaveLevels, single_tuples}, Views.{kept_tuples, IsKeptAs}}, proofs.{LevelLaws.{levels_at, only_place}, axis.Axis.of_levels.Goals.{then-order-eq1+in_ok-labels_of, else-order-eq1+in_ok-tuples_of}}},
+}
 use Rattle.multi_index.proofs.axis.Axis.of_levels.Goals as goal
-use Rattle.multi_index.proofs.axis.Axis.of_levels.Goals.{then-order-eq1+in_ok-labels_of, else-order-eq1+in_ok-tuples_of}
 
 pub invariant_of-result : goal.invariant_of-result
 invariant_of-result c =

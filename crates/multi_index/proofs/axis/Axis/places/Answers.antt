@@ -1,11 +1,9 @@
-use Rattle.std.proofs.Common.{◌∙◌, ap, sym, subst, arith}
-use Rattle.pick_meaning.specs.Labels.{rows_of_key}
-use Rattle.pick_meaning.specs.Leading.{leads}
-use Rattle.index_core.specs.Labels.{same_number}
-use Rattle.multi_index.specs.Axes.{AxisValue}
-use Rattle.multi_index.specs.Picks.{PicksBy, as_it_is}
-use Rattle.multi_index.specs.Views.{kept_tuples, IsKeptAs}
-use Rattle.multi_index.proofs.NameLaws.{count_of_names}
+use Rattle.{
+  std.proofs.Common.{◌∙◌, ap, sym, subst, arith},
+  pick_meaning.specs.{Labels.{rows_of_key}, Leading.{leads}},
+  index_core.specs.Labels.{same_number},
+  multi_index.{specs.{Axes.{AxisValue}, Picks.{PicksBy, as_it_is}, Views.{kept_tuples, IsKeptAs}}, proofs.NameLaws.{count_of_names}},
+}
 use Rattle.multi_index.proofs.axis.Axis.places.Goals as goal
 
 pub single_places-requires : goal.single_places-requires

@@ -1,5 +1,7 @@
-use Rattle.std.proofs.Common.{arith, refl}
-use Rattle.multi_index.proofs.TupleLaws.{levels_of_single}
+use Rattle.{
+  std.proofs.Common.{arith, refl},
+  multi_index.proofs.TupleLaws.{levels_of_single},
+}
 use Rattle.multi_index.proofs.axis.Axis.range.Goals as goal
 
 pub invariant_of-result : goal.invariant_of-result

@@ -1,7 +1,7 @@
-use Rattle.std.proofs.Common.{ap, sym, ◌∙◌}
-use Rattle.multi_index.specs.Axes.{AxisValue}
-use Rattle.multi_index.specs.Views.{kept_tuples}
-use Rattle.multi_index.proofs.SameTuples.{singles_same}
+use Rattle.{
+  std.proofs.Common.{ap, sym, ◌∙◌},
+  multi_index.{specs.{Axes.{AxisValue}, Views.{kept_tuples}}, proofs.SameTuples.{singles_same}},
+}
 use Rattle.multi_index.proofs.axis.Axis.same_labels.Goals as goal
 
 pub returns-in-Single-Single : goal.returns-in-Single-Single

@@ -1,7 +1,8 @@
-use Rattle.std.proofs.Common.{subst, arith, sym}
-use Rattle.multi_index.specs.Axes.{HaveLevels}
-use Rattle.index_core.proofs.SameLaws.{holds}
-use Rattle.multi_index.proofs.SameTuples.{same_at_row}
+use Rattle.{
+  std.proofs.Common.{subst, arith, sym},
+  multi_index.{specs.Axes.{HaveLevels}, proofs.SameTuples.{same_at_row}},
+  index_core.proofs.SameLaws.{holds},
+}
 use Rattle.multi_index.proofs.axis.Axis.same_row.Goals as goal
 
 pub returns : goal.returns

@@ -1,5 +1,7 @@
-use Rattle.std.proofs.Common.{◌≡◌, ◌<◌, ℕ}
-use Rattle.multi_index.specs.Axes.{label_at}
+use Rattle.{
+  std.proofs.Common.{◌≡◌, ◌<◌, ℕ},
+  multi_index.specs.Axes.{label_at},
+}
 use Rattle.multi_index.proofs.axis.Axis.same_row.Given as goal
 
 abbrev pub invariant-loop-level : goal.invariant-loop-level

@@ -1,6 +1,8 @@
-use Rattle.std.proofs.Common.{◌≡◌, length, subst, arith}
-use Rattle.multi_index.specs.Axes.{HaveLevels}
-use Rattle.index_core.proofs.SameLaws.{holds, all_same}
+use Rattle.{
+  std.proofs.Common.{◌≡◌, length, subst, arith},
+  multi_index.specs.Axes.{HaveLevels},
+  index_core.proofs.SameLaws.{holds, all_same},
+}
 use Rattle.multi_index.proofs.axis.Axis.same_rows.Goals as goal
 
 pub same_row-requires-clause-alike : goal.same_row-requires-clause-alike

@@ -1,14 +1,9 @@
-use Rattle.std.proofs.Common.{◌≤◌, ◌∙◌, ap, sym, subst, length, arith}
-use Rattle.std.specs.Option.{option_copied}
-use Rattle.pick_meaning.specs.Leading.{leading_cmp}
-use Rattle.pick_meaning.specs.Rows.{rows_of}
-use Rattle.pick_meaning.specs.Slices.{slice_on}
-use Rattle.index_core.specs.Labels.{order_in}
-use Rattle.multi_index.specs.Axes.{AxisValue, single_tuples}
-use Rattle.multi_index.specs.Picks.{TellsBy}
-use Rattle.multi_index.specs.Views.{kept_tuples, IsKeptAs}
-use Rattle.multi_index.proofs.NameLaws.{count_of_names}
-use Rattle.multi_index.proofs.ListedLaws.{on_one, on_several}
+use Rattle.{
+  std.{proofs.Common.{◌≤◌, ◌∙◌, ap, sym, subst, length, arith}, specs.Option.{option_copied}},
+  pick_meaning.specs.{Leading.{leading_cmp}, Rows.{rows_of}, Slices.{slice_on}},
+  index_core.specs.Labels.{order_in},
+  multi_index.{specs.{Axes.{AxisValue, single_tuples}, Picks.{TellsBy}, Views.{kept_tuples, IsKeptAs}}, proofs.{NameLaws.{count_of_names}, ListedLaws.{on_one, on_several}}},
+}
 use Rattle.multi_index.proofs.axis.Axis.slice_places.Goals as goal
 
 pub returns-in-Single-clause-rows : goal.returns-in-Single-clause-rows

@@ -1,9 +1,7 @@
-use Rattle.std.proofs.Common.{◌≡◌, ◌∙◌, ◌<◌, ℕ, List, ap, sym, subst, length, swap, arith, All}
-use Rattle.std.specs.Prelude.{IfOk}
-use Rattle.std.specs.List.{range_with_len}
-use Rattle.std.proofs.lemmas.List.FromFn.{length-range_with_len}
-use Rattle.std.proofs.lemmas.List.Edits.{length-swap}
-use Rattle.multi_index.proofs.LevelLaws.{swapped_below, levels_swapped}
+use Rattle.{
+  std.{proofs.{Common.{◌≡◌, ◌∙◌, ◌<◌, ℕ, List, ap, sym, subst, length, swap, arith, All}, lemmas.List.{FromFn.{length-range_with_len}, Edits.{length-swap}}}, specs.{Prelude.{IfOk}, List.{range_with_len}}},
+  multi_index.proofs.LevelLaws.{swapped_below, levels_swapped},
+}
 use Rattle.multi_index.proofs.axis.Axis.swap_levels.Goals as goal
 
 pub swap-requires-clause-i_in_bounds : goal.swap-requires-clause-i_in_bounds

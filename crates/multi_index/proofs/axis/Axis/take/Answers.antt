@@ -1,10 +1,9 @@
-use Rattle.std.proofs.Common.{◌≡◌, ◌∙◌, List, ap, sym, subst}
-use Rattle.cell_core.specs.declared.cell.Label.{Label}
-use Rattle.multi_index.specs.Axes.{AxisValue, HaveLevels, single_tuples, tuples_at}
-use Rattle.multi_index.specs.Views.{kept_tuples, IsKeptAs}
-use Rattle.multi_index.proofs.TupleLaws.{levels_of_taken, single_taken, places_of_single}
+use Rattle.{
+  std.proofs.Common.{◌≡◌, ◌∙◌, List, ap, sym, subst},
+  cell_core.specs.declared.cell.Label.{Label},
+  multi_index.{specs.{Axes.{AxisValue, HaveLevels, single_tuples, tuples_at}, Views.{kept_tuples, IsKeptAs}}, proofs.{TupleLaws.{levels_of_taken, single_taken, places_of_single}, axis.Axis.take.Goals.{in-Single+in_ok-take-in-Single, in-Listed+in_ok-taken-in-Listed}}},
+}
 use Rattle.multi_index.proofs.axis.Axis.take.Goals as goal
-use Rattle.multi_index.proofs.axis.Axis.take.Goals.{in-Single+in_ok-take-in-Single, in-Listed+in_ok-taken-in-Listed}
 
 seen : (c : goal.After-result-1) → kept_tuples c.self.inside.rows ≡ c.args.self.now.tuples
 seen c = ap (λ (a : AxisValue). a.tuples) c.self.view_is

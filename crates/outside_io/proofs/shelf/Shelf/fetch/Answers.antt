@@ -1,9 +1,7 @@
-use Rattle.std.proofs.Common.{◌≡◌, ◌∙◌, List, Some, None, ap, sym, refl}
-use Rattle.std.specs.Prelude.{position}
-use Rattle.std.specs.FinMap.{get}
-use Rattle.outside_io.specs.declared.shelf.HeldFile.{HeldFile}
-use Rattle.outside_io.specs.Shelf.{Shelved, is_under}
-use Rattle.outside_io.proofs.Under.{get-first, get-none}
+use Rattle.{
+  std.{proofs.Common.{◌≡◌, ◌∙◌, List, Some, None, ap, sym, refl}, specs.{Prelude.{position}, FinMap.{get}}},
+  outside_io.{specs.{declared.shelf.HeldFile.{HeldFile}, Shelf.{Shelved, is_under}}, proofs.Under.{get-first, get-none}},
+}
 use Rattle.outside_io.proofs.shelf.Shelf.fetch.Goals as goal
 
 pub returns-in-Some-clause-held : goal.returns-in-Some-clause-held

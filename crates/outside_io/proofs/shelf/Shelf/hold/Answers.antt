@@ -1,9 +1,7 @@
-use Rattle.std.proofs.Common.{◌≡◌, ◌∙◌, List, Some, None, ap, sym, rules}
-use Rattle.std.specs.Prelude.{position}
-use Rattle.std.proofs.lemmas.Result.{on_ok_weaker}
-use Rattle.outside_io.specs.declared.shelf.HeldFile.{HeldFile}
-use Rattle.outside_io.specs.Shelf.{is_under}
-use Rattle.outside_io.proofs.Shelving.{replaced_kept, replaced_shelved, pushed_kept, pushed_shelved}
+use Rattle.{
+  std.{proofs.{Common.{◌≡◌, ◌∙◌, List, Some, None, ap, sym, rules}, lemmas.Result.{on_ok_weaker}}, specs.Prelude.{position}},
+  outside_io.{specs.{declared.shelf.HeldFile.{HeldFile}, Shelf.{is_under}}, proofs.Shelving.{replaced_kept, replaced_shelved, pushed_kept, pushed_shelved}},
+}
 use Rattle.outside_io.proofs.shelf.Shelf.hold.Goals as goal
 
 pub invariant_of-self : goal.invariant_of-self

@@ -1,5 +1,4 @@
-use Rattle.std.proofs.Common.{◌∙◌, ◌<◌, [], ℕ, List, ap, sym, subst, length, slice_index, slice_index_or, arith}
-use Rattle.std.proofs.lemmas.List.{get_or-map, length-map}
+use Rattle.std.proofs.{Common.{◌∙◌, ◌<◌, [], ℕ, List, ap, sym, subst, length, slice_index, slice_index_or, arith}, lemmas.List.{get_or-map, length-map}}
 use Rattle.row_keys.proofs.partners.Partners.rows.Goals as goal
 
 pub rows-requires : goal.rows-requires

@@ -1,5 +1,7 @@
-use Rattle.std.proofs.Common.{rules}
-use Rattle.row_keys.proofs.ZipLaws.{zip_left, zip_right, zip_get}
+use Rattle.{
+  std.proofs.Common.{rules},
+  row_keys.proofs.ZipLaws.{zip_left, zip_right, zip_get},
+}
 use Rattle.row_keys.proofs.rows.LevelKeyRowsTuple2Usize.key.Goals as goal
 
 pub offset_bounds-self-row : goal.offset_bounds-self-row

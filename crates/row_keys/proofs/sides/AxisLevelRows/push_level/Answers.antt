@@ -1,6 +1,8 @@
-use Rattle.std.proofs.Common.{◌<◌, ◌≤◌, [], length, arith}
-use Rattle.row_keys.specs.Keys.{label_in}
-use Rattle.multi_index.proofs.SideLaws.{one_row_more, every_row}
+use Rattle.{
+  std.proofs.Common.{◌<◌, ◌≤◌, [], length, arith},
+  row_keys.specs.Keys.{label_in},
+  multi_index.proofs.SideLaws.{one_row_more, every_row},
+}
 use Rattle.row_keys.proofs.sides.AxisLevelRows.push_level.Goals as goal
 
 pub loop-row-preserved : goal.loop-row-preserved

@@ -1,7 +1,8 @@
-use Rattle.std.proofs.Common.{◌<◌, ◌≤◌, [], length, arith, ap, sym, ◌∙◌}
-use Rattle.std.proofs.lemmas.Option.{get_or_from_slice_get}
-use Rattle.row_keys.specs.Keys.{label_in}
-use Rattle.multi_index.proofs.SideLaws.{one_row_more, every_row}
+use Rattle.{
+  std.proofs.{Common.{◌<◌, ◌≤◌, [], length, arith, ap, sym, ◌∙◌}, lemmas.Option.{get_or_from_slice_get}},
+  row_keys.specs.Keys.{label_in},
+  multi_index.proofs.SideLaws.{one_row_more, every_row},
+}
 use Rattle.row_keys.proofs.sides.TuplesLevelRows.push_level.Goals as goal
 
 pub loop-row-preserved : goal.loop-row-preserved

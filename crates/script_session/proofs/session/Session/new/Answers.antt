@@ -1,5 +1,7 @@
-use Rattle.std.proofs.Common.{◌≡◌, Bool, true, false, subst, IsSome}
-use Rattle.frame_store.specs.Objects.{Tables}
+use Rattle.{
+  std.proofs.Common.{◌≡◌, Bool, true, false, subst, IsSome},
+  frame_store.specs.Objects.{Tables},
+}
 use Rattle.script_session.proofs.session.Session.new.Goals as goal
 
 pub invariant_of-result : goal.invariant_of-result

@@ -1,11 +1,9 @@
-use Rattle.std.proofs.Common.{refl, sym, ◌∙◌, ap}
-use Rattle.script_work.specs.Bindings.{Bindings, state_over}
-use Rattle.script_work.specs.Work.{names_in, tables_in, world_of, state_in}
-use Rattle.script_tree.specs.View.{form_of}
-use Rattle.script_work.proofs.States.{state_swept}
-use Rattle.script_work.proofs.Naming.{live_are_named, named_live}
-use Rattle.script_session.proofs.Answering.{performs_after, refused_kept, state_refused, live_refused}
-use Rattle.script_session.proofs.Settings.{apart_after}
+use Rattle.{
+  std.proofs.Common.{refl, sym, ◌∙◌, ap},
+  script_work.{specs.{Bindings.{Bindings, state_over}, Work.{names_in, tables_in, world_of, state_in}}, proofs.{States.{state_swept}, Naming.{live_are_named, named_live}}},
+  script_tree.specs.View.{form_of},
+  script_session.proofs.{Answering.{performs_after, refused_kept, state_refused, live_refused}, Settings.{apart_after}},
+}
 use Rattle.script_session.proofs.session.Session.perform.Goals as goal
 
 pub returns-clause-answers : goal.returns-clause-answers

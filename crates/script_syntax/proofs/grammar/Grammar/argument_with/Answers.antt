@@ -1,8 +1,9 @@
-use Rattle.std.proofs.Common.{sym, arith}
-use Rattle.std.proofs.lemmas.Result.{err_from_is_err_and}
-use Rattle.script_tokens.specs.View.{tokens_of}
-use Rattle.script_tree.specs.View.{parts_of}
-use Rattle.script_syntax.specs.Found.{items_of}
+use Rattle.{
+  std.proofs.{Common.{sym, arith}, lemmas.Result.{err_from_is_err_and}},
+  script_tokens.specs.View.{tokens_of},
+  script_tree.specs.View.{parts_of},
+  script_syntax.specs.Found.{items_of},
+}
 use Rattle.script_syntax.proofs.Rooms as rooms
 use Rattle.script_syntax.proofs.Loops as loops
 use Rattle.script_syntax.proofs.grammar.Grammar.argument_with.Goals as goal

@@ -1,8 +1,10 @@
-use Rattle.std.proofs.Common.{◌≡◌, ◌≤◌, ◌-◌, length}
-use Rattle.language_meaning.specs.Depth.{args_depth}
-use Rattle.script_tree.specs.View.{named_parts_of}
-use Rattle.script_tokens.specs.View.{tokens_of}
-use Rattle.script_syntax.specs.Found.{args_of, after_args}
+use Rattle.{
+  std.proofs.Common.{◌≡◌, ◌≤◌, ◌-◌, length},
+  language_meaning.specs.Depth.{args_depth},
+  script_tree.specs.View.{named_parts_of},
+  script_tokens.specs.View.{tokens_of},
+  script_syntax.specs.Found.{args_of, after_args},
+}
 use Rattle.script_syntax.specs.At as at
 use Rattle.script_syntax.proofs.grammar.Grammar.arguments.Given as goal
 

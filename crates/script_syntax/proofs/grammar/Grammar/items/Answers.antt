@@ -1,9 +1,10 @@
-use Rattle.std.proofs.Common.{sym, arith}
-use Rattle.std.proofs.lemmas.Result.{err_from_is_err_and}
-use Rattle.script_tokens.specs.View.{mark_of, tokens_of}
-use Rattle.script_tree.specs.View.{arg_of, parts_of}
+use Rattle.{
+  std.proofs.{Common.{sym, arith}, lemmas.Result.{err_from_is_err_and}},
+  script_tokens.specs.View.{mark_of, tokens_of},
+  script_tree.specs.View.{arg_of, parts_of},
+  script_syntax.proofs.Turns.{turn, no_turn},
+}
 use Rattle.script_syntax.proofs.Loops as loops
-use Rattle.script_syntax.proofs.Turns.{turn, no_turn}
 use Rattle.script_syntax.proofs.grammar.Grammar.items.Goals as goal
 
 pub returns-in-Some : goal.returns-in-Some

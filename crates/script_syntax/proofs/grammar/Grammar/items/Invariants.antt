@@ -1,8 +1,10 @@
-use Rattle.std.proofs.Common.{◌≡◌, ◌≤◌, ◌-◌, length}
-use Rattle.language_meaning.specs.Depth.{list_depth}
-use Rattle.script_tree.specs.View.{parts_of}
-use Rattle.script_tokens.specs.View.{mark_of, tokens_of}
-use Rattle.script_syntax.specs.Found.{items_of, after_items}
+use Rattle.{
+  std.proofs.Common.{◌≡◌, ◌≤◌, ◌-◌, length},
+  language_meaning.specs.Depth.{list_depth},
+  script_tree.specs.View.{parts_of},
+  script_tokens.specs.View.{mark_of, tokens_of},
+  script_syntax.specs.Found.{items_of, after_items},
+}
 use Rattle.script_syntax.specs.At as at
 use Rattle.script_syntax.proofs.grammar.Grammar.items.Given as goal
 

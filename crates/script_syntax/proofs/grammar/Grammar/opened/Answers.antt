@@ -1,9 +1,10 @@
-use Rattle.std.proofs.Common.{◌∷◌, [], ◌++◌, List, sym, ap, ◌∙◌, arith}
-use Rattle.std.proofs.lemmas.Result.{err_from_is_err_and}
-use Rattle.script_tokens.specs.View.{tokens_of}
+use Rattle.{
+  std.proofs.{Common.{◌∷◌, [], ◌++◌, List, sym, ap, ◌∙◌, arith}, lemmas.Result.{err_from_is_err_and}},
+  script_tokens.specs.View.{tokens_of},
+  script_tree.specs.View.{arg_of, parts_of},
+  script_syntax.specs.Found.{items_of},
+}
 use Rattle.language_meaning.specs.Tree as tree
-use Rattle.script_tree.specs.View.{arg_of, parts_of}
-use Rattle.script_syntax.specs.Found.{items_of}
 use Rattle.script_syntax.proofs.Loops as loops
 use Rattle.script_syntax.proofs.grammar.Grammar.opened.Goals as goal
 

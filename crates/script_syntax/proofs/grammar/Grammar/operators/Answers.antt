@@ -1,11 +1,11 @@
-use Rattle.std.proofs.Common.{◌≡◌, ◌≤◌, sym, ap, ◌∙◌, arith}
-use Rattle.std.proofs.lemmas.Result.{err_from_is_err_and}
-use Rattle.script_tokens.specs.View.{binary_of, tokens_of}
-use Rattle.language_meaning.specs.Grammar.{level}
-use Rattle.language_meaning.specs.Depth.{depth}
-use Rattle.script_tree.specs.View.{expr_of}
+use Rattle.{
+  std.proofs.{Common.{◌≡◌, ◌≤◌, sym, ap, ◌∙◌, arith}, lemmas.Result.{err_from_is_err_and}},
+  script_tokens.specs.View.{binary_of, tokens_of},
+  language_meaning.specs.{Grammar.{level}, Depth.{depth}},
+  script_tree.specs.View.{expr_of},
+  script_syntax.proofs.Turns.{turn, no_turn},
+}
 use Rattle.script_syntax.proofs.Loops as loops
-use Rattle.script_syntax.proofs.Turns.{turn, no_turn}
 use Rattle.script_syntax.proofs.grammar.Grammar.operators.Goals as goal
 
 pub returns-in_default : goal.returns-in_default

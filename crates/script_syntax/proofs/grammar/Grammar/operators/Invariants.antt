@@ -1,7 +1,9 @@
-use Rattle.std.proofs.Common.{◌≡◌, ◌+◌, ◌≤◌, ◌-◌, length}
-use Rattle.language_meaning.specs.Depth.{depth}
-use Rattle.script_tree.specs.View.{expr_of}
-use Rattle.script_tokens.specs.View.{tokens_of}
+use Rattle.{
+  std.proofs.Common.{◌≡◌, ◌+◌, ◌≤◌, ◌-◌, length},
+  language_meaning.specs.Depth.{depth},
+  script_tree.specs.View.{expr_of},
+  script_tokens.specs.View.{tokens_of},
+}
 use Rattle.script_syntax.specs.At as at
 use Rattle.script_syntax.proofs.grammar.Grammar.operators.Given as goal
 

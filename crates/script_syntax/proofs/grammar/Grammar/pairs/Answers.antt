@@ -1,9 +1,10 @@
-use Rattle.std.proofs.Common.{sym, refl, arith}
-use Rattle.std.proofs.lemmas.Result.{err_from_is_err_and}
-use Rattle.script_tokens.specs.View.{tokens_of}
-use Rattle.script_tree.specs.View.{arg_of, literal_of, pair_parts_of}
+use Rattle.{
+  std.proofs.{Common.{sym, refl, arith}, lemmas.Result.{err_from_is_err_and}},
+  script_tokens.specs.View.{tokens_of},
+  script_tree.specs.View.{arg_of, literal_of, pair_parts_of},
+  script_syntax.proofs.Turns.{turn, no_turn},
+}
 use Rattle.script_syntax.proofs.Loops as loops
-use Rattle.script_syntax.proofs.Turns.{turn, no_turn}
 use Rattle.script_syntax.proofs.grammar.Grammar.pairs.Goals as goal
 
 pub loop-init : goal.loop-init

@@ -1,10 +1,11 @@
-use Rattle.std.proofs.Common.{ap, ◌∙◌, arith}
-use Rattle.std.proofs.lemmas.Result.{err_from_is_err_and}
-use Rattle.script_tokens.specs.View.{tokens_of}
-use Rattle.language_meaning.specs.Depth.{depth}
-use Rattle.script_tree.specs.View.{expr_of, step_of}
+use Rattle.{
+  std.proofs.{Common.{ap, ◌∙◌, arith}, lemmas.Result.{err_from_is_err_and}},
+  script_tokens.specs.View.{tokens_of},
+  language_meaning.specs.Depth.{depth},
+  script_tree.specs.View.{expr_of, step_of},
+  script_syntax.proofs.Turns.{turn, no_turn},
+}
 use Rattle.script_syntax.proofs.Loops as loops
-use Rattle.script_syntax.proofs.Turns.{turn, no_turn}
 use Rattle.script_syntax.proofs.grammar.Grammar.steps.Goals as goal
 
 pub returns-then-not-begins_step : goal.returns-then-not-begins_step

@@ -1,7 +1,7 @@
-use Rattle.std.proofs.Common.{sym, ◌∙◌, ap}
-use Rattle.script_work.specs.Bindings.{bindings_of, uses_of}
-use Rattle.script_work.specs.Uses.{count_at, with_one}
-use Rattle.script_work.proofs.UseLaws.{takes_bound, counted_bound}
+use Rattle.{
+  std.proofs.Common.{sym, ◌∙◌, ap},
+  script_work.{specs.{Bindings.{bindings_of, uses_of}, Uses.{count_at, with_one}}, proofs.UseLaws.{takes_bound, counted_bound}},
+}
 use Rattle.script_work.proofs.names.Names.bind.Goals as goal
 
 pub take-requires : goal.take-requires

@@ -1,7 +1,7 @@
-use Rattle.std.proofs.Common.{◌∙◌, ap}
-use Rattle.std.specs.Prelude.{nat_lt}
-use Rattle.script_work.specs.Bindings.{bindings_of}
-use Rattle.script_work.proofs.UseLaws.{named_uses}
+use Rattle.{
+  std.{proofs.Common.{◌∙◌, ap}, specs.Prelude.{nat_lt}},
+  script_work.{specs.Bindings.{bindings_of}, proofs.UseLaws.{named_uses}},
+}
 use Rattle.script_work.proofs.names.Names.has.Goals as goal
 
 pub returns : goal.returns

@@ -1,7 +1,7 @@
-use Rattle.std.proofs.Common.{sym, ◌∙◌, ap}
-use Rattle.script_work.specs.Bindings.{bindings_of, uses_of}
-use Rattle.script_work.specs.Uses.{count_at}
-use Rattle.script_work.proofs.UseLaws.{takes_unbound, counted_unbound}
+use Rattle.{
+  std.proofs.Common.{sym, ◌∙◌, ap},
+  script_work.{specs.{Bindings.{bindings_of, uses_of}, Uses.{count_at}}, proofs.UseLaws.{takes_unbound, counted_unbound}},
+}
 use Rattle.script_work.proofs.names.Names.unbind.Goals as goal
 
 pub take-requires : goal.take-requires

@@ -1,8 +1,8 @@
-use Rattle.std.proofs.Common.{◌∙◌, ℕ, ap, nat_eq}
-use Rattle.indexmap.specs.IndexMap.{get}
-use Rattle.script_work.specs.Uses.{same_id, or_none, count_at}
-use Rattle.script_work.proofs.Numbers.{nat_same}
-use Rattle.script_work.proofs.UseLaws.{same_after}
+use Rattle.{
+  std.proofs.Common.{◌∙◌, ℕ, ap, nat_eq},
+  indexmap.specs.IndexMap.{get},
+  script_work.{specs.Uses.{same_id, or_none, count_at}, proofs.{Numbers.{nat_same}, UseLaws.{same_after}}},
+}
 use Rattle.script_work.proofs.uses.Uses.make_room_for.Goals as goal
 
 pub returns-clause-same : goal.returns-clause-same

@@ -1,7 +1,8 @@
-use Rattle.std.proofs.Common.{◌∙◌, nat_eq}
-use Rattle.indexmap.specs.IndexMap.{get}
-use Rattle.script_work.specs.Uses.{same_id}
-use Rattle.script_work.proofs.UseLaws.{was_put, cond_if}
+use Rattle.{
+  std.proofs.Common.{◌∙◌, nat_eq},
+  indexmap.specs.IndexMap.{get},
+  script_work.{specs.Uses.{same_id}, proofs.UseLaws.{was_put, cond_if}},
+}
 use Rattle.script_work.proofs.uses.Uses.put.Goals as goal
 
 pub returns : goal.returns

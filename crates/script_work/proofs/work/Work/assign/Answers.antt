@@ -1,19 +1,14 @@
-use Rattle.std.proofs.Common.{◌∙◌, ◌++◌, ap, sym, subst, Result}
-use Rattle.std.specs.Prelude.{IfSome, option_map}
-use Rattle.meaning.specs.Fault.{FaultValue}
-use Rattle.table_laws.specs.Validity.{IsHeldCell, IsValidGiven}
-use Rattle.table_laws.proofs.SetLaws.{assign_result_keeps}
-use Rattle.table_meaning.specs.Table.{Table}
-use Rattle.select_meaning.specs.Set.{assign_result}
-use Rattle.frame_store.specs.Objects.{tables}
-use Rattle.frame_store.specs.World.{World, Sets, entry_in, subscript_in}
-use Rattle.selections.specs.Selected.{way_of}
-use Rattle.settings.specs.Assigned.{moved_object, without}
-use Rattle.script_work.specs.Work.{names_in, world_of}
-use Rattle.script_work.proofs.Worlds.{live_set, noted_set, given_after}
-use Rattle.script_work.proofs.Binding.{swept_live}
-use Rattle.script_work.proofs.Validity.{object_valid, argument_valid, set_valid}
-use Rattle.script_work.proofs.Spending.{unnamed_spare, spent_valid, spent_keeps, spent_noted, spent_on, second_seen}
+use Rattle.{
+  std.{proofs.Common.{◌∙◌, ◌++◌, ap, sym, subst, Result}, specs.Prelude.{IfSome, option_map}},
+  meaning.specs.Fault.{FaultValue},
+  table_laws.{specs.Validity.{IsHeldCell, IsValidGiven}, proofs.SetLaws.{assign_result_keeps}},
+  table_meaning.specs.Table.{Table},
+  select_meaning.specs.Set.{assign_result},
+  frame_store.specs.{Objects.{tables}, World.{World, Sets, entry_in, subscript_in}},
+  selections.specs.Selected.{way_of},
+  settings.specs.Assigned.{moved_object, without},
+  script_work.{specs.Work.{names_in, world_of}, proofs.{Worlds.{live_set, noted_set, given_after}, Binding.{swept_live}, Validity.{object_valid, argument_valid, set_valid}, Spending.{unnamed_spare, spent_valid, spent_keeps, spent_noted, spent_on, second_seen}}},
+}
 use Rattle.script_work.proofs.work.Work.assign.Goals as goal
 
 pub assign-requires-clause-value : goal.assign-requires-clause-value

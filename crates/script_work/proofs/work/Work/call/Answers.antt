@@ -1,18 +1,12 @@
-use Rattle.std.proofs.Common.{rules, ◌≡◌, ◌∙◌, true, false, ap, sym}
-use Rattle.std.proofs.lemmas.Result.{err_from_is_err_and}
-use Rattle.std.specs.Prelude.{Some, None, Err, if◌then◌else◌}
-use Rattle.form_meaning.specs.declared.Function.TheVariants.{ReadCsv}
-use Rattle.form_meaning.specs.Signature.{function_named}
-use Rattle.frame_store.specs.Arguments.{arguments_of}
-use Rattle.method_meaning.specs.Readers.{reads_file, file_name_of, read_result}
-use Rattle.method_meaning.specs.Functions.{function_result}
-use Rattle.script_meaning.specs.Reading.{at_once, then_read, of_file}
-use Rattle.script_work.specs.Reads.{files_in}
-use Rattle.script_work.specs.Work.{world_of}
-use Rattle.script_work.proofs.Worlds.{form_keeps, form_known}
-use Rattle.script_work.proofs.Naming.{form_unnamed}
-use Rattle.fault_laws.proofs.CallFaults.{function_result_fault, reads_made}
-use Rattle.script_work.proofs.Rides.{goes_same, goes_by, goes_to, halts_by, form_reads, evaluated_if}
+use Rattle.{
+  std.{proofs.{Common.{rules, ◌≡◌, ◌∙◌, true, false, ap, sym}, lemmas.Result.{err_from_is_err_and}}, specs.Prelude.{Some, None, Err, if◌then◌else◌}},
+  form_meaning.specs.{declared.Function.TheVariants.{ReadCsv}, Signature.{function_named}},
+  frame_store.specs.Arguments.{arguments_of},
+  method_meaning.specs.{Readers.{reads_file, file_name_of, read_result}, Functions.{function_result}},
+  script_meaning.specs.Reading.{at_once, then_read, of_file},
+  script_work.{specs.{Reads.{files_in}, Work.{world_of}}, proofs.{Worlds.{form_keeps, form_known}, Naming.{form_unnamed}, Rides.{goes_same, goes_by, goes_to, halts_by, form_reads, evaluated_if}}},
+  fault_laws.proofs.CallFaults.{function_result_fault, reads_made},
+}
 use Rattle.script_work.proofs.work.Work.call.Goals as goal
 
 pub returns-then-not-reads_file-clause-kept : goal.returns-then-not-reads_file-clause-kept

@@ -1,15 +1,12 @@
-use Rattle.std.proofs.Common.{ap, sym, ◌∙◌}
-use Rattle.std.specs.Prelude.{Err}
-use Rattle.frame_store.specs.Arguments.{arguments_of}
-use Rattle.form_meaning.specs.declared.Function.TheVariants.{ReadCsv}
-use Rattle.method_meaning.specs.Readers.{file_name_of, read_result}
-use Rattle.script_meaning.specs.Reading.{at_once, then_read, of_file}
-use Rattle.script_work.specs.declared.fault.EvalFault.TheVariants.{Refused}
-use Rattle.script_work.specs.Reads.{files_in}
-use Rattle.script_work.specs.Work.{world_of}
-use Rattle.script_work.proofs.Fetching.{refuses_long}
-use Rattle.fault_laws.proofs.FormFaults.{file_name_of_fault}
-use Rattle.script_work.proofs.Rides.{goes_same, bytes_by, halts_first, then_gives, serves_self, fault_uncaused}
+use Rattle.{
+  std.{proofs.Common.{ap, sym, ◌∙◌}, specs.Prelude.{Err}},
+  frame_store.specs.Arguments.{arguments_of},
+  form_meaning.specs.declared.Function.TheVariants.{ReadCsv},
+  method_meaning.specs.Readers.{file_name_of, read_result},
+  script_meaning.specs.Reading.{at_once, then_read, of_file},
+  script_work.{specs.{declared.fault.EvalFault.TheVariants.{Refused}, Reads.{files_in}, Work.{world_of}}, proofs.{Fetching.{refuses_long}, Rides.{goes_same, bytes_by, halts_first, then_gives, serves_self, fault_uncaused}}},
+  fault_laws.proofs.FormFaults.{file_name_of_fault},
+}
 use Rattle.script_work.proofs.work.Work.file_of.Goals as goal
 
 pub returns-in-Ok-clause-reads : goal.returns-in-Ok-clause-reads

@@ -1,14 +1,10 @@
-use Rattle.std.proofs.Common.{refl, sym, ◌∙◌, ap, subst}
-use Rattle.table_meaning.specs.Settled.{IsSettled}
-use Rattle.frame_store.specs.Objects.{Tables, tables}
-use Rattle.frame_store.specs.Shown.{shown}
-use Rattle.frame_store.specs.World.{World}
-use Rattle.script_work.specs.Bindings.{Bindings, bindings_of, state_over, unbound, released, value_at, AreLive, AreGiven, AreNoted, AreNamed}
-use Rattle.script_work.specs.Work.{names_in, tables_in, world_of}
-use Rattle.script_work.proofs.States.{state_swept}
-use Rattle.script_work.proofs.Binding.{unbound_state, unbound_has, released_keeps, released_noted, released_named, released_lives, released_settled}
-use Rattle.table_laws.specs.Validity.{AreValid}
-use Rattle.script_work.proofs.Validity.{released_valid}
+use Rattle.{
+  std.proofs.Common.{refl, sym, ◌∙◌, ap, subst},
+  table_meaning.specs.Settled.{IsSettled},
+  frame_store.specs.{Objects.{Tables, tables}, Shown.{shown}, World.{World}},
+  script_work.{specs.{Bindings.{Bindings, bindings_of, state_over, unbound, released, value_at, AreLive, AreGiven, AreNoted, AreNamed}, Work.{names_in, tables_in, world_of}}, proofs.{States.{state_swept}, Binding.{unbound_state, unbound_has, released_keeps, released_noted, released_named, released_lives, released_settled}, Validity.{released_valid}}},
+  table_laws.specs.Validity.{AreValid},
+}
 use Rattle.script_work.proofs.work.Work.forget.Goals as goal
 
 pub invariant_of-self : goal.invariant_of-self

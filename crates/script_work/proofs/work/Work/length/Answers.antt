@@ -1,7 +1,8 @@
-use Rattle.std.proofs.Common.{refl}
-use Rattle.frame_store.proofs.Settling.{longer_self}
-use Rattle.script_work.specs.Work.{world_of}
-use Rattle.script_work.proofs.Lengths.{length_answer}
+use Rattle.{
+  std.proofs.Common.{refl},
+  frame_store.proofs.Settling.{longer_self},
+  script_work.{specs.Work.{world_of}, proofs.Lengths.{length_answer}},
+}
 use Rattle.script_work.proofs.work.Work.length.Goals as goal
 
 pub returns-in-Object : goal.returns-in-Object

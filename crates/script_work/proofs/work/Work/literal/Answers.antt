@@ -1,8 +1,7 @@
-use Rattle.frame_store.specs.Shown.{shown}
-use Rattle.frame_store.proofs.Settling.{settled_later}
-use Rattle.script_work.specs.Work.{names_in, tables_in}
-use Rattle.script_work.proofs.Worlds.{longer_keeps, given_after}
-use Rattle.script_work.proofs.Validity.{longer_valid}
+use Rattle.{
+  frame_store.{specs.Shown.{shown}, proofs.Settling.{settled_later}},
+  script_work.{specs.Work.{names_in, tables_in}, proofs.{Worlds.{longer_keeps, given_after}, Validity.{longer_valid}}},
+}
 use Rattle.script_work.proofs.work.Work.literal.Goals as goal
 
 pub invariant_of-self : goal.invariant_of-self

@@ -1,10 +1,9 @@
-use Rattle.std.proofs.Common.{ℕ, List, Bor, option_map}
-use Rattle.frame_store.specs.Objects.{tables}
-use Rattle.frame_store.specs.World.{World, Forms, arguments_in}
-use Rattle.script_work.specs.Work.{names_in, world_of}
-use Rattle.script_work.proofs.Worlds.{form_keeps, live_after, given_after, noted_made, noted_refused}
-use Rattle.table_laws.proofs.CallLaws.{function_result_keeps}
-use Rattle.script_work.proofs.Validity.{form_valid, arguments_valid}
+use Rattle.{
+  std.proofs.Common.{ℕ, List, Bor, option_map},
+  frame_store.specs.{Objects.{tables}, World.{World, Forms, arguments_in}},
+  script_work.{specs.Work.{names_in, world_of}, proofs.{Worlds.{form_keeps, live_after, given_after, noted_made, noted_refused}, Validity.{form_valid, arguments_valid}}},
+  table_laws.proofs.CallLaws.{function_result_keeps},
+}
 use Rattle.script_work.proofs.work.Work.make.Goals as goal
 
 pub invariant_of-self-in-Break-branch-2 : goal.invariant_of-self-in-Break-branch-2

@@ -1,6 +1,7 @@
-use Rattle.std.proofs.Common.{rules}
-use Rattle.script_work.specs.Work.{names_in, world_of}
-use Rattle.script_work.proofs.States.{named_known}
+use Rattle.{
+  std.proofs.Common.{rules},
+  script_work.{specs.Work.{names_in, world_of}, proofs.States.{named_known}},
+}
 use Rattle.script_work.proofs.work.Work.named.Goals as goal
 
 pub returns-in-Some-clause-known : goal.returns-in-Some-clause-known

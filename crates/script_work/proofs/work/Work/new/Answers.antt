@@ -1,8 +1,9 @@
-use Rattle.std.proofs.Common.{◌≡◌, Bool, true, false, refl, sym, subst, IsSome}
-use Rattle.table_meaning.specs.Settled.{IsSettled}
-use Rattle.frame_store.specs.Objects.{Tables}
-use Rattle.frame_store.specs.Shown.{shown}
-use Rattle.table_laws.specs.Validity.{AreValid}
+use Rattle.{
+  std.proofs.Common.{◌≡◌, Bool, true, false, refl, sym, subst, IsSome},
+  table_meaning.specs.Settled.{IsSettled},
+  frame_store.specs.{Objects.{Tables}, Shown.{shown}},
+  table_laws.specs.Validity.{AreValid},
+}
 use Rattle.script_work.proofs.work.Work.new.Goals as goal
 
 pub invariant_of-result-clause-settled : goal.invariant_of-result-clause-settled

@@ -1,8 +1,8 @@
-use Rattle.std.proofs.Common.{◌∙◌, ap, sym}
-use Rattle.frame_store.specs.Arguments.{argument_of}
-use Rattle.frame_store.specs.declared.arguments.Argument.{Argument}
-use Rattle.script_work.specs.Work.{names_in, tables_in}
-use Rattle.script_work.proofs.Spending.{spare_unnamed, spare_other}
+use Rattle.{
+  std.proofs.Common.{◌∙◌, ap, sym},
+  frame_store.specs.{Arguments.{argument_of}, declared.arguments.Argument.{Argument}},
+  script_work.{specs.Work.{names_in, tables_in}, proofs.Spending.{spare_unnamed, spare_other}},
+}
 use Rattle.script_work.proofs.work.Work.new_value.Goals as goal
 
 pub returns-then-is_spare-clause-meant : goal.returns-then-is_spare-clause-meant

@@ -1,10 +1,9 @@
-use Rattle.frame_store.specs.Objects.{tables}
-use Rattle.select_meaning.specs.Set.{removal_result}
-use Rattle.frame_store.specs.World.{World, entry_in, Sets}
-use Rattle.script_work.specs.Work.{names_in, world_of}
-use Rattle.script_work.proofs.Worlds.{live_set, noted_set}
-use Rattle.table_laws.proofs.SetLaws.{removal_result_keeps}
-use Rattle.script_work.proofs.Validity.{object_valid, set_valid}
+use Rattle.{
+  frame_store.specs.{Objects.{tables}, World.{World, entry_in, Sets}},
+  select_meaning.specs.Set.{removal_result},
+  script_work.{specs.Work.{names_in, world_of}, proofs.{Worlds.{live_set, noted_set}, Validity.{object_valid, set_valid}}},
+  table_laws.proofs.SetLaws.{removal_result_keeps},
+}
 use Rattle.script_work.proofs.work.Work.remove.Goals as goal
 
 pub invariant_of-self : goal.invariant_of-self

@@ -1,9 +1,8 @@
-use Rattle.frame_store.specs.Objects.{tables}
-use Rattle.frame_store.specs.World.{World, Forms}
-use Rattle.script_work.specs.Work.{names_in, world_of}
-use Rattle.script_work.proofs.Worlds.{form_keeps, live_after, given_after, noted_made, noted_refused}
-use Rattle.table_laws.proofs.ReachLaws.{select_result_keeps}
-use Rattle.script_work.proofs.Validity.{object_valid, form_valid}
+use Rattle.{
+  frame_store.specs.{Objects.{tables}, World.{World, Forms}},
+  script_work.{specs.Work.{names_in, world_of}, proofs.{Worlds.{form_keeps, live_after, given_after, noted_made, noted_refused}, Validity.{object_valid, form_valid}}},
+  table_laws.proofs.ReachLaws.{select_result_keeps},
+}
 use Rattle.script_work.proofs.work.Work.select.Goals as goal
 
 pub invariant_of-self-in-Break-branch-2 : goal.invariant_of-self-in-Break-branch-2

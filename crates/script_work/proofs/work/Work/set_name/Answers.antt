@@ -1,5 +1,4 @@
-use Rattle.script_work.specs.Work.{names_in, tables_in, world_of}
-use Rattle.script_work.proofs.Binding.{bound_is, given_is, bound_noted}
+use Rattle.script_work.{specs.Work.{names_in, tables_in, world_of}, proofs.Binding.{bound_is, given_is, bound_noted}}
 use Rattle.script_work.proofs.work.Work.set_name.Goals as goal
 
 pub invariant_of-self-2 : goal.invariant_of-self-2

@@ -1,7 +1,7 @@
-use Rattle.std.proofs.Common.{◌∙◌, ap, sym, length}
-use Rattle.selections.specs.declared.planning.Taken.{Taken}
-use Rattle.selections.specs.Plans.{rows_in}
-use Rattle.selections.proofs.PlanLaws.{span_count}
+use Rattle.{
+  std.proofs.Common.{◌∙◌, ap, sym, length},
+  selections.{specs.{declared.planning.Taken.{Taken}, Plans.{rows_in}}, proofs.PlanLaws.{span_count}},
+}
 use Rattle.selections.proofs.planning.Taken.count.Goals as goal
 
 pub returns-in-Slice : goal.returns-in-Slice

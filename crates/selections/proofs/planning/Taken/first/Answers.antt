@@ -1,7 +1,7 @@
-use Rattle.std.proofs.Common.{◌∙◌, ap, sym, length}
-use Rattle.selections.specs.declared.planning.Taken.{Taken}
-use Rattle.selections.specs.Plans.{rows_in}
-use Rattle.selections.proofs.PlanLaws.{first_of}
+use Rattle.{
+  std.proofs.Common.{◌∙◌, ap, sym, length},
+  selections.{specs.{declared.planning.Taken.{Taken}, Plans.{rows_in}}, proofs.PlanLaws.{first_of}},
+}
 use Rattle.selections.proofs.planning.Taken.first.Goals as goal
 
 pub at-requires : goal.at-requires

@@ -1,10 +1,10 @@
-use Rattle.std.proofs.Common.{subst, List, Option, Bor, IfSome}
-use Rattle.cell_core.specs.declared.cell.Label.{Label}
-use Rattle.frame_store.specs.declared.arguments.Argument.{Argument}
-use Rattle.frame_store.specs.Arguments.{AreLivePairs}
-use Rattle.std.proofs.Math.Logic.{∥∥₁_elim}
 use mathlib.Core.Bool.{Bool-set}
-use Rattle.signatures.proofs.SureLaws.{dict_sure, told_there}
+use Rattle.{
+  std.proofs.{Common.{subst, List, Option, Bor, IfSome}, Math.Logic.{∥∥₁_elim}},
+  cell_core.specs.declared.cell.Label.{Label},
+  frame_store.specs.{declared.arguments.Argument.{Argument}, Arguments.{AreLivePairs}},
+  signatures.proofs.SureLaws.{dict_sure, told_there},
+}
 use Rattle.signatures.proofs.bound.Bound.dict.Goals as goal
 
 pub unwrap-requires : goal.unwrap-requires

@@ -1,9 +1,9 @@
-use Rattle.std.proofs.Common.{subst, Option, IfSome}
-use Rattle.std.proofs.Math.Logic.{∥∥₁_elim}
 use mathlib.Core.Bool.{Bool-set}
-use Rattle.frame_store.specs.Arguments.{IsLiveObject}
-use Rattle.frame_store.specs.declared.object.ObjId.{ObjId}
-use Rattle.signatures.proofs.SureLaws.{frame_sure, told_there}
+use Rattle.{
+  std.proofs.{Common.{subst, Option, IfSome}, Math.Logic.{∥∥₁_elim}},
+  frame_store.specs.{Arguments.{IsLiveObject}, declared.object.ObjId.{ObjId}},
+  signatures.proofs.SureLaws.{frame_sure, told_there},
+}
 use Rattle.signatures.proofs.bound.Bound.frame.Goals as goal
 
 pub unwrap-requires : goal.unwrap-requires

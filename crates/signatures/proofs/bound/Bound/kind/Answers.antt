@@ -1,10 +1,9 @@
-use Rattle.std.proofs.Common.{◌∙◌, ap, sym, Some}
-use Rattle.std.proofs.Math.Logic.{∥∥₁_elim}
-use Rattle.std.specs.Option.{option_map}
 use mathlib.Core.Bool.{Bool-set}
-use Rattle.form_meaning.specs.Make.{kind_named}
-use Rattle.signatures.proofs.KindLaws.{kind_text}
-use Rattle.signatures.proofs.SureLaws.{text_sure}
+use Rattle.{
+  std.{proofs.{Common.{◌∙◌, ap, sym, Some}, Math.Logic.{∥∥₁_elim}}, specs.Option.{option_map}},
+  form_meaning.specs.Make.{kind_named},
+  signatures.proofs.{KindLaws.{kind_text}, SureLaws.{text_sure}},
+}
 use Rattle.signatures.proofs.bound.Bound.kind.Goals as goal
 
 pub unwrap-requires : goal.unwrap-requires

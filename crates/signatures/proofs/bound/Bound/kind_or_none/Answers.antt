@@ -1,7 +1,8 @@
-use Rattle.std.proofs.Common.{◌∙◌, ap, Some}
-use Rattle.std.specs.Option.{option_map}
-use Rattle.form_meaning.specs.Make.{kind_named}
-use Rattle.signatures.proofs.KindLaws.{kind_text}
+use Rattle.{
+  std.{proofs.Common.{◌∙◌, ap, Some}, specs.Option.{option_map}},
+  form_meaning.specs.Make.{kind_named},
+  signatures.proofs.KindLaws.{kind_text},
+}
 use Rattle.signatures.proofs.bound.Bound.kind_or_none.Goals as goal
 
 pub returns-in-Some : goal.returns-in-Some

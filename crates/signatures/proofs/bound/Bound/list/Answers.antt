@@ -1,9 +1,9 @@
-use Rattle.std.proofs.Common.{subst, List, Option, Bor, IfSome}
-use Rattle.frame_store.specs.declared.arguments.Item.{Item}
-use Rattle.frame_store.specs.Arguments.{AreLiveItems}
-use Rattle.std.proofs.Math.Logic.{∥∥₁_elim}
 use mathlib.Core.Bool.{Bool-set}
-use Rattle.signatures.proofs.SureLaws.{list_sure, told_there}
+use Rattle.{
+  std.proofs.{Common.{subst, List, Option, Bor, IfSome}, Math.Logic.{∥∥₁_elim}},
+  frame_store.specs.{declared.arguments.Item.{Item}, Arguments.{AreLiveItems}},
+  signatures.proofs.SureLaws.{list_sure, told_there},
+}
 use Rattle.signatures.proofs.bound.Bound.list.Goals as goal
 
 pub unwrap-requires : goal.unwrap-requires

@@ -1,6 +1,8 @@
-use Rattle.std.proofs.Math.Logic.{∥∥₁_elim}
 use mathlib.Core.Bool.{Bool-set}
-use Rattle.signatures.proofs.SureLaws.{scalar_sure, told_there}
+use Rattle.{
+  std.proofs.Math.Logic.{∥∥₁_elim},
+  signatures.proofs.SureLaws.{scalar_sure, told_there},
+}
 use Rattle.signatures.proofs.bound.Bound.scalar.Goals as goal
 
 pub unwrap-requires : goal.unwrap-requires

@@ -1,5 +1,7 @@
-use Rattle.std.proofs.Common.{◌∙◌, ap}
-use Rattle.table_meaning.specs.Value.{scalar_in}
+use Rattle.{
+  std.proofs.Common.{◌∙◌, ap},
+  table_meaning.specs.Value.{scalar_in},
+}
 use Rattle.signatures.proofs.bound.Bound.scalar_or_none.Goals as goal
 
 pub returns-in-StandIn : goal.returns-in-StandIn

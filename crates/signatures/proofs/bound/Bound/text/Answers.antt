@@ -1,7 +1,8 @@
-use Rattle.std.proofs.Common.{◌∙◌}
-use Rattle.std.proofs.Math.Logic.{∥∥₁_elim}
 use mathlib.Core.Bool.{Bool-set}
-use Rattle.signatures.proofs.SureLaws.{text_sure}
+use Rattle.{
+  std.proofs.{Common.{◌∙◌}, Math.Logic.{∥∥₁_elim}},
+  signatures.proofs.SureLaws.{text_sure},
+}
 use Rattle.signatures.proofs.bound.Bound.text.Goals as goal
 
 pub unwrap-requires : goal.unwrap-requires

@@ -1,7 +1,8 @@
-use Rattle.std.proofs.Common.{◌∙◌, ap, sym}
-use Rattle.std.specs.Prelude.{is_some}
+use Rattle.{
+  std.{proofs.Common.{◌∙◌, ap, sym}, specs.Prelude.{is_some}},
+  signatures.proofs.SureLaws.{told_same},
+}
 use Rattle.form_meaning.specs.Binding as plain
-use Rattle.signatures.proofs.SureLaws.{told_same}
 use Rattle.signatures.proofs.bound.Bound.text_or_none.Goals as goal
 
 pub returns-in-Given-clause-there : goal.returns-in-Given-clause-there

@@ -1,8 +1,8 @@
-use Rattle.std.proofs.Common.{sym, subst}
-use Rattle.std.specs.Prelude.{IsSome}
-use Rattle.std.proofs.Math.Logic.{∥∥₁_elim}
 use mathlib.Core.Bool.{Bool-set}
-use Rattle.signatures.proofs.SureLaws.{whole_sure}
+use Rattle.{
+  std.{proofs.{Common.{sym, subst}, Math.Logic.{∥∥₁_elim}}, specs.Prelude.{IsSome}},
+  signatures.proofs.SureLaws.{whole_sure},
+}
 use Rattle.signatures.proofs.bound.Bound.whole.Goals as goal
 
 pub unwrap-requires : goal.unwrap-requires

@@ -1,7 +1,0 @@
-use Rattle.std.proofs.Common.{◌≡◌, ◌++◌, drop}
-use Rattle.nullable_array.specs.Marks.{numbers_among}
-use Rattle.nullable_array.proofs.membership.numbers_in.Given as goal
-
--- the numbers so far, before the others
-abbrev pub invariant-loop-cell : goal.invariant-loop-cell
-invariant-loop-cell l = l.numbers.items ++ numbers_among (drop l.cell-index l.cells) ≡ numbers_among l.cells
