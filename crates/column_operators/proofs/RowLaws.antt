@@ -1,6 +1,6 @@
 -- What an operator makes has as many rows as its operands.
 use Rattle.{
-  std.{proofs.{Common.{◌≡◌, ◌∙◌, ℕ, suc, Bool, true, false, List, [], ◌∷◌, length, map, refl, ap, sym, arith, Option, Some, None, Result, Ok, Err}, lemmas.List.{length-map, length-replicate}}, specs.Prelude.{IfOk}},
+  std.{proofs.{Common.{◌≡◌, ◌∙◌, ℕ, suc, Bool, true, false, List, [], ◌∷◌, length, map, sym, arith, Option, Result, Ok, Err}, lemmas.List.{length-map, length-replicate}}, specs.Prelude.{IfOk}},
   cell_core.specs.declared.cell.{Kind.{Kind}, Cell.{Cell}},
   meaning.specs.{Text.{Text}, Cell.{CellValue, datum}, Column.{ColumnValue, try_pairs, then_rows, column_if, zero_division}, Operator.{operator_kind, operator_cell, binary_column, scalar_binary, scalar_column}, Symbol.{Binary}},
   nullable_array.specs.{Answers.{Answers}, declared.ops.ArrayFault.{ArrayFault}},
@@ -8,25 +8,18 @@ use Rattle.{
 }
 
 one_more_row : (row : ℕ) (o : Option CellValue) (r : Result (List CellValue) ℕ) (zs xs : List CellValue) → ((rest : List CellValue) → r ≡ Ok rest → length rest ≡ length xs) → then_rows o row r ≡ Ok zs → length zs ≡ suc (length xs)
-one_more_row row None r zs xs rest is = cc
-one_more_row row (Some c) (Err k) zs xs rest is = cc
-one_more_row row (Some c) (Ok cs) zs xs rest is = let front : zs ≡ c ∷ cs = cc in ap length front ∙ ap suc (rest cs refl)
+one_more_row row x r zs xs rest is = grind arith
 
 pairs_length : (f : CellValue → CellValue → Option CellValue) (row : ℕ) (xs ys zs : List CellValue) → length xs ≡ length ys → try_pairs f row xs ys ≡ Ok zs → length zs ≡ length xs
-pairs_length f row [] [] zs same is = let none : zs ≡ [] = cc in ap length none
-pairs_length f row [] (y ∷ ys) zs same is = absurd (omega arith)
-pairs_length f row (x ∷ xs) [] zs same is = absurd (omega arith)
+pairs_length f row [] [] zs same is = search
+pairs_length f row [] (y ∷ ys) zs same is = search
+pairs_length f row (x ∷ xs) [] zs same is = search
 pairs_length f row (x ∷ xs) (y ∷ ys) zs same is =
     one_more_row row (f x y) (try_pairs f (suc row) xs ys) zs xs (λ rest e. let less : length xs ≡ length ys = omega arith in pairs_length f (suc row) xs ys rest less e) is
 
 column_length : (texts : List Text) (o : Option Kind) (n : ℕ) (r : Result (List CellValue) ℕ) (c : CellColumn) → ((zs : List CellValue) → r ≡ Ok zs → length zs ≡ n)
     → column_if o zero_division r ≡ Ok (cells_value texts c) → length c.cells ≡ n
-column_length texts None n r c rows is = cc
-column_length texts (Some kind) n (Err k) c rows is = cc
-column_length texts (Some kind) n (Ok zs) c rows is =
-    let made : ColumnValue = record { kind = kind; cells = zs } in
-    let same : made ≡ cells_value texts c = cc in
-    sym (length-map c.cells (datum texts)) ∙ sym (ap (λ (x : ColumnValue). length x.cells) same) ∙ rows zs refl
+column_length texts x n r c rows is = grind (arith, length-map)
 
 pub answer_length : (texts : List Text) (op : Binary) (x y : ColumnValue) (c : CellColumn) (n : ℕ) → length x.cells ≡ n → length y.cells ≡ n → Answers texts (Ok c) (binary_column op x y) → length c.cells ≡ n
 answer_length texts op x y c n e f is =
@@ -34,7 +27,7 @@ answer_length texts op x y c n e f is =
 
 made_rows : (texts : List Text) (op : Binary) (x y : ColumnValue) (n : ℕ) (result : Result CellColumn ArrayFault) → length x.cells ≡ n → length y.cells ≡ n → Answers texts result (binary_column op x y) → IfOk result (λ made. length made.cells ≡ n)
 made_rows texts op x y n (Err fault) e f answer = tt
-made_rows texts op x y n (Ok made) e f answer = answer_length texts op x y made n e f answer
+made_rows texts op x y n (Ok made) e f answer = search answer_length
 
 -- the column that is made has as many rows as its operands
 pub column_rows : (old new : List Text) (op : Binary) (a b : CellColumn) (n : ℕ) (result : Result CellColumn ArrayFault) → length a.cells ≡ n → length b.cells ≡ n
@@ -47,10 +40,10 @@ pub scalar_rows : (old new : List Text) (op : Binary) (a : CellColumn) (c : Cell
 scalar_rows old new op a c left n result e answer = go left answer
   where
     seen : length (map (datum old) a.cells) ≡ n
-    seen = length-map a.cells (datum old) ∙ e
+    seen = search length-map
 
     many : length (scalar_column (cells_value old a) (datum old c)).cells ≡ n
-    many = length-replicate (length (map (datum old) a.cells)) (datum old c) ∙ seen
+    many = search (length-replicate, seen)
 
     go : (left : Bool) → Answers new result (scalar_binary op (cells_value old a) (datum old c) left) → IfOk result (λ made. length made.cells ≡ n)
     go true h = made_rows new op (scalar_column (cells_value old a) (datum old c)) (cells_value old a) n result many seen h

@@ -1,8 +1,8 @@
 -- A scalar beside each cell of a column.
 use Rattle.{
-  std.{proofs.{Common.{◌≡◌, ℕ, zero, suc, ◌+◌, Bool, true, false, List, ◌∷◌, length, map, replicate, refl, sym, ap, subst, ◌∙◌, ℤ, Option, Some, None, Result}, lemmas.List.{length-map}}, specs.List.{range_with_len}},
+  std.{proofs.{Common.{arith, ◌≡◌, ℕ, zero, suc, ◌+◌, Bool, true, false, List, length, map, replicate, refl, sym, ap, ◌∙◌, ℤ, Option, Result}, lemmas.List.{length-map}}, specs.List.{range_with_len}},
   cell_core.specs.declared.cell.{Cell.{Cell}, Kind.{Kind, TheVariants.{Int64, Boolean, Text as string}}, TextId.{TextId}},
-  meaning.specs.{Cell.{CellValue, datum}, Column.{ColumnValue, tabulate}, Operator.{scalar_kind, scalar_column}},
+  meaning.specs.{Cell.{CellValue, datum}, Column.{tabulate}, Operator.{scalar_kind, scalar_column}},
   nullable_array.specs.{declared.ops.ArrayFault.{ArrayFault}, Answers.{Answers}},
   column_operators.specs.{declared.ops.Task.{Task}, Tasks.{task_column, scalar_task}},
   column_core.{specs.Columns.{CellColumn, column_value, column_with, number_cell, truth_cell, text_cell}, proofs.ColumnLaws.{length-tabulate}},
@@ -10,39 +10,32 @@ use Rattle.{
 
 -- a present scalar and a missing one have the column's kind here
 pub number_kept : (texts : List (List ℕ)) (x : Option ℤ) → scalar_kind Int64 (datum texts (number_cell x)) ≡ Int64
-number_kept texts None = refl
-number_kept texts (Some z) = refl
+number_kept texts x = grind arith
 
 pub truth_kept : (texts : List (List ℕ)) (x : Option Bool) → scalar_kind Boolean (datum texts (truth_cell x)) ≡ Boolean
-truth_kept texts None = refl
-truth_kept texts (Some b) = refl
+truth_kept texts x = grind arith
 
 pub text_kept : (texts : List (List ℕ)) (x : Option TextId) → scalar_kind string (datum texts (text_cell x)) ≡ string
-text_kept texts None = refl
-text_kept texts (Some id) = refl
+text_kept texts x = grind arith
 
 repeated : (texts : List (List ℕ)) (c : Cell) (a n : ℕ) → map (datum texts) (map (λ (k : ℕ). c) (range_with_len a n)) ≡ replicate n (datum texts c)
 repeated texts c a zero = refl
-repeated texts c a (suc n) = ap (λ l. datum texts c ∷ l) (repeated texts c (a + 1) n)
+repeated texts c a (suc n) = cc (repeated texts c (a + 1) n)
 
 -- one value in each row is the scalar beside each cell
 scalar_rows : {T : Type 0} (texts : List (List ℕ)) (kind : Kind) (cell : Option T → Cell) (n : ℕ) (p : ℕ → Option T) (s : Option T) → scalar_kind kind (datum texts (cell s)) ≡ kind
     → column_value texts (column_with kind cell n (λ k. s)) ≡ scalar_column (column_value texts (column_with kind cell n p)) (datum texts (cell s))
 scalar_rows texts kind cell n p s kept =
-    ap (λ (l : List CellValue). record { kind = kind; cells = l }) (repeated texts (cell s) 0 n ∙ ap (λ k. replicate k (datum texts (cell s))) (sym (length-map (tabulate n (λ k. cell (p k))) (datum texts) ∙ length-tabulate n (λ k. cell (p k)))))
+    ap (λ (l : List CellValue). record { kind = kind; cells = l }) (cc (repeated texts (cell s) 0 n, length-map (tabulate n (λ k. cell (p k))) (datum texts), length-tabulate n (λ k. cell (p k))))
     ∙ ap (λ (k : Kind). record { kind = k; cells = replicate (length (map (datum texts) (tabulate n (λ k. cell (p k))))) (datum texts (cell s)) }) (sym kept)
 
 -- an answer with one value in each row of the left column, or of the right one
 pub scalar_on_left : {T : Type 0} (texts : List (List ℕ)) (task : Task) (kind : Kind) (cell : Option T → Cell) (n : ℕ) (p : ℕ → Option T) (s : Option T) (left : Bool) (result : Result CellColumn ArrayFault) → scalar_kind kind (datum texts (cell s)) ≡ kind → left ≡ true
     → (new : List (List ℕ)) (m : ℕ) → m ≡ n → Answers new result (task_column task (column_value texts (column_with kind cell m (λ k. s))) (column_value texts (column_with kind cell n p)))
     → Answers new result (scalar_task task (column_value texts (column_with kind cell n p)) (datum texts (cell s)) left)
-scalar_on_left texts task kind cell n p s left result kept is new m same a =
-    subst (λ (b : Bool). Answers new result (scalar_task task (column_value texts (column_with kind cell n p)) (datum texts (cell s)) b)) (sym is)
-    (subst (λ (c : ColumnValue). Answers new result (task_column task c (column_value texts (column_with kind cell n p)))) (ap (λ k. column_value texts (column_with kind cell k (λ k. s))) same ∙ scalar_rows texts kind cell n p s kept) a)
+scalar_on_left texts task kind cell n p s left result kept is new m same a = grind (arith, scalar_rows)
 
 pub scalar_on_right : {T : Type 0} (texts : List (List ℕ)) (task : Task) (kind : Kind) (cell : Option T → Cell) (n : ℕ) (p : ℕ → Option T) (s : Option T) (left : Bool) (result : Result CellColumn ArrayFault) → scalar_kind kind (datum texts (cell s)) ≡ kind → left ≡ false
     → (new : List (List ℕ)) (m : ℕ) → m ≡ n → Answers new result (task_column task (column_value texts (column_with kind cell n p)) (column_value texts (column_with kind cell m (λ k. s))))
     → Answers new result (scalar_task task (column_value texts (column_with kind cell n p)) (datum texts (cell s)) left)
-scalar_on_right texts task kind cell n p s left result kept is new m same a =
-    subst (λ (b : Bool). Answers new result (scalar_task task (column_value texts (column_with kind cell n p)) (datum texts (cell s)) b)) (sym is)
-    (subst (λ (c : ColumnValue). Answers new result (task_column task (column_value texts (column_with kind cell n p)) c)) (ap (λ k. column_value texts (column_with kind cell k (λ k. s))) same ∙ scalar_rows texts kind cell n p s kept) a)
+scalar_on_right texts task kind cell n p s left result kept is new m same a = grind (arith, scalar_rows)

@@ -1,9 +1,10 @@
 // Operators on columns.
-ghost use Rattle.std.specs.Prelude.{◌≡◌, ◌<◌, ◌^◌, ℕ, pos, List, length, Option, Some, IfOk, IfErr, OnErr};
+ghost use Rattle.std.specs.Prelude.{◌≡◌, ◌≢◌, ◌<◌, ◌^◌, ℕ, pos, List, length, Option, Some, IfOk, IfErr, OnErr};
 ghost use Rattle.cell_core.specs.declared.cell.Kind.TheVariants.{Int64, Boolean, Text as string};
 ghost use Rattle.meaning.specs.Cell.{datum, AreGiven, IsGiven, IsLonger};
 ghost use Rattle.meaning.specs.Column.{column_of, zero_division};
 ghost use Rattle.meaning.specs.Operator.{binary_column, scalar_binary, invert_column};
+ghost use Rattle.meaning.specs.Symbol.{add};
 ghost use Rattle.column_core.specs.Lanes.{option_at};
 ghost use Rattle.column_core.specs.Columns.{column_value, column_with, number_cell, truth_cell, text_cell};
 ghost use Rattle.column_core.specs.Views.{borrowed_column};
@@ -45,15 +46,77 @@ pub fn binary(
     requires b { AreGiven dict.old b.cells }
     ensures keeps { IsLonger dict.old dict.new }
     ensures given { IfOk result (λ c. AreGiven dict.new c.cells) }
+    ensures rows { IfOk result (λ c. length c.cells ≡ length a.entry.cells) }
     ensures answer { Answers dict.new result
         (binary_column (operator_of op) (column_value dict.old a.entry)
         (column_value dict.old b.entry)) }
 {
-    let task = task_of(op);
+    match op {
+        Binary::Add => sums(alloc, dict, a, b),
+        _ => pure_binary(alloc, dict, op, a, b),
+    }
+}
+
+/// What [`binary`] answers for an operator that makes no text, as each but `+`: so the dictionary is
+/// only read.
+pub fn pure_binary(
+    alloc: Global,
+    dict: &TextDict,
+    op: Binary,
+    a: ColRef<'_>,
+    b: ColRef<'_>,
+) -> Result<Column, ArrayFault>
+    requires same { length a.cells ≡ length b.cells }
+    requires pure { op ≢ Binary.Add }
+    ensures given { IfOk result (λ c. AreGiven dict.now c.cells) }
+    ensures rows { IfOk result (λ c. length c.cells ≡ length a.entry.cells) }
+    ensures answer { Answers dict.now result
+        (binary_column (operator_of op) (column_value dict.now a.entry)
+        (column_value dict.now b.entry)) }
+{
+    on_columns(alloc, dict, task_of(op), a, b)
+}
+
+// What an operator but `+` does to two columns.
+fn on_columns(
+    alloc: Global,
+    dict: &TextDict,
+    task: Task,
+    a: ColRef<'_>,
+    b: ColRef<'_>,
+) -> Result<Column, ArrayFault>
+    requires same { length a.cells ≡ length b.cells }
+    requires pure { task ≢ Task.Sum }
+    ensures given { IfOk result (λ c. AreGiven dict.now c.cells) }
+    ensures answer { Answers dict.now result
+        (task_column task (column_value dict.now a.entry) (column_value dict.now b.entry)) }
+{
     match (&a.lanes, &b.lanes) {
         (Borrowed::Ints(x), Borrowed::Ints(y)) => numbers(alloc, task, x, y),
         (Borrowed::Truths(x), Borrowed::Truths(y)) => truths(alloc, task, x, y),
-        (Borrowed::Texts(x), Borrowed::Texts(y)) => texts(alloc, dict, task, x, y),
+        (Borrowed::Texts(x), Borrowed::Texts(y)) => on_texts(alloc, dict, task, x, y),
+        _ => Err(ArrayFault::KindMismatch),
+    }
+}
+
+// What `+` makes of two columns.
+fn sums(
+    alloc: Global,
+    dict: &mut TextDict,
+    a: ColRef<'_>,
+    b: ColRef<'_>,
+) -> Result<Column, ArrayFault>
+    requires same { length a.cells ≡ length b.cells }
+    requires a { AreGiven dict.old a.cells }
+    requires b { AreGiven dict.old b.cells }
+    ensures keeps { IsLonger dict.old dict.new }
+    ensures given { IfOk result (λ c. AreGiven dict.new c.cells) }
+    ensures answer { Answers dict.new result
+        (binary_column add (column_value dict.old a.entry) (column_value dict.old b.entry)) }
+{
+    match (&a.lanes, &b.lanes) {
+        (Borrowed::Ints(x), Borrowed::Ints(y)) => numbers(alloc, Task::Sum, x, y),
+        (Borrowed::Texts(x), Borrowed::Texts(y)) => joined(alloc, dict, x, y),
         _ => Err(ArrayFault::KindMismatch),
     }
 }
@@ -92,24 +155,6 @@ fn truths(
     }
 }
 
-fn texts(
-    alloc: Global,
-    dict: &mut TextDict,
-    task: Task,
-    a: &Lane<'_, TextId>,
-    b: &Lane<'_, TextId>,
-) -> Result<Column, ArrayFault>
-    requires same { a.now.count ≡ b.now.count }
-    requires a { AreGiven dict.old (borrowed_column (Borrowed.Texts a.now)).cells }
-    requires b { AreGiven dict.old (borrowed_column (Borrowed.Texts b.now)).cells }
-    ensures keeps { IsLonger dict.old dict.new }
-    ensures given { IfOk result (λ c. AreGiven dict.new c.cells) }
-    ensures answer { Answers dict.new result (task_column task
-        (column_value dict.old (borrowed_column (Borrowed.Texts a.now))) (column_value dict.old (borrowed_column (Borrowed.Texts b.now)))) }
-{
-    on_texts(alloc, dict, task, a, b)
-}
-
 /// The operator on each cell and a scalar, which stands on the left where `scalar_left` is true. A scalar NA
 /// has the column's kind. The refusals are those of `binary`.
 pub fn with_scalar(
@@ -124,25 +169,82 @@ pub fn with_scalar(
     requires scalar { IsGiven dict.old scalar }
     ensures keeps { IsLonger dict.old dict.new }
     ensures given { IfOk result (λ c. AreGiven dict.new c.cells) }
+    ensures rows { IfOk result (λ c. length c.cells ≡ length a.entry.cells) }
     ensures answer { Answers dict.new result
         (scalar_binary (operator_of op) (column_value dict.old a.entry)
         (datum dict.old scalar) scalar_left) }
 {
-    let task = task_of(op);
+    match op {
+        Binary::Add => sums_beside(alloc, dict, a, scalar, scalar_left),
+        _ => pure_with_scalar(alloc, dict, op, a, scalar, scalar_left),
+    }
+}
+
+/// What [`with_scalar`] answers for an operator that makes no text, as each but `+`: so the dictionary is
+/// only read.
+pub fn pure_with_scalar(
+    alloc: Global,
+    dict: &TextDict,
+    op: Binary,
+    a: ColRef<'_>,
+    scalar: Cell,
+    scalar_left: bool,
+) -> Result<Column, ArrayFault>
+    requires { op ≢ Binary.Add }
+    ensures given { IfOk result (λ c. AreGiven dict.now c.cells) }
+    ensures rows { IfOk result (λ c. length c.cells ≡ length a.entry.cells) }
+    ensures answer { Answers dict.now result
+        (scalar_binary (operator_of op) (column_value dict.now a.entry)
+        (datum dict.now scalar) scalar_left) }
+{
+    beside(alloc, dict, task_of(op), a, scalar, scalar_left)
+}
+
+// What an operator but `+` does to a column and a scalar.
+fn beside(
+    alloc: Global,
+    dict: &TextDict,
+    task: Task,
+    a: ColRef<'_>,
+    scalar: Cell,
+    left: bool,
+) -> Result<Column, ArrayFault>
+    requires { task ≢ Task.Sum }
+    ensures given { IfOk result (λ c. AreGiven dict.now c.cells) }
+    ensures answer { Answers dict.now result
+        (scalar_task task (column_value dict.now a.entry) (datum dict.now scalar) left) }
+{
     match (&a.lanes, scalar) {
-        (Borrowed::Ints(x), Cell::Int(y)) => numbers_beside(alloc, task, x, Some(y), scalar_left),
-        (Borrowed::Ints(x), Cell::Na) => numbers_beside(alloc, task, x, None, scalar_left),
-        (Borrowed::Truths(x), Cell::Bool(y)) => truths_beside(alloc, task, x, Some(y), scalar_left),
-        (Borrowed::Truths(x), Cell::Na) => truths_beside(alloc, task, x, None, scalar_left),
-        (Borrowed::Texts(x), Cell::Text(y)) => texts_beside(
-            alloc,
-            dict,
-            task,
-            x,
-            Some(y),
-            scalar_left,
-        ),
-        (Borrowed::Texts(x), Cell::Na) => texts_beside(alloc, dict, task, x, None, scalar_left),
+        (Borrowed::Ints(x), Cell::Int(y)) => numbers_beside(alloc, task, x, Some(y), left),
+        (Borrowed::Ints(x), Cell::Na) => numbers_beside(alloc, task, x, None, left),
+        (Borrowed::Truths(x), Cell::Bool(y)) => truths_beside(alloc, task, x, Some(y), left),
+        (Borrowed::Truths(x), Cell::Na) => truths_beside(alloc, task, x, None, left),
+        (Borrowed::Texts(x), Cell::Text(y)) => texts_beside(alloc, dict, task, x, Some(y), left),
+        (Borrowed::Texts(x), Cell::Na) => texts_beside(alloc, dict, task, x, None, left),
+        _ => Err(ArrayFault::KindMismatch),
+    }
+}
+
+// What `+` makes of a column and a scalar.
+fn sums_beside(
+    alloc: Global,
+    dict: &mut TextDict,
+    a: ColRef<'_>,
+    scalar: Cell,
+    left: bool,
+) -> Result<Column, ArrayFault>
+    requires a { AreGiven dict.old a.cells }
+    requires scalar { IsGiven dict.old scalar }
+    ensures keeps { IsLonger dict.old dict.new }
+    ensures given { IfOk result (λ c. AreGiven dict.new c.cells) }
+    ensures answer { Answers dict.new result
+        (scalar_binary add (column_value dict.old a.entry) (datum dict.old scalar) left) }
+{
+    match (&a.lanes, scalar) {
+        (Borrowed::Ints(x), Cell::Int(y)) => numbers_beside(alloc, Task::Sum, x, Some(y), left),
+        (Borrowed::Ints(x), Cell::Na) => numbers_beside(alloc, Task::Sum, x, None, left),
+        (Borrowed::Texts(x), Cell::Text(y)) => joined_beside(alloc, dict, x, Some(y), left),
+        (Borrowed::Texts(x), Cell::Na) => joined_beside(alloc, dict, x, None, left),
         _ => Err(ArrayFault::KindMismatch),
     }
 }
@@ -313,19 +415,17 @@ fn beside_truths<A: Source<bool>>(
 
 fn texts_beside(
     alloc: Global,
-    dict: &mut TextDict,
+    dict: &TextDict,
     task: Task,
     a: &Lane<'_, TextId>,
     scalar: Option<TextId>,
     left: bool,
 ) -> Result<Column, ArrayFault>
-    requires a { AreGiven dict.old (borrowed_column (Borrowed.Texts a.now)).cells }
-    requires scalar { IsGiven dict.old (text_cell scalar) }
-    ensures keeps { IsLonger dict.old dict.new }
-    ensures given { IfOk result (λ c. AreGiven dict.new c.cells) }
-    ensures answer { Answers dict.new result
-        (scalar_task task (column_value dict.old (borrowed_column (Borrowed.Texts a.now)))
-        (datum dict.old (text_cell scalar)) left) }
+    requires { task ≢ Task.Sum }
+    ensures given { IfOk result (λ c. AreGiven dict.now c.cells) }
+    ensures answer { Answers dict.now result
+        (scalar_task task (column_value dict.now (borrowed_column (Borrowed.Texts a.now)))
+        (datum dict.now (text_cell scalar)) left) }
 {
     let same = Same {
         value: scalar,
@@ -335,6 +435,33 @@ fn texts_beside(
         on_texts(alloc, dict, task, &same, a)
     } else {
         on_texts(alloc, dict, task, a, &same)
+    }
+}
+
+// The texts of a column, each with a text before or behind it.
+fn joined_beside(
+    alloc: Global,
+    dict: &mut TextDict,
+    a: &Lane<'_, TextId>,
+    scalar: Option<TextId>,
+    left: bool,
+) -> Result<Column, ArrayFault>
+    requires a { AreGiven dict.old (borrowed_column (Borrowed.Texts a.now)).cells }
+    requires scalar { IsGiven dict.old (text_cell scalar) }
+    ensures keeps { IsLonger dict.old dict.new }
+    ensures given { IfOk result (λ c. AreGiven dict.new c.cells) }
+    ensures answer { Answers dict.new result
+        (scalar_task Task.Sum (column_value dict.old (borrowed_column (Borrowed.Texts a.now)))
+        (datum dict.old (text_cell scalar)) left) }
+{
+    let same = Same {
+        value: scalar,
+        count: a.count,
+    };
+    if left {
+        joined(alloc, dict, &same, a)
+    } else {
+        joined(alloc, dict, a, &same)
     }
 }
 
@@ -549,11 +676,10 @@ fn inverted<A: Source<bool>>(alloc: Global, a: &A) -> Result<Column, ArrayFault>
     operate(alloc, &Not, a, &Nothing { count: a.count() })
 }
 
-// What an operator does to two columns of texts.
-fn on_texts<A: Source<TextId>, B: Source<TextId>>(
+// The texts of two columns, each followed by the one beside it.
+fn joined<A: Source<TextId>, B: Source<TextId>>(
     alloc: Global,
     dict: &mut TextDict,
-    task: Task,
     a: &A,
     b: &B,
 ) -> Result<Column, ArrayFault>
@@ -562,12 +688,29 @@ fn on_texts<A: Source<TextId>, B: Source<TextId>>(
     requires b { (k : ℕ) → k < B.count_of b.now → IsGiven dict.old (text_cell (B.row_of b.now k)) }
     ensures keeps { IsLonger dict.old dict.new }
     ensures given { IfOk result (λ c. AreGiven dict.new c.cells) }
-    ensures answer { Answers dict.new result (task_column task
+    ensures answer { Answers dict.new result (task_column Task.Sum
         (column_value dict.old (column_with string text_cell (A.count_of a.now) (A.row_of a.now)))
         (column_value dict.old (column_with string text_cell (B.count_of b.now) (B.row_of b.now)))) }
 {
+    Ok(text_column(alloc, dict, &Join, a, b)?)
+}
+
+// What an operator but `+` does to two columns of texts.
+fn on_texts<A: Source<TextId>, B: Source<TextId>>(
+    alloc: Global,
+    dict: &TextDict,
+    task: Task,
+    a: &A,
+    b: &B,
+) -> Result<Column, ArrayFault>
+    requires same { A.count_of a.now ≡ B.count_of b.now }
+    requires pure { task ≢ Task.Sum }
+    ensures given { IfOk result (λ c. AreGiven dict.now c.cells) }
+    ensures answer { Answers dict.now result (task_column task
+        (column_value dict.now (column_with string text_cell (A.count_of a.now) (A.row_of a.now)))
+        (column_value dict.now (column_with string text_cell (B.count_of b.now) (B.row_of b.now)))) }
+{
     match task {
-        Task::Sum => Ok(text_column(alloc, dict, &Join, a, b)?),
         Task::Compare(relation) => compared_texts(alloc, dict, relation, a, b),
         _ => Err(ArrayFault::KindMismatch),
     }

@@ -3,7 +3,8 @@
 //! [`binary`] has a column on either side, [`with_scalar`] one cell beside each cell of a column, and [`invert`]
 //! turns truth values; [`isna`], [`notna`] and [`isin`] mark cells, and [`fillna`] puts one in the place of each
 //! missing one (`missing` and `membership`, over the loop of `maps`). Each makes a new column of the cells that it is
-//! given, and its answer is a definition on these cells.
+//! given, and its answer is a definition on these cells. `+` alone makes texts, which it adds to the dictionary: for the
+//! other operators [`pure_binary`] and [`pure_with_scalar`] only read it.
 //! An operator is what it does (`Task`) on the values of a row (`operators`); where these lie side by side with their
 //! flags, flags and values are made each by itself (`pairs`), and quotients by one divisor by its inverse (`divisors`).
 //!
@@ -26,7 +27,7 @@ mod operators;
 mod ops;
 mod pairs;
 
-pub use kernels::{binary, invert, with_scalar};
+pub use kernels::{binary, invert, pure_binary, pure_with_scalar, with_scalar};
 pub use membership::isin;
 pub use missing::{fillna, isna, notna};
 pub use ops::Binary;

@@ -63,6 +63,7 @@ pub(crate) enum Task {
 pub(crate) fn task_of(op: Binary) -> Task
     ensures kind { operator_kind (operator_of op) ≡ task_kind result }
     ensures cell { operator_cell (operator_of op) ≡ task_cell result }
+    ensures sum { result ≡ Task.Sum → op ≡ Binary.Add }
 {
     match op {
         Binary::Add => Task::Sum,

@@ -2,9 +2,9 @@
 use Rattle.{
   std.{proofs.{Common.{◌≡◌, ◌∙◌, refl, ap, sym, arith, Bool, true, false, ◌&&◌, List, [], ◌∷◌, map, length, slice_index_or, unwrap_or, Option, None, Result, Ok, Err, if◌then◌else◌}, lemmas.List.{length-map, Elements.{All-head, All-tail}}}, specs.Prelude.{slice_get}},
   cell_core.specs.{Texts.{AreDistinct}, declared.{cell.{Cell.{Cell}, Kind.{Kind}, Label.{Label}}, grid.Shape.{Shape, TheVariants.{Series, Frame}}}},
-  meaning.specs.{Text.{Text}, Cell.{CellValue, LabelValue}, Fault.{FaultValue, wrong_kind, then_value}},
-  table_meaning.specs.{Settled.{IsSettled}, Table.{ColumnOf, NumberedTable, Table, column_at, column_value, heading_value, tuple_value, table_value}, Valid.{IsWhole}},
-  form_meaning.specs.Finish.{missing_column, try_all},
+  meaning.specs.{Text.{Text}, Cell.{CellValue}, Fault.{FaultValue, wrong_kind, then_value}},
+  table_meaning.specs.{Settled.{IsSettled}, Table.{ColumnOf, NumberedTable, Table, column_at, column_value, heading_value, table_value}, Valid.{IsWhole}},
+  form_meaning.specs.Finish.{try_all},
   method_meaning.specs.Concat.{Concatenation, columns_below, column_or_missing, frame_column_below, series_below, table_below, finished_below, name_of_all},
   frame_store.specs.{Shown.{headings_value, columns_value}, World.{IsKnownTable}},
   selections.proofs.HeadingLaws.{head_settled, rest_settled},
@@ -16,7 +16,7 @@ only_column : (texts : List Text) (kind : Kind) (t : NumberedTable) → IsWhole 
 only_column texts kind t whole series = go t.columns (sym whole.headed ∙ whole.headings.single series)
   where
     go : (cs : List (ColumnOf Cell)) → length cs ≡ 1 → column_at (columns_value texts cs) 0 ≡ seen_or texts kind (slice_get cs 0) (length t.labels)
-    go [] one = absurd (omega (arith, one))
+    go [] one = search
     go (c ∷ cs) one = refl
 
 abbrev if_meet : {A : Type 0} → Bool → A → Result A FaultValue
@@ -26,19 +26,18 @@ module _ (texts : List Text) where
   only_columns : (kind : Kind) (ts : List NumberedTable) → AreKnownParts texts ts → AreOf Series ts → map (λ t. column_at t.columns 0) (parts_value texts ts) ≡ map (seen_in texts Only kind) ts
   only_columns kind [] known series = refl
   only_columns kind (t ∷ ts) known series =
-      λ i. only_column texts kind t (All-head (IsKnownTable texts) t ts known).whole (All-head (λ (t : NumberedTable). t.shape ≡ Series) t ts series) i
-      ∷ only_columns kind ts (All-tail (IsKnownTable texts) t _ known) (All-tail (λ (t : NumberedTable). t.shape ≡ Series) t _ series) i
+      λ i. only_column texts kind t (All-head (IsKnownTable texts) t ts known).whole (All-head (λ t. t.shape ≡ Series) t ts series) i
+      ∷ only_columns kind ts (All-tail (IsKnownTable texts) t _ known) (All-tail (λ t. t.shape ≡ Series) t _ series) i
 
   -- the column of Series
   series_columns : (t : NumberedTable) (ts : List NumberedTable) → AreKnownParts texts (t ∷ ts) → AreOf Series (t ∷ ts)
       → columns_below (map (λ t. column_at t.columns 0) (parts_value texts (t ∷ ts))) ≡ if_meet (kinds_meet (t ∷ ts) Only) (column_value texts (stacked (t ∷ ts) Only))
-  series_columns t ts known series = ap columns_below (only_columns (kind_sought Only (t ∷ ts)) (t ∷ ts) known series) ∙ columns_stacked_by texts Only t ts
+  series_columns t ts known series = cc (only_columns (kind_sought Only (t ∷ ts)) (t ∷ ts) known series, columns_stacked_by texts Only t ts)
 
   module _ (distinct : AreDistinct texts) where
     part_of_frame : (h : Option Label) (kind : Kind) (t : NumberedTable) → IsSettled heading_value texts h → IsKnownTable texts t
         → column_or_missing (heading_value texts h) kind (table_value texts t) ≡ seen_in texts (Under h) kind t
-    part_of_frame h kind t here known =
-        λ i. unwrap_or (column_under_seen _ h t distinct here known i) (missing_column kind (length-map t.labels (tuple_value texts) i))
+    part_of_frame h kind t here known = grind (arith, unwrap_or, column_under_seen, length-map)
 
     parts_of_frames : (h : Option Label) (kind : Kind) (ts : List NumberedTable) → IsSettled heading_value texts h → AreKnownParts texts ts → map (column_or_missing (heading_value texts h) kind) (parts_value texts ts) ≡ map (seen_in texts (Under h) kind) ts
     parts_of_frames h kind [] here known = refl
@@ -53,53 +52,34 @@ module _ (texts : List Text) where
         ∙ columns_stacked_by texts (Under h) t ts
 
     both_meet : (a b : Bool) (c : ColumnOf CellValue) (cs : List (ColumnOf CellValue)) → then_value (if_meet a c) (λ y. then_value (if_meet b cs) (λ ys. Ok (y ∷ ys))) ≡ if_meet (a && b) (c ∷ cs)
-    both_meet true true c cs = refl
-    both_meet a b c cs = refl
+    both_meet a b c cs = grind arith
 
     frame_columns : (t : NumberedTable) (ts : List NumberedTable) (hs : List (Option Label)) → IsSettled headings_value texts hs → AreKnownParts texts (t ∷ ts)
         → try_all (frame_column_below (parts_value texts (t ∷ ts))) (headings_value texts hs) ≡ if_meet (all_kinds_meet (t ∷ ts) Frame hs) (columns_value texts (columns_stacked (t ∷ ts) Frame hs))
     frame_columns t ts [] settled known = refl
-    frame_columns t ts (h ∷ hs) settled known =
-        (λ i. then_value (frame_column t _ h (head_settled heading_value texts h hs settled) known i) (λ y. then_value (frame_columns t ts hs (rest_settled heading_value texts h _ settled) known i) (λ ys. Ok (y ∷ ys))))
-        ∙ both_meet _ _ _ _
+    frame_columns t ts (h ∷ hs) settled known = search (frame_column, head_settled, rest_settled, both_meet, frame_columns t ts hs (rest_settled heading_value texts h _ settled) known)
 
     one_meets : (b : Bool) (c : ColumnOf CellValue) → then_value (if_meet b c) (λ column. Ok (column ∷ [])) ≡ if_meet (b && true) (c ∷ [])
-    one_meets true c = refl
-    one_meets false c = refl
+    one_meets x c = grind arith
 
     -- the columns that are meant, or kinds that don't meet
     pub columns_meant : (shape : Shape) (t : NumberedTable) (ts : List NumberedTable) (hs : List (Option Label)) → AreOf shape (t ∷ ts) → (shape ≡ Series → length hs ≡ 1) → IsSettled headings_value texts hs → AreKnownParts texts (t ∷ ts)
         → columns_made shape (parts_value texts (t ∷ ts)) (headings_value texts hs) ≡ if_meet (all_kinds_meet (t ∷ ts) shape hs) (columns_value texts (columns_stacked (t ∷ ts) shape hs))
-    columns_meant Frame t ts hs of one settled known = frame_columns t _ _ settled known
-    columns_meant Series t ts [] of one settled known = let none : 0 ≡ 1 = one refl in absurd (omega (arith, none))
-    columns_meant Series t ts (h ∷ g ∷ hs) of one settled known = let several : length (h ∷ g ∷ hs) ≡ 1 = one refl in absurd (omega (arith, several))
-    columns_meant Series t ts (h ∷ []) of one settled known =
-        ap (λ r. then_value r (λ column. Ok (column ∷ []))) (series_columns t _ known of) ∙ one_meets _ _
+    columns_meant Frame t ts hs of one settled known = search frame_columns
+    columns_meant Series t ts [] of one settled known = grind arith
+    columns_meant Series t ts (h ∷ g ∷ hs) of one settled known = grind arith
+    columns_meant Series t ts (h ∷ []) of one settled known = search (series_columns, one_meets)
 
     -- tables of columns that meet, and of such that don't
     pub made_of_columns : (shape : Shape) (t : NumberedTable) (ts : List NumberedTable) (c : Concatenation) (hs : List (Option Label)) → AreOf shape (t ∷ ts) → (shape ≡ Series → length hs ≡ 1) → IsSettled headings_value texts hs → AreKnownParts texts (t ∷ ts)
         → all_kinds_meet (t ∷ ts) shape hs ≡ true
         → table_made shape (parts_value texts (t ∷ ts)) c (headings_value texts hs) ≡ finished_below (table_below shape (parts_value texts (t ∷ ts)) c (headings_value texts hs) (columns_value texts (columns_stacked (t ∷ ts) shape hs)))
-    made_of_columns shape t ts c hs of one settled known meet =
-        let T = parts_value texts (t ∷ ts) in
-        let H = headings_value texts hs in
-        ap (λ r. then_value r (λ columns. finished_below (table_below shape T c H columns))) (columns_meant _ t _ _ of one settled known ∙ ap (λ b. if_meet b (columns_value texts (columns_stacked (t ∷ ts) shape hs))) meet)
+    made_of_columns shape t ts c hs of one settled known meet = grind (arith, columns_meant)
 
     pub made_of_none : (shape : Shape) (t : NumberedTable) (ts : List NumberedTable) (c : Concatenation) (hs : List (Option Label)) → AreOf shape (t ∷ ts) → (shape ≡ Series → length hs ≡ 1) → IsSettled headings_value texts hs → AreKnownParts texts (t ∷ ts)
         → all_kinds_meet (t ∷ ts) shape hs ≡ false → table_made shape (parts_value texts (t ∷ ts)) c (headings_value texts hs) ≡ Err wrong_kind
-    made_of_none shape t ts c hs of one settled known meet =
-        let T = parts_value texts (t ∷ ts) in
-        let H = headings_value texts hs in
-        ap (λ r. then_value r (λ columns. finished_below (table_below shape T c H columns))) (columns_meant _ t _ _ of one settled known ∙ ap (λ b. if_meet b (columns_value texts (columns_stacked (t ∷ ts) shape hs))) meet)
+    made_of_none shape t ts c hs of one settled known meet = grind (arith, columns_meant)
 
 -- Series are made as frames are
 pub series_made : (ts : List Table) (c : Concatenation) → series_below ts c ≡ table_made Series ts c (name_of_all (map (λ t. slice_index_or t.headings 0 None) ts) ∷ [])
-series_made ts c = go (columns_below (map (λ t. column_at t.columns 0) ts))
-  where
-    H : List (Option LabelValue)
-    H = name_of_all (map (λ t. slice_index_or t.headings 0 None) ts) ∷ []
-
-    go : (r : Result (ColumnOf CellValue) FaultValue) → then_value r (λ column. finished_below (table_below Series ts c H (column ∷ [])))
-        ≡ then_value (then_value r (λ column. Ok (column ∷ []))) (λ columns. finished_below (table_below Series ts c H columns))
-    go (Ok column) = refl
-    go (Err fault) = refl
+series_made ts c = grind arith

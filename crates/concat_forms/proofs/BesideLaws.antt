@@ -1,19 +1,18 @@
 -- Parts side by side are what is meant.
 use Rattle.{
-  std.{proofs.{Common.{◌≡◌, ◌∙◌, ◌<◌, ◌+◌, refl, ap, sym, subst, arith, ℕ, pos, nat_lt, Bool, true, false, List, [], ◌∷◌, ◌++◌, map, length, All, Option, Some, None, Result, Ok, Err, if◌then◌else◌}, lemmas.{List.{length-map, map-append, Elements.{All-nil, All-cons, All-head, All-tail}}, Bool.Decides.{nat_tests}}}, specs.{Prelude.{IsSome}, Option.{option_map}, List.{flat_map, range_with_len}, Cmp.Lexicographic.{pointwise}}},
+  std.{proofs.{Common.{◌≡◌, ◌∙◌, ◌<◌, ◌+◌, refl, ap, sym, arith, ℕ, pos, Bool, true, false, List, [], ◌∷◌, ◌++◌, map, length, All, Option, Some, None, Result, Ok, Err}, lemmas.{List.{length-map, map-append, Elements.{All-nil, All-cons, All-head, All-tail}}, Bool.Decides.{nat_tests}}}, specs.{Prelude.{IsSome}, Option.{option_map}, List.{flat_map, range_with_len}, Cmp.Lexicographic.{pointwise}}},
   cell_core.specs.{Texts.{AreDistinct}, declared.{cell.Label.{Label}, code.Code.TheVariants.{RepeatedLabel}}},
   meaning.specs.{Text.{Text}, Cell.{LabelValue, int}, FaultOf.{fault_of}},
-  align_meaning.specs.{Faults.{met_rows}, Joins.{most_rows}, Targets.{first_repeated as first_twice, rows_of_targets, reindexed, unless_repeated as unless_twice}},
-  join_meaning.specs.{Pairs.{or_else}, Concat.{united, are_equal, repeated_on_any, labels_concatenated, labels_within_limit, unless_repeated as unless_label, ConcatRefusal}},
+  align_meaning.specs.{Faults.{met_rows}, Joins.{most_rows}, Targets.{first_repeated as first_twice, reindexed}},
+  join_meaning.specs.{Pairs.{or_else}, Concat.{united, are_equal, repeated_on_any, labels_concatenated, unless_repeated as unless_label, ConcatRefusal}},
   table_meaning.specs.{Settled.{IsSettled}, Table.{NumberedTable, Table, heading_value, tuple_value}},
   form_meaning.specs.{Finish.{finished}, Infix.{same_tuple}},
-  method_meaning.specs.Concat.{Concatenation, rows_met, labels_of_tables, table_beside, unless_label_twice, headings_beside, numbered_from, first_numbers},
+  method_meaning.specs.Concat.{Concatenation, rows_met, labels_of_tables, table_beside, unless_label_twice, headings_beside, numbered_from},
   frame_store.{specs.{Shown.{labels_value, headings_value, Refuses}, World.{IsKnownTable}}, proofs.Settling.{settled_by, labels_part, headings_part}},
   form_parts.proofs.RowLaws.{tuple_by_number, tuples_settled, settled_tuples},
   selections.proofs.HeadingLaws.{repeated_seen},
   concat_forms.specs.{Parts.{parts_value, AreKnownParts}, Headings.{gets_number, numbered}, Beside.{met_beside}},
 }
-use Rattle.cell_core.specs.declared.cell.Label.TheVariants as label
 use Rattle.meaning.specs.Fault as fault
 use Rattle.join_meaning.specs.Concat as join
 use Rattle.row_keys.specs.Keys as numbers
@@ -22,78 +21,54 @@ use Rattle.concat_forms.proofs.SeenLaws as seen
 -- numbered headings, with their texts
 some_numbered : (texts : List Text) (n : ℕ) (hs : List (Option Label)) → headings_value texts (numbered false n hs) ≡ numbered_from n (headings_value texts hs)
 some_numbered texts n [] = refl
-some_numbered texts n (None ∷ hs) = ap (λ l. Some (int (pos n)) ∷ l) (some_numbered texts (n + 1) hs)
-some_numbered texts n (Some l ∷ hs) = ap (λ t. heading_value texts (Some l) ∷ t) (some_numbered texts n hs)
+some_numbered texts n (None ∷ hs) = cc (some_numbered texts (n + 1) hs)
+some_numbered texts n (Some l ∷ hs) = cc (some_numbered texts n hs)
 
 every_gets : (h : Option Label) → gets_number true h ≡ true
-every_gets None = refl
-every_gets (Some l) = refl
+every_gets x = grind arith
 
 every_numbered : (texts : List Text) (n : ℕ) (hs : List (Option Label)) → headings_value texts (numbered true n hs) ≡ map (λ k. Some (int (pos k))) (range_with_len n (length hs))
 every_numbered texts n [] = refl
-every_numbered texts n (h ∷ hs) =
-    ap (λ (b : Bool). headings_value texts (if b then Some (label.Int (pos n)) ∷ numbered true (n + 1) hs else h ∷ numbered true n hs)) (every_gets h)
-    ∙ ap (λ l. Some (int (pos n)) ∷ l) (every_numbered texts (n + 1) hs)
+every_numbered texts n (h ∷ hs) = cc (every_gets h, every_numbered texts (n + 1) hs)
 
 pub numbered_seen : (texts : List Text) (all : Bool) (hs : List (Option Label)) → headings_value texts (numbered all 0 hs) ≡ headings_beside all (headings_value texts hs)
-numbered_seen texts false hs = some_numbered _ 0 _
-numbered_seen texts true hs = every_numbered _ 0 _ ∙ ap (λ count. first_numbers count) (sym (length-map hs (heading_value texts)))
+numbered_seen texts x hs = grind (arith, some_numbered, every_numbered, length-map)
 
 pub numbered_given : (texts : List Text) (all : Bool) (hs : List (Option Label)) → IsSettled headings_value texts hs → IsSettled headings_value texts (numbered all 0 hs)
-numbered_given texts all hs settled = settled_by headings_value headings_value (headings_beside all) texts hs (numbered all 0 hs) (λ ts. sym (numbered_seen ts all hs)) settled
+numbered_given texts all hs settled = grind (arith, settled_by, numbered_seen)
 
 pub all_headings_seen : (texts : List Text) (parts : List NumberedTable) → headings_value texts (flat_map (λ t. t.headings) parts) ≡ flat_map (λ t. t.headings) (parts_value texts parts)
 all_headings_seen texts [] = refl
-all_headings_seen texts (t ∷ ts) = map-append (heading_value texts) t.headings (flat_map (λ t. t.headings) ts) ∙ ap (λ l. headings_value texts t.headings ++ l) (all_headings_seen texts ts)
+all_headings_seen texts (t ∷ ts) = search (map-append, all_headings_seen texts ts)
 
 pub all_headings_given : (texts : List Text) (parts : List NumberedTable) → AreKnownParts texts parts → IsSettled headings_value texts (flat_map (λ t. t.headings) parts)
 all_headings_given texts [] known = λ more. refl
 all_headings_given texts (t ∷ ts) known = λ more.
     map-append (heading_value (texts ++ more)) t.headings (flat_map (λ t. t.headings) ts)
     ∙ (λ i. headings_part texts t (All-head (IsKnownTable texts) t ts known).given more i ++ all_headings_given texts ts (All-tail (IsKnownTable texts) t ts known) more i)
-    ∙ sym (map-append (heading_value texts) t.headings (flat_map (λ t. t.headings) ts))
+    ∙ sym (search map-append)
 
 pub numbered_some : (hs : List (Option Label)) (n : ℕ) (all : Bool) → All IsSome (numbered all n hs)
 numbered_some [] n all = All-nil _
-numbered_some (None ∷ hs) n all = All-cons IsSome (Some (label.Int (pos n))) (numbered all (n + 1) hs) refl (numbered_some hs (n + 1) all)
-numbered_some (Some l ∷ hs) n true = All-cons IsSome (Some (label.Int (pos n))) (numbered true (n + 1) hs) refl (numbered_some hs (n + 1) true)
-numbered_some (Some l ∷ hs) n false = All-cons IsSome (Some l) (numbered false n hs) refl (numbered_some hs n false)
+numbered_some (None ∷ hs) n all = grind (arith, numbered_some hs (n + 1) all)
+numbered_some (Some l ∷ hs) n true = grind (arith, numbered_some hs (n + 1) true)
+numbered_some (Some l ∷ hs) n false = grind (arith, numbered_some hs n false)
 
 -- rows that labels take, where they are a part's own or stand once each
 pub meets_own : (own labels : List (List LabelValue)) → pointwise same_tuple own labels ≡ true → met_rows (reindexed same_tuple own labels) ≡ Ok (rows_met own labels)
-meets_own own labels equal =
-    ap (λ (b : Bool). met_rows (if b then Ok all else unless_twice (first_twice same_tuple own) found)) equal ∙ ap (λ (b : Bool). Ok (if b then all else found)) (sym equal)
-  where
-    all : List (Option ℕ)
-    all = map Some (range_with_len 0 (length own))
-
-    found : List (Option ℕ)
-    found = rows_of_targets same_tuple own labels
+meets_own own labels equal = grind arith
 
 pub meets_once : (own labels : List (List LabelValue)) → first_twice same_tuple own ≡ None → met_rows (reindexed same_tuple own labels) ≡ Ok (rows_met own labels)
-meets_once own labels once =
-    ap (λ (o : Option (List LabelValue)). met_rows (if pointwise same_tuple own labels then Ok all else unless_twice o found)) once ∙ go (pointwise same_tuple own labels)
-  where
-    all : List (Option ℕ)
-    all = map Some (range_with_len 0 (length own))
-
-    found : List (Option ℕ)
-    found = rows_of_targets same_tuple own labels
-
-    go : (b : Bool) → met_rows (if b then Ok all else unless_twice None found) ≡ Ok (if b then all else found)
-    go true = refl
-    go false = refl
+meets_once own labels once = grind arith
 
 first_none : {K : Type 0} (a b : Option K) → or_else a b ≡ None → a ≡ None
-first_none None b e = refl
-first_none (Some k) b e = cc
+first_none x b e = grind arith
 
 second_none : {K : Type 0} (a b : Option K) → or_else a b ≡ None → b ≡ None
-second_none None b e = e
-second_none (Some k) b e = cc
+second_none x b e = grind arith
 
 pub none_twice : (lists : List (List (List LabelValue))) → repeated_on_any same_tuple lists ≡ None → All (λ own. first_twice same_tuple own ≡ None) lists
-none_twice [] none = All-nil (λ own. first_twice same_tuple own ≡ None)
+none_twice [] none = grind arith
 none_twice (own ∷ lists) none =
     All-cons (λ own. first_twice same_tuple own ≡ None) _ _ (first_none _ _ none) (none_twice lists (second_none _ _ none))
 
@@ -103,7 +78,7 @@ numbered_labels parts = map (λ t. t.labels) parts
 
 labels_each : (texts : List Text) (parts : List NumberedTable) → labels_of_tables (parts_value texts parts) ≡ map (map (tuple_value texts)) (numbered_labels parts)
 labels_each texts [] = refl
-labels_each texts (t ∷ ts) = ap (λ l. labels_value texts t.labels ∷ l) (labels_each texts ts)
+labels_each texts (t ∷ ts) = cc (labels_each texts ts)
 
 labels_given : (texts : List Text) (parts : List NumberedTable) → AreKnownParts texts parts → All (All (IsSettled tuple_value texts)) (numbered_labels parts)
 labels_given texts [] known = All-nil _
@@ -149,36 +124,16 @@ module _ {K : Type 0} where
   is_made (Err refusal) = false
 
   ok_opened : (o : Option K) (u labels : List K) → unless_label o u ≡ Ok labels → (o ≡ None) × (labels ≡ u)
-  ok_opened (Some k) u labels is = no (ap is_made is)
-  ok_opened None u labels is = (refl, go (nat_lt most_rows (length u)) is)
-    where
-      go : (b : Bool) → (if b then refuses join.too_large else takes u) ≡ takes labels → labels ≡ u
-      go true e = no (ap is_made e)
-      go false e = sym (ap (made_or u) e)
+  ok_opened x u labels is = grind (arith, no)
 
   twice_opened : (o : Option K) (u : List K) (label : K) → unless_label o u ≡ Err (join.repeated_label label) → o ≡ Some label
-  twice_opened (Some k) u label is = ap (λ r. twice_in (refusal_or join.too_large r)) is
-  twice_opened None u label is = go (nat_lt most_rows (length u)) is
-    where
-      go : (b : Bool) → (if b then refuses join.too_large else takes u) ≡ refuses (join.repeated_label label) → None ≡ Some label
-      go true e = ap (λ r. twice_in (refusal_or join.too_large r)) e
-      go false e = no (sym (ap is_made e))
+  twice_opened x u label is = grind (arith, no)
 
   many_opened : (o : Option K) (u : List K) → unless_label o u ≡ Err join.too_large → (o ≡ None) × (most_rows < length u)
-  many_opened (Some k) u is = no (ap (λ r. is_large (refusal_or (join.repeated_label k) r)) is)
-  many_opened None u is = (refl, go (nat_lt most_rows (length u)) refl is)
-    where
-      go : (b : Bool) → nat_lt most_rows (length u) ≡ b → (if b then refuses join.too_large else takes u) ≡ refuses join.too_large → most_rows < length u
-      go true there e = grind (arith, nat_tests, there)
-      go false there e = no (sym (ap is_made e))
+  many_opened x u is = grind (arith, no, nat_tests)
 
   mixed_opened : (o : Option K) (u : List K) → unless_label o u ≡ Err join.mixed_kinds → ⊥
-  mixed_opened (Some k) u is = no (ap (λ r. is_mixed (refusal_or join.too_large r)) is)
-  mixed_opened None u is = go (nat_lt most_rows (length u)) is
-    where
-      go : (b : Bool) → (if b then refuses join.too_large else takes u) ≡ refuses join.mixed_kinds → ⊥
-      go true e = no (ap (λ r. is_mixed (refusal_or join.too_large r)) e)
-      go false e = no (sym (ap is_made e))
+  mixed_opened x u is = grind (arith, no)
 
 module _ (texts : List Text) (distinct : AreDistinct texts) (parts : List NumberedTable) (known : AreKnownParts texts parts) where
   abbrev P : List Label → Type 0
@@ -191,16 +146,13 @@ module _ (texts : List Text) (distinct : AreDistinct texts) (parts : List Number
   by_number x y f g = tuple_by_number _ x y distinct f g
 
   pub equal_labels : are_equal same_tuple (labels_of_tables T) ≡ are_equal numbers.same_tuple (numbered_labels parts)
-  equal_labels =
-      ap (are_equal same_tuple) (labels_each texts parts) ∙ seen.equal_seen (tuple_value texts) P numbers.same_tuple same_tuple by_number (numbered_labels parts) (labels_given _ _ known)
+  equal_labels = cc (labels_each texts parts, seen.equal_seen (tuple_value texts) P numbers.same_tuple same_tuple by_number (numbered_labels parts) (labels_given _ _ known))
 
   pub twice_labels : repeated_on_any same_tuple (labels_of_tables T) ≡ option_map (tuple_value texts) (repeated_on_any numbers.same_tuple (numbered_labels parts))
-  twice_labels =
-      ap (repeated_on_any same_tuple) (labels_each texts parts) ∙ seen.repeated_seen (tuple_value texts) P numbers.same_tuple same_tuple by_number (numbered_labels parts) (labels_given _ _ known)
+  twice_labels = cc (labels_each texts parts, seen.repeated_seen (tuple_value texts) P numbers.same_tuple same_tuple by_number (numbered_labels parts) (labels_given _ _ known))
 
   pub united_labels : (inner : Bool) → united same_tuple inner (labels_of_tables T) ≡ labels_value texts (united numbers.same_tuple inner (numbered_labels parts))
-  united_labels inner =
-      ap (united same_tuple inner) (labels_each _ _) ∙ seen.united_seen (tuple_value texts) P numbers.same_tuple same_tuple by_number inner (numbered_labels parts) (labels_given _ _ known)
+  united_labels inner = cc (labels_each _ _, seen.united_seen (tuple_value texts) P numbers.same_tuple same_tuple by_number inner (numbered_labels parts) (labels_given _ _ known))
 
   pub united_labels_given : (inner : Bool) → IsSettled labels_value texts (united numbers.same_tuple inner (numbered_labels parts))
   united_labels_given inner = settled_tuples _ _ (seen.united_all P numbers.same_tuple inner (numbered_labels parts) (labels_given _ _ known))
@@ -217,25 +169,25 @@ module _ (texts : List Text) (distinct : AreDistinct texts) (parts : List Number
     all_labels = united numbers.same_tuple c.inner (numbered_labels parts)
 
     chosen : labels_concatenated numbers.same_tuple c.inner (numbered_labels parts) ≡ unless_label twice all_labels
-    chosen = ap (λ (b : Bool). if b then labels_within_limit (join.first_axis (numbered_labels parts)) else unless_label twice all_labels) apart
+    chosen = search
 
     meant : (o : Option (List Label)) → twice ≡ o → met_beside T c ≡ unless_label_twice (option_map (tuple_value texts) o) (finished (table_beside T c.renumbered (labels_value texts all_labels)))
-    meant o is = λ i. unless_label_twice ((twice_labels ∙ ap (option_map (tuple_value texts)) is) i) (finished (table_beside T c.renumbered (united_labels c.inner i)))
+    meant o is = grind (arith, twice_labels, united_labels)
 
     -- the labels
     pub met_labels : (labels : List (List Label)) → labels_concatenated numbers.same_tuple c.inner (numbered_labels parts) ≡ Ok labels → labels ≡ united numbers.same_tuple c.inner (numbered_labels parts)
     met_labels labels is = (ok_opened _ _ _ (sym chosen ∙ is)).1
 
     pub met_once : (labels : List (List Label)) → labels_concatenated numbers.same_tuple c.inner (numbered_labels parts) ≡ Ok labels → repeated_on_any same_tuple (labels_of_tables T) ≡ None
-    met_once labels is = twice_labels ∙ ap (option_map (tuple_value texts)) (ok_opened _ _ _ (sym chosen ∙ is)).0
+    met_once labels is = grind (arith, twice_labels, ok_opened, chosen)
 
     pub met_found : (labels : List (List Label)) → labels_concatenated numbers.same_tuple c.inner (numbered_labels parts) ≡ Ok labels → met_beside T c ≡ finished (table_beside T c.renumbered (labels_value texts labels))
     met_found labels is =
         let opened = ok_opened _ _ _ (sym chosen ∙ is) in
-        meant _ opened.0 ∙ ap (λ l. finished (table_beside T c.renumbered (labels_value texts l))) (sym opened.1)
+        cc (meant _ opened.0, opened.1)
 
     pub met_given : (labels : List (List Label)) → labels_concatenated numbers.same_tuple c.inner (numbered_labels parts) ≡ Ok labels → IsSettled labels_value texts labels
-    met_given labels is = subst (IsSettled labels_value texts) (sym (ok_opened _ _ _ (sym chosen ∙ is)).1) (united_labels_given _)
+    met_given labels is = grind (arith, ok_opened, chosen, united_labels_given)
 
     -- a label that stands twice
     pub met_twice : (label : List Label) → labels_concatenated numbers.same_tuple c.inner (numbered_labels parts) ≡ Err (join.repeated_label label) → Refuses texts (RepeatedLabel label) (met_beside T c)
@@ -246,8 +198,8 @@ module _ (texts : List Text) (distinct : AreDistinct texts) (parts : List Number
         → (met_beside T c ≡ finished (table_beside T c.renumbered (labels_value texts all_labels))) × (most_rows < length (labels_value texts all_labels))
     met_many is =
         let opened = many_opened _ _ (sym chosen ∙ is) in
-        let count : length (labels_value texts all_labels) ≡ length all_labels = length-map all_labels (tuple_value texts) in
+        let count : length (labels_value texts all_labels) ≡ length all_labels = search length-map in
         (meant _ opened.0, omega (arith, opened.1, count))
 
     pub never_mixed : labels_concatenated numbers.same_tuple c.inner (numbered_labels parts) ≡ Err join.mixed_kinds → ⊥
-    never_mixed is = mixed_opened twice all_labels (sym chosen ∙ is)
+    never_mixed is = grind (arith, mixed_opened, chosen)

@@ -1,23 +1,23 @@
 -- Columns of parts, one below the other.
 use Rattle.{
-  std.{proofs.{lemmas.{Option.{same_Some}, List.{length-map, length-replicate, map-append, take_more, Elements.{All-head, All-tail}, Quantifiers.{position-Some}, Concat.{length-flat_map}}, Bool.Decides.{nat_tests}}, Common.{◌≡◌, ◌∙◌, ◌<◌, ◌≤◌, ◌+◌, ◌^◌, refl, ap, sym, subst, ℕ, zero, suc, Bool, true, false, ◌&&◌, List, [], ◌∷◌, ◌++◌, map, fold, take, length, replicate, unwrap_or, slice_index_or, All, Option, Some, None, Result, Ok, Err, nat_lt, if◌then◌else◌, arith}}, specs.{Prelude.{slice_get, position}, Option.{option_map}, List.{list_all, flat_map}}},
+  std.{proofs.{lemmas.{Option.{same_Some}, List.{length-map, length-replicate, map-append, take_more, Elements.{All-head, All-tail}, Quantifiers.{position-Some}, Concat.{length-flat_map}}, Bool.Decides.{nat_tests}}, Common.{◌≡◌, ◌∙◌, ◌<◌, ◌≤◌, ◌+◌, ◌^◌, refl, ap, sym, ℕ, zero, suc, true, false, ◌&&◌, List, [], ◌∷◌, ◌++◌, map, fold, take, length, replicate, unwrap_or, slice_index_or, All, Option, Some, None, Result, Ok, Err, nat_lt, if◌then◌else◌, arith}}, specs.{Prelude.{slice_get}, Option.{option_map}, List.{list_all, flat_map}}},
   cell_core.specs.declared.{cell.{Cell.{Cell, TheVariants.{Na}}, Kind.{Kind}, Label.{Label}}, grid.Shape.{Shape}},
   meaning.specs.{Text.{Text}, Cell.{CellValue, na_cell, datum}, Column.{ColumnValue}, Fault.{wrong_kind}},
   column_core.specs.{Columns.{CellColumn, column_value as seen_column}, Blocks.{CellBlock}},
   align_meaning.specs.Joins.{most_rows},
   join_meaning.specs.Concat.{same_kind, column_below, column_within_limit, rows_concatenated, ConcatRefusal, too_large},
-  table_meaning.{specs.{Table.{ColumnOf, NumberedTable, column_at, no_column, column_value}, Valid.{IsWhole}}, proofs.KindLaws.{kind_itself}},
-  form_meaning.specs.{Finish.{missing_column, value_of_column, column_of_value}, Make.{on}},
+  table_meaning.{specs.{Table.{ColumnOf, NumberedTable, column_value}, Valid.{IsWhole}}, proofs.KindLaws.{kind_itself}},
+  form_meaning.specs.Finish.{missing_column, value_of_column},
   frame_store.specs.{Parts.{table_column, block_column}, Shown.{columns_value}},
   form_parts.specs.Makes.{blocks_value},
   method_meaning.specs.Concat.{columns_below},
-  merge_concat.specs.{Concats.{ConcatsBy}, declared.{fault.MergeFault.{MergeFault, TheVariants.{NotOneToOne, DuplicateLabels, MixedKinds, TooLarge, NoMemory}}, parts.Part.{Part}}, Parts.{part_column}},
-  concat_forms.specs.{declared.parts.Sought.{Sought, TheVariants.{Only, Under}}, Parts.{column_sought, same_heading}, Columns.{kind_sought, fits_kind, kinds_meet, piece_from, piece_of, cells_or_missing, sought_by, stacked, columns_stacked, rows_in}},
+  merge_concat.specs.{Concats.{ConcatsBy}, declared.{fault.MergeFault.{MergeFault, TheVariants.{NoMemory}}, parts.Part.{Part}}, Parts.{part_column}},
+  concat_forms.specs.{declared.parts.Sought.{Sought, TheVariants.{Only, Under}}, Parts.{column_sought}, Columns.{kind_sought, fits_kind, kinds_meet, piece_from, piece_of, cells_or_missing, sought_by, stacked, columns_stacked, rows_in}},
 }
 
 missing_seen : (texts : List Text) (n : ℕ) → map (datum texts) (replicate n Na) ≡ replicate n na_cell
 missing_seen texts zero = refl
-missing_seen texts (suc n) = ap (λ l. na_cell ∷ l) (missing_seen texts n)
+missing_seen texts (suc n) = cc (missing_seen texts n)
 
 -- a part's column or missing cells, as the kernel takes it and with its texts
 abbrev kept_or : Kind → Option (ColumnOf Cell) → ℕ → ColumnOf Cell
@@ -34,12 +34,11 @@ cells_seen texts kind None n = sym (missing_seen _ n)
 cells_seen texts kind (Some c) n = refl
 
 kind_fits : (texts : List Text) (kind : Kind) (o : Option (ColumnOf Cell)) (n : ℕ) → same_kind kind (seen_or texts kind o n).kind ≡ fits_kind kind o
-kind_fits texts kind None n = kind_itself _
-kind_fits texts kind (Some c) n = refl
+kind_fits texts kind x n = grind (arith, kind_itself)
 
 -- what the kernel puts together is what is meant
 piece_seen : (texts : List Text) (kind : Kind) (o : Option (ColumnOf Cell)) (n : ℕ) → seen_column texts (part_column kind (piece_from o n)) ≡ value_of_column (seen_or texts kind o n)
-piece_seen texts kind None n = ap (λ cells. record { kind = kind; cells = cells }) (missing_seen _ n)
+piece_seen texts kind None n = search missing_seen
 piece_seen texts kind (Some c) n = refl
 
 module _ (texts : List Text) (sought : Sought) where
@@ -48,26 +47,22 @@ module _ (texts : List Text) (sought : Sought) where
 
   pub pieces_seen : (kind : Kind) (ts : List NumberedTable) → map (λ part. seen_column texts (part_column kind part)) (map (piece_of sought) ts) ≡ map value_of_column (map (seen_in kind) ts)
   pieces_seen kind [] = refl
-  pieces_seen kind (t ∷ ts) = λ i. piece_seen texts kind (column_sought sought t) (length t.labels) i ∷ pieces_seen kind ts i
+  pieces_seen kind (t ∷ ts) = search (piece_seen, pieces_seen kind ts)
 
   all_cells : (kind : Kind) (ts : List NumberedTable) → flat_map (λ c. c.cells) (map value_of_column (map (seen_in kind) ts)) ≡ map (datum texts) (flat_map (cells_or_missing sought) ts)
   all_cells kind [] = refl
-  all_cells kind (t ∷ ts) =
-      (λ i. cells_seen texts kind (column_sought sought t) (length t.labels) i ++ all_cells kind ts i)
-      ∙ sym (map-append (datum texts) (cells_or_missing sought t) (flat_map (cells_or_missing sought) ts))
+  all_cells kind (t ∷ ts) = search (cells_seen, map-append, all_cells kind ts)
 
   -- the first part has the kind, and is of it
   first_kind : (o : Option (ColumnOf Cell)) (n : ℕ) (rest : Kind) → (seen_or texts (unwrap_or (option_map (λ c. c.kind) o) rest) o n).kind ≡ unwrap_or (option_map (λ c. c.kind) o) rest
-  first_kind None n rest = refl
-  first_kind (Some c) n rest = refl
+  first_kind x n rest = grind arith
 
   first_fits : (o : Option (ColumnOf Cell)) (rest : Kind) → fits_kind (unwrap_or (option_map (λ c. c.kind) o) rest) o ≡ true
-  first_fits None rest = refl
-  first_fits (Some c) rest = kind_itself _
+  first_fits x rest = grind (arith, kind_itself)
 
   others_fit : (kind : Kind) (ts : List NumberedTable) → list_all (λ other. same_kind kind other.kind) (map value_of_column (map (seen_in kind) ts)) ≡ list_all (λ t. fits_kind kind (column_sought sought t)) ts
   others_fit kind [] = refl
-  others_fit kind (t ∷ ts) = λ i. kind_fits texts kind (column_sought sought t) (length t.labels) i && others_fit kind ts i
+  others_fit kind (t ∷ ts) = search (kind_fits, others_fit kind ts)
 
   module _ (t : NumberedTable) (ts : List NumberedTable) where
     abbrev K : Kind
@@ -81,39 +76,28 @@ module _ (texts : List Text) (sought : Sought) where
         let o = column_sought sought t in
         let n = length t.labels in
         let first = first_kind o n _ in
-        let meet : list_all (λ other. same_kind (seen_in K t).kind other.kind) (map value_of_column (map (seen_in K) ts)) ≡ kinds_meet (t ∷ ts) sought
-        = ap (λ (k : Kind). list_all (λ other. same_kind k other.kind) (map value_of_column (map (seen_in K) ts))) first ∙ others_fit K _ ∙ ap (λ b. b && list_all (λ s. fits_kind K (column_sought sought s)) ts) (sym (first_fits o _)) in
+        let meet = ap (λ k. list_all (λ other. same_kind k other.kind) (map value_of_column (map (seen_in K) ts))) first ∙ others_fit K _ ∙ ap (λ b. b && list_all (λ s. fits_kind K (column_sought sought s)) ts) (sym (first_fits o _)) in
         λ i. if meet i then Some record { kind = first i; cells = all_cells K (t ∷ ts) i } else None
 
     -- the column that is meant, or columns of different kinds
     pub columns_stacked_by : columns_below (map (seen_in K) (t ∷ ts)) ≡ (if kinds_meet (t ∷ ts) sought then Ok (column_value texts (stacked (t ∷ ts) sought)) else Err wrong_kind)
-    columns_stacked_by = ap (λ o. on o (λ c. Ok (column_of_value c))) put_together ∙ go (kinds_meet (t ∷ ts) sought)
-      where
-        go : (b : Bool) → on (if b then Some whole else None) (λ c. Ok (column_of_value c)) ≡ (if b then Ok (column_value texts (stacked (t ∷ ts) sought)) else Err wrong_kind)
-        go true = refl
-        go false = refl
+    columns_stacked_by = grind (arith, put_together)
 
 -- the columns that are sought are as long as their parts
 column_long : (sought : Sought) (t : NumberedTable) → IsWhole t → (o : Option (ColumnOf Cell)) → column_sought sought t ≡ o → length (cells_or o (length t.labels)) ≡ length t.labels
-column_long sought t fits None is = length-replicate (length t.labels) Na
+column_long sought t fits None is = search length-replicate
 column_long Only t fits (Some c) is = first t.columns fits.filled is
   where
     first : (cs : List (ColumnOf Cell)) → All (λ c. length c.cells ≡ length t.labels) cs → slice_get cs 0 ≡ Some c → length c.cells ≡ length t.labels
     first [] all e = cc
-    first (d ∷ ds) all e = subst (λ (x : ColumnOf Cell). length x.cells ≡ length t.labels) (same_Some d c e) (All-head (λ (c : ColumnOf Cell). length c.cells ≡ length t.labels) d ds all)
-column_long (Under h) t fits (Some c) is = at (position (same_heading h) t.headings) refl is
-  where
-    at : (p : Option ℕ) → position (same_heading h) t.headings ≡ p → option_map (column_at t.columns) p ≡ Some c → length c.cells ≡ length t.labels
-    at None found e = cc
-    at (Some k) found e =
-        let inside = (position-Some (same_heading h) t.headings k None found).0 in
-        ap (λ (x : ColumnOf Cell). length x.cells) (sym (same_Some (column_at t.columns k) c e)) ∙ fits.filled k no_column (omega (arith, inside, fits.headed))
+    first (d ∷ ds) all e = cc (same_Some d c e, All-head (λ c. length c.cells ≡ length t.labels) d ds all)
+column_long (Under h) t fits (Some c) is = grind (arith, position-Some, same_Some)
 
 sum_alike : (sought : Sought) (a : ℕ) (ts : List NumberedTable) → All IsWhole ts → fold (λ a t. a + length (cells_or_missing sought t)) a ts ≡ fold (λ a t. a + length t.labels) a ts
 sum_alike sought a [] all = refl
 sum_alike sought a (t ∷ ts) all =
     let here : length (cells_or_missing sought t) ≡ length t.labels = column_long _ t (All-head IsWhole t _ all) _ refl in
-    ap (λ n. fold (λ a t. a + length (cells_or_missing sought t)) (a + n) ts) here ∙ sum_alike sought (a + length t.labels) ts (All-tail IsWhole t _ all)
+    cc (sum_alike sought (a + length t.labels) ts (All-tail IsWhole t _ all))
 
 pub lengths : (sought : Sought) (ts : List NumberedTable) → All IsWhole ts → length (flat_map (cells_or_missing sought) ts) ≡ rows_in ts
 lengths sought ts all = length-flat_map (cells_or_missing sought) ts ∙ sum_alike sought 0 ts all
@@ -127,19 +111,19 @@ pub rows_stacked : (K : Type 0) (texts : List Text) (sought : Sought) (ts : List
 rows_stacked K texts sought [] meet all few = refl
 rows_stacked K texts sought (t ∷ ts) meet all few =
     let cells = map (datum texts) (flat_map (cells_or_missing sought) (t ∷ ts)) in
-    let count : length cells ≡ rows_in (t ∷ ts) = length-map (flat_map (cells_or_missing sought) (t ∷ ts)) (datum texts) ∙ lengths sought (t ∷ ts) all in
+    let count : length cells ≡ rows_in (t ∷ ts) = search (length-map, lengths) in
     let kind = kind_sought sought (t ∷ ts) in
     let made : ColumnValue = record { kind = kind; cells = cells } in
     ap (λ cs. column_within_limit (column_below cs)) (pieces_seen texts sought kind (t ∷ ts))
     ∙ ap (λ o. column_within_limit o) (put_together _ _ t _)
-    ∙ ap (λ (b : Bool). column_within_limit {K = K} (if b then Some made else None)) meet
-    ∙ ap (λ (b : Bool). if b then Err too_large else Ok made) (ap (λ n. nat_lt most_rows n) count ∙ few_enough _ few)
+    ∙ ap (λ b. column_within_limit (if b then Some made else None)) meet
+    ∙ ap (λ b. if b then Err too_large else Ok made) (ap (λ n. nat_lt most_rows n) count ∙ few_enough _ few)
 
 -- what the kernel makes of the parts' columns
 stacked_told : (K : Type 0) (texts : List Text) (sought : Sought) (ts : List NumberedTable) (kind : Kind) (pieces : List Part) → kinds_meet ts sought ≡ true → All IsWhole ts → rows_in ts ≤ 2 ^ 26 → kind ≡ kind_sought sought ts → pieces ≡ map (piece_of sought) ts
     → rows_concatenated {K = K} (map (λ part. seen_column texts (part_column kind part)) pieces) ≡ Ok record { kind = kind_sought sought ts; cells = map (datum texts) (flat_map (cells_or_missing sought) ts) }
 stacked_told K texts sought ts kind pieces meet all few same listed =
-    (λ i. rows_concatenated {K = K} (map (λ part. seen_column texts (part_column (same i) part)) (listed i))) ∙ rows_stacked K _ _ _ meet all few
+    (λ i. rows_concatenated (map (λ part. seen_column texts (part_column (same i) part)) (listed i))) ∙ rows_stacked K _ _ _ meet all few
 
 abbrev given : {A E : Type 0} → A → Result A E
 given a = Ok a
@@ -152,8 +136,7 @@ made_or_not a e is = cc
 
 pub stacked_is : (texts : List Text) (sought : Sought) (ts : List NumberedTable) (kind : Kind) (pieces : List Part) (column : CellColumn) → kinds_meet ts sought ≡ true → All IsWhole ts → rows_in ts ≤ 2 ^ 26 → kind ≡ kind_sought sought ts → pieces ≡ map (piece_of sought) ts
     → rows_concatenated {K = List Label} (map (λ part. seen_column texts (part_column kind part)) pieces) ≡ Ok (seen_column texts column) → column_value texts (table_column column) ≡ column_value texts (stacked ts sought)
-stacked_is texts sought ts kind pieces column meet all few same listed is =
-    ap column_of_value (ok_same _ _ (sym is ∙ stacked_told _ _ _ _ _ _ meet all few same listed))
+stacked_is texts sought ts kind pieces column meet all few same listed is = grind (arith, ok_same, stacked_told)
 
 pub never_refused : (sought : Sought) (ts : List NumberedTable) (kind : Kind) (pieces : List Part) (refusal : ConcatRefusal (List Label)) → kinds_meet ts sought ≡ true → All IsWhole ts → rows_in ts ≤ 2 ^ 26 → kind ≡ kind_sought sought ts → pieces ≡ map (piece_of sought) ts
     → rows_concatenated {K = List Label} (map (λ part. seen_column [] (part_column kind part)) pieces) ≡ Err refusal → ⊥
@@ -164,9 +147,8 @@ pub one_more_stacked : (texts : List Text) (ts : List NumberedTable) (shape : Sh
     → sought ≡ sought_by shape h → column_value texts (table_column column) ≡ column_value texts (stacked ts sought) → block ≡ record { kind = column.kind; rows = length column.cells; columns = column.cells ∷ [] } → made' ≡ made ++ block ∷ []
     → blocks_value texts made ≡ columns_value texts (columns_stacked ts shape (take k hs)) → blocks_value texts made' ≡ columns_value texts (columns_stacked ts shape (take (k + 1) hs))
 one_more_stacked texts ts shape hs k h sought made made' block column lt at by here boxed pushed so_far =
-    let this : column_value texts (block_column block) ≡ column_value texts (stacked ts (sought_by shape (slice_index_or hs k None))) =
-    ap (λ b. column_value texts (block_column b)) boxed ∙ here ∙ ap (λ s. column_value texts (stacked ts s)) (by ∙ ap (sought_by shape) at) in
-    rw (pushed, map-append, map-append, so_far, this, take_more hs k None lt, map-append, map-append)
+    let this : column_value texts (block_column block) ≡ column_value texts (stacked ts (sought_by shape (slice_index_or hs k None))) = cc in
+    grind (arith, map-append, take_more hs k None lt)
 
 -- no other refusal than want of memory
 abbrev failed : MergeFault → Result CellColumn MergeFault
@@ -174,12 +156,4 @@ failed fault = Err fault
 
 pub never_fault : (sought : Sought) (ts : List NumberedTable) (kind : Kind) (pieces : List Part) (r : Result CellColumn MergeFault) (fault : MergeFault) → kinds_meet ts sought ≡ true → All IsWhole ts → rows_in ts ≤ 2 ^ 26 → kind ≡ kind_sought sought ts → pieces ≡ map (piece_of sought) ts
     → ConcatsBy (seen_column []) r (rows_concatenated (map (λ part. seen_column [] (part_column kind part)) pieces)) → r ≡ Err fault → (fault ≡ NoMemory → ⊥) → ⊥
-never_fault sought ts kind pieces r fault meet all few same listed told is other =
-    go fault other (subst (λ (x : Result CellColumn MergeFault). ConcatsBy (seen_column []) x (rows_concatenated (map (λ part. seen_column [] (part_column kind part)) pieces))) is told)
-  where
-    go : (fault : MergeFault) → (fault ≡ NoMemory → ⊥) → ConcatsBy (seen_column []) (failed fault) (rows_concatenated (map (λ part. seen_column [] (part_column kind part)) pieces)) → ⊥
-    go (NotOneToOne side key) other told = told
-    go (DuplicateLabels label) other told = never_refused _ _ _ _ _ meet all few same listed told
-    go MixedKinds other told = never_refused _ _ _ _ _ meet all few same listed told
-    go TooLarge other told = never_refused _ _ _ _ _ meet all few same listed told
-    go NoMemory other told = other refl
+never_fault sought ts kind pieces r fault meet all few same listed told is other = grind (arith, never_refused)

@@ -1,38 +1,37 @@
 -- The frame of parts side by side.
 use Rattle.{
-  concat_forms.{proofs.{TableLaws.{many_rows}, NameLaws.{level_names_by}, BesideLaws.{numbered_seen, numbered_given, all_headings_seen, all_headings_given, numbered_some}}, specs.{declared.parts.Naming.TheVariants.{Columns}, Parts.{parts_value, name_at, AreKnownParts}, Headings.{gets_number, numbered}, Axes.{levels_of, names_of_levels, named_after}, Beside.{AreBlocks}}},
-  std.{proofs.{Common.{◌≡◌, ◌∙◌, ◌<◌, ◌+◌, ◌^◌, ◌-◌, refl, ap, sym, arith, ℕ, suc, Bool, true, false, List, [], ◌∷◌, ◌++◌, map, take, length, slice_index_or, pos, All, Option, Some, None, Result, Ok, Err, if◌then◌else◌}, lemmas.List.{length-map, length-append, map-append, append_assoc, append-nil, take_more, Elements.{All-nil, All-cons, All-head, All-tail}}}, specs.List.{flat_map}},
+  concat_forms.{proofs.{TableLaws.{many_rows}, NameLaws.{level_names_by}, BesideLaws.{numbered_seen, numbered_given, all_headings_seen, all_headings_given, numbered_some}}, specs.{declared.parts.Naming.TheVariants.{Columns}, Parts.{parts_value, name_at, AreKnownParts}, Headings.{numbered}, Axes.{levels_of, named_after}, Beside.{AreBlocks}}},
+  std.{proofs.{Common.{◌≡◌, ◌∙◌, ◌<◌, ◌+◌, ◌^◌, refl, ap, sym, arith, ℕ, suc, Bool, true, false, List, [], ◌∷◌, ◌++◌, map, take, length, slice_index_or, All, Option, None, Result, Ok, Err, if◌then◌else◌}, lemmas.List.{length-map, length-append, map-append, append_assoc, append-nil, take_more, Elements.{All-head, All-tail}}}, specs.List.{flat_map}},
   cell_core.specs.{Texts.{AreDistinct, AreGiven}, declared.{cell.{Cell.{Cell, TheVariants.{Na}}, Label.{Label}}, grid.Shape.TheVariants.{Frame}}},
   column_core.specs.{Blocks.{CellBlock}, Moves.{IsPlaceOf}},
   align_meaning.proofs.OrderLaws.{all_append},
   meaning.specs.{Text.{Text}, Cell.{LabelValue, na_cell}, Fault.{FaultValue, limit, then_value}, FaultOf.{fault_of}},
   multi_index.specs.Axes.{AxisValue},
   table_meaning.specs.{Settled.{IsSettled}, Table.{ColumnOf, NumberedTable, Table, column_value, heading_value, table_value}, Valid.{IsWhole}, Value.{Entry, table}},
-  form_meaning.specs.{Finish.{finished, limited, first_repeated, unless_repeated, within_limits}, Infix.{on_rows}},
+  form_meaning.specs.{Finish.{finished, limited, unless_repeated, within_limits}, Infix.{on_rows}},
   form_parts.{proofs.GapLaws.{on_rows_seen, on_rows_given}, specs.Makes.{blocks_value}},
-  method_meaning.specs.Concat.{rows_met, columns_beside, table_beside, headings_beside, level_names_of_all, name_of_all},
+  method_meaning.specs.Concat.{rows_met, columns_beside, table_beside, level_names_of_all, name_of_all},
   frame_store.{specs.{Parts.{HeadingList, IsSingle, HaveRows, columns_of, table_with}, Shown.{labels_value, headings_value, columns_value, Makes}, World.{IsKnownTable}, declared.fault.OpFault.{OpFault, TheVariants.{Refused, NoMemory}}}, proofs.Settling.{columns_part, columns_given, columns_settled, table_settled}},
   selections.{specs.Headings.{NamesRepeated, repeated_heading}, proofs.{HeadingLaws.{repeated_seen, different}, RefusalLaws.{repeated_settled}}},
 }
-use Rattle.cell_core.specs.declared.cell.Label.TheVariants as label
 
 -- the columns of one part more
 rows_long : (rows : List (Option ℕ)) (cs : List (ColumnOf Cell)) → HaveRows (length rows) (on_rows Na rows cs)
-rows_long rows [] = All-nil (λ (c : ColumnOf Cell). length c.cells ≡ length rows)
-rows_long rows (c ∷ cs) = All-cons (λ (c : ColumnOf Cell). length c.cells ≡ length rows) _ _ (length-map rows _) (rows_long rows cs)
+rows_long rows [] = grind arith
+rows_long rows (c ∷ cs) = grind (arith, length-map, rows_long rows cs)
 
 one_more : {A B : Type 0} (f : A → List B) (xs : List A) (x : A) → flat_map f xs ++ f x ≡ flat_map f (xs ++ x ∷ [])
 one_more f [] x = sym (append-nil (f x))
-one_more f (y ∷ ys) x = append_assoc (f y) (flat_map f ys) (f x) ∙ ap (λ l. f y ++ l) (one_more f ys x)
+one_more f (y ∷ ys) x = search (append_assoc, one_more f ys x)
 
 pub part_added : (texts : List Text) (t : NumberedTable) (rows : List (Option ℕ)) (before made : List CellBlock) → IsKnownTable texts t → All (IsPlaceOf (length t.labels)) rows → AreBlocks texts (length rows) before
     → All IsSingle made → columns_of made ≡ columns_of before ++ on_rows Na rows t.columns → AreBlocks texts (length rows) made
 part_added texts t rows before made known inside so_far single is = record {
   single = single;
-  filled = rw is (all_append (λ (c : ColumnOf Cell). length c.cells ≡ length rows) _ _ so_far.filled (rows_long _ _));
+  filled = rw is (all_append (λ c. length c.cells ≡ length rows) _ _ so_far.filled (rows_long _ _));
   given = rw is
-      (all_append (λ (c : ColumnOf Cell). AreGiven texts c.cells) _ _ so_far.given
-      (on_rows_given _ _ _ _ known.whole.filled inside (columns_given _ _ (columns_part _ t known.given))));
+      (all_append (λ c. AreGiven texts c.cells) _ _ so_far.given
+      (search (on_rows_given, columns_given, columns_part)));
 }
 
 pub columns_added : (texts : List Text) (labels : List (List LabelValue)) (ts : List NumberedTable) (k : ℕ) (t : NumberedTable) (rows : List (Option ℕ)) (before made : List CellBlock) → k < length ts → t ≡ slice_index_or ts k t → rows ≡ rows_met (labels_value texts t.labels) labels
@@ -48,11 +47,7 @@ columns_added texts labels ts k t rows before made lt at met is so_far =
 -- how many columns there are
 numbered_count : (all : Bool) (n : ℕ) (hs : List (Option Label)) → length (numbered all n hs) ≡ length hs
 numbered_count all n [] = refl
-numbered_count all n (h ∷ hs) = go (gets_number all h) (numbered_count all (n + 1) hs) (numbered_count all n hs)
-  where
-    go : (b : Bool) → length (numbered all (n + 1) hs) ≡ length hs → length (numbered all n hs) ≡ length hs → length (if b then Some (label.Int (pos n)) ∷ numbered all (n + 1) hs else h ∷ numbered all n hs) ≡ suc (length hs)
-    go true e f = ap suc e
-    go false e f = ap suc f
+numbered_count all n (h ∷ hs) = grind (arith, numbered_count all (n + 1) hs, numbered_count all n hs)
 
 on_rows_count : {C : Type 0} (na : C) (rows : List (Option ℕ)) (cs : List (ColumnOf C)) → length (on_rows na rows cs) ≡ length cs
 on_rows_count na rows [] = refl
@@ -82,11 +77,10 @@ module _ (texts : List Text) (distinct : AreDistinct texts) (parts : List Number
   made = table_beside T all labels
 
   headings_so : headings_value texts H ≡ made.headings
-  headings_so = numbered_seen _ _ _ ∙ ap (headings_beside all) (all_headings_seen texts parts)
+  headings_so = search (numbered_seen, all_headings_seen)
 
   meant : (repeated : Option Label) → repeated_heading H ≡ repeated → finished made ≡ unless_repeated (heading_value texts repeated) (limited made)
-  meant repeated is =
-      ap (λ (o : Option LabelValue). unless_repeated o (limited made)) (ap first_repeated (sym headings_so) ∙ sym (repeated_seen _ H distinct (headings_known _ _ _ known)) ∙ ap (heading_value texts) is)
+  meant repeated is = grind (arith, headings_so, repeated_seen, headings_known)
 
   pub headings_refused : (why : OpFault) → NamesRepeated why (repeated_heading H) → Makes texts (Err why) (finished made)
   headings_refused (Refused code) named = (
@@ -96,44 +90,29 @@ module _ (texts : List Text) (distinct : AreDistinct texts) (parts : List Number
   headings_refused NoMemory named = tt
 
   columns_so : length made.columns ≡ length H
-  columns_so = columns_count _ _ _ known ∙ sym (numbered_count _ 0 _)
+  columns_so = search (columns_count, numbered_count)
 
   abbrev if_within : Table → Bool → Result Entry FaultValue
   if_within T b = then_value (if b then Ok T else Err limit) (λ T. Ok (table T))
 
   pub beyond_limits : repeated_heading H ≡ None → within_limits (length labels) (length H) ≡ false → finished made ≡ Err limit
-  beyond_limits none beyond = meant _ none ∙ ap (if_within made) (ap (within_limits (length labels)) columns_so ∙ beyond)
+  beyond_limits none beyond = grind (arith, meant, columns_so)
 
   pub too_many_rows : repeated_heading H ≡ None → 2 ^ 26 < length labels → finished made ≡ Err limit
   too_many_rows none many = beyond_limits none (many_rows _ _ many)
 
   pub finished_so : (new : NumberedTable) → repeated_heading H ≡ None → within_limits (length labels) (length H) ≡ true → made ≡ table_value texts new → finished made ≡ Ok (table (table_value texts new))
-  finished_so new none within same = meant _ none ∙ ap (if_within made) (ap (within_limits (length labels)) columns_so ∙ within) ∙ ap (λ v. Ok (table v)) same
+  finished_so new none within same = grind (arith, meant _ none, columns_so)
 
 -- the names of the levels
 pub level_names_so : (texts : List Text) (names : List (Option Label)) (parts : List NumberedTable) → 0 < length parts → length names ≡ levels_of parts → named_after (headings_value texts names) (length names) (parts_value texts parts) ≡ level_names_of_all (parts_value texts parts)
-level_names_so texts names [] some count = absurd (omega (arith, some))
-level_names_so texts names (t ∷ ts) some count =
-    let none : length (headings_value texts names) - length names ≡ 0 = let same = length-map names (heading_value texts) in omega (arith, same) in
-    (λ i. take (none i) (headings_value texts names) ++ names_of_levels (length names) (parts_value texts (t ∷ ts)))
-    ∙ ap (λ n. names_of_levels n (parts_value texts (t ∷ ts))) (count ∙ sym (length-map t.level_names (heading_value texts)))
-    ∙ sym (level_names_by (table_value texts t) (parts_value texts ts))
+level_names_so texts names x some count = grind (arith, length-map, level_names_by)
 
 -- the parts of the frame
 pub frame_so : (texts : List Text) (parts : List NumberedTable) (all : Bool) (axis new : AxisValue) (name : Option Label) (headings : HeadingList) (blocks : List CellBlock) → new.tuples ≡ axis.tuples → headings_value texts new.names ≡ level_names_of_all (parts_value texts parts)
     → heading_value texts name ≡ name_of_all (map (name_at Columns) (parts_value texts parts)) → headings ≡ record { columns_name = name; labels = all_numbered all parts } → blocks_value texts blocks ≡ flat_map (columns_beside (labels_value texts axis.tuples)) (parts_value texts parts)
     → table_beside (parts_value texts parts) all (labels_value texts axis.tuples) ≡ table_value texts (table_with Frame new headings (columns_of blocks))
-frame_so texts parts all axis new name headings blocks tuples names named headed columns =
-    let headings_so = numbered_seen _ _ _ ∙ ap (headings_beside all) (all_headings_seen texts parts) in
-    (λ i. record {
-      shape = Frame;
-      columns_name = sym named i;
-      level_names = sym names i;
-      labels = labels_value texts (sym tuples i);
-      headings = sym headings_so i;
-      columns = sym columns i;
-    })
-    ∙ (λ i. table_value texts (table_with Frame new (sym headed i) (columns_of blocks)))
+frame_so texts parts all axis new name headings blocks tuples names named headed columns = grind (arith, numbered_seen, all_headings_seen)
 
 pub frame_given : (texts : List Text) (parts : List NumberedTable) (all : Bool) (new : AxisValue) (name : Option Label) (headings : HeadingList) (blocks : List CellBlock) (rows : ℕ) → AreKnownParts texts parts → IsSettled labels_value texts new.tuples → IsSettled headings_value texts new.names
     → IsSettled heading_value texts name → headings ≡ record { columns_name = name; labels = all_numbered all parts } → AreBlocks texts rows blocks → IsSettled table_value texts (table_with Frame new headings (columns_of blocks))
@@ -144,9 +123,4 @@ frame_given texts parts all new name headings blocks rows known tuples names nam
 pub frame_whole : (texts : List Text) (parts : List NumberedTable) (all : Bool) (labels : List (List LabelValue)) (new : AxisValue) (name : Option Label) (headings : HeadingList) (blocks : List CellBlock) (rows : ℕ) → AreKnownParts texts parts → length new.tuples ≡ rows
     → headings ≡ record { columns_name = name; labels = all_numbered all parts } → repeated_heading (all_numbered all parts) ≡ None → blocks_value texts blocks ≡ flat_map (columns_beside labels) (parts_value texts parts) → AreBlocks texts rows blocks
     → IsWhole (table_with Frame new headings (columns_of blocks))
-frame_whole texts parts all labels new name headings blocks rows known count headed none columns made =
-    rw headed (record {
-      headed = numbered_count _ 0 _ ∙ sym (columns_count _ _ _ known) ∙ ap length (sym columns) ∙ length-map (columns_of blocks) (column_value texts);
-      filled = rw count made.filled;
-      headings = record { single = λ e. cc; nameless = λ e. cc; labelled = λ e. numbered_some _ 0 _; different = λ e. different _ (numbered_some _ 0 _) none };
-    })
+frame_whole texts parts all labels new name headings blocks rows known count headed none columns made = grind (arith, numbered_count, columns_count, length-map, numbered_some, different)

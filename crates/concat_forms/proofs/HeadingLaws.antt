@@ -1,6 +1,6 @@
 -- The headings of what is put together.
 use Rattle.{
-  std.{proofs.{Common.{◌≡◌, ◌∙◌, ◌<◌, ◌≤◌, ◌+◌, refl, ap, sym, ℕ, suc, ℤ, pos, Bool, true, false, ◌&&◌, cond, List, [], ◌∷◌, ◌++◌, filter, length, drop, slice_index_or, Option, Some, None, if◌then◌else◌, arith}, Math.Seq.{drop-cons}, lemmas.List.{append_assoc}}, specs.List.{list_all, list_any, flat_map}},
+  std.{proofs.{Common.{◌≡◌, ◌<◌, ◌≤◌, ◌+◌, refl, ℕ, suc, ℤ, pos, Bool, true, false, List, [], ◌∷◌, ◌++◌, filter, length, drop, slice_index_or, Option, Some, None, arith}, Math.Seq.{drop-cons}, lemmas.List.{append_assoc}}, specs.List.{list_all, list_any, flat_map}},
   cell_core.specs.declared.cell.Label.{Label},
   meaning.specs.Reduce.{distinct},
   join_meaning.specs.Concat.{united},
@@ -11,47 +11,37 @@ use Rattle.cell_core.specs.declared.cell.Label.TheVariants as label
 
 flat_headings : (parts : List NumberedTable) → flat_map (λ t. t.headings) parts ≡ flat_map (λ list. list) (headings_of_each parts)
 flat_headings [] = refl
-flat_headings (t ∷ ts) = ap (λ l. t.headings ++ l) (flat_headings ts)
+flat_headings (t ∷ ts) = cc (flat_headings ts)
 
 -- headings by first sight
 pub all_united : (parts : List NumberedTable) → distinct same_heading (flat_map (λ t. t.headings) parts) ≡ united same_heading false (headings_of_each parts)
-all_united [] = refl
-all_united (t ∷ ts) = ap (distinct same_heading) (flat_headings (t ∷ ts))
+all_united x = grind (arith, flat_headings)
 
 -- those that all parts have
 held_in_each : (parts : List NumberedTable) (h : Option Label) → held_by_all parts h ≡ list_all (list_any (same_heading h)) (headings_of_each parts)
 held_in_each [] h = refl
-held_in_each (t ∷ ts) h = ap (λ b. list_any (same_heading h) t.headings && b) (held_in_each ts h)
+held_in_each (t ∷ ts) h = cc (held_in_each ts h)
 
 filter_alike : {X : Type 0} (p q : X → Bool) → ((x : X) → p x ≡ q x) → (xs : List X) → filter p xs ≡ filter q xs
 filter_alike p q same [] = refl
-filter_alike p q same (x ∷ xs) = λ i. cond (same x i) (x ∷ filter_alike p q same xs i) (filter_alike p q same xs i)
+filter_alike p q same (x ∷ xs) = grind (arith, filter_alike p q same xs)
 
 pub common_united : (t : NumberedTable) (ts : List NumberedTable) → common_headings t.headings ts ≡ united same_heading true (headings_of_each (t ∷ ts))
-common_united t ts = filter_alike _ (λ h. list_all (list_any (same_heading h)) (headings_of_each ts)) (held_in_each _) _
+common_united t ts = search (filter_alike, held_in_each)
 
 -- one heading more, with the number that is next or as it is
 drop_at : (hs : List (Option Label)) (k : ℕ) → k < length hs → drop k hs ≡ slice_index_or hs k None ∷ drop (k + 1) hs
-drop_at hs k lt = let next : suc k ≡ k + 1 = omega arith in drop-cons hs k None lt ∙ ap (λ n. slice_index_or hs k None ∷ drop n hs) next
+drop_at hs k lt = let next : suc k ≡ k + 1 = omega arith in grind (arith, drop-cons)
 
 module _ (all : Bool) (n k : ℕ) (h : Option Label) (hs made made' whole : List (Option Label)) (lt : k < length hs) (is : h ≡ slice_index_or hs k None) (so_far : made ++ numbered all n (drop k hs) ≡ whole) where
   split : made ++ numbered all n (h ∷ drop (k + 1) hs) ≡ whole
-  split = ap (λ l. made ++ numbered all n l) ((λ i. is i ∷ drop (k + 1) hs) ∙ sym (drop_at _ k lt)) ∙ so_far
+  split = grind (arith, drop_at)
 
   pub number_more : (z : ℤ) → z ≡ pos n → gets_number all h ≡ true → made' ≡ made ++ Some (label.Int z) ∷ [] → made' ++ numbered all (n + 1) (drop (k + 1) hs) ≡ whole
-  number_more z told here grown =
-      ap (λ l. l ++ numbered all (n + 1) (drop (k + 1) hs)) (grown ∙ ap (λ x. made ++ Some (label.Int x) ∷ []) told)
-      ∙ append_assoc made (Some (label.Int (pos n)) ∷ []) (numbered all (n + 1) (drop (k + 1) hs))
-      ∙ ap (λ b. made ++ (if b then Some (label.Int (pos n)) ∷ numbered all (n + 1) (drop (k + 1) hs) else h ∷ numbered all n (drop (k + 1) hs))) (sym here)
-      ∙ split
+  number_more z told here grown = grind (arith, append_assoc, split)
 
   pub heading_more : gets_number all h ≡ false → made' ≡ made ++ h ∷ [] → made' ++ numbered all n (drop (k + 1) hs) ≡ whole
-  heading_more here grown =
-      ap (λ l. l ++ numbered all n (drop (k + 1) hs)) grown
-      ∙ append_assoc made (h ∷ []) (numbered all n (drop (k + 1) hs))
-      ∙ ap (λ b. made ++ (if b then Some (label.Int (pos n)) ∷ numbered all (n + 1) (drop (k + 1) hs) else h ∷ numbered all n (drop (k + 1) hs))) (sym here)
-      ∙ split
+  heading_more here grown = grind (arith, append_assoc, split)
 
 pub first_united : (parts : List NumberedTable) (t : NumberedTable) → 1 ≤ length parts → t ≡ slice_index_or parts 0 t → common_headings t.headings (drop 1 parts) ≡ united same_heading true (headings_of_each parts)
-first_united [] t some is = absurd (omega (arith, some))
-first_united (s ∷ ss) t some is = ap (λ (x : NumberedTable). common_headings x.headings ss) is ∙ common_united s _
+first_united x t some is = grind (arith, common_united)

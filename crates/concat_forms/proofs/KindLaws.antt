@@ -1,10 +1,10 @@
 -- What parts are, by numbers as with their texts.
 use Rattle.{
-  std.{proofs.{Common.{slice_index_or, ◌≡◌, ◌∙◌, refl, ap, nat_eq, Bool, true, false, not, ◌&&◌, List, [], ◌∷◌, map, length, All, None, Result, Err, if◌then◌else◌}, lemmas.List.{length-map, Sums.{AllPass-from_list_all}, Elements.{All-nil, All-cons, All-head, All-tail}}}, specs.{Prelude.{IsSome, AllPairs, ◌≢◌}, List.{list_all}}},
+  std.{proofs.{Common.{arith, slice_index_or, ◌≡◌, refl, nat_eq, Bool, true, false, not, List, [], ◌∷◌, length, All, None, Result, Err}, lemmas.List.{length-map, Sums.{AllPass-from_list_all}, Elements.{All-nil, All-cons, All-head, All-tail}}}, specs.{Prelude.{IsSome, AllPairs, ◌≢◌}, List.{list_all}}},
   cell_core.specs.declared.grid.Shape.{Shape, TheVariants.{Series, Frame}},
   meaning.specs.{Text.{Text}, Fault.{FaultValue, wrong_kind, bad_value, levels}},
   join_meaning.specs.Concat.{united},
-  table_meaning.specs.{Table.{NumberedTable, Table, heading_value, table_value}, Valid.{AreHeadings}, Value.{Entry}},
+  table_meaning.specs.{Table.{NumberedTable, Table, table_value}, Valid.{AreHeadings}, Value.{Entry}},
   method_meaning.specs.Concat.{Concatenation, is_series, series_below, frames_below, below},
   frame_store.specs.World.{IsKnownTable},
   concat_forms.{specs.Parts.{same_heading, headings_of_each, parts_value, have_same_levels, AreOf, AreKnownParts}, proofs.{SeenLaws.{united_all}, TextLaws.{united_apart}}},
@@ -14,27 +14,24 @@ use Rattle.method_meaning.specs.Concat as meant
 
 pub series_seen : (texts : List Text) (ts : List NumberedTable) → meant.are_series (parts_value texts ts) ≡ list_all (λ t. is_series t.shape) ts
 series_seen texts [] = refl
-series_seen texts (t ∷ ts) = ap (λ b. is_series t.shape && b) (series_seen texts ts)
+series_seen texts (t ∷ ts) = cc (series_seen texts ts)
 
 pub frames_seen : (texts : List Text) (ts : List NumberedTable) → meant.are_frames (parts_value texts ts) ≡ list_all (λ t. not (is_series t.shape)) ts
 frames_seen texts [] = refl
-frames_seen texts (t ∷ ts) = ap (λ b. not (is_series t.shape) && b) (frames_seen texts ts)
+frames_seen texts (t ∷ ts) = cc (frames_seen texts ts)
 
 levels_as : (texts : List Text) (t : NumberedTable) (ts : List NumberedTable) → list_all (λ other. nat_eq (length (table_value texts t).level_names) (length other.level_names)) (parts_value texts ts) ≡ list_all (λ other. nat_eq (length t.level_names) (length other.level_names)) ts
 levels_as texts t [] = refl
-levels_as texts t (s ∷ ss) = λ i. nat_eq (length-map t.level_names (heading_value texts) i) (length-map s.level_names (heading_value texts) i) && levels_as texts t ss i
+levels_as texts t (s ∷ ss) = search (nat_eq, length-map, levels_as texts t ss)
 
 pub levels_seen : (texts : List Text) (ts : List NumberedTable) → meant.have_same_levels (parts_value texts ts) ≡ have_same_levels ts
-levels_seen texts [] = refl
-levels_seen texts (t ∷ ts) = levels_as _ t _
+levels_seen texts x = grind (arith, levels_as)
 
 series_shape : (s : Shape) → is_series s ≡ true → s ≡ Series
-series_shape Series e = refl
-series_shape Frame e = cc
+series_shape x e = grind arith
 
 frame_shape : (s : Shape) → not (is_series s) ≡ true → s ≡ Frame
-frame_shape Series e = cc
-frame_shape Frame e = refl
+frame_shape x e = grind arith
 
 pub all_series : (ts : List NumberedTable) → list_all (λ t. is_series t.shape) ts ≡ true → AreOf Series ts
 all_series ts e = λ k d lt. series_shape (slice_index_or ts k d).shape (AllPass-from_list_all (λ t. is_series t.shape) _ e k d lt)
@@ -44,41 +41,35 @@ all_frames ts e = λ k d lt. frame_shape (slice_index_or ts k d).shape (AllPass-
 
 -- which of them are put together
 pub below_series : (ts : List Table) (c : Concatenation) → meant.are_series ts ≡ true → below ts c ≡ meant.same_levels ts (series_below ts c)
-below_series ts c is = ap (λ (b : Bool). if b then meant.same_levels ts (series_below ts c) else (if meant.are_frames ts then meant.same_levels ts (frames_below ts c (united finish.same_heading c.inner (map (λ t. t.headings) ts))) else Err wrong_kind)) is
+below_series ts c is = cc
 
 pub below_frames : (ts : List Table) (c : Concatenation) → meant.are_series ts ≡ false → meant.are_frames ts ≡ true → below ts c ≡ meant.same_levels ts (frames_below ts c (united finish.same_heading c.inner (headings_of_each ts)))
-below_frames ts c none is =
-    ap (λ (b : Bool). if b then meant.same_levels ts (series_below ts c) else (if meant.are_frames ts then meant.same_levels ts (frames_below ts c (united finish.same_heading c.inner (map (λ t. t.headings) ts))) else Err wrong_kind)) none
-    ∙ ap (λ (b : Bool). if b then meant.same_levels ts (frames_below ts c (united finish.same_heading c.inner (map (λ t. t.headings) ts))) else Err wrong_kind) is
+below_frames ts c none is = cc
 
 pub below_neither : (ts : List Table) (c : Concatenation) → meant.are_series ts ≡ false → meant.are_frames ts ≡ false → below ts c ≡ Err wrong_kind
-below_neither ts c none mixed =
-    ap (λ (b : Bool). if b then meant.same_levels ts (series_below ts c) else (if meant.are_frames ts then meant.same_levels ts (frames_below ts c (united finish.same_heading c.inner (map (λ t. t.headings) ts))) else Err wrong_kind)) none
-    ∙ ap (λ (b : Bool). if b then meant.same_levels ts (frames_below ts c (united finish.same_heading c.inner (map (λ t. t.headings) ts))) else Err wrong_kind) mixed
+below_neither ts c none mixed = cc
 
 pub levels_apart : (texts : List Text) (parts : List NumberedTable) (rest : Result Entry FaultValue) → have_same_levels parts ≡ false → meant.same_levels (parts_value texts parts) rest ≡ Err (bad_value levels)
-levels_apart texts parts rest apart = ap (λ (b : Bool). if b then rest else Err (bad_value levels)) (levels_seen texts parts ∙ apart)
+levels_apart texts parts rest apart = grind (arith, levels_seen)
 
 pub levels_same : (texts : List Text) (parts : List NumberedTable) (rest : Result Entry FaultValue) → have_same_levels parts ≡ true → meant.same_levels (parts_value texts parts) rest ≡ rest
-levels_same texts parts rest same = ap (λ (b : Bool). if b then rest else Err (bad_value levels)) (levels_seen texts parts ∙ same)
+levels_same texts parts rest same = grind (arith, levels_seen)
 
 -- the headings of frames
 labelled_each : (texts : List Text) (ts : List NumberedTable) → AreOf Frame ts → AreKnownParts texts ts → All (All IsSome) (headings_of_each ts)
 labelled_each texts [] of known = All-nil _
 labelled_each texts (t ∷ ts) of known =
-    All-cons (All IsSome) t.headings (headings_of_each ts) ((All-head (IsKnownTable texts) t ts known).whole.headings.labelled (All-head (λ (t : NumberedTable). t.shape ≡ Frame) t ts of))
-    (labelled_each texts ts (All-tail (λ (t : NumberedTable). t.shape ≡ Frame) t _ of) (All-tail (IsKnownTable texts) t _ known))
+    All-cons (All IsSome) t.headings (headings_of_each ts) ((All-head (IsKnownTable texts) t ts known).whole.headings.labelled (All-head (λ t. t.shape ≡ Frame) t ts of))
+    (labelled_each texts ts (All-tail (λ t. t.shape ≡ Frame) t _ of) (All-tail (IsKnownTable texts) t _ known))
 
 different_each : (texts : List Text) (ts : List NumberedTable) → AreOf Frame ts → AreKnownParts texts ts → All (λ (t : NumberedTable). AllPairs (λ a b. a ≢ b) t.headings) ts
-different_each texts [] of known = All-nil (λ (t : NumberedTable). AllPairs (λ a b. a ≢ b) t.headings)
-different_each texts (t ∷ ts) of known =
-    All-cons (λ (t : NumberedTable). AllPairs (λ a b. a ≢ b) t.headings) t ts ((All-head (IsKnownTable texts) t ts known).whole.headings.different (All-head (λ (t : NumberedTable). t.shape ≡ Frame) t ts of))
-    (different_each texts ts (All-tail (λ (t : NumberedTable). t.shape ≡ Frame) t _ of) (All-tail (IsKnownTable texts) t _ known))
+different_each texts [] of known = grind arith
+different_each texts (t ∷ ts) of known = grind (arith, different_each texts ts (All-tail (λ t. t.shape ≡ Frame) t _ of) (All-tail (IsKnownTable texts) t _ known))
 
 pub frame_headings : (texts : List Text) (inner : Bool) (ts : List NumberedTable) → AreOf Frame ts → AreKnownParts texts ts → AreHeadings Frame None (united same_heading inner (headings_of_each ts))
 frame_headings texts inner ts of known = record {
   single = λ e. cc;
   nameless = λ e. refl;
-  labelled = λ e. united_all IsSome _ _ _ (labelled_each _ _ of known);
+  labelled = search (united_all, labelled_each);
   different = λ e. united_apart _ _ (different_each _ _ of known);
 }

@@ -1,6 +1,6 @@
 -- The names that all parts have.
 use Rattle.{
-  std.{proofs.{lemmas.List.{map-append, append_assoc, take_more_set, FromFn.{map-range_with_len_more}, Elements.{All-tail}}, Common.{◌≡◌, ◌∙◌, ◌<◌, ◌≤◌, ◌+◌, ◌-◌, refl, ap, sym, subst, arith, ℕ, zero, suc, List, [], ◌∷◌, ◌++◌, map, length, fold, take, drop, slice_index_or, slice_set, All, Option, Some, None}, Math.Seq.{drop-cons}}, specs.List.{range_with_len}},
+  std.{proofs.{lemmas.List.{map-append, append_assoc, take_more_set, FromFn.{map-range_with_len_more}, Elements.{All-tail}}, Common.{◌≡◌, ◌∙◌, ◌<◌, ◌≤◌, ◌+◌, ◌-◌, refl, ap, sym, subst, arith, ℕ, zero, suc, List, [], ◌∷◌, ◌++◌, map, length, fold, take, drop, slice_index_or, slice_set, All, Option, None}, Math.Seq.{drop-cons}}, specs.List.{range_with_len}},
   cell_core.specs.declared.cell.Label.{Label},
   meaning.specs.{Text.{Text}, Cell.{LabelValue}},
   table_meaning.specs.{Settled.{IsSettled}, Table.{NumberedTable, Table, heading_value, table_value}},
@@ -13,14 +13,14 @@ use Rattle.{
 
 index_given : (texts : List Text) (hs : List (Option Label)) (k : ℕ) → IsSettled headings_value texts hs → IsSettled heading_value texts (slice_index_or hs k None)
 index_given texts [] k settled = λ more. refl
-index_given texts (h ∷ hs) zero settled = head_settled heading_value texts h hs settled
+index_given texts (h ∷ hs) zero settled = search head_settled
 index_given texts (h ∷ hs) (suc k) settled = index_given texts hs k (rest_settled heading_value texts h hs settled)
 
 -- a name of a part whose texts were given
 pub name_given : (texts : List Text) (which : Naming) (t : NumberedTable) → IsKnownTable texts t → IsSettled heading_value texts (name_at which t)
-name_given texts Columns t known = columns_name_part texts t known.given
-name_given texts (Level level) t known = index_given texts t.level_names level (level_names_part texts t known.given)
-name_given texts Series t known = index_given texts t.headings 0 (headings_part texts t known.given)
+name_given texts Columns t known = search columns_name_part
+name_given texts (Level level) t known = search (index_given, level_names_part)
+name_given texts Series t known = search (index_given, headings_part)
 
 index_seen : (texts : List Text) (hs : List (Option Label)) (k : ℕ) → heading_value texts (slice_index_or hs k None) ≡ slice_index_or (headings_value texts hs) k None
 index_seen texts [] k = refl
@@ -28,21 +28,17 @@ index_seen texts (h ∷ hs) zero = refl
 index_seen texts (h ∷ hs) (suc k) = index_seen texts hs k
 
 pub name_seen : (texts : List Text) (which : Naming) (t : NumberedTable) → heading_value texts (name_at which t) ≡ name_at which (table_value texts t)
-name_seen texts Columns t = refl
-name_seen texts (Level level) t = index_seen texts t.level_names level
-name_seen texts Series t = index_seen texts t.headings 0
+name_seen texts x t = grind (arith, index_seen)
 
 -- the names of levels, one by one
 none_common : (b : Option LabelValue) → None ≡ common_name None b
-none_common None = refl
-none_common (Some b) = refl
+none_common x = grind arith
 
 lacking : (a : Option LabelValue) → None ≡ common_name a None
-lacking None = refl
-lacking (Some a) = refl
+lacking x = grind arith
 
 kept_index : (as' bs : List (Option LabelValue)) (k : ℕ) → slice_index_or (kept_names as' bs) k None ≡ common_name (slice_index_or as' k None) (slice_index_or bs k None)
-kept_index [] bs k = none_common (slice_index_or bs k None)
+kept_index [] bs k = search none_common
 kept_index (a ∷ as') [] zero = lacking a
 kept_index (a ∷ as') [] (suc k) = kept_index as' [] k
 kept_index (a ∷ as') (b ∷ bs) zero = refl
@@ -59,27 +55,23 @@ map_alike f g same (x ∷ xs) = λ i. same x i ∷ map_alike f g same xs i
 
 shifted : {X : Type 0} (f : ℕ → X) (a n : ℕ) → map f (range_with_len (a + 1) n) ≡ map (λ k. f (suc k)) (range_with_len a n)
 shifted f a zero = refl
-shifted f a (suc n) = let next : a + 1 ≡ suc a = omega arith in λ i. f (next i) ∷ shifted f (a + 1) n i
+shifted f a (suc n) = grind (arith, shifted f (a + 1) n)
 
 all_names : (names : List (Option LabelValue)) → names ≡ map (λ k. slice_index_or names k None) (range_with_len 0 (length names))
 all_names [] = refl
-all_names (n ∷ names) = ap (λ l. n ∷ l) (all_names names ∙ sym (shifted (λ k. slice_index_or (n ∷ names) k None) 0 (length names)))
+all_names (n ∷ names) = cc (all_names names, shifted (λ k. slice_index_or (n ∷ names) k None) 0 (length names))
 
 all_kept : (names : List (Option LabelValue)) (lists : List (List (Option LabelValue)))
     → fold kept_names names lists ≡ map (λ k. fold common_name (slice_index_or names k None) (map (λ l. slice_index_or l k None) lists)) (range_with_len 0 (length names))
 all_kept names [] = all_names names
-all_kept names (list ∷ lists) =
-    all_kept (kept_names names list) lists
-    ∙ (λ i. map (λ k. fold common_name (kept_index names list k i) (map (λ l. slice_index_or l k None) lists)) (range_with_len 0 (kept_count names list i)))
+all_kept names (list ∷ lists) = search (kept_index, kept_count, all_kept (kept_names names list) lists)
 
 indexes : (k : ℕ) (ts : List Table) → map (λ l. slice_index_or l k None) (map (λ t. t.level_names) ts) ≡ map (name_at (Level k)) ts
 indexes k [] = refl
-indexes k (t ∷ ts) = ap (λ l. slice_index_or t.level_names k None ∷ l) (indexes k ts)
+indexes k (t ∷ ts) = cc (indexes k ts)
 
 pub level_names_by : (t : Table) (ts : List Table) → level_names_of_all (t ∷ ts) ≡ names_of_levels (length t.level_names) (t ∷ ts)
-level_names_by t ts =
-    all_kept t.level_names (map (λ t. t.level_names) ts)
-    ∙ map_alike _ (λ k. name_of_all (map (name_at (Level k)) (t ∷ ts))) (λ k. ap (fold common_name (slice_index_or t.level_names k None)) (indexes k ts)) (range_with_len 0 (length t.level_names))
+level_names_by t ts = grind (arith, all_kept, map_alike, indexes)
 
 -- the name of one level more
 pub level_more : (texts : List Text) (parts : List Table) (names names' : List (Option Label)) (before : List (Option LabelValue)) (k level : ℕ) (name : Option Label) → k < length names → names' ≡ slice_set names k name
@@ -95,18 +87,15 @@ given_more texts names names' k name lt set here before = λ more. rw (set, take
 -- the name of all parts, one part after the other
 pub first_name : (texts : List Text) (which : Naming) (parts : List NumberedTable) (t : NumberedTable) (name : Option Label) → 1 ≤ length parts → t ≡ slice_index_or parts 0 t → name ≡ name_at which t
     → fold common_name (heading_value texts name) (map (name_at which) (parts_value texts (take (length parts - 1) (drop 1 parts)))) ≡ name_of_all (map (name_at which) (parts_value texts parts))
-first_name texts which [] t name some at is = absurd (omega (arith, some))
+first_name texts which [] t name some at is = grind arith
 first_name texts which (s ∷ ss) t name some at is =
-    (λ i. fold common_name ((ap (heading_value texts) is ∙ name_seen texts which t ∙ ap (λ (x : NumberedTable). name_at which (table_value texts x)) at) i) (map (name_at which) (parts_value texts (rest_of (s ∷ ss) i))))
+    (λ i. fold common_name ((ap (heading_value texts) is ∙ name_seen texts which t ∙ ap (λ x. name_at which (table_value texts x)) at) i) (map (name_at which) (parts_value texts (rest_of (s ∷ ss) i))))
 
 pub next_name : (texts : List Text) (which : Naming) (others : List NumberedTable) (k : ℕ) (t : NumberedTable) (name x name' : Option Label) (whole : Option LabelValue) → k < length others → t ≡ slice_index_or others k t → x ≡ name_at which t → heading_value texts name' ≡ common_name (heading_value texts name) (heading_value texts x)
     → fold common_name (heading_value texts name) (map (name_at which) (parts_value texts (drop k others))) ≡ whole → fold common_name (heading_value texts name') (map (name_at which) (parts_value texts (drop (k + 1) others))) ≡ whole
 next_name texts which others k t name x name' whole lt at is told so_far =
     let next : suc k ≡ k + 1 = omega arith in
-    let here : heading_value texts x ≡ name_at which (table_value texts (slice_index_or others k t)) = ap (heading_value texts) is ∙ name_seen texts which t ∙ ap (λ (y : NumberedTable). name_at which (table_value texts y)) at in
-    (λ i. fold common_name ((told ∙ ap (common_name (heading_value texts name)) here) i) (map (name_at which) (parts_value texts (drop (k + 1) others))))
-    ∙ ap (λ l. fold common_name (heading_value texts name) (map (name_at which) (parts_value texts l))) (sym (drop-cons others k t lt ∙ ap (λ n. slice_index_or others k t ∷ drop n others) next))
-    ∙ so_far
+    grind (arith, name_seen, drop-cons)
 
 pub other_known : (texts : List Text) (parts : List NumberedTable) (k : ℕ) (t : NumberedTable) → AreKnownParts texts parts → k < length (take (length parts - 1) (drop 1 parts)) → t ≡ slice_index_or (take (length parts - 1) (drop 1 parts)) k t → IsKnownTable texts t
 other_known texts parts k t known lt at = subst (IsKnownTable texts) (sym at) (subst (All (IsKnownTable texts)) (sym (rest_of parts)) (behind parts known) k t lt)

@@ -1,6 +1,6 @@
 -- Parts and their headings.
 use Rattle.{
-  std.{proofs.{Common.{◌≡◌, ◌∙◌, ◌<◌, ◌≤◌, ◌+◌, refl, ap, sym, ℕ, zero, suc, Bool, true, false, cond, List, [], ◌∷◌, ◌++◌, length, take, slice_index_or, Option, None, arith, rules}, lemmas.{Bool.{or_from}, List.{take_more}}}, specs.{Prelude.{◌≢◌, AllPairs}, List.{list_any}}},
+  std.{proofs.{Common.{◌≡◌, ◌<◌, ◌≤◌, ◌+◌, refl, sym, ℕ, zero, suc, Bool, true, false, List, [], ◌∷◌, ◌++◌, length, take, slice_index_or, Option, None, arith, rules}, lemmas.{Bool.{or_from}, List.{take_more}}}, specs.{Prelude.{◌≢◌, AllPairs}, List.{list_any}}},
   indexmap.specs.IndexSet.{insert_key},
   cell_core.specs.declared.cell.Label.{Label},
   selections.proofs.HeadingLaws.{heading_decides},
@@ -18,11 +18,11 @@ not_before h (g ∷ gs) apart =
     go false e = refl
 
 new_key : (keys : List (Option Label)) (h : Option Label) → list_any (same_heading h) keys ≡ false → insert_key same_heading keys h ≡ keys ++ h ∷ []
-new_key keys h none = ap (λ b. cond b keys (keys ++ h ∷ [])) none
+new_key keys h none = cc
 
 taken_index : (hs : List (Option Label)) (n k : ℕ) → k < n → n ≤ length hs → slice_index_or (take n hs) k None ≡ slice_index_or hs k None
-taken_index [] n k lt le = absurd (omega (arith, lt, le))
-taken_index (h ∷ hs) zero k lt le = absurd (omega (arith, lt))
+taken_index [] n k lt le = grind arith
+taken_index (h ∷ hs) zero k lt le = grind arith
 taken_index (h ∷ hs) (suc n) zero lt le = refl
 taken_index (h ∷ hs) (suc n) (suc k) lt le = taken_index hs n k (omega (arith, lt)) (omega (arith, le))
 
@@ -31,14 +31,4 @@ length_taken xs n le = search rules
 
 pub one_more_heading : (hs keys keys' : List (Option Label)) (place : ℕ) (h : Option Label) → AllPairs (λ a b. a ≢ b) hs → place < length hs → h ≡ slice_index_or hs place None
     → keys ≡ take place hs → keys' ≡ insert_key same_heading keys h → keys' ≡ take (place + 1) hs
-one_more_heading hs keys keys' place h apart lt is so_far more =
-    let before : (k : ℕ) → k < length (take place hs) → slice_index_or (take place hs) k None ≢ h =
-    λ k below e.
-    let n : length (take place hs) ≡ place = length_taken _ _ (omega (arith, lt)) in
-    let under : k < place = omega (arith, below, n) in
-    apart k place None under lt (sym (taken_index _ _ k under (omega (arith, lt))) ∙ e ∙ is) in
-    more
-    ∙ (λ i. insert_key same_heading (so_far i) h)
-    ∙ new_key _ h (not_before h _ before)
-    ∙ (λ i. take place hs ++ is i ∷ [])
-    ∙ sym (take_more _ _ _ lt)
+one_more_heading hs keys keys' place h apart lt is so_far more = grind (arith, length_taken, taken_index, new_key, not_before, take_more)

@@ -1,6 +1,6 @@
 -- Labels of several lists are put together alike where they are seen otherwise, as with their texts.
 use Rattle.{
-  std.{proofs.{lemmas.{Option.{same_Some}, List.{map-append, Elements.{All-head, All-tail, All-nil, All-filter}}}, Common.{◌≡◌, ◌∙◌, ap, refl, sym, subst, Bool, true, false, not, ◌&&◌, ◌||◌, cond, List, [], ◌∷◌, ◌++◌, map, filter, length, All, Option, Some, None, nat_lt}}, specs.{List.{list_all, list_any, flat_map}, Option.{option_map}, Cmp.Lexicographic.{pointwise}}},
+  std.{proofs.{lemmas.{Option.{same_Some}, List.{map-append, Elements.{All-head, All-tail, All-nil, All-filter}}}, Common.{arith, ◌≡◌, ◌∙◌, ap, refl, subst, Bool, true, false, not, ◌&&◌, ◌||◌, cond, List, [], ◌∷◌, map, filter, length, All, Option, Some, None, nat_lt}}, specs.{List.{list_all, list_any, flat_map}, Option.{option_map}, Cmp.Lexicographic.{pointwise}}},
   meaning.specs.Reduce.{distinct},
   pick_meaning.{specs.Rows.{rows_where}, proofs.{RowLaws.{rows_where-map}, SeenLaws.{pointwise-map}}},
   align_meaning.{proofs.OrderLaws.{all_append, all_distinct}, specs.Targets.{first_where, first_repeated}},
@@ -13,24 +13,23 @@ module _ {X Y : Type 0} (f : X → Y) where
 
   pub flat_seen : (lists : List (List X)) → flat_map (λ list. list) (each_seen lists) ≡ map f (flat_map (λ list. list) lists)
   flat_seen [] = refl
-  flat_seen (list ∷ lists) = ap (λ l. map f list ++ l) (flat_seen lists) ∙ sym (map-append f list (flat_map (λ list. list) lists))
+  flat_seen (list ∷ lists) = search (map-append, flat_seen lists)
 
   or_seen : (a b : Option X) → or_else (option_map f a) (option_map f b) ≡ option_map f (or_else a b)
-  or_seen None b = refl
-  or_seen (Some a) b = refl
+  or_seen x b = grind arith
 
   first_seen : (p : X → Bool) (p' : Y → Bool) (P : X → Type 0) → ((x : X) → P x → p' (f x) ≡ p x) → (xs : List X) → All P xs → first_where p' (map f xs) ≡ option_map f (first_where p xs)
   first_seen p p' P agree [] all = refl
   first_seen p p' P agree (x ∷ xs) all =
       (λ i. cond (agree x (All-head P x _ all) i) (Some (f x)) (first_seen p p' P agree xs (All-tail P x _ all) i))
-      ∙ (elim (p x) as (λ b. cond b (Some (f x)) (option_map f (first_where p xs)) ≡ option_map f (cond b (Some x) (first_where p xs))) [ true ↦ refl | false ↦ refl ])
+      ∙ (grind arith)
 
   module _ (P : X → Type 0) (same : X → X → Bool) (same' : Y → Y → Bool) (equal : (x y : X) → P x → P y → same' (f x) (f y) ≡ same x y) where
     filter_seen : (p : X → Bool) (p' : Y → Bool) → ((x : X) → P x → p' (f x) ≡ p x) → (xs : List X) → All P xs → filter p' (map f xs) ≡ map f (filter p xs)
     filter_seen p p' agree [] all = refl
     filter_seen p p' agree (x ∷ xs) all =
         (λ i. cond (agree x (All-head P x _ all) i) (f x ∷ filter_seen p p' agree xs (All-tail P x _ all) i) (filter_seen p p' agree xs (All-tail P x _ all) i))
-        ∙ (elim (p x) as (λ b. cond b (f x ∷ map f (filter p xs)) (map f (filter p xs)) ≡ map f (cond b (x ∷ filter p xs) (filter p xs))) [ true ↦ refl | false ↦ refl ])
+        ∙ (grind arith)
 
     distinct_seen : (xs : List X) → All P xs → distinct same' (map f xs) ≡ map f (distinct same xs)
     distinct_seen [] all = refl
@@ -56,8 +55,7 @@ module _ {X Y : Type 0} (f : X → Y) where
     united_seen false [] all = refl
     united_seen true (first ∷ others) all =
         filter_seen (λ k. list_all (list_any (same k)) others) (λ k. list_all (list_any (same' k)) (each_seen others)) (λ k here. all_seen k here _ (All-tail (All P) first _ all)) _ (All-head (All P) first _ all)
-    united_seen false (first ∷ others) all =
-        ap (distinct same') (flat_seen (first ∷ others)) ∙ distinct_seen _ (flat_all (first ∷ others) all)
+    united_seen false (first ∷ others) all = cc (flat_seen (first ∷ others), distinct_seen _ (flat_all (first ∷ others) all))
 
     others_seen : (first : List X) → All P first → (others : List (List X)) → All (All P) others → list_all (pointwise same' (map f first)) (each_seen others) ≡ list_all (pointwise same first) others
     others_seen first here [] all = refl

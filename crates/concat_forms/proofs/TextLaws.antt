@@ -1,6 +1,6 @@
 -- Parts with their texts: their headings, columns and names.
 use Rattle.{
-  std.{proofs.{Common.{◌≡◌, ◌∙◌, ◌+◌, arith, refl, ap, sym, ℕ, Bool, true, false, not, cond, List, [], ◌∷◌, map, filter, nat_lt, unwrap_or, All, Option, Some, None}, lemmas.List.{length-map, Elements.{All-nil, All-cons, All-head, All-tail}, Kept.{AllPairs-filter, AllPairs-cons}}}, specs.{Prelude.{position, AllPairs, ◌≢◌}, Option.{option_map}, List.{position_or_len}}},
+  std.{proofs.{Common.{◌≡◌, ◌∙◌, ◌+◌, arith, refl, ap, sym, ℕ, Bool, true, false, not, cond, List, [], ◌∷◌, map, filter, unwrap_or, All, Option, Some, None}, lemmas.List.{length-map, Elements.{All-nil, All-cons, All-head, All-tail}, Kept.{AllPairs-filter, AllPairs-cons}}}, specs.{Prelude.{position, AllPairs, ◌≢◌}, Option.{option_map}, List.{position_or_len}}},
   cell_core.specs.{Texts.{AreDistinct}, declared.cell.{Cell.{Cell}, Label.{Label}}},
   meaning.specs.{Text.{Text}, Reduce.{distinct}},
   join_meaning.specs.Concat.{united},
@@ -28,7 +28,7 @@ headings_each texts (t ∷ ts) known =
 
 each_seen : (texts : List Text) (parts : List NumberedTable) → headings_of_each (parts_value texts parts) ≡ map (map (heading_value texts)) (headings_of_each parts)
 each_seen texts [] = refl
-each_seen texts (t ∷ ts) = ap (λ l. headings_value texts t.headings ∷ l) (each_seen texts ts)
+each_seen texts (t ∷ ts) = cc (each_seen texts ts)
 
 -- the headings of all parts, and that their texts were given
 pub headings_united : (texts : List Text) (inner : Bool) (parts : List NumberedTable) → AreDistinct texts → AreKnownParts texts parts
@@ -50,9 +50,7 @@ place_seen texts h (g ∷ gs) distinct here settled =
 
 position_seen : (texts : List Text) (h : Option Label) (hs : List (Option Label)) → AreDistinct texts → IsSettled heading_value texts h → IsSettled headings_value texts hs
     → position (finish.same_heading (heading_value texts h)) (headings_value texts hs) ≡ position (same_heading h) hs
-position_seen texts h hs distinct here settled =
-    let at = place_seen _ h _ distinct here settled in
-    λ i. cond (nat_lt (at i) (length-map hs (heading_value texts) i)) (Some (at i)) None
+position_seen texts h hs distinct here settled = search (place_seen, length-map)
 
 -- the column of a heading in a part
 pub column_under_seen : (texts : List Text) (h : Option Label) (t : NumberedTable) → AreDistinct texts → IsSettled heading_value texts h → IsKnownTable texts t
@@ -62,11 +60,10 @@ column_under_seen texts h t distinct here known =
   where
     go : (p : Option ℕ) → option_map (column_at (columns_value texts t.columns)) p ≡ option_map (column_value texts) (option_map (column_at t.columns) p)
     go None = refl
-    go (Some k) = ap (λ c. Some c) (column_seen _ _ k)
+    go (Some k) = search column_seen
 
 kept_kind : (texts : List Text) (o : Option (ColumnOf Cell)) → option_map (λ c. c.kind) (option_map (column_value texts) o) ≡ option_map (λ c. c.kind) o
-kept_kind texts None = refl
-kept_kind texts (Some c) = refl
+kept_kind texts x = grind arith
 
 pub kind_under_seen : (texts : List Text) (h : Option Label) (parts : List NumberedTable) → AreDistinct texts → IsSettled heading_value texts h → AreKnownParts texts parts → kind_under (heading_value texts h) (parts_value texts parts) ≡ kind_sought (Under h) parts
 kind_under_seen texts h [] distinct here known = refl
@@ -75,23 +72,18 @@ kind_under_seen texts h (t ∷ ts) distinct here known =
 
 -- headings by first sight are different
 true_not : (b : Bool) → not b ≡ true → b ≡ true → ⊥
-true_not true e f = cc
-true_not false e f = cc
+true_not x e f = grind arith
 
 apart_from : (x : Option Label) (ys : List (Option Label)) → All (λ y. x ≢ y) (filter (λ d. not (same_heading d x)) ys)
 apart_from x [] = All-nil (λ y. x ≢ y)
-apart_from x (y ∷ ys) = go (apart_from x ys) (not (same_heading y x)) refl
-  where
-    go : All (λ y. x ≢ y) (filter (λ d. not (same_heading d x)) ys) → (b : Bool) → not (same_heading y x) ≡ b → All (λ y. x ≢ y) (cond b (y ∷ filter (λ d. not (same_heading d x)) ys) (filter (λ d. not (same_heading d x)) ys))
-    go rest true e = All-cons (λ y. x ≢ y) y _ (λ same. true_not _ e ((heading_decides y x).1 (sym same))) rest
-    go rest false e = rest
+apart_from x (y ∷ ys) = grind (arith, true_not, heading_decides, apart_from x ys)
 
 pub distinct_apart : (xs : List (Option Label)) → AllPairs (λ a b. a ≢ b) (distinct same_heading xs)
-distinct_apart [] = λ i j d before lt. absurd (omega (arith, lt))
+distinct_apart [] = grind arith
 distinct_apart (x ∷ xs) = AllPairs-cons (λ a b. a ≢ b) x _ (apart_from x _) (AllPairs-filter (λ a b. a ≢ b) (λ d. not (same_heading d x)) _ (distinct_apart xs))
 
 pub united_apart : (inner : Bool) (parts : List NumberedTable) → All (λ t. AllPairs (λ a b. a ≢ b) t.headings) parts → AllPairs (λ a b. a ≢ b) (united same_heading inner (headings_of_each parts))
-united_apart true [] apart = λ i j d before lt. absurd (omega (arith, lt))
-united_apart false [] apart = λ i j d before lt. absurd (omega (arith, lt))
-united_apart true (t ∷ ts) apart = AllPairs-filter (λ a b. a ≢ b) _ _ (All-head (λ (t : NumberedTable). AllPairs (λ a b. a ≢ b) t.headings) t _ apart)
+united_apart true [] apart = grind arith
+united_apart false [] apart = grind arith
+united_apart true (t ∷ ts) apart = AllPairs-filter (λ a b. a ≢ b) _ _ (All-head (λ t. AllPairs (λ a b. a ≢ b) t.headings) t _ apart)
 united_apart false (t ∷ ts) apart = distinct_apart _

@@ -1,6 +1,6 @@
 -- The pairs of a dict that was given.
 use Rattle.{
-  std.{proofs.{Common.{◌≡◌, ◌∙◌, ap, sym, ℕ, List, [], ◌∷◌, ◌++◌, Option, Some, All}, lemmas.List.Elements.{All-cons, All-nil}}, specs.Option.{option_map}},
+  std.{proofs.{Common.{arith, ◌≡◌, ◌∙◌, ap, sym, ℕ, List, [], ◌∷◌, ◌++◌, Option, Some, All}, lemmas.List.Elements.{All-cons, All-nil}}, specs.Option.{option_map}},
   cell_core.specs.declared.cell.Label.{Label},
   meaning.specs.{Text.{Text}, Cell.{LabelValue, na, label_datum}},
   table_meaning.specs.{Settled.{IsSettled}, Value.{Given, GivenPairs, NamedGiven, nothing, no_entries, more_entries, list_in, dict_in}},
@@ -31,11 +31,10 @@ HasList texts p = IsSettled list_seen texts p.1
 
 keys_of_pairs : (live : Tables) (texts : List Text) (pairs : List (Label × Argument)) → IsSettled (entries_of live) texts pairs → All (HasKey texts) pairs
 keys_of_pairs live texts [] settled = All-nil _
-keys_of_pairs live texts (p ∷ ps) settled =
-    All-cons (HasKey texts) p ps (λ more. ap first_key (settled more)) (keys_of_pairs live texts ps (λ more. ap later_pairs (settled more)))
+keys_of_pairs live texts (p ∷ ps) settled = grind (arith, keys_of_pairs live texts ps (λ more. ap later_pairs (settled more)))
 
 lists_of_pairs : (live : Tables) (texts : List Text) (pairs : List (Label × Argument)) → IsSettled (entries_of live) texts pairs → All (HasList texts) pairs
-lists_of_pairs live texts [] settled = All-nil (HasList texts)
+lists_of_pairs live texts [] settled = grind arith
 lists_of_pairs live texts (p ∷ ps) settled =
     All-cons (HasList texts) p ps
     (λ more. sym (list_same live (texts ++ more) p.1) ∙ ap (λ pairs. scalars_in (first_value pairs)) (settled more) ∙ list_same live texts p.1)
@@ -43,9 +42,7 @@ lists_of_pairs live texts (p ∷ ps) settled =
 
 pairs_settled : (b : Bound) (place : ℕ) (pairs : List (Label × Argument)) (live : Tables) (dict : List Text) → Tells b place dict_in (λ live texts. Some (entries_of live texts pairs))
     → IsSettled (arguments_of live) dict b.args.now → IsSettled (entries_of live) dict pairs
-pairs_settled b place pairs live dict tells settled = λ more.
-    some_same _ _
-    (told_settled b place dict_in (λ live texts. Some (entries_of live texts pairs)) _ _ tells settled _)
+pairs_settled b place pairs live dict tells settled = grind (arith, some_same, told_settled)
 
 pub keys_given : (b : Bound) (place : ℕ) (pairs : List (Label × Argument)) (live : Tables) (dict : List Text) → Tells b place dict_in (λ live texts. Some (entries_of live texts pairs))
     → IsSettled (arguments_of live) dict b.args.now → All (λ (p : Label × Argument). IsSettled label_datum dict p.0) pairs

@@ -1,15 +1,15 @@
 -- Frames of a dict's pairs.
 use Rattle.{
-  std.{proofs.{Common.{◌≡◌, ◌≢◌, ◌∙◌, refl, ap, sym, subst, ℕ, zero, suc, nat_eq, nat_le, ◌&&◌, Bool, true, false, List, [], ◌∷◌, ◌++◌, map, length, slice_get, Option, Some, None, Result, Ok, Err, All, if◌then◌else◌, arith}, lemmas.{List.{length-map, get_or-map, Elements.{All-cons, All-nil}}, Map.Made.{AllPairs-from_IsDistinct}}}, specs.{Prelude.{IsSome}, List.{list_all, AllPairs, IsDistinct}, Option.{option_map}, Map.{keys_of, values_of}}},
+  std.{proofs.{Common.{◌≡◌, ◌≢◌, refl, ℕ, zero, suc, nat_eq, nat_le, Bool, List, [], ◌∷◌, ◌++◌, map, length, slice_get, Option, Some, None, Result, Ok, Err, All, if◌then◌else◌, arith}, lemmas.{List.{length-map, get_or-map, Elements.{All-nil}}, Map.Made.{AllPairs-from_IsDistinct}}}, specs.{Prelude.{IsSome}, List.{list_all, AllPairs, IsDistinct}, Option.{option_map}, Map.{keys_of, values_of}}},
   cell_core.specs.declared.{cell.Label.{Label}, grid.Shape.TheVariants.{Series, Frame}},
-  meaning.specs.{Text.{Text}, Cell.{CellValue, LabelValue, label_datum}, Fault.{FaultValue, wrong_kind, bad_value, length_of, then_value}},
+  meaning.specs.{Text.{Text}, Cell.{CellValue, LabelValue, label_datum}, Fault.{FaultValue, wrong_kind, then_value}},
   multi_index.specs.Axes.{AxisValue},
   column_core.specs.Blocks.{CellBlock},
-  table_meaning.specs.{Settled.{IsSettled}, Table.{ColumnOf, NumberedTable, Table, table_value, column_value}, Valid.{AreHeadings, IsWhole}, Value.{Entry, table, Given, GivenList, many}},
-  form_meaning.specs.{Binding.{each, is_scalar}, Select.{cells_of}, Set.{list_column}, Finish.{limited, try_all}, Make.{index_labels, level_count, nameless, few_levels, with_index, frame_table, is_scalar_list, cells_given, all_of_length, labels_given, frame_of, pairs_in}},
+  table_meaning.specs.{Settled.{IsSettled}, Table.{ColumnOf, NumberedTable, Table, table_value}, Valid.{AreHeadings, IsWhole}, Value.{Entry, table, Given, GivenList, many}},
+  form_meaning.specs.{Binding.{each, is_scalar}, Set.{list_column}, Finish.{try_all}, Make.{index_labels, nameless, with_index, frame_table, is_scalar_list, cells_given, all_of_length, frame_of, pairs_in}},
   form_parts.{specs.Makes.{MakesBy, blocks_value}, proofs.TableMade.{refused_on}},
   frame_store.{specs.{declared.{arguments.{Argument.{Argument, Nothing, One, Row, Many, Table'}, Item.{Item, One as OneItem}, Value.TheVariants.{Object}}, fault.OpFault.{OpFault}}, Arguments.{argument_of, item_of, items_of, entries_of}, Objects.{Tables}, Parts.{HeadingList, block_column, table_with, HaveRows}, Shown.{headings_value, labels_value, columns_value, Makes}}, proofs.Settling.{table_settled}},
-  constructors.{specs.{Pairs.{value_in, entries_seen, alone, scalars_in, list_seen, list_at, lists_seen, listed_column}, Made.{axis_labels, labels_within, index_alone, indexed, same_rows, labels_for, frame_labels, frame_with, frame_from}}, proofs.{MadeLaws.{limited_labels, indexed_within, labels_then, either_few, names_seen, names_settled, ok_same}, PairLaws.{same_number, number_decides}}},
+  constructors.{specs.{Pairs.{value_in, entries_seen, alone, scalars_in, list_seen, list_at, lists_seen, listed_column}, Made.{axis_labels, indexed, same_rows, labels_for, frame_labels, frame_with, frame_from}}, proofs.{MadeLaws.{limited_labels, indexed_within, labels_then, names_seen, names_settled, ok_same}, PairLaws.{same_number, number_decides}}},
   signatures.proofs.ScalarLaws.{scalars_are},
 }
 use Rattle.form_meaning.specs.Make as make
@@ -22,16 +22,6 @@ Columns = List (ColumnOf CellValue)
 abbrev columns_then : Result (ColumnOf CellValue) FaultValue → Result Columns FaultValue → Result Columns FaultValue
 columns_then first rest = then_value first (λ y. then_value rest (λ ys. Ok (y ∷ ys)))
 
-never_made : (b : Bool) (c : ColumnOf CellValue) → Err wrong_kind ≡ columns_then (if b then Ok c else Err wrong_kind) (Err wrong_kind)
-never_made true c = refl
-never_made false c = refl
-
-value_by_value : (b rest : Bool) (cells : List CellValue) (later : Result Columns FaultValue)
-    → (if b && rest then columns_then (list_column cells) later else Err wrong_kind) ≡ columns_then (listed_column (if b then Some cells else None)) (if rest then later else Err wrong_kind)
-value_by_value true true cells later = refl
-value_by_value true false cells later = never_made _ _
-value_by_value false rest cells later = refl
-
 abbrev column_of : LabelValue × Given → Result (ColumnOf CellValue) FaultValue
 column_of p = list_column (cells_given p.1)
 
@@ -40,61 +30,34 @@ lists_of pairs = map (λ p. scalars_in p.1) pairs
 
 pub lists_made : (pairs : List (LabelValue × Given)) → (if list_all is_scalar_list pairs then try_all column_of pairs else Err wrong_kind) ≡ try_all listed_column (lists_of pairs)
 lists_made [] = refl
-lists_made ((l, many parts) ∷ rest) =
-    value_by_value (each is_scalar parts) (list_all is_scalar_list rest) (cells_of parts) (try_all column_of rest)
-    ∙ ap (columns_then (listed_column (alone (Some parts)))) (lists_made rest)
+lists_made ((l, many parts) ∷ rest) = grind (arith, lists_made rest)
 lists_made pairs = refl
 
 -- the number of rows, and then the labels
 rows_labels : (rows count : ℕ) (cs : Columns) (index : Option (List (List LabelValue))) (go : List (List LabelValue) → Table) (last : Result Entry FaultValue) → last ≡ labels_then go (meant.index_labels rows count index)
     → all_of_length rows cs last ≡ labels_then go (then_value (same_rows rows cs) (λ r. labels_for r count index))
 rows_labels rows count [] index go last is = is
-rows_labels rows count (c ∷ cs) index go last is = go_on (nat_eq rows (length c.cells)) (rows_labels rows count cs index go last is)
-  where
-    go_on : (b : Bool) → all_of_length rows cs last ≡ labels_then go (then_value (same_rows rows cs) (λ r. labels_for r count index))
-        → (if b then all_of_length rows cs last else Err (bad_value (length_of rows (length c.cells))))
-        ≡ labels_then go (then_value (if b then same_rows rows cs else Err (bad_value (length_of rows (length c.cells)))) (λ r. labels_for r count index))
-    go_on true later = later
-    go_on false later = refl
+rows_labels rows count (c ∷ cs) index go last is = grind (arith, nat_eq, labels_then, rows_labels rows count cs index go last is)
 
 index_same : (rows : ℕ) (index : Option GivenList) (go : List (List LabelValue) → Result Entry FaultValue) → with_index rows index go ≡ indexed rows (option_map index_labels index) go
-index_same rows None go = refl
-index_same rows (Some parts) go = refl
-
-alone_same : (index : Option GivenList) → labels_given index ≡ index_alone (option_map index_labels index)
-alone_same None = refl
-alone_same (Some parts) = refl
+index_same rows x go = grind arith
 
 frame_columns : (headings : List LabelValue) (columns : Columns) (index : Option GivenList)
     → make.frame_with headings columns index ≡ labels_then (λ labels. frame_table labels headings columns) (frame_labels columns (option_map index_labels index))
-frame_columns headings [] index =
-    let labels = index_alone (option_map index_labels index) in
-    let go : List (List LabelValue) → Table = λ labels. frame_table labels headings [] in
-    ap (λ labels. few_levels labels (limited (go labels))) (alone_same index)
-    ∙ either_few (nat_le (level_count labels) 4) go _ (labels_within (length labels) 0 labels) (limited_labels _ 0 go labels refl refl)
+frame_columns headings [] index = grind (arith, nat_le, limited_labels)
 frame_columns headings (c ∷ cs) index =
     rows_labels (length c.cells) (length (c ∷ cs)) cs (option_map index_labels index) (λ labels. frame_table labels headings (c ∷ cs)) _
-    (index_same (length c.cells) index (λ labels. limited (frame_table labels headings (c ∷ cs)))
-    ∙ indexed_within (length c.cells) _ (option_map index_labels index) (λ labels. frame_table labels headings (c ∷ cs)) (λ labels. refl) (λ labels. refl))
+    (search (index_same, indexed_within))
 
 -- what is meant, value by value
 abbrev with_columns : List LabelValue → Option (List (List LabelValue)) → Columns → Result Entry FaultValue
 with_columns headings index columns = labels_then (λ labels. frame_table labels headings columns) (frame_labels columns index)
 
 later_test : (b : Bool) (made : Result Columns FaultValue) (go : Columns → Result Entry FaultValue) → (if b then then_value made go else Err wrong_kind) ≡ then_value (if b then made else Err wrong_kind) go
-later_test true made go = refl
-later_test false made go = refl
-
-then_same : (made : Result Columns FaultValue) (f g : Columns → Result Entry FaultValue) → ((columns : Columns) → f columns ≡ g columns) → then_value made f ≡ then_value made g
-then_same (Ok columns) f g same = same columns
-then_same (Err fault) f g same = refl
+later_test x made go = grind arith
 
 pub frame_same : (pairs : List (LabelValue × Given)) (index : Option GivenList) → frame_of pairs index ≡ frame_from pairs (option_map index_labels index)
-frame_same pairs index =
-    let headings : List LabelValue = map (λ p. p.0) pairs in
-    later_test (list_all is_scalar_list pairs) (try_all column_of pairs) (λ columns. make.frame_with headings columns index)
-    ∙ ap (λ made. then_value made (λ columns. make.frame_with headings columns index)) (lists_made pairs)
-    ∙ then_same (try_all listed_column (lists_of pairs)) (λ columns. make.frame_with headings columns index) _ (λ columns. frame_columns headings columns index)
+frame_same pairs index = search (later_test, lists_made, frame_columns)
 
 -- a value is the same list of scalars among any objects
 scalar_same : (live other : Tables) (texts : List Text) (item : Item) → is_scalar (item_of live texts item) ≡ is_scalar (item_of other texts item)
@@ -103,69 +66,64 @@ scalar_same live other texts item = refl
 
 each_same : (live other : Tables) (texts : List Text) (items : List Item) → each is_scalar (items_of live texts items) ≡ each is_scalar (items_of other texts items)
 each_same live other texts [] = refl
-each_same live other texts (item ∷ rest) = λ j. scalar_same live other texts item j && each_same live other texts rest j
+each_same live other texts (item ∷ rest) = grind (arith, scalar_same, each_same live other texts rest)
 
 abbrev if_alone : List CellValue → Bool → Option (List CellValue)
 if_alone cells b = if b then Some cells else None
 
 parts_same : (live : Tables) (texts : List Text) (items : List Item) → alone (Some (items_of live texts items)) ≡ alone (Some (items_of (λ id. None) texts items))
-parts_same live texts items =
-    ap (if_alone (cells_of (items_of live texts items))) (each_same live (λ id. None) texts items)
-    ∙ ap (λ cells. if_alone cells (each is_scalar (items_of (λ id. None) texts items))) (scalars_are live texts items)
+parts_same live texts items = cc (each_same live (λ id. None) texts items, scalars_are live texts items)
 
 pub list_same : (live : Tables) (texts : List Text) (a : Argument) → scalars_in (argument_of live texts a) ≡ list_seen texts a
 list_same live texts Nothing = refl
 list_same live texts (One v) = refl
 list_same live texts (Row l) = refl
-list_same live texts (Many l) = parts_same live texts l.items.items
+list_same live texts (Many l) = search parts_same
 list_same live texts (Table' shape pairs) = refl
 
 value_same : (live : Tables) (texts : List Text) (p : Option (Label × Argument)) → scalars_in (value_in live texts p) ≡ list_at texts p
-value_same live texts None = refl
-value_same live texts (Some p) = list_same live texts p.1
+value_same live texts x = grind (arith, list_same)
 
 lists_same : (live : Tables) (texts : List Text) (pairs : List (Label × Argument)) (es : List (Label × ℕ)) → lists_of (entries_seen live texts pairs es) ≡ lists_seen texts pairs (values_of es)
 lists_same live texts pairs [] = refl
-lists_same live texts pairs (e ∷ es) = λ j. value_same live texts (slice_get pairs e.1) j ∷ lists_same live texts pairs es j
+lists_same live texts pairs (e ∷ es) = search (value_same, slice_get, lists_same live texts pairs es)
 
 abbrev labels_seen : List Text → List Label → List LabelValue
 labels_seen texts labels = map (label_datum texts) labels
 
 keys_same : (live : Tables) (texts : List Text) (pairs : List (Label × Argument)) (es : List (Label × ℕ)) → map (λ p. p.0) (entries_seen live texts pairs es) ≡ labels_seen texts (keys_of es)
 keys_same live texts pairs [] = refl
-keys_same live texts pairs (e ∷ es) = ap (λ ls. label_datum texts e.0 ∷ ls) (keys_same live texts pairs es)
+keys_same live texts pairs (e ∷ es) = cc (keys_same live texts pairs es)
 
 -- what is meant of the keys and the places of their values
 pairs_frame : (live : Tables) (texts : List Text) (pairs : List (Label × Argument)) (es : List (Label × ℕ)) (index : Option (List (List LabelValue))) → entries_seen live texts pairs es ≡ pairs_in (entries_of live texts pairs)
     → frame_from (pairs_in (entries_of live texts pairs)) index ≡ frame_with (labels_seen texts (keys_of es)) (lists_seen texts pairs (values_of es)) index
-pairs_frame live texts pairs es index is =
-    ap (λ ps. frame_from ps index) (sym is)
-    ∙ (λ j. frame_with (keys_same live texts pairs es j) (lists_same live texts pairs es j) index)
+pairs_frame live texts pairs es index is = grind (arith, keys_same, lists_same)
 
 pub columns_refused : (live : Tables) (texts : List Text) (pairs : List (Label × Argument)) (es : List (Label × ℕ)) (index : Option (List (List LabelValue))) (fault : OpFault) → entries_seen live texts pairs es ≡ pairs_in (entries_of live texts pairs)
     → MakesBy blocks_value texts (Err fault) (try_all listed_column (lists_seen texts pairs (values_of es))) → Makes texts (Err fault) (frame_from (pairs_in (entries_of live texts pairs)) index)
 columns_refused live texts pairs es index fault is refused =
     rw (pairs_frame _ _ pairs es _ is)
-    (refused_on blocks_value texts (try_all listed_column (lists_seen texts pairs (values_of es))) (with_columns (labels_seen texts (keys_of es)) index) (Err fault) fault refl refused)
+    (grind (arith, refused_on))
 
 columns_are : (live : Tables) (texts : List Text) (pairs : List (Label × Argument)) (es : List (Label × ℕ)) (index : Option (List (List LabelValue))) (blocks : List CellBlock) → entries_seen live texts pairs es ≡ pairs_in (entries_of live texts pairs)
     → try_all listed_column (lists_seen texts pairs (values_of es)) ≡ Ok (blocks_value texts blocks)
     → frame_from (pairs_in (entries_of live texts pairs)) index ≡ with_columns (labels_seen texts (keys_of es)) index (blocks_value texts blocks)
-columns_are live texts pairs es index blocks is made = pairs_frame _ _ pairs es _ is ∙ ap (λ r. then_value r (with_columns (labels_seen texts (keys_of es)) index)) made
+columns_are live texts pairs es index blocks is made = cc (pairs_frame _ _ pairs es _ is)
 
 pub rows_refused : (live : Tables) (texts : List Text) (pairs : List (Label × Argument)) (es : List (Label × ℕ)) (index : Option (List (List LabelValue))) (blocks : List CellBlock) (fault : OpFault) → entries_seen live texts pairs es ≡ pairs_in (entries_of live texts pairs)
     → try_all listed_column (lists_seen texts pairs (values_of es)) ≡ Ok (blocks_value texts blocks)
     → MakesBy axis_labels texts (Err fault) (frame_labels (blocks_value texts blocks) index) → Makes texts (Err fault) (frame_from (pairs_in (entries_of live texts pairs)) index)
 rows_refused live texts pairs es index blocks fault is made refused =
     rw (columns_are _ _ pairs es _ _ is made)
-    (refused_on axis_labels texts (frame_labels (blocks_value texts blocks) index) (λ labels. Ok (table (frame_table labels (labels_seen texts (keys_of es)) (blocks_value texts blocks)))) (Err fault) fault refl refused)
+    (grind (arith, refused_on))
 
 abbrev some_label : Label → Option Label
 some_label key = Some key
 
 headings_seen : (texts : List Text) (ks : List Label) → map (λ l. Some l) (labels_seen texts ks) ≡ headings_value texts (map some_label ks)
 headings_seen texts [] = refl
-headings_seen texts (k ∷ ks) = ap (λ hs. Some (label_datum texts k) ∷ hs) (headings_seen texts ks)
+headings_seen texts (k ∷ ks) = cc (headings_seen texts ks)
 
 abbrev pub made_frame : AxisValue → List Label → List CellBlock → NumberedTable
 made_frame axis ks blocks = table_with Frame axis record { columns_name = None; labels = map (λ key. Some key) ks } (map block_column blocks)
@@ -175,21 +133,7 @@ pub frame_answer : (live : Tables) (texts : List Text) (pairs : List (Label × A
     → frame_labels (blocks_value texts blocks) index ≡ Ok (axis_labels texts axis) → axis.names ≡ nameless axis.tuples → headings ≡ record { columns_name = None; labels = map (λ key. Some key) (keys_of es) }
     → made ≡ table_with Frame axis headings (map block_column blocks)
     → frame_from (pairs_in (entries_of live texts pairs)) index ≡ Ok (table (table_value texts made))
-frame_answer live texts pairs es index blocks axis headings made is columns labels names headed made_is =
-    columns_are _ _ pairs es _ _ is columns
-    ∙ ap (labels_then (λ ls. frame_table ls (labels_seen texts (keys_of es)) (blocks_value texts blocks))) labels
-    ∙ ap (λ (t : Table). Ok (table t)) (seen ∙ ap (table_value texts) (sym (made_is ∙ ap (λ h. table_with Frame axis h (map block_column blocks)) headed)))
-  where
-    seen : frame_table (axis_labels texts axis) (labels_seen texts (keys_of es)) (blocks_value texts blocks) ≡ table_value texts (made_frame axis (keys_of es) blocks)
-    seen = λ j.
-        record {
-          shape = Frame;
-          columns_name = None;
-          level_names = sym (names_seen texts _ names) j;
-          labels = axis_labels texts axis;
-          headings = headings_seen texts (keys_of es) j;
-          columns = blocks_value texts blocks;
-        }
+frame_answer live texts pairs es index blocks axis headings made is columns labels names headed made_is = grind (arith, columns_are, labels_then, names_seen, headings_seen)
 
 -- what was given
 rest_of : {X : Type 0} (P : X → Type 0) (x : X) (xs : List X) → All P (x ∷ xs) → All P xs
@@ -201,29 +145,23 @@ first_in P x xs all = all 0 x (omega arith)
 labels_settled : (texts : List Text) (ks : List Label) → All (λ (k : Label). IsSettled label_datum texts k) ks → IsSettled headings_value texts (map some_label ks)
 labels_settled texts [] all = λ more. refl
 labels_settled texts (k ∷ ks) all = λ more j.
-    Some (first_in (λ (k : Label). IsSettled label_datum texts k) k _ all more j) ∷ labels_settled texts ks (rest_of (λ (k : Label). IsSettled label_datum texts k) k _ all) more j
+    Some (first_in (λ k. IsSettled label_datum texts k) k _ all more j) ∷ labels_settled texts ks (rest_of (λ k. IsSettled label_datum texts k) k _ all) more j
 
 abbrev IsGivenList : List Text → Label × Argument → Type 0
 IsGivenList texts p = IsSettled list_seen texts p.1
 
 list_settled : (texts : List Text) (pairs : List (Label × Argument)) (place : ℕ) → All (IsGivenList texts) pairs → IsSettled list_at texts (slice_get pairs place)
 list_settled texts [] place all = λ more. refl
-list_settled texts (p ∷ ps) zero all = first_in (IsGivenList texts) p _ all
+list_settled texts (p ∷ ps) zero all = search first_in
 list_settled texts (p ∷ ps) (suc place) all = list_settled texts ps place (rest_of (IsGivenList texts) p _ all)
 
 lists_settled : (texts more : List Text) (pairs : List (Label × Argument)) (places : List ℕ) → All (IsGivenList texts) pairs → lists_seen (texts ++ more) pairs places ≡ lists_seen texts pairs places
 lists_settled texts more pairs [] all = refl
-lists_settled texts more pairs (place ∷ places) all = λ j. list_settled _ pairs place all more j ∷ lists_settled texts more pairs places all j
-
-blocks_settled : (texts : List Text) (pairs : List (Label × Argument)) (places : List ℕ) (blocks : List CellBlock) → All (IsGivenList texts) pairs
-    → ((texts : List Text) → try_all listed_column (lists_seen texts pairs places) ≡ Ok (blocks_value texts blocks)) → IsSettled blocks_value texts blocks
-blocks_settled texts pairs places blocks all made = λ more.
-    ok_same _ _ (sym (made (texts ++ more)) ∙ ap (try_all listed_column) (lists_settled _ _ pairs _ all) ∙ made texts)
+lists_settled texts more pairs (place ∷ places) all = search (list_settled, lists_settled texts more pairs places all)
 
 rows_settled : (texts : List Text) (blocks : List CellBlock) (index : List Text → Option (List (List LabelValue))) (axis : AxisValue) → IsSettled blocks_value texts blocks → ((more : List Text) → index (texts ++ more) ≡ index texts)
     → ((texts : List Text) → frame_labels (blocks_value texts blocks) (index texts) ≡ Ok (axis_labels texts axis)) → IsSettled labels_value texts axis.tuples
-rows_settled texts blocks index axis columns given labels = λ more.
-    ok_same _ _ (sym (labels (texts ++ more)) ∙ (λ j. frame_labels (columns more j) (given more j)) ∙ labels texts)
+rows_settled texts blocks index axis columns given labels = grind (arith, ok_same)
 
 pub frame_settled : (texts : List Text) (pairs : List (Label × Argument)) (es : List (Label × ℕ)) (index : List Text → Option (List (List LabelValue))) (blocks : List CellBlock) (axis : AxisValue) (headings : HeadingList) (made : NumberedTable)
     → All (λ (p : Label × Argument). IsSettled list_seen texts p.1) pairs → All (λ (k : Label). IsSettled label_datum texts k) (keys_of es) → ((more : List Text) → index (texts ++ more) ≡ index texts)
@@ -232,30 +170,24 @@ pub frame_settled : (texts : List Text) (pairs : List (Label × Argument)) (es :
     → made ≡ table_with Frame axis headings (map block_column blocks)
     → IsSettled table_value texts made
 frame_settled texts pairs es index blocks axis headings made values ks given columns labels names headed made_is =
-    let cells : IsSettled columns_value texts (map block_column blocks) = blocks_settled _ pairs _ _ values columns in
-    subst (IsSettled table_value texts) (sym (made_is ∙ ap (λ h. table_with Frame axis h (map block_column blocks)) headed))
-    (table_settled _ (made_frame axis (keys_of es) blocks)
-    (λ more. refl)
-    (names_settled _ _ names)
-    (rows_settled _ _ _ axis cells given labels)
-    (labels_settled _ _ ks)
-    cells)
+    let cells : IsSettled columns_value texts (map block_column blocks) = grind (arith, ok_same, lists_settled) in
+    grind (arith, table_settled _ (made_frame axis (keys_of es) blocks) (λ more. refl) (names_settled _ _ names) (rows_settled _ _ _ axis cells given labels) (labels_settled _ _ ks) cells)
 
 -- labels of columns, which differ
 all_some : (ks : List Label) → All IsSome (map some_label ks)
 all_some [] = All-nil _
-all_some (k ∷ ks) = All-cons IsSome (Some k) (map some_label ks) refl (all_some ks)
+all_some (k ∷ ks) = grind (arith, all_some ks)
 
 abbrev label_in : Label → Option Label → Label
 label_in d None = d
 label_in d (Some l) = l
 
 some_apart : (ks : List Label) → AllPairs (λ a b. a ≢ b) ks → AllPairs (λ a b. a ≢ b) (map some_label ks)
-some_apart [] apart i j d lt below = absurd (omega (arith, below))
+some_apart [] apart i j d lt below = grind arith
 some_apart (k ∷ ks) apart i j d lt below =
-    let count : length (map some_label (k ∷ ks)) ≡ length (k ∷ ks) = length-map (k ∷ ks) some_label in
+    let count : length (map some_label (k ∷ ks)) ≡ length (k ∷ ks) = search length-map in
     λ same. apart i j k lt (omega (arith, below, count))
-    (ap (label_in k) (sym (get_or-map some_label (k ∷ ks) i k d (omega (arith, lt, below, count))) ∙ same ∙ get_or-map some_label (k ∷ ks) j k d (omega (arith, below, count))))
+    (grind (arith, get_or-map))
 
 no_series : Frame ≡ Series → ⊥
 no_series e = cc
@@ -275,22 +207,14 @@ abbrev more_made : {B : Type 0} → Result B FaultValue → Result (List B) Faul
 more_made first rest = then_value first (λ y. then_value rest (λ ys. Ok (y ∷ ys)))
 
 one_more : {B : Type 0} (n : ℕ) (first : Result B FaultValue) (rest : Result (List B) FaultValue) (ys : List B) → ((more : List B) → rest ≡ Ok more → n ≡ length more) → more_made first rest ≡ Ok ys → suc n ≡ length ys
-one_more n (Ok y) (Ok more) ys later is = ap suc (later more refl) ∙ ap length (ok_same _ _ is)
-one_more n first rest ys later is = cc
+one_more n first rest ys later is = grind (arith, ok_same)
 
 made_count : {A B : Type 0} (f : A → Result B FaultValue) (xs : List A) (ys : List B) → try_all f xs ≡ Ok ys → length xs ≡ length ys
-made_count f [] ys is = ap length (ok_same _ _ is)
+made_count f [] ys is = search ok_same
 made_count f (x ∷ xs) ys is = one_more _ _ _ _ (made_count f xs) is
 
 pub frame_whole : (pairs : List (Label × Argument)) (es : List (Label × ℕ)) (blocks : List CellBlock) (axis : AxisValue) (headings : HeadingList)
     → try_all listed_column (lists_seen [] pairs (values_of es)) ≡ Ok (blocks_value [] blocks) → HaveRows (length axis.tuples) (map block_column blocks)
     → headings ≡ record { columns_name = None; labels = map (λ key. Some key) (keys_of es) } → AreHeadings Frame headings.columns_name headings.labels
     → IsWhole (table_with Frame axis headings (map block_column blocks))
-frame_whole pairs es blocks axis headings columns filled headed fits =
-    record {
-      headed = ap (λ (h : HeadingList). length h.labels) headed ∙ length-map (keys_of es) some_label ∙ length-map es (λ e. e.0) ∙ sym (length-map es (λ e. e.1))
-          ∙ sym (length-map (values_of es) (λ place. list_at [] (slice_get pairs place))) ∙ made_count _ _ _ columns
-          ∙ length-map (map block_column blocks) (column_value []);
-      filled = filled;
-      headings = fits;
-    }
+frame_whole pairs es blocks axis headings columns filled headed fits = grind (arith, length-map, slice_get, made_count)

@@ -1,10 +1,10 @@
 -- Constructors on bound arguments.
 use Rattle.{
-  std.{proofs.Common.{◌≡◌, ◌∙◌, refl, ap, sym, subst, ℕ, List, [], ◌∷◌, ◌++◌, slice_get, Bor, Option, Some, None, Result}, specs.Option.{option_map}},
+  std.{proofs.Common.{arith, ◌≡◌, ◌∙◌, ap, sym, subst, ℕ, List, [], ◌∷◌, ◌++◌, slice_get, Bor, Option, Some, None, Result}, specs.Option.{option_map}},
   cell_core.specs.declared.cell.{Cell.{Cell}, Kind.{Kind}, Label.{Label}},
   meaning.specs.{Text.{Text}, Cell.{LabelValue, datum}, Operator.{cell_label}, Fault.{FaultValue}},
   table_meaning.specs.{Settled.{IsSettled}, Table.{heading_value}, Value.{Entry, Given, GivenList, NamedGiven, scalar_in, list_in}},
-  form_meaning.{specs.{declared.{Function.{Function}, Parameter.{Parameter}}, Signature.{function_parameters}, Binding.{Bound as Outcome, bound, bound_of, argument_at, arguments_from, on_bound}, Select.{cells_of}, Make.{index_labels, kind_given, on, series_of, series_result, frame_result}, Functions.{constructed, made_by}}, proofs.IndexLaws.{GivesAlike, index_taken}},
+  form_meaning.{specs.{declared.{Function.{Function}, Parameter.{Parameter}}, Signature.{function_parameters}, Binding.{Bound as Outcome, bound, bound_of, argument_at, on_bound}, Select.{cells_of}, Make.{index_labels, kind_given, on, series_of, series_result, frame_result}, Functions.{constructed, made_by}}, proofs.IndexLaws.{GivesAlike, index_taken}},
   frame_store.specs.{declared.arguments.Item.{Item}, Objects.{Tables}, Arguments.{items_of, arguments_of}, World.{World, arguments_in}},
   signatures.{specs.{Bound.{given_in, stands_at, Tells}, declared.bound.Bound.{Bound}, Scalars.{scalars}}, proofs.{ToldLaws.{told_settled}, ScalarLaws.{scalars_are}}},
   constructors.{specs.{Index.{rows_labels, GivesLevels}, Made.{series_with}}, proofs.IndexLaws.{rows_are, alike_seen}},
@@ -13,8 +13,7 @@ use Rattle.form_meaning.specs.declared.Function.TheVariants as function
 use Rattle.form_meaning.specs.declared.Form.TheVariants as form
 
 pub indexes_are : {T : Type 0} (f : T → List Item) (live : Tables) (texts : List Text) (o : Option T) → option_map index_labels (option_map (λ t. items_of live texts (f t)) o) ≡ option_map (λ t. rows_labels texts (f t)) o
-indexes_are f live texts None = refl
-indexes_are f live texts (Some t) = ap (λ labels. Some labels) (rows_are _ _ _)
+indexes_are f live texts x = grind (arith, rows_are)
 
 -- what stands at a place was given
 pub index_settled : {T : Type 0} (f : T → List Item) (b : Bound) (place : ℕ) (o : Option T) (live : Tables) (dict : List Text) → Tells b place list_in (λ live texts. option_map (λ t. items_of live texts (f t)) o)
@@ -29,23 +28,16 @@ pub index_levels : (ps : List Parameter) (p : Parameter) (gs : List Given) (w : 
     → p.form ≡ form.RowLabels → option_map (λ (l : Bor (List Item)). items_of w.tables w.texts l.now) o ≡ list_in (stands_at w.tables w.texts b 1) → GivesLevels o
 index_levels ps p gs w b None same is there form told = tt
 index_levels ps p gs w b (Some l) same is there form told =
-    let found : Some (items_of w.tables w.texts l.now) ≡ list_in (argument_at ps (arguments_in w b.args.now) 1) = told ∙ ap (λ q. list_in (argument_at q (arguments_in w b.args.now) 1)) is in
+    let found : Some (items_of w.tables w.texts l.now) ≡ list_in (argument_at ps (arguments_in w b.args.now) 1) = cc in
     alike_seen _ _ _ (subst GivesAlike (sym found) (index_taken _ _ 1 p _ same there form))
 
 -- a Series of lists is that of their scalars
 series_same : (values : GivenList) (index : Option GivenList) (name : Option LabelValue) (kind : Option Kind) → series_of values index name kind ≡ series_with (cells_of values) (option_map index_labels index) name kind
-series_same values None name kind = refl
-series_same values (Some parts) name kind = refl
+series_same values x name kind = grind arith
 
 -- a constructor on what binding gives
 abbrev Constructor : Function → Type 0
 Constructor f = (gs : List NamedGiven) (outcome : Outcome) → bound_of (function_parameters f) gs ≡ outcome → made_by f gs ≡ on_bound outcome (constructed f)
-
-series_unbound : Constructor function.Series
-series_unbound gs outcome same = ap (λ b. on_bound b (constructed function.Series)) same
-
-frame_unbound : Constructor function.DataFrame
-frame_unbound gs outcome same = ap (λ b. on_bound b (constructed function.DataFrame)) same
 
 -- the arguments of a Series and of a frame
 abbrev series_at : List Parameter → List NamedGiven → Result Entry FaultValue
@@ -53,10 +45,7 @@ series_at ps gs = series_result (argument_at ps gs 0 ∷ argument_at ps gs 1 ∷
 
 series_bound : (gs : List NamedGiven) (w : World) (b : Bound) → bound_of (function_parameters function.Series) gs ≡ bound (given_in w b)
     → b.parameters.now ≡ function_parameters function.Series → made_by function.Series gs ≡ series_at b.parameters.now (arguments_in w b.args.now)
-series_bound gs w b same is =
-    series_unbound gs (bound (given_in w b)) same
-    ∙ ap (λ p. on_bound (bound (arguments_from p (arguments_in w b.args.now) 0 p)) (constructed function.Series)) is
-    ∙ ap (λ p. series_at p (arguments_in w b.args.now)) (sym is)
+series_bound gs w b same is = grind arith
 
 pub series_given : {T : Type 0} (f : T → List Item) (gs : List NamedGiven) (w : World) (b : Bound) (values : List Item) (index : Option T) (o : Option Cell) (name : Option Label) (kind : Option Kind)
     → bound_of (function_parameters function.Series) gs ≡ bound (given_in w b) → b.parameters.now ≡ function_parameters function.Series
@@ -78,7 +67,4 @@ frame_at ps gs = frame_result (argument_at ps gs 0 ∷ argument_at ps gs 1 ∷ [
 
 pub frame_bound : (gs : List NamedGiven) (w : World) (b : Bound) → bound_of (function_parameters function.DataFrame) gs ≡ bound (given_in w b)
     → b.parameters.now ≡ function_parameters function.DataFrame → made_by function.DataFrame gs ≡ frame_at b.parameters.now (arguments_in w b.args.now)
-frame_bound gs w b same is =
-    frame_unbound gs (bound (given_in w b)) same
-    ∙ ap (λ p. on_bound (bound (arguments_from p (arguments_in w b.args.now) 0 p)) (constructed function.DataFrame)) is
-    ∙ ap (λ p. frame_at p (arguments_in w b.args.now)) (sym is)
+frame_bound gs w b same is = grind arith

@@ -2,17 +2,15 @@
 use mathlib.Core.Former.{Count}
 use Rattle.{
   signatures.{proofs.{ToldLaws.{some_same}, ScalarLaws.{scalars_are}}, specs.Scalars.{scalars, with_cell}},
-  std.{proofs.{Common.{◌≡◌, ◌∙◌, ◌<◌, ◌≤◌, ◌+◌, append_assoc, append-nil, refl, ap, sym, subst, ℕ, zero, suc, List, [], ◌∷◌, ◌++◌, map, length, drop, get_or, Option, Some, None, Result, Ok, Err, All, arith}, lemmas.List.{length-map, map-append, at_drop_all, Elements.{All-cons, All-nil, All-head, All-tail}}, Math.Seq.{drop-cons}}, specs.{Prelude.{OnOk}, Option.{option_map}}},
+  std.{proofs.{Common.{◌≡◌, ◌∙◌, ◌<◌, ◌≤◌, ◌+◌, append_assoc, append-nil, refl, ap, sym, subst, ℕ, zero, suc, List, [], ◌∷◌, ◌++◌, map, length, drop, get_or, Option, Some, None, Result, All, arith}, lemmas.List.{length-map, map-append, at_drop_all, Elements.{All-cons, All-nil, All-head, All-tail}}, Math.Seq.{drop-cons}}, specs.{Prelude.{OnOk}, Option.{option_map}}},
   cell_core.specs.declared.cell.{Cell.{Cell}, Label.{Label}},
   meaning.specs.{Text.{Text}, Cell.{CellValue, LabelValue, datum, label_datum}, Operator.{cell_label}},
-  table_meaning.specs.{Table.{tuple_value}, Value.{Given, GivenList, table, nothing, one, row, scalar_in, tuple_in}},
+  table_meaning.specs.{Table.{tuple_value}, Value.{Given, GivenList, scalar_in, tuple_in}},
   form_meaning.specs.{Select.{cells_of, labels_of}, Make.{row_labels, index_labels, level_count, AreAlike}},
   form_parts.specs.Labels.{label_of},
   frame_store.specs.{Objects.{Tables}, Arguments.{item_of, items_row, items_of}, Shown.{labels_value}, declared.arguments.{Value.TheVariants.{Object, Scalar}, Item.{Item, One as OneItem, Row' as RowItem', Row_of-Item, end_of-Item, more_of-Item}}},
   constructors.{specs.Index.{label_in, rows_labels}, proofs.ScalarLaws.{after, scalars_from}},
 }
-use Rattle.cell_core.specs.declared.cell.Cell.TheVariants as cell
-use Rattle.table_meaning.specs.Value as value
 
 -- the label of a scalar, as it is seen
 abbrev label_from : Option CellValue → List LabelValue
@@ -20,73 +18,50 @@ label_from None = []
 label_from (Some c) = cell_label c ∷ []
 
 label_is : (texts : List Text) (c : Cell) → label_datum texts (label_of c) ≡ cell_label (datum texts c)
-label_is texts cell.Na = refl
-label_is texts c = refl
+label_is texts c = grind arith
 
 pub label_seen : (texts : List Text) (o : Option Cell) → tuple_value texts (label_in o) ≡ label_from (option_map (datum texts) o)
-label_seen texts None = refl
-label_seen texts (Some c) = ap (λ l. l ∷ []) (label_is _ c)
-
--- a part that is no tuple, and one that is
-pub no_tuple : (g : Given) → None ≡ tuple_in g → row_labels g ≡ label_from (scalar_in g)
-no_tuple (one (value.cell c)) is = refl
-no_tuple (one (table t)) is = refl
-no_tuple nothing is = refl
-no_tuple (row parts) is = cc
-no_tuple g is = refl
+label_seen texts x = grind (arith, label_is)
 
 pub tuple_labels : (g : Given) (parts : GivenList) → Some parts ≡ tuple_in g → row_labels g ≡ labels_of parts
-tuple_labels (row parts') parts is = ap labels_of (sym (some_same _ _ is))
-tuple_labels g parts is = cc
+tuple_labels g parts is = grind (arith, some_same)
 
 -- one scalar more among the labels
 with_label : (texts : List Text) (o : Option Cell) (cells : List CellValue) → tuple_value texts (label_in o) ++ map cell_label cells ≡ map cell_label (with_cell (option_map (datum texts) o) cells)
-with_label texts None cells = refl
-with_label texts (Some c) cells = ap (λ l. l ∷ map cell_label cells) (label_is _ c)
+with_label texts x cells = grind (arith, label_is)
 
 pub labels_step : (texts : List Text) (items : List Item) (item : Item) (o : Option Cell) (labels labels' : List Label) (whole : List LabelValue) → item ≡ get_or items 0 item → 1 ≤ length items
     → ((live : Tables) (texts : List Text) → option_map (datum texts) o ≡ scalar_in (item_of live texts item)) → labels' ≡ labels ++ label_in o
     → tuple_value texts labels ++ map cell_label (scalars texts items) ≡ whole → tuple_value texts labels' ++ map cell_label (scalars texts (after items)) ≡ whole
 labels_step texts items item o labels labels' whole is some scalar pushed before =
     let rest = map cell_label (scalars texts (after items)) in
-    ap (λ l. tuple_value texts l ++ rest) pushed
-    ∙ ap (λ l. l ++ rest) (map-append (label_datum texts) labels (label_in o))
-    ∙ append_assoc (tuple_value texts labels) (tuple_value texts (label_in o)) rest
-    ∙ ap (λ l. tuple_value texts labels ++ l) (with_label _ o _)
-    ∙ ap (λ cells. tuple_value texts labels ++ map cell_label cells) (sym (scalars_from _ _ _ o is some scalar))
-    ∙ before
+    cc (map-append (label_datum texts) labels (label_in o), append_assoc (tuple_value texts labels) (tuple_value texts (label_in o)) rest, with_label _ o _, scalars_from _ _ _ o is some scalar)
 
 -- the labels of a part
 pub tuple_seen : (live : Tables) (texts : List Text) (part : Item) (parts : List Item) (labels : List Label) → Some (items_of live texts parts) ≡ tuple_in (item_of live texts part)
     → tuple_value texts labels ≡ map cell_label (scalars texts parts) → tuple_value texts labels ≡ row_labels (item_of live texts part)
-tuple_seen live texts part parts labels is made = made ∙ ap (map cell_label) (sym (scalars_are live texts parts)) ∙ sym (tuple_labels _ _ is)
-
-pub scalar_seen : (live : Tables) (texts : List Text) (part : Item) (o : Option Cell) (labels : List Label) → None ≡ tuple_in (item_of live texts part) → option_map (datum texts) o ≡ scalar_in (item_of live texts part)
-    → labels ≡ label_in o → tuple_value texts labels ≡ row_labels (item_of live texts part)
-scalar_seen live texts part o labels none scalar is =
-    ap (tuple_value texts) is ∙ label_seen _ o ∙ ap label_from scalar ∙ sym (no_tuple _ none)
+tuple_seen live texts part parts labels is made = grind (arith, scalars_are, tuple_labels)
 
 -- where a call is done, what follows from what it says
 pub on_ok : {T E : Type 0} (P Q : Type 0) (r : Result T E) → (P → Q) → OnOk r P → OnOk r Q
-on_ok P Q (Ok x) f h = f h
-on_ok P Q (Err e) f h = tt
+on_ok x1 x2 x3 f h = grind arith
 
 -- the parts of a row are the same among any objects, and as many among any texts
 module _ (live other : Tables) where
   row_cells : (texts : List Text) (n : Count) (r : Row_of-Item n) → cells_of (items_row live texts r) ≡ cells_of (items_row other texts r)
   row_cells texts _ end_of-Item = refl
-  row_cells texts _ (more_of-Item {n} (OneItem (Scalar c)) rest) = ap (λ cells. datum texts c ∷ cells) (row_cells texts n rest)
+  row_cells texts _ (more_of-Item {n} (OneItem (Scalar c)) rest) = cc (row_cells texts n rest)
   row_cells texts _ (more_of-Item {n} (OneItem (Object id)) rest) = row_cells texts n rest
   row_cells texts _ (more_of-Item {n} (RowItem' shape parts) rest) = row_cells texts n rest
 
   row_same : (texts : List Text) (item : Item) → row_labels (item_of live texts item) ≡ row_labels (item_of other texts item)
   row_same texts (OneItem (Scalar c)) = refl
   row_same texts (OneItem (Object id)) = refl
-  row_same texts (RowItem' shape parts) = ap (map cell_label) (row_cells texts _ parts)
+  row_same texts (RowItem' shape parts) = grind (arith, row_cells)
 
   rows_same : (texts : List Text) (items : List Item) → index_labels (items_of live texts items) ≡ index_labels (items_of other texts items)
   rows_same texts [] = refl
-  rows_same texts (item ∷ rest) = λ j. row_same texts item j ∷ rows_same texts rest j
+  rows_same texts (item ∷ rest) = search (row_same, rows_same texts rest)
 
   cells_count : (texts texts' : List Text) (n : Count) (r : Row_of-Item n) → length (cells_of (items_row live texts r)) ≡ length (cells_of (items_row other texts' r))
   cells_count texts texts' _ end_of-Item = refl
@@ -97,17 +72,14 @@ module _ (live other : Tables) where
   row_count : (texts texts' : List Text) (item : Item) → length (row_labels (item_of live texts item)) ≡ length (row_labels (item_of other texts' item))
   row_count texts texts' (OneItem (Scalar c)) = refl
   row_count texts texts' (OneItem (Object id)) = refl
-  row_count texts texts' (RowItem' shape parts) =
-      length-map (cells_of (items_row live texts parts)) cell_label
-      ∙ cells_count texts texts' _ parts
-      ∙ sym (length-map (cells_of (items_row other texts' parts)) cell_label)
+  row_count texts texts' (RowItem' shape parts) = grind (arith, length-map, cells_count)
 
   levels_same : (texts texts' : List Text) (items : List Item) → level_count (index_labels (items_of live texts items)) ≡ level_count (index_labels (items_of other texts' items))
   levels_same texts texts' [] = refl
   levels_same texts texts' (item ∷ rest) = row_count texts texts' item
 
 pub rows_are : (live : Tables) (texts : List Text) (items : List Item) → index_labels (items_of live texts items) ≡ rows_labels texts items
-rows_are live texts items = rows_same _ (λ id. None) _ _
+rows_are live texts items = search rows_same
 
 abbrev Has : ℕ → List LabelValue → Type 0
 Has n labels = length labels ≡ n
@@ -125,11 +97,11 @@ alike_seen live texts items h =
     let same = levels_same live (λ id. None) texts [] items in
     record {
       some = rw same at h.some;
-      each = subst (λ n. All (Has n) (rows_labels [] items)) same (all_have live (λ id. None) texts [] (level_count (index_labels (items_of live texts items))) items h.each);
+      each = subst (λ n. All (Has n) (rows_labels [] items)) same (search all_have);
     }
 
 pub levels_are : (texts : List Text) (items : List Item) → level_count (rows_labels texts items) ≡ level_count (rows_labels [] items)
-levels_are texts items = levels_same (λ id. None) (λ id. None) texts [] items
+levels_are texts items = search levels_same
 
 pub rows_count : (texts : List Text) (items : List Item) → length (rows_labels texts items) ≡ length items
 rows_count texts [] = refl
@@ -137,30 +109,18 @@ rows_count texts (item ∷ rest) = ap suc (rows_count texts rest)
 
 -- one row more
 row_at : (n : ℕ) (items : List Item) (k : ℕ) (item d : Item) → All (Has n) (rows_labels [] items) → k < length items → item ≡ get_or items k d → length (row_labels (item_of (λ id. None) [] item)) ≡ n
-row_at n [] k item d h lt is = absurd (omega (arith, lt))
-row_at n (x ∷ xs) zero item d h lt is =
-    ap (λ (i : Item). length (row_labels (item_of (λ id. None) [] i))) is
-    ∙ All-head (Has n) (row_labels (item_of (λ id. None) [] x)) _ h
+row_at n [] k item d h lt is = search
+row_at n (x ∷ xs) zero item d h lt is = cc (All-head (Has n) (row_labels (item_of (λ id. None) [] x)) _ h)
 row_at n (x ∷ xs) (suc k) item d h lt is = row_at n xs k item d (All-tail (Has n) (row_labels (item_of (λ id. None) [] x)) _ h) (omega (arith, lt)) is
 
 pub row_fits : (n : ℕ) (items : List Item) (k : ℕ) (item d : Item) (labels : List Label) → All (Has n) (rows_labels [] items) → k < length items → item ≡ get_or items k d
     → tuple_value [] labels ≡ row_labels (item_of (λ id. None) [] item) → length labels ≡ n
-row_fits n items k item d labels h lt is seen = sym (length-map labels (label_datum [])) ∙ ap length seen ∙ row_at n _ k _ d h lt is
+row_fits n items k item d labels h lt is seen = cc (length-map labels (label_datum []), row_at n _ k _ d h lt is)
 
 pub rows_step : (texts : List Text) (items : List Item) (k : ℕ) (item d : Item) (labels : List Label) (tuples tuples' : List (List Label)) (whole : List (List LabelValue)) → k < length items → item ≡ get_or items k d
     → tuple_value texts labels ≡ row_labels (item_of (λ id. None) texts item) → tuples' ≡ tuples ++ labels ∷ []
     → labels_value texts tuples ++ rows_labels texts (drop k items) ≡ whole → labels_value texts tuples' ++ rows_labels texts (drop (k + 1) items) ≡ whole
-rows_step texts items k item d labels tuples tuples' whole lt is seen pushed before =
-    let next : k + 1 ≡ suc k = omega arith in
-    let rest = rows_labels texts (drop (suc k) items) in
-    ap (λ n. labels_value texts tuples' ++ rows_labels texts (drop n items)) next
-    ∙ ap (λ l. labels_value texts l ++ rest) pushed
-    ∙ ap (λ l. l ++ rest) (map-append (tuple_value texts) tuples (labels ∷ []))
-    ∙ append_assoc (labels_value texts tuples) (tuple_value texts labels ∷ []) rest
-    ∙ ap (λ l. labels_value texts tuples ++ l ∷ rest) (seen ∙ ap (λ (i : Item). row_labels (item_of (λ id. None) texts i)) is)
-    ∙ ap (λ l. labels_value texts tuples ++ rows_labels texts l) (sym (drop-cons items k d lt))
-    ∙ before
+rows_step texts items k item d labels tuples tuples' whole lt is seen pushed before = grind (arith, map-append, append_assoc, drop-cons)
 
 pub rows_all : (texts : List Text) (items : List Item) (k : ℕ) (tuples : List (List Label)) (whole : List (List LabelValue)) → length items ≤ k → labels_value texts tuples ++ rows_labels texts (drop k items) ≡ whole → labels_value texts tuples ≡ whole
-rows_all texts items k tuples whole end before =
-    sym (append-nil (labels_value texts tuples)) ∙ sym (at_drop_all (λ l. labels_value texts tuples ++ rows_labels texts l) _ k end) ∙ before
+rows_all texts items k tuples whole end before = cc (append-nil (labels_value texts tuples), at_drop_all (λ l. labels_value texts tuples ++ rows_labels texts l) _ k end)

@@ -1,12 +1,12 @@
 -- Series of scalars.
 use Rattle.{
-  std.proofs.{Common.{◌≡◌, ◌∙◌, refl, ap, sym, subst, ℕ, zero, suc, pos, nat_eq, nat_le, Bool, true, false, List, [], ◌∷◌, ◌++◌, length, replicate, Option, Some, None, Result, Ok, Err, if◌then◌else◌, arith}, lemmas.{List.{length-map, FromFn.{length-map-range_with_len}, Elements.{All-cons, All-nil}}, Bool.Decides.{nat_tests}}},
-  cell_core.specs.declared.{cell.{Cell.{Cell}, Kind.{Kind}, Label.{Label}}, grid.Shape.TheVariants.{Series}},
-  meaning.specs.{Text.{Text}, Cell.{CellValue, LabelValue, int, datum, label_datum, AreGiven, IsLonger}, Fault.{FaultValue, wrong_kind, limit, bad_value, length_of, then_value}},
+  std.proofs.{Common.{◌≡◌, ◌∙◌, refl, ap, sym, subst, ℕ, zero, suc, nat_eq, nat_le, Bool, true, List, [], ◌∷◌, ◌++◌, length, replicate, Option, Some, None, Result, Ok, Err, if◌then◌else◌, arith}, lemmas.{List.{length-map, FromFn.{length-map-range_with_len}}, Bool.Decides.{nat_tests}}},
+  cell_core.specs.declared.{cell.{Kind.{Kind}, Label.{Label}}, grid.Shape.TheVariants.{Series}},
+  meaning.specs.{Text.{Text}, Cell.{CellValue, LabelValue, AreGiven, IsLonger}, Fault.{FaultValue, wrong_kind, limit, bad_value, length_of, then_value}},
   multi_index.specs.Axes.{AxisValue, range_axis},
   column_core.specs.Columns.{CellColumn},
-  table_meaning.specs.{Settled.{IsSettled}, Table.{ColumnOf, NumberedTable, Table, table_value, heading_value, tuple_value}, Value.{Entry, table}},
-  form_meaning.specs.{Finish.{within_limits, limited, default_labels}, Set.{list_column}, Make.{cast_to, level_count, nameless, few_levels, series_table}},
+  table_meaning.specs.{Settled.{IsSettled}, Table.{ColumnOf, NumberedTable, Table, table_value, heading_value}, Value.{Entry, table}},
+  form_meaning.specs.{Finish.{within_limits, limited, default_labels}, Set.{list_column}, Make.{cast_to, nameless, few_levels, series_table}},
   form_parts.{specs.Makes.{MakesBy}, proofs.{LabelLaws.{default_seen}, TableMade.{refused_on}}},
   frame_store.{specs.{declared.{arguments.Item.{Item}, fault.OpFault.{OpFault}}, Parts.{table_column}, Shown.{labels_value, headings_value, cells_value, Makes}}, proofs.Settling.{settled_later, seen_later, settled_by, cells_given, columns_settled, table_settled}},
   signatures.specs.Scalars.{scalars},
@@ -17,39 +17,25 @@ abbrev if_within : List (List LabelValue) → Bool → Result (List (List LabelV
 if_within labels b = if b then Ok labels else Err limit
 
 pub counted : (texts : List Text) (rows columns : ℕ) (axis : AxisValue) → within_limits rows columns ≡ true → axis ≡ range_axis rows → labels_within rows columns (default_labels rows) ≡ Ok (axis_labels texts axis)
-counted texts rows columns axis within is =
-    ap (if_within (default_labels rows)) within ∙ ap Ok (sym (default_seen _ _) ∙ ap (axis_labels texts) (sym is))
+counted texts rows columns axis within is = cc (default_seen _ _)
 
 default_count : (rows : ℕ) → length (default_labels rows) ≡ rows
-default_count rows = length-map-range_with_len (λ row. int (pos row) ∷ []) 0 _
+default_count rows = search length-map-range_with_len
 
 pub nat_same : (a b : ℕ) → nat_eq a b ≡ true → a ≡ b
 nat_same a b e = grind (arith, nat_tests)
 
--- as many labels as rows
-within_count : (b : Bool) (labels made : List (List LabelValue)) → if_within labels b ≡ Ok made → labels ≡ made
-within_count true labels made is = cc
-within_count false labels made is = cc
-
 abbrev if_length : ℕ → ℕ → Result (List (List LabelValue)) FaultValue → Bool → Result (List (List LabelValue)) FaultValue
 if_length expected got rest b = if b then rest else Err (bad_value (length_of expected got))
 
-few_made : (b : Bool) (made : List (List LabelValue)) (rest : Result (List (List LabelValue)) FaultValue) → (if b then rest else Err limit) ≡ Ok made → rest ≡ Ok made
-few_made true made rest is = is
-few_made false made rest is = cc
-
 listed_count : (b : Bool) (rows columns : ℕ) (labels made : List (List LabelValue)) → nat_eq rows (length labels) ≡ b → if_length rows (length labels) (few_levels labels (labels_within rows columns labels)) b ≡ Ok made → length made ≡ rows
-listed_count true rows columns labels made same is =
-    ap length (sym (within_count _ _ _ (few_made _ _ _ is))) ∙ sym (nat_same _ _ same)
-listed_count false rows columns labels made same is = cc
+listed_count x rows columns labels made same is = grind (arith, nat_same)
 
 pub labels_count : (rows columns : ℕ) (index : Option (List (List LabelValue))) (made : List (List LabelValue)) → index_labels rows columns index ≡ Ok made → length made ≡ rows
-labels_count rows columns None made is = ap length (sym (within_count _ _ _ is)) ∙ default_count _
-labels_count rows columns (Some labels) made is = listed_count _ _ _ _ _ refl is
+labels_count rows columns x made is = grind (arith, default_count, listed_count)
 
 pub axis_count : (texts : List Text) (rows columns : ℕ) (index : Option (List (List LabelValue))) (axis : AxisValue) → index_labels rows columns index ≡ Ok (axis_labels texts axis) → rows ≡ length axis.tuples
-axis_count texts rows columns index axis is =
-    sym (labels_count _ _ _ _ is) ∙ length-map axis.tuples (tuple_value texts)
+axis_count texts rows columns index axis is = grind (arith, labels_count, length-map)
 
 -- a table that goes on with the labels of its rows, unless it is beyond the limits
 abbrev limit_then : Table → Bool → Result Entry FaultValue
@@ -59,36 +45,20 @@ abbrev pub labels_then : (List (List LabelValue) → Table) → Result (List (Li
 labels_then go r = then_value r (λ labels. Ok (table (go labels)))
 
 either_limit : (go : List (List LabelValue) → Table) (labels : List (List LabelValue)) (b : Bool) → limit_then (go labels) b ≡ labels_then go (if_within labels b)
-either_limit go labels true = refl
-either_limit go labels false = refl
+either_limit go labels x = grind arith
 
 pub limited_labels : (rows columns : ℕ) (go : List (List LabelValue) → Table) (labels : List (List LabelValue)) → length (go labels).labels ≡ rows → length (go labels).columns ≡ columns
     → limited (go labels) ≡ labels_then go (labels_within rows columns labels)
-limited_labels rows columns go labels r c =
-    ap (limit_then (go labels)) (λ j. within_limits (r j) (c j)) ∙ either_limit _ _ _
-
-either_length : (b : Bool) (rows got : ℕ) (go : List (List LabelValue) → Table) (first : Result Entry FaultValue) (made : Result (List (List LabelValue)) FaultValue) → (b ≡ true → first ≡ labels_then go made)
-    → (if b then first else Err (bad_value (length_of rows got))) ≡ labels_then go (if_length rows got made b)
-either_length true rows got go first made same = same refl
-either_length false rows got go first made same = refl
-
-pub either_few : (b : Bool) (go : List (List LabelValue) → Table) (first : Result Entry FaultValue) (made : Result (List (List LabelValue)) FaultValue) → first ≡ labels_then go made
-    → (if b then first else Err limit) ≡ labels_then go (if b then made else Err limit)
-either_few true go first made same = same
-either_few false go first made same = refl
+limited_labels rows columns go labels r c = grind (arith, either_limit)
 
 pub indexed_within : (rows columns : ℕ) (index : Option (List (List LabelValue))) (go : List (List LabelValue) → Table) → ((labels : List (List LabelValue)) → (go labels).labels ≡ labels) → ((labels : List (List LabelValue)) → length (go labels).columns ≡ columns)
     → indexed rows index (λ labels. limited (go labels)) ≡ labels_then go (index_labels rows columns index)
-indexed_within rows columns None go ls cs = limited_labels _ _ _ _ (ap length (ls (default_labels rows)) ∙ default_count _) (cs (default_labels rows))
-indexed_within rows columns (Some labels) go ls cs =
-    either_length (nat_eq rows (length labels)) rows (length labels) go (few_levels labels (limited (go labels))) (few_levels labels (labels_within rows columns labels))
-    (λ e. either_few (nat_le (level_count labels) 4) go _ (labels_within rows columns labels)
-    (limited_labels rows _ go labels (ap length (ls labels) ∙ sym (nat_same _ _ e)) (cs labels)))
+indexed_within rows columns None go ls cs = grind (arith, limited_labels, default_count)
+indexed_within rows columns (Some labels) go ls cs = grind (arith, nat_eq, nat_le, limited_labels, nat_same)
 
 -- a column of scalars that were given
 held_cells : (b : Bool) (kind : Kind) (cells : List CellValue) (col : ColumnOf CellValue) → (if b then Ok record { kind = kind; cells = cells } else Err wrong_kind) ≡ Ok col → cells ≡ col.cells
-held_cells true kind cells col is = let same : record { kind = kind; cells = cells } ≡ col = cc in ap (λ (c : ColumnOf CellValue). c.cells) same
-held_cells false kind cells col is = cc
+held_cells x kind cells col is = grind arith
 
 pub column_given : (dict : List Text) (items : List Item) (c : CellColumn) → ((texts : List Text) → list_column (scalars texts items) ≡ Ok (column_seen texts c)) → IsSettled scalars dict items → AreGiven dict c.cells
 column_given dict items c is settled =
@@ -104,30 +74,18 @@ ok_same a b e = cc
 
 pub labels_settled : (dict : List Text) (axis : AxisValue) (rows columns : ℕ) (index : List Text → Option (List (List LabelValue))) → ((texts : List Text) → index_labels rows columns (index texts) ≡ Ok (axis_labels texts axis))
     → ((more : List Text) → index (dict ++ more) ≡ index dict) → IsSettled labels_value dict axis.tuples
-labels_settled dict axis rows columns index is settled = λ more.
-    ok_same _ _ (sym (is (dict ++ more)) ∙ ap (index_labels rows columns) (settled more) ∙ is dict)
-
-pub index_later : (old new : List Text) (index : List Text → Option (List (List LabelValue))) → IsLonger old new → ((more : List Text) → index (old ++ more) ≡ index old) → index new ≡ index old
-index_later old new index longer settled = ap index longer.1 ∙ settled longer.0
+labels_settled dict axis rows columns index is settled = grind (arith, ok_same)
 
 -- levels without names, as they are seen
 missing_names : (texts : List Text) (n : ℕ) → headings_value texts (replicate n None) ≡ replicate n None
 missing_names texts zero = refl
-missing_names texts (suc n) = ap (λ names. None ∷ names) (missing_names texts n)
-
-pub level_seen : (texts : List Text) (tuples : List (List Label)) → level_count tuples ≡ level_count (labels_value texts tuples)
-level_seen texts [] = refl
-level_seen texts (tuple ∷ rest) = sym (length-map tuple (label_datum texts))
+missing_names texts (suc n) = cc (missing_names texts n)
 
 pub names_seen : (texts : List Text) (axis : AxisValue) → axis.names ≡ nameless axis.tuples → headings_value texts axis.names ≡ nameless (axis_labels texts axis)
-names_seen texts axis names =
-    ap (headings_value texts) names
-    ∙ missing_names _ _
-    ∙ ap (λ n. replicate n None) (level_seen _ _)
+names_seen texts axis names = grind (arith, missing_names, length-map)
 
 pub names_settled : (texts : List Text) (axis : AxisValue) → axis.names ≡ nameless axis.tuples → IsSettled headings_value texts axis.names
-names_settled texts axis names =
-    rw names (λ more. missing_names _ _ ∙ sym (missing_names _ _))
+names_settled texts axis names = grind (arith, missing_names)
 
 abbrev series_rows : Option (List (List LabelValue)) → Option LabelValue → ColumnOf CellValue → Result Entry FaultValue
 series_rows index name c = indexed (length c.cells) index (λ labels. limited (series_table name labels c))
@@ -141,17 +99,7 @@ series_named name c labels = series_table name labels c
 series_is : (new : List Text) (cells : List CellValue) (index : Option (List (List LabelValue))) (name : Option LabelValue) (kind : Option Kind) (listed : ColumnOf CellValue) (column : CellColumn)
     → list_column cells ≡ Ok listed → cast_to kind listed ≡ Ok (column_seen new column)
     → series_with cells index name kind ≡ labels_then (series_named name (column_seen new column)) (index_labels (length column.cells) 1 index)
-series_is new cells index name kind listed column first second =
-    ap (λ r. then_value r (series_cast index name kind)) first
-    ∙ ap (λ r. then_value r (series_rows index name)) second
-    ∙ ap (λ n. indexed n index (λ labels. limited (series_table name labels (column_seen new column)))) (length-map column.cells (datum new))
-    ∙ indexed_within (length column.cells) 1 index (series_named name (column_seen new column)) (λ labels. refl) (λ labels. refl)
-
-pub cast_refused : (old new : List Text) (cells : List CellValue) (index : Option (List (List LabelValue))) (name : Option LabelValue) (kind : Option Kind) (listed : CellColumn) (fault : OpFault)
-    → list_column cells ≡ Ok (column_seen old listed) → MakesBy column_seen new (Err fault) (cast_to kind (column_seen old listed)) → Makes new (Err fault) (series_with cells index name kind)
-cast_refused old new cells index name kind listed fault first refused =
-    rw (ap (λ r. then_value r (series_cast index name kind)) first)
-    (refused_on column_seen new (cast_to kind (column_seen old listed)) (series_rows index name) (Err fault) fault refl refused)
+series_is new cells index name kind listed column first second = grind (arith, length-map, indexed_within)
 
 pub axis_refused : (old new : List Text) (cells : List CellValue) (index : List Text → Option (List (List LabelValue))) (name : Option LabelValue) (kind : Option Kind) (listed column : CellColumn) (fault : OpFault)
     → IsLonger old new → list_column cells ≡ Ok (column_seen old listed) → cast_to kind (column_seen old listed) ≡ Ok (column_seen new column) → ((more : List Text) → index (old ++ more) ≡ index old)
@@ -159,7 +107,7 @@ pub axis_refused : (old new : List Text) (cells : List CellValue) (index : List 
 axis_refused old new cells index name kind listed column fault longer first second settled refused =
     rw (series_is _ _ _ _ _ _ _ first second)
     (refused_on axis_labels new (index_labels (length column.cells) 1 (index old)) (λ labels. Ok (table (series_named name (column_seen new column) labels))) (Err fault) fault refl
-    (subst (λ (i : Option (List (List LabelValue))). MakesBy axis_labels new (Err fault) (index_labels (length column.cells) 1 i)) (index_later _ _ index longer settled) refused))
+    (subst (λ (i : Option (List (List LabelValue))). MakesBy axis_labels new (Err fault) (index_labels (length column.cells) 1 i)) (grind arith) refused))
 
 pub series_answer : (old new : List Text) (cells : List CellValue) (index : List Text → Option (List (List LabelValue))) (name : Option Label) (kind : Option Kind) (listed column : CellColumn) (axis : AxisValue) (made : NumberedTable)
     → IsLonger old new → list_column cells ≡ Ok (column_seen old listed) → cast_to kind (column_seen old listed) ≡ Ok (column_seen new column) → ((more : List Text) → index (old ++ more) ≡ index old)
@@ -167,8 +115,8 @@ pub series_answer : (old new : List Text) (cells : List CellValue) (index : List
     → series_with cells (index old) (heading_value old name) kind ≡ Ok (table (table_value new made))
 series_answer old new cells index name kind listed column axis made longer first second settled labels names named is =
     series_is _ cells (index old) (heading_value old name) _ _ _ first second
-    ∙ ap (labels_then (series_named (heading_value old name) (column_seen new column))) (ap (index_labels (length column.cells) 1) (sym (index_later _ _ index longer settled)) ∙ labels new)
-    ∙ ap (λ (v : Table). Ok (table v)) (seen ∙ ap (table_value new) (sym is))
+    ∙ ap (labels_then (series_named (heading_value old name) (column_seen new column))) (ap (index_labels (length column.cells) 1) (sym (grind arith)) ∙ labels new)
+    ∙ ap (λ v. Ok (table v)) (seen ∙ ap (table_value new) (sym is))
   where
     seen : series_named (heading_value old name) (column_seen new column) (axis_labels new axis) ≡ table_value new (made_series axis name column)
     seen = λ j.
@@ -192,4 +140,4 @@ series_settled old new index name column axis made longer given settled labels n
     (names_settled _ _ names)
     (settled_later labels_value old new axis.tuples longer (labels_settled old axis (length column.cells) 1 index labels settled))
     (λ more. ap (λ n. n ∷ []) (settled_later heading_value old new name longer named more))
-    (columns_settled new (table_column column ∷ []) (All-cons (λ (c : ColumnOf Cell). AreGiven new c.cells) (table_column column) [] given (All-nil (λ (c : ColumnOf Cell). AreGiven new c.cells)))))
+    (columns_settled new (table_column column ∷ []) (grind arith)))

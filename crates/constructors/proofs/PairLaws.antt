@@ -1,6 +1,6 @@
 -- Keys that are given once more.
 use Rattle.{
-  std.{proofs.{Common.{◌≡◌, ◌∙◌, ◌<◌, ◌+◌, ap, sym, ℕ, suc, Bool, true, false, List, [], ◌∷◌, length, drop, get_or, slice_get, All, if◌then◌else◌, rules, arith}, Math.Seq.{drop-cons}, lemmas.{Option.{slice_get-get_or}, List.Elements.{All-cons, All-nil, All-map, All-weaker}}}, specs.{Bool.{Decides}, Map.{keys_of, values_of}}},
+  std.{proofs.{Common.{◌≡◌, ◌∙◌, ◌<◌, ◌+◌, ap, ℕ, suc, Bool, true, false, List, [], ◌∷◌, length, drop, get_or, slice_get, All, if◌then◌else◌, rules, arith}, Math.Seq.{drop-cons}, lemmas.{Option.{slice_get-get_or}, List.Elements.{All-cons, All-map}}}, specs.{Bool.{Decides}, Map.{keys_of, values_of}}},
   indexmap.specs.IndexMap.{insert_entry},
   cell_core.specs.{declared.cell.Label.{Label}, contracts.cell.LabelPartialEq.TheImpl.{eq-value}, Texts.{AreDistinct}},
   meaning.specs.{Text.{Text}, Cell.{LabelValue, label_datum}},
@@ -22,7 +22,7 @@ abbrev pub IsKey : List Text → ℕ → Label × ℕ → Type 0
 IsKey texts count e = (e.1 < count) × IsSettled label_datum texts e.0
 
 pub keys_inserted : (texts : List Text) (count : ℕ) (es : List (Label × ℕ)) (k : Label) (i : ℕ) → All (IsKey texts count) es → i < count → IsSettled label_datum texts k → All (IsKey texts count) (insert_entry same_number es k i)
-keys_inserted texts count [] k i all lt given = All-cons (IsKey texts count) (k, i) [] (lt, given) (All-nil (IsKey texts count))
+keys_inserted texts count [] k i all lt given = grind arith
 keys_inserted texts count (e ∷ es) k i all lt given = go (keys_inserted texts count es k i (λ j d below. all (suc j) d (omega arith)) lt given) (same_number k e.0)
   where
     rest : All (IsKey texts count) es
@@ -33,11 +33,11 @@ keys_inserted texts count (e ∷ es) k i all lt given = go (keys_inserted texts 
 
     go : All (IsKey texts count) (insert_entry same_number es k i) → (b : Bool) → All (IsKey texts count) (if b then (e.0, i) ∷ es else e ∷ insert_entry same_number es k i)
     go later true = All-cons (IsKey texts count) (e.0, i) es (lt, first.1) rest
-    go later false = All-cons (IsKey texts count) e _ first later
+    go later false = grind (arith, first)
 
 inserted_seen : (live : Tables) (texts : List Text) (pairs : List (Label × Argument)) (count : ℕ) (es : List (Label × ℕ)) (k : Label) (i : ℕ) (v : Given) → AreDistinct texts → All (IsKey texts count) es → IsSettled label_datum texts k
     → value_in live texts (slice_get pairs i) ≡ v → entries_seen live texts pairs (insert_entry same_number es k i) ≡ with_pair (entries_seen live texts pairs es) (label_datum texts k) v
-inserted_seen live texts pairs count [] k i v distinct all given is = ap (λ g. (label_datum texts k, g) ∷ []) is
+inserted_seen live texts pairs count [] k i v distinct all given is = cc
 inserted_seen live texts pairs count (e ∷ es) k i v distinct all given is =
     go (inserted_seen live texts pairs count es k i v distinct (λ j d below. all (suc j) d (omega arith)) given is) (same_number k e.0)
     ∙ ap (λ b. if b then (label_datum texts e.0, v) ∷ entries_seen live texts pairs es else entry_seen live texts pairs e ∷ with_pair (entries_seen live texts pairs es) (label_datum texts k) v)
@@ -45,8 +45,8 @@ inserted_seen live texts pairs count (e ∷ es) k i v distinct all given is =
   where
     go : entries_seen live texts pairs (insert_entry same_number es k i) ≡ with_pair (entries_seen live texts pairs es) (label_datum texts k) v → (b : Bool) → entries_seen live texts pairs (if b then (e.0, i) ∷ es else e ∷ insert_entry same_number es k i)
         ≡ (if b then (label_datum texts e.0, v) ∷ entries_seen live texts pairs es else entry_seen live texts pairs e ∷ with_pair (entries_seen live texts pairs es) (label_datum texts k) v)
-    go later true = ap (λ g. (label_datum texts e.0, g) ∷ entries_seen live texts pairs es) is
-    go later false = ap (λ l. entry_seen live texts pairs e ∷ l) later
+    go later true = cc
+    go later false = cc
 
 -- one pair more
 pub pair_step : (live : Tables) (texts : List Text) (pairs : List (Label × Argument)) (es es' : List (Label × ℕ)) (i : ℕ) (d : Label × Argument) (whole : List (LabelValue × Given)) → AreDistinct texts → All (IsKey texts (length pairs)) es → i < length pairs
@@ -55,24 +55,20 @@ pub pair_step : (live : Tables) (texts : List Text) (pairs : List (Label × Argu
 pair_step live texts pairs es es' i d whole distinct all lt given is before =
     let p = get_or pairs i d in
     let next : i + 1 ≡ suc i = omega arith in
-    ap (λ n. pairs_onto (entries_seen live texts pairs es') (entries_of live texts (drop n pairs))) next
-    ∙ ap (λ l. pairs_onto l (entries_of live texts (drop (suc i) pairs)))
-    (ap (entries_seen live texts pairs) is ∙ inserted_seen _ _ pairs _ es _ i _ distinct all (given i d lt) (ap (value_in live texts) (slice_get-get_or _ i d lt)))
-    ∙ ap (λ l. pairs_onto (entries_seen live texts pairs es) (entries_of live texts l)) (sym (drop-cons pairs i d lt))
-    ∙ before
+    cc (inserted_seen _ _ pairs _ es _ i _ distinct all (given i d lt) (ap (value_in live texts) (slice_get-get_or _ i d lt)), drop-cons pairs i d lt)
 
 pub keys_step : (texts : List Text) (pairs : List (Label × Argument)) (es es' : List (Label × ℕ)) (i : ℕ) (d : Label × Argument) → All (IsKey texts (length pairs)) es → i < length pairs
     → All (λ (p : Label × Argument). IsSettled label_datum texts p.0) pairs → es' ≡ insert_entry same_number es (get_or pairs i d).0 i → All (IsKey texts (length pairs)) es'
-keys_step texts pairs es es' i d all lt given is = rw is (keys_inserted texts (length pairs) es (get_or pairs i d).0 i all lt (given i d lt))
+keys_step texts pairs es es' i d all lt given is = rw is (search keys_inserted)
 
 places_below : (texts : List Text) (count : ℕ) (es : List (Label × ℕ)) → All (IsKey texts count) es → All (λ (e : Label × ℕ). e.1 < count) es
-places_below texts count es all = All-weaker (IsKey texts count) (λ (e : Label × ℕ). e.1 < count) (λ e h. h.0) es all
+places_below texts count es all = grind arith
 
 pub places_inside : (texts : List Text) (count : ℕ) (es : List (Label × ℕ)) → All (IsKey texts count) es → All (λ (place : ℕ). place < count) (values_of es)
-places_inside texts count es all = All-map (λ (place : ℕ). place < count) (λ (e : Label × ℕ). e.1) _ (places_below _ _ es all)
+places_inside texts count es all = All-map (λ place. place < count) (λ e. e.1) _ (places_below _ _ es all)
 
 keys_given : (texts : List Text) (count : ℕ) (es : List (Label × ℕ)) → All (IsKey texts count) es → All (λ (e : Label × ℕ). IsSettled label_datum texts e.0) es
-keys_given texts count es all = All-weaker (IsKey texts count) (λ (e : Label × ℕ). IsSettled label_datum texts e.0) (λ e h. h.1) es all
+keys_given texts count es all = grind arith
 
 pub keys_settled : (texts : List Text) (count : ℕ) (es : List (Label × ℕ)) → All (IsKey texts count) es → All (λ (key : Label). IsSettled label_datum texts key) (keys_of es)
-keys_settled texts count es all = All-map (λ (key : Label). IsSettled label_datum texts key) (λ (e : Label × ℕ). e.0) _ (keys_given _ _ es all)
+keys_settled texts count es all = All-map (λ key. IsSettled label_datum texts key) (λ e. e.0) _ (keys_given _ _ es all)

@@ -1,10 +1,10 @@
 -- The rows of columns.
 use Rattle.{
-  std.{proofs.{Common.{◌≡◌, ◌∙◌, ◌+◌, refl, ap, sym, subst, ℕ, zero, suc, nat_eq, Bool, true, false, List, [], ◌∷◌, map, length, drop, slice_get, get_or, add-one, Option, Some, None, Result, Ok, Err, All, if◌then◌else◌, arith}, lemmas.{List.{length-map, get_or-map, Elements.{All-cons, All-nil}}, Bool.Decides.{nat_tests}}}, specs.Prelude.{IfOk}},
+  std.{proofs.{Common.{rules, ◌≡◌, ◌∙◌, ◌+◌, refl, ap, sym, subst, ℕ, zero, suc, nat_eq, Bool, true, false, List, [], ◌∷◌, map, length, drop, slice_get, get_or, add-one, Option, Some, None, Result, Ok, Err, All, if◌then◌else◌, arith}, lemmas.{List.{length-map, get_or-map, Elements.{All-cons, All-nil}}, Bool.Decides.{nat_tests}}}, specs.Prelude.{IfOk}},
   meaning.specs.{Text.{Text}, Cell.{CellValue, LabelValue, datum}, Fault.{FaultValue, bad_value, length_of, then_value}},
   column_core.specs.Blocks.{CellBlock},
   multi_index.specs.Axes.{AxisValue},
-  table_meaning.specs.Table.{ColumnOf, column_value, tuple_value, no_column},
+  table_meaning.specs.Table.{ColumnOf, column_value, no_column},
   form_parts.specs.Makes.{MakesBy, block_value, blocks_value},
   frame_store.specs.{declared.fault.OpFault.{OpFault}, Parts.{block_column, IsSingle, HaveRows}},
   constructors.{specs.Made.{axis_labels, same_rows, common_rows, labels_for, frame_labels}, proofs.MadeLaws.{labels_count, nat_same, ok_same}},
@@ -14,27 +14,20 @@ use Rattle.{
 -- the columns from a place on
 columns_from : (texts : List Text) (blocks : List CellBlock) (place : ℕ) (b : CellBlock) → slice_get blocks place ≡ Some b → drop place (blocks_value texts blocks) ≡ block_value texts b ∷ drop (suc place) (blocks_value texts blocks)
 columns_from texts [] place b is = cc
-columns_from texts (x ∷ xs) zero b is = ap (λ y. block_value texts y ∷ blocks_value texts xs) (some_same x b is)
+columns_from texts (x ∷ xs) zero b is = search
 columns_from texts (x ∷ xs) (suc place) b is = columns_from texts xs place b is
 
 single_at : (blocks : List CellBlock) (place : ℕ) (b : CellBlock) → All IsSingle blocks → slice_get blocks place ≡ Some b → IsSingle b
 single_at [] place b all is = cc
-single_at (x ∷ xs) zero b all is = subst IsSingle (some_same x b is) (all 0 x (omega arith))
+single_at (x ∷ xs) zero b all is = cc (some_same x b is, all 0 x (omega arith))
 single_at (x ∷ xs) (suc place) b all is = single_at xs place b (λ k d lt. all (suc k) d (omega (arith, lt))) is
 
 rows_at : (texts : List Text) (blocks : List CellBlock) (place : ℕ) (b : CellBlock) → All IsSingle blocks → slice_get blocks place ≡ Some b → b.rows ≡ length (block_value texts b).cells
-rows_at texts blocks place b all is = ap (λ (b : CellBlock). b.rows) (single_at _ _ b all is) ∙ sym (length-map (block_column b).cells (datum texts))
+rows_at texts blocks place b all is = grind (arith, single_at, length-map)
 
 pub no_blocks : (texts : List Text) (blocks : List CellBlock) → length blocks ≡ 0 → common_rows (blocks_value texts blocks) ≡ Ok None
 no_blocks texts [] is = refl
-no_blocks texts (b ∷ bs) is = absurd (omega (arith, is))
-
--- the first column says how many rows there are
-pub rows_first : (texts : List Text) (blocks : List CellBlock) (b : CellBlock) (rows : ℕ) → All IsSingle blocks → slice_get blocks 0 ≡ Some b → rows ≡ b.rows
-    → same_rows rows (drop 1 (blocks_value texts blocks)) ≡ common_rows (blocks_value texts blocks)
-rows_first texts [] b rows all is count = cc
-rows_first texts (x ∷ xs) b rows all is count =
-    ap (λ n. same_rows n (blocks_value texts xs)) (count ∙ rows_at _ (x ∷ xs) 0 b all is ∙ ap (λ (b : CellBlock). length (block_value texts b).cells) (sym (some_same x b is)))
+no_blocks texts (b ∷ bs) is = search
 
 abbrev if_same : ℕ → ℕ → List (ColumnOf CellValue) → Bool → Result (Option ℕ) FaultValue
 if_same rows got cs b = if b then same_rows rows cs else Err (bad_value (length_of rows got))
@@ -42,60 +35,44 @@ if_same rows got cs b = if b then same_rows rows cs else Err (bad_value (length_
 here : (texts : List Text) (blocks : List CellBlock) (place : ℕ) (b : CellBlock) (rows : ℕ) (whole : Result (Option ℕ) FaultValue) → All IsSingle blocks → slice_get blocks place ≡ Some b
     → same_rows rows (drop place (blocks_value texts blocks)) ≡ whole → if_same rows b.rows (drop (place + 1) (blocks_value texts blocks)) (nat_eq rows b.rows) ≡ whole
 here texts blocks place b rows whole all is before =
-    let next : place + 1 ≡ suc place = add-one place in
-    ap (λ n. if_same rows b.rows (drop n (blocks_value texts blocks)) (nat_eq rows b.rows)) next
-    ∙ ap (λ n. if_same rows n (drop (suc place) (blocks_value texts blocks)) (nat_eq rows n)) (rows_at texts _ _ b all is)
-    ∙ sym (ap (same_rows rows) (columns_from texts blocks place b is)) ∙ before
+    let next = add-one place in
+    cc (rows_at texts _ _ b all is, columns_from texts blocks place b is)
 
 -- the next one has as many
 pub rows_next : (texts : List Text) (blocks : List CellBlock) (place : ℕ) (b : CellBlock) (rows got : ℕ) (whole : Result (Option ℕ) FaultValue) → All IsSingle blocks → slice_get blocks place ≡ Some b → got ≡ b.rows → got ≡ rows
     → same_rows rows (drop place (blocks_value texts blocks)) ≡ whole → same_rows rows (drop (place + 1) (blocks_value texts blocks)) ≡ whole
 rows_next texts blocks place b rows got whole all is count same before =
-    let one : rows ≡ b.rows = sym same ∙ count in
+    let one = sym same ∙ count in
     let equal : nat_eq rows b.rows ≡ true = grind (arith, nat_tests) in
-    sym (ap (if_same rows b.rows (drop (place + 1) (blocks_value texts blocks))) equal) ∙ here _ _ _ b _ _ all is before
+    cc (here _ _ _ b _ _ all is before)
 
 -- or not
 pub rows_differ : (texts : List Text) (blocks : List CellBlock) (place : ℕ) (b : CellBlock) (rows got : ℕ) (whole : Result (Option ℕ) FaultValue) → All IsSingle blocks → slice_get blocks place ≡ Some b → got ≡ b.rows → (got ≡ rows → ⊥)
     → same_rows rows (drop place (blocks_value texts blocks)) ≡ whole → whole ≡ Err (bad_value (length_of rows got))
 rows_differ texts blocks place b rows got whole all is count other before =
-    let two : rows ≡ b.rows → ⊥ = λ e. other (count ∙ sym e) in
+    let two : rows ≡ b.rows → ⊥ = grind arith in
     let unequal : nat_eq rows b.rows ≡ false = grind (arith, nat_tests) in
-    sym (here _ _ _ b _ _ all is before) ∙ ap (if_same rows b.rows (drop (place + 1) (blocks_value texts blocks))) unequal ∙ ap (λ n. Err (bad_value (length_of rows n))) (sym count)
-
-all_dropped : {X : Type 0} (xs : List X) → drop (length xs) xs ≡ []
-all_dropped [] = refl
-all_dropped (x ∷ xs) = all_dropped xs
-
-pub rows_done : (texts : List Text) (blocks : List CellBlock) (place rows : ℕ) (whole : Result (Option ℕ) FaultValue) → place ≡ length blocks → same_rows rows (drop place (blocks_value texts blocks)) ≡ whole → whole ≡ Ok (Some rows)
-rows_done texts blocks place rows whole end before =
-    let count : place ≡ length (blocks_value texts blocks) = end ∙ sym (length-map (map block_column blocks) (column_value texts) ∙ length-map blocks block_column) in
-    sym before ∙ ap (λ n. same_rows rows (drop n (blocks_value texts blocks))) count ∙ ap (same_rows rows) (all_dropped (blocks_value texts blocks))
+    cc (here _ _ _ b _ _ all is before)
 
 -- columns with so many rows
 abbrev Has : ℕ → ColumnOf CellValue → Type 0
 Has rows c = length c.cells ≡ rows
 
 first_same : (b : Bool) (rows got : ℕ) (cs : List (ColumnOf CellValue)) (o : Option ℕ) → nat_eq rows got ≡ b → if_same rows got cs b ≡ Ok o → (got ≡ rows) × (same_rows rows cs ≡ Ok o)
-first_same true rows got cs o same is = (sym (nat_same _ _ same), is)
-first_same false rows got cs o same is = cc
+first_same x rows got cs o same is = grind (arith, nat_same)
 
 rows_kept : (rows : ℕ) (cs : List (ColumnOf CellValue)) (o : Option ℕ) → same_rows rows cs ≡ Ok o → (o ≡ Some rows) × All (Has rows) cs
 rows_kept rows [] o is = (sym (ok_same _ o is), All-nil _)
 rows_kept rows (c ∷ cs) o is =
     let f = first_same _ rows (length c.cells) cs o refl is in
-    let later = rows_kept rows cs o f.1 in
-    (later.0, All-cons (Has rows) c _ f.0 later.1)
+    grind (arith, rows_kept rows cs o f.1)
 
 abbrev labels_then : ℕ → Option (List (List LabelValue)) → Result (Option ℕ) FaultValue → Result (List (List LabelValue)) FaultValue
 labels_then count index r = then_value r (λ rows. labels_for rows count index)
 
 column_filled : (n count : ℕ) (cs : List (ColumnOf CellValue)) (index : Option (List (List LabelValue))) (labels : List (List LabelValue)) (r : Result (Option ℕ) FaultValue) → same_rows n cs ≡ r → labels_then count index r ≡ Ok labels
     → (length labels ≡ n) × All (Has n) cs
-column_filled n count cs index labels (Ok o) is made =
-    let kept = rows_kept n _ o is in
-    (labels_count n _ _ _ (sym (ap (λ o. labels_for o count index) kept.0) ∙ made), kept.1)
-column_filled n count cs index labels (Err fault) is made = cc
+column_filled n count cs index labels x is made = search (rules, rows_kept, labels_count)
 
 columns_filled : (cs : List (ColumnOf CellValue)) (index : Option (List (List LabelValue))) (labels : List (List LabelValue)) → frame_labels cs index ≡ Ok labels → All (Has (length labels)) cs
 columns_filled [] index labels made = All-nil _
@@ -115,8 +92,7 @@ rows_filled texts blocks index labels rows made count k d lt =
 pub axis_rows : (texts : List Text) (blocks : List CellBlock) (index : Option (List (List LabelValue))) (rows : Option ℕ) (columns : ℕ) (r : Result AxisValue OpFault) → common_rows (blocks_value texts blocks) ≡ Ok rows
     → columns ≡ length blocks → MakesBy axis_labels texts r (labels_for rows columns index) → IfOk r (λ axis. HaveRows (length axis.tuples) (map block_column blocks))
 axis_rows texts blocks index rows columns (Ok axis) is several made =
-    let count : length (blocks_value texts blocks) ≡ columns = length-map (map block_column blocks) (column_value texts) ∙ length-map blocks block_column ∙ sym several in
-    let labels : frame_labels (blocks_value texts blocks) index ≡ Ok (axis_labels texts axis) =
-    ap (λ r. then_value r (λ rows. labels_for rows (length (blocks_value texts blocks)) index)) is ∙ ap (λ n. labels_for rows n index) count ∙ made in
-    rows_filled _ _ _ _ _ labels (length-map axis.tuples (tuple_value texts))
+    let count : length (blocks_value texts blocks) ≡ columns = grind (arith, length-map) in
+    let labels : frame_labels (blocks_value texts blocks) index ≡ Ok (axis_labels texts axis) = cc in
+    search (rows_filled, length-map)
 axis_rows texts blocks index rows columns (Err fault) is several made = tt

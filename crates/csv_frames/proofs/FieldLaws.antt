@@ -1,6 +1,6 @@
 -- Laws of the fields of a record.
 use Rattle.{
-  std.proofs.Common.{◌≡◌, ◌≤◌, ℕ, zero, suc, refl, List, [], ◌∷◌, length, unwrap_or, arith},
+  std.proofs.Common.{◌≡◌, ℕ, zero, suc, refl, List, [], ◌∷◌, unwrap_or},
   csv.specs.Records.{field_at},
   meaning.specs.Text.{Text},
   csv_meaning.specs.CsvRead.{field_in},
@@ -12,8 +12,3 @@ unfolding field_at
 field_unwrapped [] place = refl
 field_unwrapped (f ∷ fs) zero = refl
 field_unwrapped (f ∷ fs) (suc place) = field_unwrapped fs place
-
-pub past_end : (fields : List Text) (place : ℕ) → length fields ≤ place → [] ≡ field_in place fields
-past_end [] place le = refl
-past_end (f ∷ fs) zero le = absurd (omega arith)
-past_end (f ∷ fs) (suc place) le = past_end fs place (omega arith)

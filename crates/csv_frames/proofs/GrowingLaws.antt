@@ -1,25 +1,22 @@
 -- Laws of columns that grow field by field.
 use Rattle.{
-  std.{proofs.{Common.{◌≡◌, ◌∙◌, ℕ, ℤ, zero, suc, refl, ap, sym, subst, Bool, true, false, List, [], ◌∷◌, ◌++◌, length, map, replicate, Option, Some, None, unwrap_or}, lemmas.List.{map-append}}, specs.{Prelude.{option_map, OnOk, Result, Ok, Err, if◌then◌else◌}, List.{list_all}}},
+  std.{proofs.{Common.{rules, arith, ◌≡◌, ◌∙◌, ℕ, zero, suc, refl, ap, sym, Bool, true, false, List, [], ◌∷◌, ◌++◌, length, map, replicate, Option, None, unwrap_or}, lemmas.List.{map-append}}, specs.{Prelude.{OnOk, Result, Ok, Err}, List.{list_all}}},
   cell_core.specs.{Texts.{IsLonger}, declared.cell.{Cell.{Cell}, TextId.{TextId}}},
-  meaning.specs.{Text.{Text}, Cell.{CellValue, datum, na_cell, int_cell, truth_cell as truth_value_cell, Kind, Int64, Boolean, string}, Cast.{whole_number, truth_value}},
+  meaning.specs.{Text.{Text}, Cell.{CellValue, datum, na_cell, Kind, Int64, string}},
   column_core.{specs.{Columns.{CellColumn, number_cell, truth_cell, text_cell, column_with}, Lanes.{option_at}, declared.lanes.Owned.{Owned}}, proofs.CellRows.{pushed_column}},
   table_meaning.specs.{Settled.{IsSettled}, Table.{ColumnOf}},
   csv_meaning.specs.CsvRead.{is_missing, is_of_kind, kind_of_fields, cell_of_field},
-  csv_frames.{specs.{Views.{column_seen, cells_seen}, Growing.{IsGrownBy, IsFirst, IsPut, IsTextPut, Grown, number_in, truth_in}, declared.growing.Growing.{Growing}}, proofs.{SettledLaws.{settled_more, seen_later}, KindsLaws.{all_na, missing_pushed, value_pushed, value_stays, kind_first, kind_stays, kind_mixed, kind_texts}}},
+  csv_frames.{specs.{Views.{column_seen, cells_seen}, Growing.{IsGrownBy, IsFirst, IsPut, IsTextPut, Grown, number_in}, declared.growing.Growing.{Growing}}, proofs.{SettledLaws.{settled_more, seen_later}, KindsLaws.{all_na, value_pushed, value_stays, kind_first, kind_stays, kind_mixed}}},
 }
 use Rattle.cell_core.specs.declared.cell.Cell.TheVariants as cell
 use Rattle.csv_frames.specs.declared.growing.Growing.TheVariants as growing
-
-pub mixed_up : {P : Type 0} → true ≡ false → P
-mixed_up e = Prim.cc
 
 -- one cell more
 pub grown_by : (old new : List Text) (before after : CellColumn) (field : Text) (c : Cell) → IsLonger old new → after ≡ record { kind = before.kind; cells = before.cells ++ c ∷ [] } → IsSettled datum new c → datum new c ≡ cell_of_field before.kind field
     → IsGrownBy old new field before after
 grown_by old new before after field c longer is settled made before_settled =
     let cells_settled : IsSettled cells_seen old before.cells = λ more. ap (λ (col : ColumnOf CellValue). col.cells) (before_settled more) in
-    let pushed : after.cells ≡ before.cells ++ c ∷ [] = ap (λ (col : CellColumn). col.cells) is in
+    let pushed : after.cells ≡ before.cells ++ c ∷ [] = cc in
     let more = settled_more datum old new before.cells after.cells c longer cells_settled pushed settled in (
       λ further i. record { kind = after.kind; cells = more further i },
       (λ i. column_seen new (is i))
@@ -27,31 +24,12 @@ grown_by old new before after field c longer is settled made before_settled =
           ∙ (λ i. record { kind = before.kind; cells = seen_later cells_seen old new before.cells longer cells_settled i ++ made i ∷ [] }),
     )
 
--- numbers and truth values are seen without texts
-pub number_settled : (texts : List Text) (o : Option ℤ) → IsSettled datum texts (number_cell o)
-number_settled texts None = λ more. refl
-number_settled texts (Some z) = λ more. refl
-
 pub truth_settled : (texts : List Text) (o : Option Bool) → IsSettled datum texts (truth_cell o)
-truth_settled texts None = λ more. refl
-truth_settled texts (Some b) = λ more. refl
+truth_settled texts x = grind arith
 
 -- the number of a field is its cell
 pub number_seen : (texts : List Text) (field : Text) → datum texts (number_cell (number_in field)) ≡ cell_of_field Int64 field
-number_seen texts field = by (is_missing field) (whole_number field)
-  where
-    by : (missing : Bool) (o : Option ℤ) → datum texts (number_cell (if missing then None else o)) ≡ unwrap_or (if missing then Some na_cell else option_map int_cell o) na_cell
-    by true o = refl
-    by false None = refl
-    by false (Some z) = refl
-
-pub truth_seen : (texts : List Text) (field : Text) → datum texts (truth_cell (truth_in field)) ≡ cell_of_field Boolean field
-truth_seen texts field = by (is_missing field) (truth_value field)
-  where
-    by : (missing : Bool) (o : Option Bool) → datum texts (truth_cell (if missing then None else o)) ≡ unwrap_or (if missing then Some na_cell else option_map truth_value_cell o) na_cell
-    by true o = refl
-    by false None = refl
-    by false (Some b) = refl
+number_seen texts field = search rules
 
 -- a column of what is kept
 abbrev pub column_kept : {T : Type 0} → Kind → (Option T → Cell) → Owned T → CellColumn
@@ -64,7 +42,7 @@ put_grown (Ok u) old new field kind cell o rows rows' before longer was settled 
     grown_by old new before (column_kept kind cell rows') field (cell o) longer
     (pushed_column kind cell rows.values.items rows.present.items o rows'.values.items rows'.present.items (cell o) put refl ∙ ap (λ (w : CellColumn). record { kind = w.kind; cells = w.cells ++ cell o ∷ [] }) was)
     settled
-    (seen ∙ ap (λ (w : CellColumn). cell_of_field w.kind field) was)
+    (grind arith)
 put_grown (Err e) old new field kind cell o rows rows' before longer was settled seen put = put
 
 pub text_grown : {U E : Type 0} (r : Result U E) (old new : List Text) (field : Text) (rows rows' : Owned TextId) (before : CellColumn) → IsLonger old new → column_kept string text_cell rows ≡ before → OnOk r (IsTextPut new field rows rows')
@@ -78,71 +56,37 @@ module _ (old new : List Text) (fields : List Text) (field : Text) where
       → unwrap_or named (kind_of_fields (fields ++ field ∷ [])) ≡ unwrap_or named (kind_of_fields fields) → Grown new named (fields ++ field ∷ []) (growing.Cells after)
   cells_grown named before after by grown same =
       let more = by grown.0 in
-      let kind = unwrap_or named (kind_of_fields fields) in
-      let is : before.kind ≡ kind = ap (λ (col : ColumnOf CellValue). col.kind) grown.1 in
-      let cells : map (datum old) before.cells ≡ map (cell_of_field kind) fields = ap (λ (col : ColumnOf CellValue). col.cells) grown.1 in (
-        more.0,
-        more.1
-            ∙ (λ i. record { kind = is i; cells = cells i ++ cell_of_field (is i) field ∷ [] })
-            ∙ (λ i. record { kind = kind; cells = sym (map-append (cell_of_field kind) fields (field ∷ [])) i })
-            ∙ (λ i. record { kind = sym same i; cells = map (cell_of_field (sym same i)) (fields ++ field ∷ []) }),
-        λ unnamed. value_stays fields field (grown.2 unnamed),
-      )
+      grind (arith, map-append, value_stays)
 
   -- the first value
   pub first_grown : (rows : ℕ) (column : CellColumn) → length fields ≡ rows → list_all is_missing fields ≡ true → is_missing field ≡ false → IsFirst new rows field column → Grown new None (fields ++ field ∷ []) (growing.Cells column)
-  first_grown rows column count missing value first =
-      let kind = kind_of_fields (field ∷ []) in
-      let same = kind_first fields field missing in (
-        first.0,
-        first.1
-            ∙ (λ i. record { kind = kind; cells = replicate (sym count i) na_cell ++ cell_of_field kind field ∷ [] })
-            ∙ (λ i. record { kind = kind; cells = sym (all_na kind fields missing) i ++ cell_of_field kind field ∷ [] })
-            ∙ (λ i. record { kind = kind; cells = sym (map-append (cell_of_field kind) fields (field ∷ [])) i })
-            ∙ (λ i. record { kind = sym same i; cells = map (cell_of_field (sym same i)) (fields ++ field ∷ []) }),
-        λ _. value_pushed fields field value,
-      )
+  first_grown rows column count missing value first = grind (arith, kind_first, all_na, map-append, value_pushed)
 
   -- the same, of a column for which no kind is named
   pub missing_grown : (named : Option Kind) (g : Growing) (rows : ℕ) (column : CellColumn) → g ≡ growing.Missing → is_missing field ≡ false → IsFirst new rows field column → length fields ≡ rows → Grown old named fields g
       → Grown new named (fields ++ field ∷ []) (growing.Cells column)
-  missing_grown named g rows column is value first count grown =
-      let was = subst (Grown old named fields) is grown in
-      subst (λ k. Grown new k (fields ++ field ∷ []) (growing.Cells column)) (sym was.0) (first_grown rows column count was.1 value first)
+  missing_grown named g rows column is value first count grown = grind (arith, first_grown)
 
   module _ (named : Option Kind) (g : Growing) (before : CellColumn) (fits : Bool) (is : g ≡ growing.Cells before) (test : fits ≡ is_of_kind before.kind field) (grown : Grown old named fields g) where
     was_cells : Grown old named fields (growing.Cells before)
-    was_cells = subst (Grown old named fields) is grown
+    was_cells = grind arith
 
     kind_is : before.kind ≡ unwrap_or named (kind_of_fields fields)
-    kind_is = ap (λ (col : ColumnOf CellValue). col.kind) was_cells.1
+    kind_is = grind arith
 
     -- numbers or truth values, and then a field of another kind
     pub mixed_grown : fits ≡ false → named ≡ None → (named ≡ None) × (kind_of_fields (fields ++ field ∷ []) ≡ string)
-    mixed_grown other unnamed =
-        let kind : before.kind ≡ kind_of_fields fields = kind_is ∙ ap (λ k. unwrap_or k (kind_of_fields fields)) unnamed in
-        (unnamed, kind_mixed fields field (ap (λ k. is_of_kind k field) (sym kind) ∙ sym test ∙ other) (was_cells.2 unnamed))
+    mixed_grown other unnamed = grind (arith, kind_mixed)
 
     same_kind : (k : Option Kind) → before.kind ≡ unwrap_or k (kind_of_fields fields) → (k ≡ None → fits ≡ true) → unwrap_or k (kind_of_fields (fields ++ field ∷ [])) ≡ unwrap_or k (kind_of_fields fields)
-    same_kind None kind all = kind_stays fields field (ap (λ k. is_of_kind k field) (sym kind) ∙ sym test ∙ all refl)
-    same_kind (Some k) kind all = refl
+    same_kind x kind all = grind (arith, kind_stays)
 
     pub kept_grown : (after : CellColumn) → (named ≡ None → fits ≡ true) → IsGrownBy old new field before after → Grown new named (fields ++ field ∷ []) (growing.Cells after)
-    kept_grown after all by = cells_grown named before after by was_cells (same_kind named kind_is all)
-
-  pub texts_grown : (named : Option Kind) (g : Growing) → g ≡ growing.Mixed → Grown old named fields g → Grown new named (fields ++ field ∷ []) g
-  texts_grown named g is grown =
-      let was = subst (Grown old named fields) is grown in
-      subst (Grown new named (fields ++ field ∷ [])) (sym is) (was.0, kind_texts fields field was.1)
-
-  pub stays_missing : (named : Option Kind) (g : Growing) → g ≡ growing.Missing → is_missing field ≡ true → Grown old named fields g → Grown new named (fields ++ field ∷ []) g
-  stays_missing named g is missing grown =
-      let was = subst (Grown old named fields) is grown in
-      subst (Grown new named (fields ++ field ∷ [])) (sym is) (was.0, missing_pushed fields field was.1 missing)
+    kept_grown after all by = search (cells_grown, was_cells, same_kind, kind_is)
 
 pub na_seen : (texts : List Text) (rows : ℕ) → map (datum texts) (replicate rows cell.Na) ≡ replicate rows na_cell
 na_seen texts zero = refl
-na_seen texts (suc n) = ap (λ l. na_cell ∷ l) (na_seen texts n)
+na_seen texts (suc n) = cc (na_seen texts n)
 
 -- missing cells and a first value
 pub first_is : (old new : List Text) (kind : Kind) (rows : ℕ) (field : Text) (before after : CellColumn) → kind ≡ kind_of_fields (field ∷ []) → before ≡ record { kind = kind; cells = replicate rows cell.Na } → IsGrownBy old new field before after → IsFirst new rows field after

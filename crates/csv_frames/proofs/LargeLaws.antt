@@ -1,10 +1,10 @@
 -- Files whose tables are too large.
 use Rattle.{
-  std.{proofs.{Common.{◌≡◌, ◌∙◌, ℕ, suc, ap, refl, List, [], ◌∷◌, length, map, Bool, false, ◌||◌, ◌&&◌, ◌<◌, ◌^◌, true, nat_le, if◌then◌else◌, arith}, lemmas.Bool.Decides.{nat_tests}}, specs.{Prelude.{Result, Ok, Err}, List.{list_any}}},
+  std.{proofs.{Common.{rules, ◌≡◌, ℕ, suc, ap, refl, List, [], ◌∷◌, length, map, Bool, false, ◌&&◌, ◌<◌, ◌^◌, nat_le, arith}, lemmas.Bool.Decides.{nat_tests}}, specs.{Prelude.{Err}, List.{list_any}}},
   cell_core.specs.{Texts.{with_text}, declared.cell.Kind.{Kind}},
   meaning.specs.Text.{Text},
   table_meaning.specs.Valid.{within_limits},
-  csv_meaning.specs.CsvRead.{CsvValue, CsvRefusal, not_of_kind, beyond_limits, has_misfit, named_kind, labels_named, labels_after, labels_of, next_label, labelled_columns, columns_under},
+  csv_meaning.specs.CsvRead.{beyond_limits, has_misfit, named_kind, labels_named, labels_after, labels_of, next_label, columns_under},
 }
 
 -- where no kind is named, no field is of another one
@@ -16,7 +16,7 @@ no_misfit (l ∷ ls) (f ∷ fs) = no_misfit ls fs
 
 no_misfits : (labels : List Text) (rows : List (List Text)) → list_any (has_misfit (map (named_kind []) labels)) rows ≡ false
 no_misfits labels [] = refl
-no_misfits labels (r ∷ rs) = ap (λ b. b || list_any (has_misfit (map (named_kind []) labels)) rs) (no_misfit labels r) ∙ no_misfits labels rs
+no_misfits labels (r ∷ rs) = search (no_misfit, no_misfits labels rs)
 
 -- there is a label for each field of the header
 count_named : (place : ℕ) (labels : List Text) → length (labels_named place labels) ≡ length labels
@@ -28,28 +28,19 @@ count_after columns before taken [] = refl
 count_after columns before taken (l ∷ ls) = ap suc (count_after columns (with_text before l) (with_text taken (next_label columns before taken l)) ls)
 
 pub count_labels : (header : List Text) → length (labels_of header) ≡ length header
-count_labels header = count_after _ _ _ (labels_named 0 header) ∙ count_named 0 header
+count_labels header = search (count_after, count_named)
 
 large : (header : List Text) (rows : List (List Text)) → within_limits (length rows) (length header) ≡ false → columns_under [] header rows ≡ Err beyond_limits
-large header rows beyond =
-    let labels = labels_of header in
-    let kinds = map (named_kind []) labels in
-    let read : Result CsvValue CsvRefusal = Ok (labelled_columns labels kinds rows) in
-    ap (λ b. if b then Err not_of_kind else if within_limits (length rows) (length labels) then read else Err beyond_limits) (no_misfits labels rows)
-    ∙ ap (λ n. if within_limits (length rows) n then read else Err beyond_limits) (count_labels header)
-    ∙ ap (λ b. if b then read else Err beyond_limits) beyond
+large header rows beyond = grind (arith, no_misfits, count_labels)
 
 -- without named kinds
 pub no_kinds : (kinds : List (Text × Kind)) → length kinds ≡ 0 → kinds ≡ []
 no_kinds [] none = refl
-no_kinds (k ∷ ks) none = absurd (omega arith)
+no_kinds (k ∷ ks) none = search
 
 not_within : (a b c : Bool) → b ≡ false → a && b && c ≡ false
-not_within true b c e = ap (λ x. x && c) e
-not_within false b c e = refl
+not_within x b c e = grind arith
 
 -- a header that is too wide for a table
 pub wide : (kinds : List (Text × Kind)) (count : ℕ) (header : List Text) (rows : List (List Text)) → count ≡ length kinds → count ≡ 0 → 2 ^ 16 < length header → columns_under kinds header rows ≡ Err beyond_limits
-wide kinds count header rows counted none broad =
-    let test : nat_le (length header) (2 ^ 16) ≡ false = grind (arith, nat_tests) in
-    ap (λ k. columns_under k header rows) (no_kinds kinds (omega arith)) ∙ large header rows (not_within _ _ _ test)
+wide kinds count header rows counted none broad = search (rules, nat_le, nat_tests, no_kinds, large)

@@ -1,6 +1,6 @@
 -- The groups of rows whose keys are tuples of labels.
 use Rattle.{
-  std.{proofs.{Common.{◌≡◌, ◌∙◌, ◌<◌, ap, sym, subst, arith, ℕ, Bool, List, [], map, length, slice_index_or, All, Option}, lemmas.List.{length-map, get_or-map, map-id, Sums.{passes_at_first}, Sorted.{ranks_by}, Elements.{All-map}}}, specs.{List.{list_any}, Cmp.Lexicographic.{lists_total}}},
+  std.{proofs.{Common.{◌≡◌, ◌∙◌, ◌<◌, ap, sym, arith, ℕ, Bool, List, [], map, length, slice_index_or, All, Option}, lemmas.List.{length-map, get_or-map, map-id, Sums.{passes_at_first}, Sorted.{ranks_by}, Elements.{All-map}}}, specs.{List.{list_any}, Cmp.Lexicographic.{lists_total}}},
   meaning.specs.{Text.{Text}, Reduce.{distinct}},
   cell_core.{specs.declared.cell.Label.{Label}, proofs.LabelLaws.{label_total}},
   multi_index.specs.Axes.{HaveLevels, tuples_at},
@@ -25,28 +25,22 @@ module _ (texts : List Text) (keys : List (List Label)) (levels : ℕ) (alike : 
   holds_na number = row_holds_na texts keys levels (first_row firsts number)
 
   pub firsts_counted : length firsts ≡ how_many
-  firsts_counted = length-map (distinct same_tuple keys) (place_among same_tuple keys)
+  firsts_counted = search length-map
 
   abbrev key_at : ℕ → List Label
   key_at number = slice_index_or (distinct same_tuple keys) number []
 
   inside : (i : ℕ) → i < how_many → first_row firsts i < length keys
-  inside i lt = firsts_inside same_tuple tuple_decides tuple_laws keys i 0 (omega (arith, firsts_counted, lt))
+  inside i lt = search (firsts_inside, tuple_decides, tuple_laws, firsts_counted)
 
   key_there : (i : ℕ) → i < how_many → key_at i ≡ slice_index_or keys (first_row firsts i) []
-  key_there i lt =
-      ap (λ ks. slice_index_or ks i []) (sym (first_keys same_tuple tuple_decides tuple_laws keys []))
-      ∙ get_or-map (λ r. slice_index_or keys r []) firsts i 0 [] (omega (arith, firsts_counted, lt))
+  key_there i lt = cc (first_keys same_tuple tuple_decides tuple_laws keys [], get_or-map (λ r. slice_index_or keys r []) firsts i 0 [] (omega (arith, firsts_counted, lt)))
 
   below : (i j : ℕ) → i < how_many → j < how_many → tuple_less texts (key_at i) (key_at j) ≡ less i j
-  below i j hi hj =
-      (λ k. tuple_less texts (key_there i hi k) (key_there j hj k))
-      ∙ sym (row_agrees texts keys levels (first_row firsts i) (first_row firsts j) alike (inside i hi) (inside j hj))
+  below i j hi hj = search (key_there, row_agrees, inside)
 
   missing : (i : ℕ) → i < how_many → list_any is_na (tuple_seen texts (key_at i)) ≡ holds_na i
-  missing i lt =
-      ap (λ key. list_any is_na (tuple_seen texts key)) (key_there i lt)
-      ∙ ap (list_any is_na) (sym (labels_there texts keys levels (first_row firsts i) alike (inside i lt)))
+  missing i lt = cc (key_there i lt, labels_there texts keys levels (first_row firsts i) alike (inside i lt))
 
   abbrev pub kept : List ℕ
   kept = kept_numbers sorted dropna less holds_na how_many
@@ -69,29 +63,23 @@ module _ (texts : List Text) (keys : List (List Label)) (levels : ℕ) (alike : 
     count_is = ap length first ∙ firsts_counted
 
     pub codes_below : (codes : List ℕ) → codes ≡ codes_of same_tuple keys → All (λ code. code < length firsts') codes
-    codes_below codes coded =
-        subst (λ n. All (λ code. code < n) codes) (sym count_is) (subst (All (λ code. code < how_many)) (sym coded)
-        (All-map (λ code. code < how_many) (place_among same_tuple (distinct same_tuple keys)) keys
-        (λ k d lt. position_in (same_tuple (slice_index_or keys k d)) (distinct same_tuple keys) (all_known same_tuple tuple_laws keys k d lt))))
+    codes_below codes coded = grind (arith, count_is, All-map (λ code. code < how_many) (place_among same_tuple (distinct same_tuple keys)) keys (λ k d lt. position_in (same_tuple (slice_index_or keys k d)) (distinct same_tuple keys) (all_known same_tuple tuple_laws keys k d lt)))
 
     module _ (kept' : List ℕ) (chosen : kept' ≡ kept_numbers sorted dropna (number_less texts keys levels firsts') (λ number. row_holds_na texts keys levels (first_row firsts' number)) (length firsts')) where
       pub kept_is : kept' ≡ kept
-      kept_is =
-          chosen
-          ∙ (λ i. kept_numbers sorted dropna (number_less texts keys levels (first i)) (λ number. row_holds_na texts keys levels (first_row (first i) number)) (length (first i)))
-          ∙ ap (kept_numbers sorted dropna less holds_na) firsts_counted
+      kept_is = grind (arith, firsts_counted)
 
       pub below_count : All (λ number. number < length firsts') kept'
-      below_count = subst (λ n. All (λ number. number < n) kept') (sym count_is) (subst (All (λ number. number < how_many)) (sym kept_is) kept_below)
+      below_count = grind (arith, count_is, kept_is, kept_below)
 
       pub groups_counted : length kept' ≡ length (group_keys (seen_rules texts) sorted dropna keys)
       groups_counted = ap length kept_is ∙ sym keys_counted
 
       pub rows_are : (rows : List ℕ) → rows ≡ map (first_row firsts') kept' → rows ≡ map (place_among same_tuple keys) (group_keys (seen_rules texts) sorted dropna keys)
-      rows_are rows made = made ∙ (λ i. map (first_row (first i)) (kept_is i)) ∙ sym firsts_kept
+      rows_are rows made = search (kept_is, firsts_kept)
 
       pub codes_are : (codes : List ℕ) → codes ≡ codes_of same_tuple keys → (made : List (Option ℕ)) → made ≡ recoded (places_of kept' (length firsts')) codes → made ≡ group_codes (seen_rules texts) sorted dropna keys
-      codes_are codes coded made is = is ∙ (λ i. recoded (places_of (kept_is i) (count_is i)) (coded i)) ∙ sym codes_recoded
+      codes_are codes coded made is = search (kept_is, count_is, codes_recoded)
 
 -- the tuples of groups, and the law of groups for tuples
 module _ (texts : List Text) (keys : List (List Label)) (sorted dropna : Bool) where
@@ -99,7 +87,7 @@ module _ (texts : List Text) (keys : List (List Label)) (sorted dropna : Bool) w
   group_tuples = group_keys (seen_rules texts) sorted dropna keys
 
   groups_there : All (IsThere same_tuple keys) group_tuples
-  groups_there = keys_there (seen_rules texts) tuple_laws sorted dropna keys
+  groups_there = search (keys_there, tuple_laws)
 
   -- each group's first row is a row, and has the group's tuple
   pub rows_inside : All (λ row. row < length keys) (map (place_among same_tuple keys) group_tuples)
@@ -109,12 +97,9 @@ module _ (texts : List Text) (keys : List (List Label)) (sorted dropna : Bool) w
   tuples_there =
       map_map (λ row. slice_index_or keys row []) (place_among same_tuple keys) group_tuples
       ∙ map_on (IsThere same_tuple keys) (λ key. slice_index_or keys (place_among same_tuple keys key) []) (λ key. key)
-      (λ key here. sym ((tuple_decides key (slice_index_or keys (place_among same_tuple keys key) [])).0 (passes_at_first (same_tuple key) keys [] (position_in (same_tuple key) keys here)))) group_tuples groups_there
+      (λ key here. sym (grind (arith, tuple_decides, passes_at_first, position_in))) group_tuples groups_there
       ∙ map-id group_tuples
 
   pub law_of : (rows : List ℕ) (codes : List (Option ℕ)) → rows ≡ map (place_among same_tuple keys) group_tuples → codes ≡ group_codes (seen_rules texts) sorted dropna keys
       → AreGroups (seen_rules texts) sorted dropna keys (tuples_at keys rows) codes
-  law_of rows codes first coded =
-      subst (λ ts. AreGroups (seen_rules texts) sorted dropna keys ts codes) (sym (ap (tuples_at keys) first ∙ tuples_there))
-      (subst (λ cs. AreGroups (seen_rules texts) sorted dropna keys group_tuples cs) (sym coded)
-      (are_groups (seen_rules texts) tuple_laws (ranks_by (lists_total label_total) (tuple_seen texts)) (λ a b e. ap (λ key. list_any is_na (tuple_seen texts key)) ((tuple_decides a b).0 e)) sorted dropna keys))
+  law_of rows codes first coded = grind (arith, tuples_there, are_groups (seen_rules texts) tuple_laws (ranks_by (lists_total label_total) (tuple_seen texts)) (λ a b e. ap (λ key. list_any is_na (tuple_seen texts key)) ((tuple_decides a b).0 e)) sorted dropna keys)

@@ -1,9 +1,8 @@
 -- The numbers of keys, where each row has one.
 use Rattle.{
-  std.{proofs.{Common.{◌≡◌, ◌∙◌, ◌<◌, ap, sym, ℕ, Bool, true, false, cond, List, map, length, All, slice_index_or, Some}, lemmas.List.{map-id, length-map}}, specs.List.{list_any, range_with_len}},
+  std.{proofs.{Common.{arith, ◌≡◌, ◌∙◌, ◌<◌, sym, ℕ, Bool, true, false, List, map, length, All, slice_index_or, Some}, lemmas.List.{map-id, length-map}}, specs.List.{list_any, range_with_len}},
   meaning.specs.{Text.{Text}, Reduce.{distinct}},
   cell_core.specs.declared.cell.Label.{Label},
-  sorting.specs.Sorting.{in_order},
   multi_index.specs.Axes.{HaveLevels},
   row_keys.{specs.Keys.{same_tuple, place_among, codes_of, first_rows}, proofs.KeyLaws.{position_in, all_known}},
   label_align.{specs.Tuples.{tuple_less}, proofs.SameLaws.{tuple_laws}},
@@ -16,7 +15,7 @@ module _ (texts : List Text) (sorted : Bool) (rows : List (List Label)) where
   keys = group_keys (seen_rules texts) sorted false rows
 
   pub keys_are : keys ≡ ordered_if sorted (tuple_less texts) (distinct same_tuple rows)
-  keys_are = filter_all (ordered_if sorted (tuple_less texts) (distinct same_tuple rows))
+  keys_are = search filter_all
 
   abbrev pub IsKnown : List Label → Type 0
   IsKnown key = list_any (same_tuple key) keys ≡ true
@@ -24,12 +23,8 @@ module _ (texts : List Text) (sorted : Bool) (rows : List (List Label)) where
   pub rows_known : All IsKnown rows
   rows_known k d lt =
       let key = slice_index_or rows k d in
-      let known : list_any (same_tuple key) (distinct same_tuple rows) ≡ true = all_known same_tuple tuple_laws rows k d lt in
-      ap (list_any (same_tuple key)) keys_are
-      ∙ (elim sorted as (λ b. list_any (same_tuple key) (cond b (in_order (tuple_less texts) (distinct same_tuple rows)) (distinct same_tuple rows)) ≡ true) [
-        | true ↦ any_in_order (same_tuple key) (tuple_less texts) (distinct same_tuple rows) ∙ known
-        | false ↦ known
-      ])
+      let known = all_known same_tuple tuple_laws rows k d lt in
+      grind (arith, keys_are, any_in_order)
 
   -- each row is in the group of its key's number
   groups_are : group_codes (seen_rules texts) sorted false rows ≡ map Some (map (place_among same_tuple keys) rows)
@@ -37,25 +32,20 @@ module _ (texts : List Text) (sorted : Bool) (rows : List (List Label)) where
       map_on IsKnown (group_of same_tuple keys) (λ key. Some (place_among same_tuple keys key)) (λ key known. there (same_tuple key) keys (position_in (same_tuple key) keys known)) rows rows_known
       ∙ sym (map_map Some (place_among same_tuple keys) rows)
 
-  numbers_are : map number_in (group_codes (seen_rules texts) sorted false rows) ≡ map (place_among same_tuple keys) rows
-  numbers_are = ap (map number_in) groups_are ∙ map_map number_in Some (map (place_among same_tuple keys) rows) ∙ map-id (map (place_among same_tuple keys) rows)
-
   -- numbers in the order of the keys
   module _ (levels : ℕ) (alike : HaveLevels levels rows) (firsts ordered : List ℕ) (first : firsts ≡ first_rows same_tuple rows)
       (in_turn : ordered ≡ ordered_if sorted (number_less texts rows levels firsts) (range_with_len 0 (length firsts))) where
     pub chosen : ordered ≡ kept_numbers sorted false (number_less texts rows levels firsts) (λ number. row_holds_na texts rows levels (first_row firsts number)) (length firsts)
-    chosen = in_turn ∙ sym (filter_all (ordered_if sorted (number_less texts rows levels firsts) (range_with_len 0 (length firsts))))
+    chosen = search filter_all
 
     pub ordered_below : All (λ number. number < length firsts) ordered
-    ordered_below = below_count texts rows levels alike sorted false firsts first ordered chosen
+    ordered_below = search (below_count, chosen)
 
     pub ordered_counted : length ordered ≡ length keys
-    ordered_counted = groups_counted texts rows levels alike sorted false firsts first ordered chosen
+    ordered_counted = search (groups_counted, chosen)
 
     pub renumbered : (codes made : List ℕ) → codes ≡ codes_of same_tuple rows → made ≡ map number_in (recoded (places_of ordered (length firsts)) codes) → made ≡ map (place_among same_tuple keys) rows
-    renumbered codes made coded is =
-        is ∙ ap (map number_in) (codes_are texts rows levels alike sorted false firsts first ordered chosen codes coded (recoded (places_of ordered (length firsts)) codes) (λ i. recoded (places_of ordered (length firsts)) codes))
-        ∙ numbers_are
+    renumbered codes made coded is = grind (arith, codes_are texts rows levels alike sorted false firsts first ordered chosen codes coded (recoded (places_of ordered (length firsts)) codes) (λ i. recoded (places_of ordered (length firsts)) codes), groups_are, map_map, map-id)
 
 -- numbers by first sight
 module _ (texts : List Text) (rows : List (List Label)) (sorted : Bool) (unsorted : sorted ≡ false) where
@@ -63,27 +53,24 @@ module _ (texts : List Text) (rows : List (List Label)) (sorted : Bool) (unsorte
   distinct_keys = distinct same_tuple rows
 
   sight : keys texts sorted rows ≡ distinct_keys
-  sight = ap (λ b. keys texts b rows) unsorted ∙ keys_are texts false rows
+  sight = grind (arith, keys_are)
 
   pub sight_counted : (firsts : List ℕ) → firsts ≡ first_rows same_tuple rows → length firsts ≡ length (keys texts sorted rows)
-  sight_counted firsts first = ap length first ∙ length-map distinct_keys (place_among same_tuple rows) ∙ sym (ap length sight)
+  sight_counted firsts first = grind (arith, length-map, sight)
 
   pub sight_firsts : (firsts : List ℕ) → firsts ≡ first_rows same_tuple rows → firsts ≡ map (place_among same_tuple rows) (keys texts sorted rows)
-  sight_firsts firsts first = first ∙ sym (ap (map (place_among same_tuple rows)) sight)
+  sight_firsts firsts first = cc sight
 
   pub sight_numbers : (codes : List ℕ) → codes ≡ codes_of same_tuple rows → codes ≡ map (place_among same_tuple (keys texts sorted rows)) rows
-  sight_numbers codes coded = coded ∙ sym (ap (λ ks. map (place_among same_tuple ks) rows) sight)
+  sight_numbers codes coded = cc sight
 
   pub sight_codes : (codes : List ℕ) → codes ≡ codes_of same_tuple rows → map Some codes ≡ group_codes (seen_rules texts) sorted false rows
-  sight_codes codes coded = ap (map Some) (sight_numbers codes coded) ∙ sym (groups_are texts sorted rows)
+  sight_codes codes coded = cc (sight_numbers codes coded, groups_are texts sorted rows)
 
 -- groups by first sight, where no row is left out
 module _ (texts : List Text) (rows : List (List Label)) (sorted dropna : Bool) (unsorted : sorted ≡ false) (whole : dropna ≡ false) where
   pub all_counted : (firsts : List ℕ) → firsts ≡ first_rows same_tuple rows → length firsts ≡ length (group_keys (seen_rules texts) sorted dropna rows)
-  all_counted firsts first = sight_counted texts rows sorted unsorted firsts first ∙ sym (ap (λ b. length (group_keys (seen_rules texts) sorted b rows)) whole)
-
-  pub all_firsts : (firsts : List ℕ) → firsts ≡ first_rows same_tuple rows → firsts ≡ map (place_among same_tuple rows) (group_keys (seen_rules texts) sorted dropna rows)
-  all_firsts firsts first = sight_firsts texts rows sorted unsorted firsts first ∙ sym (ap (λ b. map (place_among same_tuple rows) (group_keys (seen_rules texts) sorted b rows)) whole)
+  all_counted firsts first = grind (arith, sight_counted)
 
   pub all_codes : (codes : List ℕ) → codes ≡ codes_of same_tuple rows → map Some codes ≡ group_codes (seen_rules texts) sorted dropna rows
-  all_codes codes coded = sight_codes texts rows sorted unsorted codes coded ∙ sym (ap (λ b. group_codes (seen_rules texts) sorted b rows) whole)
+  all_codes codes coded = cc (sight_codes texts rows sorted unsorted codes coded, whole)

@@ -1,16 +1,14 @@
 -- The labels of a row are those of its key.
 use Rattle.{
-  std.{proofs.{Common.{◌≡◌, ◌∙◌, ◌<◌, ◌≤◌, ap, refl, sym, arith, ℕ, List, [], length, slice_get, slice_index_or, Some}, Math.ListN.{get_or-map}, lemmas.{List.{length-map, same_lists, get_or_default, get_or_past, get_or-map as get_or-map-at, Elements.{All-map}, FromFn.{length-map-range_with_len, get_or-map-range_with_len}}, Option.{get_or_from_slice_get}}}, specs.List.{range_with_len}},
+  std.{proofs.{Common.{◌≡◌, ◌∙◌, ◌<◌, ◌≤◌, sym, arith, ℕ, List, [], length, slice_get, slice_index_or, Some}, Math.ListN.{get_or-map}, lemmas.{List.{length-map, same_lists, get_or_default, get_or_past, get_or-map as get_or-map-at, Elements.{All-map}, FromFn.{length-map-range_with_len, get_or-map-range_with_len}}, Option.{get_or_from_slice_get}}}, specs.List.{range_with_len}},
   cell_core.specs.{declared.cell.{Cell.{Cell}, Label.{Label}}, Values.{label_datum}},
   column_core.specs.Columns.{CellColumn},
   row_groups.specs.Labels.{label_of_cell},
   row_keys.specs.Keys.{label_in},
   factorize.specs.Keys.{row_key, column_keys},
   meaning.specs.Text.{Text},
-  index_core.specs.Labels.{same_number},
   multi_index.specs.Axes.{HaveLevels},
   label_align.{specs.Tuples.{tuple_seen, labels_of}, proofs.OrderLaws.{label_there, labels_counted}},
-  group_meaning.specs.Keys.{is_na},
 }
 use Rattle.cell_core.specs.declared.cell.Cell.TheVariants as cell
 use Rattle.cell_core.specs.declared.cell.Label.TheVariants as label
@@ -18,20 +16,13 @@ use Rattle.cell_core.specs.declared.cell.Label.TheVariants as label
 pub labels_there : (texts : List Text) (keys : List (List Label)) (levels row : ℕ) → HaveLevels levels keys → row < length keys → labels_of texts keys levels row ≡ tuple_seen texts (slice_index_or keys row [])
 labels_there texts keys levels row alike lt =
     let key = slice_index_or keys row [] in
-    let size : length key ≡ levels = alike row [] lt in
-    same_lists (labels_of texts keys levels row) (tuple_seen texts key) (labels_counted texts keys levels row ∙ sym size ∙ sym (length-map key (label_datum texts)))
+    let size = alike row [] lt in
+    same_lists (labels_of texts keys levels row) (tuple_seen texts key) (grind (arith, labels_counted, length-map))
     (λ k d inside.
     let below : k < levels = omega (arith, labels_counted texts keys levels row, inside) in
     label_there texts keys levels row k d below
     ∙ sym (get_or-map (label_datum texts) key k label.Na)
     ∙ get_or_default (tuple_seen texts key) k (label_datum texts label.Na) d (omega (arith, below, size, length-map key (label_datum texts))))
-
--- a label is missing where it equals NA
-pub na_told : (texts : List Text) (l : Label) → is_na (label_datum texts l) ≡ same_number l label.Na
-na_told texts (label.Bool b) = refl
-na_told texts (label.Int z) = refl
-na_told texts (label.Text id) = refl
-na_told texts label.Na = refl
 
 -- the keys of columns
 pub columns_alike : (columns : List CellColumn) (count : ℕ) → HaveLevels (length columns) (column_keys columns count)
@@ -40,22 +31,17 @@ columns_alike columns count =
     (λ k d lt. length-map columns (λ column. label_of_cell (slice_index_or column.cells (slice_index_or (range_with_len 0 count) k d) cell.Na)))
 
 pub columns_counted : (columns : List CellColumn) (count : ℕ) → count ≡ length (column_keys columns count)
-columns_counted columns count = sym (length-map-range_with_len (row_key columns) 0 count)
+columns_counted columns count = search length-map-range_with_len
 
 key_of_row : (columns : List CellColumn) (count row : ℕ) → row < count → slice_index_or (column_keys columns count) row [] ≡ row_key columns row
-key_of_row columns count row lt = get_or-map-range_with_len (row_key columns) 0 count row row [] lt (omega arith)
+key_of_row columns count row lt = grind (arith, get_or-map-range_with_len)
 
 pub column_label : (columns : List CellColumn) (count row level : ℕ) (d : CellColumn) (c : Cell) → row < count → level < length columns → slice_get (slice_index_or columns level d).cells row ≡ Some c
     → label_of_cell c ≡ label_in level (slice_index_or (column_keys columns count) row [])
-column_label columns count row level d c below inside here =
-    ap label_of_cell (sym (get_or_from_slice_get (slice_index_or columns level d).cells row c cell.Na here))
-    ∙ sym (ap (λ key. slice_index_or key level label.Na) (key_of_row columns count row below)
-    ∙ get_or-map-at (λ (col : CellColumn). label_of_cell (slice_index_or col.cells row cell.Na)) columns level d label.Na inside)
+column_label columns count row level d c below inside here = grind (arith, get_or_from_slice_get, key_of_row, get_or-map-at)
 
 pub no_column : (columns : List CellColumn) (count row level : ℕ) → row < count → length columns ≤ level → label.Na ≡ label_in level (slice_index_or (column_keys columns count) row [])
-no_column columns count row level below le =
-    sym (ap (λ key. slice_index_or key level label.Na) (key_of_row columns count row below)
-    ∙ get_or_past (row_key columns row) level label.Na (omega (arith, le, length-map columns (λ column. label_of_cell (slice_index_or column.cells row cell.Na)))))
+no_column columns count row level below le = search (key_of_row, get_or_past, length-map)
 
 pub no_row : (keys : List (List Label)) (row level : ℕ) → length keys ≤ row → label.Na ≡ label_in level (slice_index_or keys row [])
-no_row keys row level le = sym (ap (label_in level) (get_or_past keys row [] le))
+no_row keys row level le = search get_or_past

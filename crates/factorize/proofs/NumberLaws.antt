@@ -1,6 +1,6 @@
 -- What is made of the numbers of keys is what is made of the keys.
 use Rattle.{
-  std.{proofs.{Common.{◌≡◌, ◌∙◌, ◌==◌, ◌<◌, ap, refl, sym, ℕ, Bool, true, false, not, cond, List, [], ◌∷◌, map, filter, length, All, slice_index_or, None, arith}, lemmas.List.{length-map, get_or-map, FromFn.{fill_by_all, get_or-map-range_with_len}, Elements.{All-filter}}}, specs.{List.{list_any, position, range_with_len}, Cmp.{IsEquivalence}}},
+  std.{proofs.{Common.{rules, ◌≡◌, ◌∙◌, ◌==◌, ◌<◌, ap, refl, sym, ℕ, Bool, true, false, cond, List, [], ◌∷◌, map, filter, length, All, slice_index_or, None, arith}, lemmas.List.{length-map, get_or-map, FromFn.{fill_by_all, get_or-map-range_with_len}, Elements.{All-filter}}}, specs.{List.{list_any, position, range_with_len}, Cmp.{IsEquivalence}}},
   meaning.specs.Reduce.{distinct},
   sorting.specs.Sorting.{in_order},
   align_meaning.proofs.OrderLaws.{all_in_order, in_order_map},
@@ -12,7 +12,7 @@ use Rattle.{
 
 pub filter_all : {X : Type 0} (xs : List X) → filter (λ x. true) xs ≡ xs
 filter_all [] = refl
-filter_all (x ∷ xs) = ap (λ l. x ∷ l) (filter_all xs)
+filter_all (x ∷ xs) = cc (filter_all xs)
 
 module _ {K : Type 0} (rules : KeyRules K) (laws : IsEquivalence rules.same) (d : K) (sorted dropna : Bool) (rows : List K) where
   abbrev keys : List K
@@ -48,7 +48,7 @@ module _ {K : Type 0} (rules : KeyRules K) (laws : IsEquivalence rules.same) (d 
     kept = kept_numbers sorted dropna less holds_na how_many
 
     ordered_numbers : All IsNumber ordered
-    ordered_numbers = elim sorted as (λ b. All IsNumber (cond b (in_order less numbers) numbers)) [ true ↦ all_in_order IsNumber less numbers all_numbers | false ↦ all_numbers ]
+    ordered_numbers = elim sorted as (λ b. All IsNumber (cond b (in_order less numbers) numbers)) [ true ↦ search (all_in_order, all_numbers) | false ↦ all_numbers ]
 
     pub kept_below : All IsNumber kept
     kept_below = All-filter (is_kept dropna holds_na) IsNumber ordered ordered_numbers
@@ -62,42 +62,32 @@ module _ {K : Type 0} (rules : KeyRules K) (laws : IsEquivalence rules.same) (d 
         ])
 
     kept_agrees : (i : ℕ) → IsNumber i → is_kept dropna rules.holds_na (key_at i) ≡ is_kept dropna holds_na i
-    kept_agrees i lt = ap (λ b. cond dropna (not b) true) (missing i lt)
+    kept_agrees i lt = grind arith
 
     -- the keys of the groups are those of the numbers that are kept
     pub keys_kept : group_keys rules sorted dropna rows ≡ map key_at kept
-    keys_kept =
-        ap (filter (is_kept dropna rules.holds_na)) ordered_keys
-        ∙ filter_seen IsNumber key_at (is_kept dropna rules.holds_na) (is_kept dropna holds_na) kept_agrees ordered ordered_numbers
+    keys_kept = cc (ordered_keys, filter_seen IsNumber key_at (is_kept dropna rules.holds_na) (is_kept dropna holds_na) kept_agrees ordered ordered_numbers)
 
     pub keys_counted : length (group_keys rules sorted dropna rows) ≡ length kept
-    keys_counted = ap length keys_kept ∙ length-map kept key_at
+    keys_counted = search (keys_kept, length-map)
 
     abbrev IsKnown : K → Type 0
     IsKnown k = list_any (rules.same k) keys ≡ true
 
-    known_at : (i : ℕ) → IsNumber i → IsKnown (key_at i)
-    known_at i lt = any_at (rules.same (key_at i)) keys i d lt (laws.refl (key_at i))
-
     same_number : (k : K) (i : ℕ) → IsNumber i → rules.same k (key_at i) ≡ (rank k == i)
-    same_number k i lt = place_tells rules.same laws keys k (key_at i) (known_at i lt) ∙ ap (λ n. rank k == n) (place_there rules.same laws rows i d lt)
+    same_number k i lt = cc (place_tells rules.same laws keys k (key_at i) (grind (arith, any_at)), place_there rules.same laws rows i d lt)
 
     group_by_number : (k : K) → group_of rules.same (group_keys rules sorted dropna rows) k ≡ position (λ i. rank k == i) kept
-    group_by_number k =
-        ap (λ ks. group_of rules.same ks k) keys_kept
-        ∙ position_seen IsNumber key_at (rules.same k) (λ i. rank k == i) (same_number k) kept kept_below
+    group_by_number k = cc (keys_kept, position_seen IsNumber key_at (rules.same k) (λ i. rank k == i) (same_number k) kept kept_below)
 
     -- the group of each row is the place of its number
     pub codes_recoded : group_codes rules sorted dropna rows ≡ recoded (places_of kept how_many) (codes_of rules.same rows)
     codes_recoded =
         map_on IsKnown (group_of rules.same (group_keys rules sorted dropna rows)) (λ k. slice_index_or (places_of kept how_many) (rank k) None)
-        (λ k known. group_by_number k ∙ sym (get_or-map-range_with_len (λ n. position (λ i. n == i) kept) 0 how_many (rank k) (rank k) None (position_in (rules.same k) keys known) (omega arith)))
+        (λ k known. group_by_number k ∙ sym (grind (arith, get_or-map-range_with_len, position_in)))
         rows (all_known rules.same laws rows)
-        ∙ sym (map_map (λ n. slice_index_or (places_of kept how_many) n None) rank rows)
+        ∙ sym (search map_map)
 
     -- the first row of each group is that of its number
     pub firsts_kept : map (place_among rules.same rows) (group_keys rules sorted dropna rows) ≡ map (first_row (first_rows rules.same rows)) kept
-    firsts_kept =
-        ap (map (place_among rules.same rows)) keys_kept
-        ∙ map_map (place_among rules.same rows) key_at kept
-        ∙ map_on IsNumber (λ i. place_among rules.same rows (key_at i)) (first_row (first_rows rules.same rows)) (λ i lt. sym (get_or-map (place_among rules.same rows) keys i d 0 lt)) kept kept_below
+    firsts_kept = cc (keys_kept, map_map (place_among rules.same rows) key_at kept, map_on IsNumber (λ i. place_among rules.same rows (key_at i)) (first_row (first_rows rules.same rows)) (λ i lt. sym (get_or-map (place_among rules.same rows) keys i d 0 lt)) kept kept_below)

@@ -1,8 +1,8 @@
 -- What stands at a place of bound arguments is taken by its parameter.
 use Rattle.{
-  std.{proofs.{Common.{◌≡◌, ◌∙◌, refl, ap, sym, ℕ, Bool, true, false, cond, List, [], ◌∷◌, Option, Some, None, if◌then◌else◌}, lemmas.Bool.{eqb-true}}, specs.Prelude.{slice_get, nat_eq}},
+  std.{proofs.{Common.{arith, ◌≡◌, ◌∙◌, refl, ap, sym, ℕ, Bool, true, false, cond, List, [], ◌∷◌, Option, Some, None, if◌then◌else◌}, lemmas.Bool.{eqb-true}}, specs.Prelude.{slice_get, nat_eq}},
   table_meaning.specs.Value.{cell, table, Given, GivenList, NamedGiven, nothing, one, row, many, entries, list_in},
-  form_meaning.specs.{declared.{Omitted.{Omitted}, Parameter.{Parameter}}, Binding.{takes, list_has, stands_for, or_stand_in, goes_to, counted, given_at, taken_by, fit, none_missing, are_listed, argument_at, arguments_from, not_taken, not_listed, bound, bound_of}},
+  form_meaning.specs.{declared.{Omitted.{Omitted}, Parameter.{Parameter}}, Binding.{takes, list_has, stands_for, or_stand_in, goes_to, counted, given_at, taken_by, fit, argument_at, arguments_from, not_taken, not_listed, bound, bound_of}},
 }
 use Rattle.form_meaning.specs.declared.Omitted.TheVariants as omitted
 
@@ -11,13 +11,13 @@ if_both true b h = (refl, h)
 if_both false b h = cc
 
 some_is : {X : Type 0} (x y : X) → Some x ≡ Some y → x ≡ y
-some_is {X = X} x y h = ap (λ o. elim o as (λ v. X) [ None ↦ x | Some v ↦ v ]) h
+some_is x y h = cc
 
 given_taken : (ps : List Parameter) (k : ℕ) (gs : List NamedGiven) (place : ℕ) (a : Given) → fit ps k gs ≡ true → given_at ps k gs place ≡ Some a → taken_by (slice_get ps place) a ≡ true
 given_taken ps k [] place a fitted is = cc
 given_taken ps k (x ∷ gs) place a fitted is =
     elim (nat_eq (goes_to ps k x.name) place) as (λ b. (nat_eq (goes_to ps k x.name) place ≡ b) → cond b (Some x.value) (given_at ps (counted k x.name) gs place) ≡ Some a → taken_by (slice_get ps place) a ≡ true) [
-      | true ↦ λ e same. sym (λ j. taken_by (slice_get ps (eqb-true _ _ e j)) (some_is x.value a same j)) ∙ (if_both _ _ (if_both _ _ fitted).0).0
+      | true ↦ grind (arith, eqb-true, some_is, if_both)
       | false ↦ λ e same. given_taken ps (counted k x.name) gs place a (if_both _ _ fitted).1 same
     ] refl is
 
@@ -33,7 +33,7 @@ no_default (omitted.Truth b) parts is = cc
 no_default (omitted.Text t) parts is = cc
 
 taken_list : (p : Parameter) (a : Given) (parts : GivenList) → takes p a ≡ true → list_in a ≡ Some parts → list_has p.form parts ≡ true
-taken_list p (many parts') parts taken is = ap (list_has p.form) (sym (some_is parts' parts is)) ∙ taken
+taken_list p (many parts') parts taken is = search some_is
 taken_list p (one (cell c)) parts taken is = cc
 taken_list p (one (table t)) parts taken is = cc
 taken_list p nothing parts taken is = cc
@@ -41,16 +41,16 @@ taken_list p (row more) parts taken is = cc
 taken_list p (entries pairs) parts taken is = cc
 
 list_of : (p : Parameter) (o : Option Given) (parts : GivenList) → ((a : Given) → o ≡ Some a → takes p a ≡ true) → list_in (or_stand_in o (Some p)) ≡ Some parts → list_has p.form parts ≡ true
-list_of p None parts taken is = absurd (no_default p.omitted parts is)
-list_of p (Some a) parts taken is = taken_list p a parts (taken a refl) is
+list_of p None parts taken is = search no_default
+list_of p (Some a) parts taken is = search taken_list
 
 -- a list at a place has the form of the parameter there
 pub list_taken : (ps : List Parameter) (gs : List NamedGiven) (place : ℕ) (p : Parameter) (l : List Given) (parts : GivenList) → bound_of ps gs ≡ bound l → slice_get ps place ≡ Some p → list_in (argument_at ps gs place) ≡ Some parts
     → list_has p.form parts ≡ true
 list_taken ps gs place p l parts same there is =
     list_of p (given_at ps 0 gs place) parts
-    (λ a given. ap (λ o. taken_by o a) (sym there) ∙ given_taken ps 0 gs place a (fitted (fit ps 0 gs) (none_missing ps gs 0 ps) (are_listed ps 0 gs) (arguments_from ps gs 0 ps) l same) given)
-    (ap (λ o. list_in (or_stand_in (given_at ps 0 gs place) o)) (sym there) ∙ is)
+    (λ a given. ap (λ o. taken_by o a) (sym there) ∙ given_taken ps 0 gs place a (search fitted) given)
+    (cc)
 
 bound_is : (a b c : Bool) (r l : List Given) → (if a then (if b then (if c then bound r else not_listed) else not_taken) else not_taken) ≡ bound l → l ≡ r
 bound_is true true true r l is = cc
@@ -60,4 +60,4 @@ bound_is false b c r l is = cc
 
 -- the arguments that are bound, in the order of the signature
 pub bound_list : (ps : List Parameter) (gs : List NamedGiven) (l : List Given) → bound_of ps gs ≡ bound l → l ≡ arguments_from ps gs 0 ps
-bound_list ps gs l same = bound_is (fit ps 0 gs) (none_missing ps gs 0 ps) (are_listed ps 0 gs) (arguments_from ps gs 0 ps) l same
+bound_list ps gs l same = search bound_is

@@ -1,9 +1,9 @@
 -- Labels of an index that has a right form.
 use Rattle.{
-  std.proofs.{Common.{◌≡◌, ◌∙◌, ◌<◌, ◌≤◌, ◌+◌, refl, ap, sym, subst, ℕ, suc, nat_eq, nat_lt, ◌&&◌, Bool, true, false, List, length, slice_get, Option, Some, None, All, arith}, lemmas.{Bool.Decides.{nat_tests}, List.Elements.{All-cons, All-nil}}},
+  std.proofs.{Common.{◌≡◌, ◌<◌, ◌≤◌, refl, ℕ, nat_eq, nat_lt, ◌&&◌, Bool, true, false, List, length, slice_get, Option, Some, None, All, arith}, lemmas.{Bool.Decides.{nat_tests}, List.Elements.{All-nil}}},
   meaning.specs.Cell.{LabelValue},
   table_meaning.specs.Value.{cell, table, Given, GivenList, NamedGiven, no_given, more_given, nothing, one, row, many, entries, list_in},
-  form_meaning.{specs.{declared.Parameter.{Parameter}, Binding.{is_scalar, each, count_of, is_tuple_of, are_row_labels, list_has, argument_at, bound, bound_of}, Select.{labels_of}, Make.{row_labels, index_labels, AreAlike}}, proofs.BoundLaws.{list_taken}},
+  form_meaning.{specs.{declared.Parameter.{Parameter}, Binding.{is_scalar, each, count_of, is_tuple_of, are_row_labels, argument_at, bound, bound_of}, Select.{labels_of}, Make.{row_labels, index_labels, AreAlike}}, proofs.BoundLaws.{list_taken}},
 }
 use Rattle.form_meaning.specs.declared.Form.TheVariants as form
 
@@ -20,7 +20,7 @@ below a b e = grind (arith, nat_tests)
 -- as many labels as scalars
 labels_count : (parts : GivenList) → each is_scalar parts ≡ true → length (labels_of parts) ≡ count_of parts
 labels_count no_given h = refl
-labels_count (more_given (one (cell c)) rest) h = let more : suc (count_of rest) ≡ count_of rest + 1 = omega arith in ap suc (labels_count rest h) ∙ more
+labels_count (more_given (one (cell c)) rest) h = grind (arith, labels_count rest h)
 labels_count (more_given (one (table t)) rest) h = cc
 labels_count (more_given nothing rest) h = cc
 labels_count (more_given (row parts) rest) h = cc
@@ -39,7 +39,7 @@ scalar_labels (many parts) h = cc
 scalar_labels (entries pairs) h = cc
 
 tuple_labels : (n : ℕ) (g : Given) → is_tuple_of n g ≡ true → Has n (row_labels g)
-tuple_labels n (row parts) h = let x = both (nat_eq (count_of parts) n) (each is_scalar parts) h in labels_count parts x.1 ∙ nat_same (count_of parts) n x.0
+tuple_labels n (row parts) h = grind (arith, both, nat_eq, labels_count, nat_same)
 tuple_labels n (one v) h = cc
 tuple_labels n nothing h = cc
 tuple_labels n (many parts) h = cc
@@ -49,24 +49,20 @@ each_has : (n : ℕ) (test : Given → Bool) → ((g : Given) → test g ≡ tru
 each_has n test so no_given h = All-nil (Has n)
 each_has n test so (more_given g rest) h =
     let x = both (test g) (each test rest) h in
-    All-cons (Has n) (row_labels g) (index_labels rest) (so g x.0) (each_has n test so rest x.1)
+    grind (arith, each_has n test so rest x.1)
 
 alike_from : (g : Given) (rest : GivenList) (n : ℕ) → 1 ≤ n → Has n (row_labels g) → All (Has n) (index_labels rest) → AreAlike (index_labels (more_given g rest))
-alike_from g rest n some first others =
-    record {
-      some = subst (λ m. 1 ≤ m) (sym first) some;
-      each = subst (λ m. All (Has m) (index_labels (more_given g rest))) (sym first) (All-cons (Has n) (row_labels g) (index_labels rest) first others);
-    }
+alike_from g rest n some first others = grind arith
 
 -- the labels of an index that has the form are alike
 pub index_alike : (parts : GivenList) → are_row_labels parts ≡ true → AreAlike (index_labels parts)
-index_alike no_given h = record { some = omega arith; each = All-nil (Has 1) }
+index_alike no_given h = grind arith
 index_alike (more_given (one (cell c)) rest) h = alike_from (one (cell c)) rest 1 (omega arith) refl (each_has 1 is_scalar scalar_labels rest h)
 index_alike (more_given (row parts) rest) h =
     let n = count_of parts in
     let x = both (nat_lt 1 n && each is_scalar parts) (each (is_tuple_of n) rest) h in
     let y = both (nat_lt 1 n) (each is_scalar parts) x.0 in
-    let some : 1 < n = below 1 n y.0 in
+    let some = below 1 n y.0 in
     alike_from (row parts) rest n (omega arith) (labels_count parts y.1) (each_has n (is_tuple_of n) (tuple_labels n) rest x.1)
 index_alike (more_given (one (table t)) rest) h = cc
 index_alike (more_given nothing rest) h = cc
@@ -81,8 +77,8 @@ GivesAlike (Some parts) = AreAlike (index_labels parts)
 index_of : (ps : List Parameter) (gs : List NamedGiven) (place : ℕ) (p : Parameter) (l : List Given) → bound_of ps gs ≡ bound l → slice_get ps place ≡ Some p → p.form ≡ form.RowLabels
     → (o : Option GivenList) → list_in (argument_at ps gs place) ≡ o → GivesAlike o
 index_of ps gs place p l same there form None is = tt
-index_of ps gs place p l same there form (Some parts) is = index_alike parts (ap (λ f. list_has f parts) (sym form) ∙ list_taken ps gs place p l parts same there is)
+index_of ps gs place p l same there form (Some parts) is = index_alike parts (cc (list_taken ps gs place p l parts same there is))
 
 -- an index that is bound to a parameter for labels of rows gives labels that are alike
 pub index_taken : (ps : List Parameter) (gs : List NamedGiven) (place : ℕ) (p : Parameter) (l : List Given) → bound_of ps gs ≡ bound l → slice_get ps place ≡ Some p → p.form ≡ form.RowLabels → GivesAlike (list_in (argument_at ps gs place))
-index_taken ps gs place p l same there form = index_of ps gs place p l same there form (list_in (argument_at ps gs place)) refl
+index_taken ps gs place p l same there form = search index_of

@@ -4,15 +4,8 @@ use Rattle.{
   std.{proofs.Common.{◌≡◌, refl, Bool, true, false, ◌||◌, List, [], ◌∷◌, Option, Some, find, cond}, specs.{Prelude.{option_and_then}, List.{list_any}, Option.{option_map_or}}},
   cell_core.specs.declared.grid.Shape.{Shape, TheVariants.{Series, Frame}},
   meaning.specs.Text.{Text, same_text},
-  form_meaning.specs.{declared.Method.{Method}, Signature.{MethodName, method_names, method_at, method_named, same_method, fits_shape}},
+  form_meaning.specs.{declared.Method.{Method}, Signature.{MethodName, method_at, method_named, same_method, fits_shape}},
 }
-use Rattle.form_meaning.specs.contracts.ColumnMethod as column_method_type
-use Rattle.form_meaning.specs.contracts.SummaryMethod as summary_method_type
-use Rattle.form_meaning.specs.contracts.RowMethod as row_method_type
-use Rattle.form_meaning.specs.contracts.LevelMethod as level_method_type
-use Rattle.form_meaning.specs.contracts.LabelMethod as label_method_type
-use Rattle.form_meaning.specs.contracts.TableMethod as table_method_type
-use Rattle.form_meaning.specs.contracts.OtherMethod as other_method_type
 use Rattle.form_meaning.specs.declared.Method.TheVariants as method
 
 -- the method that the first of the names means, and the methods that they mean
@@ -23,13 +16,13 @@ abbrev is_among : Shape → List MethodName → Method → Bool
 is_among s ns m = list_any (λ n. option_map_or (same_method m) (method_at s n) false) ns
 
 same_self : (m : Method) → same_method m m ≡ true
-same_self (method.Columns m) = true_same column_method_type.the_type m m refl
-same_self (method.Summary m) = true_same summary_method_type.the_type m m refl
-same_self (method.Rows m) = true_same row_method_type.the_type m m refl
-same_self (method.Levels m) = true_same level_method_type.the_type m m refl
-same_self (method.Labels m) = true_same label_method_type.the_type m m refl
-same_self (method.Table m) = true_same table_method_type.the_type m m refl
-same_self (method.Other m) = true_same other_method_type.the_type m m refl
+same_self (method.Columns m) = search true_same
+same_self (method.Summary m) = search true_same
+same_self (method.Rows m) = search true_same
+same_self (method.Levels m) = search true_same
+same_self (method.Labels m) = search true_same
+same_self (method.Table m) = search true_same
+same_self (method.Other m) = search true_same
 
 or_true : (a : Bool) {b : Bool} → b ≡ true → (a || b) ≡ true
 or_true true h = refl
@@ -44,7 +37,7 @@ found_fits s t (n ∷ ns) m found = by (same_text n.name t) found (found_fits s 
     by false is later = or_true _ (later is)
 
 pub named_fits : (s : Shape) (t : Text) (m : Method) → method_named s t ≡ Some m → fits_shape m s ≡ true
-named_fits s t m = found_fits s t method_names m
+named_fits s t m = search found_fits
 
 -- a method that the one doesn't have is of the other
 pub of_series : (m : Method) (s : Shape) → fits_shape m Frame ≡ false → fits_shape m s ≡ true → s ≡ Series

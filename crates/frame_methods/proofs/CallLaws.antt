@@ -1,6 +1,6 @@
 -- What is made, as an answer.
 use Rattle.{
-  std.{proofs.Common.{◌≡◌, ◌∙◌, List, ap, sym, subst, Result, Ok, Err}, specs.Prelude.{IfOk}},
+  std.{proofs.Common.{arith, ◌≡◌, ◌∙◌, List, ap, sym, subst, Result, Ok, Err}, specs.Prelude.{IfOk}},
   cell_core.specs.{Texts.{IsLonger}, declared.cell.Cell.{Cell}},
   meaning.specs.{Text.{Text}, Cell.{CellValue, na_cell, datum}, Fault.{FaultValue}},
   table_meaning.specs.{Settled.{IsSettled}, Table.{NumberedTable, Table, table_value, no_table}, Value.{Entry}},
@@ -15,7 +15,7 @@ use Rattle.frame_methods.specs.declared.made.Made.TheVariants as made
 pub refused_made : (earlier texts : List Text) (tables : Tables) (m : Result Made OpFault) (result : Result Value OpFault) (fault : OpFault) (meant : Result Entry FaultValue)
     → m ≡ Err fault → result ≡ Err fault → IsLonger earlier texts → IsSettled shown earlier tables → MakesBy made_value texts m meant → FormAnswers texts result meant (shown earlier tables) (shown texts tables)
 refused_made earlier texts tables m result fault meant was is longer settled makes =
-    subst (λ (r : Result Value OpFault). FormAnswers texts r meant (shown earlier tables) (shown texts tables)) (sym is) (go fault (subst (λ (r : Result Made OpFault). MakesBy made_value texts r meant) was makes))
+    subst (λ r. FormAnswers texts r meant (shown earlier tables) (shown texts tables)) (sym is) (grind (arith, go))
   where
     kept : shown texts tables ≡ shown earlier tables
     kept = seen_later shown earlier texts tables longer settled
@@ -31,8 +31,8 @@ table_of (value.cell c) = no_table
 -- the table that was made is settled
 table_settled_in : (texts : List Text) (m : Result Made OpFault) (one : Made) (t : NumberedTable) → m ≡ Ok one → one ≡ made.Table t → IfOk m (IsSettled made_value texts) → IsSettled table_value texts t
 table_settled_in texts m one t was is settled =
-    let here : IsSettled made_value texts (made.Table t) = subst (λ (r : Result Made OpFault). IfOk r (IsSettled made_value texts)) (was ∙ ap Ok is) settled in
-    λ more. ap table_of (here more)
+    let here : IsSettled made_value texts (made.Table t) = rw (was ∙ ap Ok is) at settled in
+    grind arith
 
 abbrev cell_of : Entry → CellValue
 cell_of (value.cell c) = c
@@ -43,11 +43,10 @@ pub scalar_answered : (earlier texts : List Text) (tables : Tables) (m : Result 
     → m ≡ Ok one → one ≡ made.Scalar c → IfOk m (IsSettled made_value texts) → IsLonger earlier texts → IsSettled shown earlier tables → MakesBy made_value texts m meant
     → (meant ≡ Ok (value.cell (datum texts c))) × ((shown texts tables ≡ shown earlier tables) × IsSettled datum texts c)
 scalar_answered earlier texts tables m one c meant was is given longer settled makes =
-    let here : IsSettled made_value texts (made.Scalar c) = subst (λ (r : Result Made OpFault). IfOk r (IsSettled made_value texts)) (was ∙ ap Ok is) given in
-    (subst (λ (r : Result Made OpFault). MakesBy made_value texts r meant) (was ∙ ap Ok is) makes, (seen_later shown earlier texts tables longer settled, λ more. ap cell_of (here more)))
+    let here : IsSettled made_value texts (made.Scalar c) = rw (was ∙ ap Ok is) at given in
+    (grind arith, (seen_later shown earlier texts tables longer settled, grind arith))
 
 -- a table is meant, and it is settled
 pub table_meant : (texts : List Text) (m : Result Made OpFault) (one : Made) (t : NumberedTable) (meant : Result Entry FaultValue) → m ≡ Ok one → one ≡ made.Table t → IfOk m (IsSettled made_value texts)
     → MakesBy made_value texts m meant → Makes texts (Ok t) meant
-table_meant texts m one t meant was is given makes =
-    (subst (λ (r : Result Made OpFault). MakesBy made_value texts r meant) (was ∙ ap Ok is) makes, table_settled_in texts m one t was is given)
+table_meant texts m one t meant was is given makes = grind (arith, table_settled_in)

@@ -1,14 +1,15 @@
 -- Columns that are made one by one.
 use Rattle.{
-  std.proofs.{Common.{◌≡◌, ◌∙◌, refl, ap, sym, subst, ℕ, suc, ◌+◌, ◌<◌, List, [], ◌∷◌, ◌++◌, map, drop, length, append-nil, length-append, All, Result, Ok, Err, slice_index_or, slice_get, Some, arith}, lemmas.{List.{map-append, Elements.{All-append, All-cons, All-nil}}, Option.{slice_get-get_or}}},
+  std.proofs.{Common.{◌≡◌, ◌∙◌, refl, ap, sym, subst, ℕ, suc, ◌+◌, ◌<◌, List, [], ◌∷◌, ◌++◌, map, drop, length, length-append, All, Result, Ok, Err, slice_index_or, slice_get, Some, arith}, lemmas.{List.{map-append, Elements.{All-append, All-cons, All-nil}}, Option.{slice_get-get_or}}},
   cell_core.specs.declared.cell.Cell.{Cell},
-  meaning.specs.{Text.{Text}, Cell.{CellValue, IsLonger, AreGiven}, Fault.{FaultValue}, FaultOf.{fault_of}},
+  meaning.specs.{Text.{Text}, Cell.{CellValue, IsLonger, AreGiven}, Fault.{FaultValue}},
   column_core.specs.{Columns.{CellColumn}, Blocks.{CellBlock}},
   table_meaning.specs.{Settled.{IsSettled}, Table.{ColumnOf, NumberedTable, column_value, column_at, no_column, table_value}},
   form_meaning.specs.Finish.{try_all},
-  frame_store.{specs.{Parts.{block_column, single_block, IsSingle, table_column}, Shown.{columns_value, cells_value}, declared.fault.OpFault.{OpFault, TheVariants.{Refused, NoMemory}}}, proofs.Settling.{settled_later, seen_later, cells_settled, cells_given, column_settled, columns_settled, columns_given, columns_part, longer_self, longer_twice}},
-  label_methods.{specs.Columns.{with_front}, proofs.{FrontLaws.{front_next, front_fails}, Lists.{drop_next, drop_all}}},
-  frame_methods.specs.Columns.{IsFront, MakesColumn, MakesColumns},
+  frame_store.{specs.{Parts.{block_column, single_block, IsSingle, table_column}, Shown.{columns_value, cells_value}}, proofs.Settling.{settled_later, seen_later, cells_settled, cells_given, column_settled, columns_settled, columns_given, columns_part, longer_twice}},
+  label_methods.{specs.Columns.{with_front}, proofs.{FrontLaws.{front_next, front_fails}, Lists.{drop_next}}},
+  nullable_array.specs.declared.ops.ArrayFault.{ArrayFault},
+  frame_methods.specs.Columns.{IsFront, IsFault},
 }
 
 -- what was given stays so
@@ -21,21 +22,6 @@ at_place columns place a lt is =
     let here : slice_get columns place ≡ Some a = slice_get-get_or columns place no_column lt ∙ ap Some is in
     let next : suc place ≡ place + 1 = omega arith in
     drop_next columns place a here ∙ ap (λ k. a ∷ drop k columns) next
-
-pub front_begins : (f : ColumnOf CellValue → Result (ColumnOf CellValue) FaultValue) (dict : List Text) (columns : List (ColumnOf Cell)) (rows : ℕ) (made : List CellBlock) → made ≡ []
-    → IsFront f dict dict columns rows 0 made
-front_begins f dict columns rows made is = subst (IsFront f dict dict columns rows 0) (sym is) record {
-  longer = longer_self dict;
-  given = All-nil (λ c. AreGiven dict c.cells);
-  single = All-nil IsSingle;
-  filled = All-nil (λ (c : ColumnOf Cell). length c.cells ≡ rows);
-  count = refl;
-  answer = nothing_before (try_all f (columns_value dict columns));
-}
-  where
-    nothing_before : (r : Result (List (ColumnOf CellValue)) FaultValue) → with_front [] r ≡ r
-    nothing_before (Ok ys) = refl
-    nothing_before (Err fault) = refl
 
 one_more : (P : ColumnOf Cell → Type 0) (made : List CellBlock) (b : CellBlock) → All P (map block_column made) → P (block_column b) → All P (map block_column (made ++ b ∷ []))
 one_more P made b all here =
@@ -75,12 +61,6 @@ front_refused f first dict columns rows place made a fault so_far lt at is =
     front_fails f (columns_value dict (map block_column made)) (column_value first (table_column a)) fault (columns_value first (drop (place + 1) columns)) (try_all f (columns_value first columns))
     (ap (λ l. placed_front f (columns_value dict (map block_column made)) (columns_value first l)) (sym (at_place columns place (table_column a) lt at)) ∙ so_far.answer) is
 
-pub front_ends : (f : ColumnOf CellValue → Result (ColumnOf CellValue) FaultValue) (first dict : List Text) (columns : List (ColumnOf Cell)) (rows place : ℕ) (made : List CellBlock)
-    → IsFront f first dict columns rows place made → place ≡ length columns → try_all f (columns_value first columns) ≡ Ok (columns_value dict (map block_column made))
-front_ends f first dict columns rows place made so_far is =
-    sym so_far.answer ∙ ap (λ l. placed_front f (columns_value dict (map block_column made)) (columns_value first l)) (ap (λ k. drop k columns) is ∙ drop_all columns)
-    ∙ ap Ok (append-nil (columns_value dict (map block_column made)))
-
 -- the column at a place was given
 pub place_given : (dict : List Text) (t : NumberedTable) (place : ℕ) (a : CellColumn) → IsSettled table_value dict t → place < length t.columns → column_at t.columns place ≡ table_column a → AreGiven dict a.cells
 place_given dict t place a settled lt is = subst (λ (c : ColumnOf Cell). AreGiven dict c.cells) is (columns_given dict t.columns (columns_part dict t settled) place no_column lt)
@@ -92,7 +72,6 @@ same_answer answer held first dict a longer own given = λ j.
     answer (sym (seen_later cells_value first dict held longer (cells_settled first held own)) j) (sym (seen_later column_value first dict (table_column a) longer (column_settled first (table_column a) given)) j)
 
 -- a refused column is a refused list of columns
-pub refused_columns : (dict : List Text) (fault : OpFault) (one : Result (ColumnOf CellValue) FaultValue) (all : Result (List (ColumnOf CellValue)) FaultValue)
-    → ((e : FaultValue) → one ≡ Err e → all ≡ Err e) → MakesColumn dict (Err fault) one → MakesColumns dict (Err fault) all
-refused_columns dict (Refused code) one all same is = (same (fault_of dict code) is.0, is.1)
-refused_columns dict NoMemory one all same is = tt
+pub refused_columns : (fault : ArrayFault) (one : Result (ColumnOf CellValue) FaultValue) (all : Result (List (ColumnOf CellValue)) FaultValue)
+    → ((e : FaultValue) → one ≡ Err e → all ≡ Err e) → IsFault fault one → IsFault fault all
+refused_columns x one all same is = grind arith

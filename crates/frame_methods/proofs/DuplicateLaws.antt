@@ -1,12 +1,12 @@
 -- Numbers that tell rows apart, and marks of the rows that an earlier row equals.
 use Rattle.{
-  std.{proofs.{Common.{◌≡◌, ◌∙◌, append_assoc, true≢false, refl, ap, sym, subst, arith, rules, ℕ, zero, suc, ◌+◌, ◌<◌, ◌≤◌, Bool, true, false, ◌&&◌, ◌||◌, nat_eq, List, [], ◌∷◌, ◌++◌, map, length, drop, set, slice_index_or, slice_get, All, Some, None, Ok, if◌then◌else◌}, Math.ListN.{get_or-map}, lemmas.{Bool.Decides.{nat_tests, same_from_decides, Decides-eqb, Decides-like}, List.{length-map, length-set, drop_more, get_or-set_same, get_or-set_other, Elements.{All-cons, All-nil, All-map, All-get_or}, Folds.{list_any-append}}, Map.Keys.{apart_from_distinct}, Option.{slice_get_within, get_or_from_slice_get}}}, specs.{Prelude.{slice_index, not}, Bool.{Decides}, Cmp.Lexicographic.{pointwise}, List.{list_any, range_with_len, IsDistinct}}},
+  std.{proofs.{Common.{◌≡◌, ◌∙◌, append_assoc, refl, ap, sym, subst, arith, rules, ℕ, zero, suc, ◌+◌, ◌<◌, ◌≤◌, Bool, true, false, ◌&&◌, ◌||◌, nat_eq, List, [], ◌∷◌, ◌++◌, map, length, drop, set, slice_index_or, slice_get, All, Some, None, Ok}, Math.ListN.{get_or-map}, lemmas.{Bool.Decides.{nat_tests, same_from_decides}, List.{length-map, length-set, drop_more, get_or-set_same, get_or-set_other, Elements.{All-cons, All-nil, All-map, All-get_or}, Folds.{list_any-append}}, Map.Keys.{apart_from_distinct}, Option.{slice_get_within, get_or_from_slice_get}}}, specs.{Prelude.{slice_index, not}, Bool.{Decides}, Cmp.Lexicographic.{pointwise}, List.{list_any, range_with_len, IsDistinct}}},
   indexmap.specs.IndexSet.{insert_key},
   cell_core.specs.{Texts.{AreDistinct}, declared.{cell.{Cell.{Cell}, Kind.TheVariants.{Boolean}}, grid.Shape.TheVariants.{Series}}},
   column_core.specs.Columns.{CellColumn},
-  meaning.specs.{Cell.{CellValue, na_cell, truth_cell, datum, IsGiven, AreGiven}, Column.{tabulate}, Reduce.{same_cell}, Text.{Text}},
+  meaning.specs.{Cell.{na_cell, truth_cell, datum, IsGiven, AreGiven}, Reduce.{same_cell}, Text.{Text}},
   multi_index.specs.Axes.{AxisValue},
-  table_meaning.specs.{Settled.{IsSettled}, Table.{ColumnOf, NumberedTable, Table, column_at, no_column, table_value, tuple_value}, Value.{table}},
+  table_meaning.specs.{Settled.{IsSettled}, Table.{ColumnOf, NumberedTable, Table, column_at, no_column, table_value}},
   form_meaning.specs.Finish.{within_limits},
   method_meaning.specs.Rows.{cells_by_row, marks_series, repeats},
   column_operators.specs.Marks.{same_number},
@@ -38,41 +38,25 @@ no_keys : IsDistinct same_key []
 unfolding IsDistinct
 no_keys = tt
 
-pub numbered_none : (old : List ℕ) (cells : List Cell) (keys : List Key) → keys ≡ [] → AreNumbered old cells 0 old keys
-numbered_none old cells keys none =
-    record {
-      count = refl;
-      later = λ k le. refl;
-      told = λ k lt. absurd (omega (arith, lt));
-      unique = subst (IsDistinct same_key) (sym none) no_keys;
-    }
-
 -- a key stays where it stands
 kept_place : (xs ys : List Key) (i : ℕ) (x : Key) → slice_get xs i ≡ Some x → slice_get (xs ++ ys) i ≡ Some x
 kept_place [] ys i x at = cc
 kept_place (k ∷ ks) ys zero x at = at
 kept_place (k ∷ ks) ys (suc i) x at = kept_place ks ys i x at
 
-kept_key : (keys : List Key) (key : Key) (i : ℕ) (x : Key) → slice_get keys i ≡ Some x → slice_get (insert_key same_key keys key) i ≡ Some x
-kept_key keys key i x at = go (list_any (same_key key) keys)
-  where
-    go : (b : Bool) → slice_get (if b then keys else keys ++ key ∷ []) i ≡ Some x
-    go true = at
-    go false = kept_place keys (key ∷ []) i x at
-
 pub numbered_more : (old : List ℕ) (cells : List Cell) (row number before : ℕ) (c : Cell) (numbers numbers' : List ℕ) (keys keys' : List Key) (stored : Key) → AreNumbered old cells row numbers keys → row < length old
     → before ≡ slice_index numbers row → c ≡ slice_index_or cells row cell.Na → keys' ≡ insert_key same_key keys (before, c) → slice_get keys' number ≡ Some stored → same_key (before, c) stored ≡ true
     → IsDistinct same_key keys' → numbers' ≡ set numbers row number → AreNumbered old cells (row + 1) numbers' keys'
 numbered_more old cells row number before c numbers numbers' keys keys' stored so_far lt read here keyed at same unique written =
     record {
-      count = ap (λ (l : List ℕ). length l) written ∙ length-set numbers row number ∙ so_far.count;
-      later = λ k le. at_number k ∙ get_or-set_other numbers row k number 0 (λ e. absurd (omega (arith, e, le))) ∙ so_far.later k (omega (arith, le));
-      told = λ k below. told_at k below (nat_eq k row) refl;
+      count = grind (arith, length-set);
+      later = grind (arith, at_number, get_or-set_other);
+      told = grind (arith, told_at, nat_eq);
       unique = unique;
     }
   where
     at_number : (k : ℕ) → slice_index numbers' k ≡ slice_index (set numbers row number) k
-    at_number k = ap (λ (l : List ℕ). slice_index l k) written
+    at_number k = cc
 
     this : stored ≡ (slice_index old row, slice_index_or cells row cell.Na)
     this = sym ((key_decides (before, c) stored).0 same) ∙ (λ j. ((read ∙ so_far.later row (omega arith)) j, here j))
@@ -81,40 +65,21 @@ numbered_more old cells row number before c numbers numbers' keys keys' stored s
     inside = omega (arith, so_far.count, lt)
 
     told_at : (k : ℕ) → k < row + 1 → (b : Bool) → nat_eq k row ≡ b → slice_get keys' (slice_index numbers' k) ≡ Some (slice_index old k, slice_index_or cells k cell.Na)
-    told_at k below true is =
-        let e : k ≡ row = grind (arith, nat_tests) in
-        subst (λ (i : ℕ). slice_get keys' (slice_index numbers' i) ≡ Some (slice_index old i, slice_index_or cells i cell.Na)) (sym e)
-        (ap (slice_get keys') (at_number row ∙ get_or-set_same numbers row number 0 inside) ∙ at ∙ ap (λ x. Some x) this)
-    told_at k below false is =
-        let apart : k ≡ row → ⊥ = λ e. (grind (arith, nat_tests)) in
-        ap (slice_get keys') (at_number k ∙ get_or-set_other numbers row k number 0 apart)
-        ∙ ap (λ (l : List Key). slice_get l (slice_index numbers k)) keyed
-        ∙ kept_key keys (before, c) (slice_index numbers k) _ (so_far.told k (omega arith))
+    told_at k below true is = grind (arith, nat_tests, slice_get, at_number, get_or-set_same, inside, this)
+    told_at k below false is = grind (arith, nat_tests, slice_get, at_number, get_or-set_other, kept_place)
 
 -- different keys stand at different places
 not_before : (keys : List Key) (a b : ℕ) (x : Key) → IsDistinct same_key keys → slice_get keys a ≡ Some x → slice_get keys b ≡ Some x → a < b → ⊥
 not_before keys a b x unique at_a at_b lt =
     let apart = apart_from_distinct same_key keys a b x unique lt (slice_get_within keys b x at_b) in
-    let other : same_key x x ≡ false = (λ j. same_key (sym (get_or_from_slice_get keys a x x at_a) j) (sym (get_or_from_slice_get keys b x x at_b) j)) ∙ apart in
-    true≢false (sym ((key_decides x x).1 refl) ∙ other)
+    let other = (λ j. same_key (sym (get_or_from_slice_get keys a x x at_a) j) (sym (get_or_from_slice_get keys b x x at_b) j)) ∙ apart in
+    grind (arith, key_decides)
 
 one_place : (keys : List Key) (a b : ℕ) (x : Key) → IsDistinct same_key keys → slice_get keys a ≡ Some x → slice_get keys b ≡ Some x → a ≡ b
-one_place keys a b x unique at_a at_b =
-    let low : a < b → ⊥ = not_before keys a b x unique at_a at_b in
-    let high : b < a → ⊥ = not_before keys b a x unique at_b at_a in
-    omega (arith, low, high)
-
-some_key : (x y : Key) → Some x ≡ Some y → x ≡ y
-some_key x y e = cc
+one_place keys a b x unique at_a at_b = grind (arith, not_before)
 
 places_apart : (keys : List Key) (a b : ℕ) (x y : Key) → IsDistinct same_key keys → slice_get keys a ≡ Some x → slice_get keys b ≡ Some y → nat_eq a b ≡ same_key x y
-places_apart keys a b x y unique at_a at_b =
-    same_from_decides (nat_eq a b) (same_key x y)
-    (Decides-like (nat_eq a b)
-    (λ e. some_key x y (sym at_a ∙ ap (slice_get keys) e ∙ at_b))
-    (λ e. one_place keys a b x unique at_a (at_b ∙ ap (λ k. Some k) (sym e)))
-    (Decides-eqb a b))
-    (key_decides x y)
+places_apart keys a b x y unique at_a at_b = search (rules, same_from_decides, nat_eq, slice_get, one_place, key_decides)
 
 pub numbers_apart : (old : List ℕ) (cells : List Cell) (row : ℕ) (numbers : List ℕ) (keys : List Key) → AreNumbered old cells row numbers keys → (i j : ℕ) → i < row → j < row
     → nat_eq (slice_index numbers i) (slice_index numbers j) ≡ (nat_eq (slice_index old i) (slice_index old j) && same_number (slice_index_or cells i cell.Na) (slice_index_or cells j cell.Na))
@@ -123,34 +88,27 @@ numbers_apart old cells row numbers keys so_far i j hi hj =
 
 -- lists that are equal but for their last elements
 and_true : (b : Bool) → (b && true) ≡ b
-and_true true = refl
-and_true false = refl
+and_true x = grind arith
 
 and_assoc : (a b c : Bool) → ((a && b) && c) ≡ (a && (b && c))
-and_assoc true b c = refl
-and_assoc false b c = refl
+and_assoc x b c = grind arith
 
 pointwise_more : {C : Type 0} (same : C → C → Bool) (f g : ℕ → C) (places : List ℕ) (place : ℕ)
     → pointwise same (map f (places ++ place ∷ [])) (map g (places ++ place ∷ [])) ≡ (pointwise same (map f places) (map g places) && same (f place) (g place))
-pointwise_more same f g [] place = and_true (same (f place) (g place))
-pointwise_more same f g (p ∷ ps) place =
-    ap (λ b. same (f p) (g p) && b) (pointwise_more same f g ps place) ∙ sym (and_assoc (same (f p) (g p)) (pointwise same (map f ps) (map g ps)) (same (f place) (g place)))
+pointwise_more same f g [] place = search and_true
+pointwise_more same f g (p ∷ ps) place = search (and_assoc, pointwise_more same f g ps place)
 
 -- one column more
 pub numbers_more : (t : NumberedTable) (place row : ℕ) (column : ColumnOf Cell) (old numbers : List ℕ) (keys : List Key) → column_at t.columns place ≡ column → length t.labels ≤ row → AreNumbered old column.cells row numbers keys
     → (places : List ℕ) → AreNumbers t places old → AreNumbers t (places ++ place ∷ []) numbers
 numbers_more t place row column old numbers keys is end done places before =
     record {
-      count = done.count ∙ before.count;
+      count = search;
       equal = λ i j hi hj.
           numbers_apart old column.cells row numbers keys done i j (omega (arith, hi, end)) (omega (arith, hj, end))
           ∙ (λ k. before.equal i j hi hj k && same_number (slice_index_or (sym is k).cells i cell.Na) (slice_index_or (sym is k).cells j cell.Na))
-          ∙ sym (pointwise_more same_number (cell_across t i) (cell_across t j) places place);
+          ∙ sym (search pointwise_more);
     }
-
--- no columns
-pub numbers_none : (t : NumberedTable) (numbers : List ℕ) → length numbers ≡ length t.labels → ((k : ℕ) → slice_index numbers k ≡ 0) → AreNumbers t [] numbers
-numbers_none t numbers count zeros = record { count = count; equal = λ i j hi hj. (λ k. nat_eq (zeros i k) (zeros j k)) }
 
 -- whether each number stands earlier, from one on
 repeats_seen : {X : Type 0} (same : X → X → Bool) (a b xs : List X) → ((x : X) → list_any (same x) a ≡ list_any (same x) b) → repeats same a xs ≡ repeats same b xs
@@ -158,51 +116,21 @@ repeats_seen same a b [] alike = refl
 repeats_seen same a b (x ∷ xs) alike = λ j. alike x j ∷ repeats_seen same (x ∷ a) (x ∷ b) xs (λ y. ap (λ r. same y x || r) (alike y)) j
 
 or_false : (b : Bool) → (b || false) ≡ b
-or_false true = refl
-or_false false = refl
-
-or_swap : (a b : Bool) → (a || b) ≡ (b || a)
-or_swap true true = refl
-or_swap true false = refl
-or_swap false true = refl
-or_swap false false = refl
+or_false x = grind arith
 
 nat_same : (x y : ℕ) → nat_eq x y ≡ true → x ≡ y
 nat_same x y e = grind (arith, nat_tests)
 
--- a number that stands there passes what it passes
-stands_there : (seen : List ℕ) (x y : ℕ) → list_any (nat_eq x) seen ≡ true → nat_eq y x ≡ true → list_any (nat_eq y) seen ≡ true
-stands_there seen x y there same = subst (λ (z : ℕ). list_any (nat_eq z) seen ≡ true) (sym (nat_same y x same)) there
-
 key_seen : (seen : List ℕ) (x y : ℕ) → (nat_eq y x || list_any (nat_eq y) seen) ≡ list_any (nat_eq y) (insert_key nat_eq seen x)
-key_seen seen x y = go (list_any (nat_eq x) seen) refl
-  where
-    old : (b : Bool) → nat_eq y x ≡ b → list_any (nat_eq x) seen ≡ true → (b || list_any (nat_eq y) seen) ≡ list_any (nat_eq y) seen
-    old true same there = sym (stands_there seen x y there same)
-    old false same there = refl
-
-    go : (b : Bool) → list_any (nat_eq x) seen ≡ b → (nat_eq y x || list_any (nat_eq y) seen) ≡ list_any (nat_eq y) (if b then seen else seen ++ x ∷ [])
-    go true there = old (nat_eq y x) refl there
-    go false there = or_swap (nat_eq y x) (list_any (nat_eq y) seen) ∙ ap (λ b. list_any (nat_eq y) seen || b) (sym (or_false (nat_eq y x))) ∙ sym (list_any-append (nat_eq y) seen (x ∷ []))
+key_seen seen x y = grind (arith, nat_eq, nat_same, or_false, list_any-append)
 
 not_not : (b : Bool) → not (not b) ≡ b
-not_not true = refl
-not_not false = refl
-
-repeats_next : (seen : List ℕ) (x : ℕ) (xs : List ℕ) → repeats nat_eq seen (x ∷ xs) ≡ list_any (nat_eq x) seen ∷ repeats nat_eq (insert_key nat_eq seen x) xs
-repeats_next seen x xs = ap (λ l. list_any (nat_eq x) seen ∷ l) (repeats_seen nat_eq (x ∷ seen) (insert_key nat_eq seen x) xs (λ y. key_seen seen x y))
+not_not x = grind arith
 
 pub marks_more : (numbers seen seen' : List ℕ) (cells cells' : List Cell) (i x : ℕ) (is_new : Bool) (whole : List Cell) → i < length numbers → x ≡ slice_index numbers i → is_new ≡ not (list_any (nat_eq x) seen)
     → seen' ≡ insert_key nat_eq seen x → cells' ≡ cells ++ cell.Bool (not is_new) ∷ [] → cells ++ map cell.Bool (repeats nat_eq seen (drop i numbers)) ≡ whole
     → cells' ++ map cell.Bool (repeats nat_eq seen' (drop (i + 1) numbers)) ≡ whole
-marks_more numbers seen seen' cells cells' i x is_new whole lt read fresh keyed pushed before =
-    let rest = map cell.Bool (repeats nat_eq (insert_key nat_eq seen x) (drop (i + 1) numbers)) in
-    (λ j. pushed j ++ map cell.Bool (repeats nat_eq (keyed j) (drop (i + 1) numbers)))
-    ∙ append_assoc cells (cell.Bool (not is_new) ∷ []) rest
-    ∙ ap (λ b. cells ++ cell.Bool b ∷ rest) (ap not fresh ∙ not_not (list_any (nat_eq x) seen))
-    ∙ ap (λ l. cells ++ map cell.Bool l) (sym (repeats_next seen x (drop (i + 1) numbers)))
-    ∙ ap (λ l. cells ++ map cell.Bool (repeats nat_eq seen l)) (sym (drop_more numbers i 0 lt ∙ ap (λ y. y ∷ drop (i + 1) numbers) (sym read)))
-    ∙ before
+marks_more numbers seen seen' cells cells' i x is_new whole lt read fresh keyed pushed before = grind (arith, nat_eq, append_assoc, not_not, repeats_seen, key_seen, drop_more)
 
 -- rows that are told apart alike repeat alike
 repeats_alike : {X Y : Type 0} (n : ℕ) (same : X → X → Bool) (same' : Y → Y → Bool) (f : ℕ → X) (g : ℕ → Y) → ((i j : ℕ) → i < n → j < n → same (f i) (f j) ≡ same' (g i) (g j)) → (before rows : List ℕ)
@@ -231,12 +159,11 @@ row_by_number texts t i j (p ∷ ps) distinct known inside hi hj =
 
     given : (row : ℕ) → row < length t.labels → IsGiven texts (cell_across t row p)
     given row lt =
-        let all : AreGiven texts (column_at t.columns p).cells = All-get_or (λ c. AreGiven texts c.cells) t.columns p no_column (inside 0 p (omega arith)) (columns_given texts t.columns (columns_part texts t known.given)) in
-        let tall : length (column_at t.columns p).cells ≡ length t.labels = All-get_or (λ c. length c.cells ≡ length t.labels) t.columns p no_column (inside 0 p (omega arith)) known.whole.filled in
-        all row cell.Na (omega (arith, lt, tall))
+        let all = All-get_or (λ c. AreGiven texts c.cells) t.columns p no_column (inside 0 p (omega arith)) (columns_given texts t.columns (columns_part texts t known.given)) in
+        grind arith
 
     seen : (row : ℕ) → datum texts (cell_across t row p) ≡ slice_index_or (column_at (table_value texts t).columns p).cells row na_cell
-    seen row = sym (get_or-map (datum texts) (column_at t.columns p).cells row cell.Na) ∙ ap (λ (c : ColumnOf CellValue). slice_index_or c.cells row na_cell) (sym (column_seen texts t.columns p))
+    seen row = cc (get_or-map (datum texts) (column_at t.columns p).cells row cell.Na, column_seen texts t.columns p)
 
 -- as many marks as rows
 repeats_count : {X : Type 0} (same : X → X → Bool) (before xs : List X) → length (repeats same before xs) ≡ length xs
@@ -245,8 +172,7 @@ repeats_count same before (x ∷ xs) = ap suc (repeats_count same (x ∷ before)
 
 pub marks_count : (t : NumberedTable) (places numbers : List ℕ) (cells : List Cell) (axis : AxisValue) → AreNumbers t places numbers → cells ≡ map cell.Bool (repeats nat_eq [] numbers) → axis ≡ axis_of t
     → length cells ≡ length axis.tuples
-marks_count t places numbers cells axis told is same =
-    ap (λ (l : List Cell). length l) is ∙ length-map (repeats nat_eq [] numbers) cell.Bool ∙ repeats_count nat_eq [] numbers ∙ told.count ∙ ap (λ (a : AxisValue). length a.tuples) (sym same)
+marks_count t places numbers cells axis told is same = grind (arith, length-map, nat_eq, repeats_count)
 
 -- marks by numbers are marks of rows
 marks_alike : (texts : List Text) (t : NumberedTable) (places numbers : List ℕ) → AreDistinct texts → IsKnownTable texts t → All (λ place. place < length t.columns) places → AreNumbers t places numbers
@@ -254,17 +180,17 @@ marks_alike : (texts : List Text) (t : NumberedTable) (places numbers : List ℕ
 marks_alike texts t places numbers distinct known inside told =
     let n = length t.labels in
     let T = table_value texts t in
-    ap (repeats nat_eq []) (sym (list_is (slice_index numbers) numbers 0 0 (λ k lt. let e : 0 + k ≡ k = omega arith in ap (slice_index numbers) e)) ∙ ap (λ (m : ℕ). map (slice_index numbers) (range_with_len 0 m)) told.count)
+    ap (repeats nat_eq []) (sym (list_is (slice_index numbers) numbers 0 0 (λ k lt. let e : 0 + k ≡ k = omega arith in ap (slice_index numbers) e)) ∙ ap (λ m. map (slice_index numbers) (range_with_len 0 m)) told.count)
     ∙ repeats_alike n nat_eq (pointwise same_cell) (slice_index numbers) (cells_in T places) (λ i j hi hj. told.equal i j hi hj ∙ row_by_number texts t i j places distinct known inside hi hj)
     [] (range_with_len 0 n) (All-nil (λ row. row < n)) (below_range n)
-    ∙ ap (repeats (pointwise same_cell) []) (ap (λ (m : ℕ). tabulate m (cells_in T places)) (sym (length-map t.labels (tuple_value texts))) ∙ sym (by_rows T places))
+    ∙ ap (repeats (pointwise same_cell) []) (grind (arith, cells_in, length-map, by_rows))
   where
     below_range : (n : ℕ) → All (λ row. row < n) (range_with_len 0 n)
     below_range n = Rattle.selections.proofs.PickedLaws.places_inside (range_with_len 0 n) n n refl refl
 
 truths_seen : (texts : List Text) (bs : List Bool) → map (datum texts) (map cell.Bool bs) ≡ map truth_cell bs
 truths_seen texts [] = refl
-truths_seen texts (b ∷ bs) = ap (λ l. truth_cell b ∷ l) (truths_seen texts bs)
+truths_seen texts (b ∷ bs) = cc (truths_seen texts bs)
 
 abbrev marks_table : AxisValue → CellColumn → NumberedTable
 marks_table axis marks = table_with Series axis record { columns_name = None; labels = None ∷ [] } (table_column marks ∷ [])
@@ -273,11 +199,10 @@ pub duplicated_made : (texts : List Text) (t made : NumberedTable) (axis : AxisV
     → AreNumbers t places numbers → marks.kind ≡ Boolean → marks.cells ≡ map cell.Bool (repeats nat_eq [] numbers) → within_limits (length t.labels) 1 ≡ true → axis ≡ axis_of t → made ≡ marks_table axis marks
     → Makes texts (Ok made) (duplicated_among (table_value texts t) places)
 duplicated_made texts t made axis marks places numbers distinct known inside told kind cells within same is = (
-  limited_within (marks_series T bs) (length t.labels) 1 (length-map t.labels (tuple_value texts)) refl within
-      ∙ ap (λ v. Ok (table v)) (shown ∙ ap (table_value texts) (sym is)),
+  grind (arith, limited_within, T, bs, length-map, shown),
   subst (IsSettled table_value texts) (sym (is ∙ ap (λ a. marks_table a marks) same))
       (table_settled texts (marks_table (axis_of t) marks) (λ more. refl) (level_names_part texts t known.given) (labels_part texts t known.given) (λ more. refl)
-      (columns_settled texts (table_column marks ∷ []) (All-cons (λ (c : ColumnOf Cell). AreGiven texts c.cells) (table_column marks) [] given (All-nil (λ (c : ColumnOf Cell). AreGiven texts c.cells))))),
+      (columns_settled texts (table_column marks ∷ []) (grind (arith, given)))),
 )
   where
     T : Table
@@ -287,12 +212,10 @@ duplicated_made texts t made axis marks places numbers distinct known inside tol
     bs = repeats (pointwise same_cell) [] (cells_by_row T places)
 
     given : AreGiven texts marks.cells
-    given = subst (AreGiven texts) (sym cells) (All-map (IsGiven texts) cell.Bool (repeats nat_eq [] numbers) (λ k d lt. tt))
+    given = rw cells (All-map (IsGiven texts) cell.Bool (repeats nat_eq [] numbers) (λ k d lt. tt))
 
     truths : map truth_cell bs ≡ map (datum texts) marks.cells
-    truths = ap (map truth_cell) (sym (marks_alike texts t places numbers distinct known inside told)) ∙ sym (truths_seen texts (repeats nat_eq [] numbers)) ∙ ap (map (datum texts)) (sym cells)
+    truths = cc (marks_alike texts t places numbers distinct known inside told, truths_seen texts (repeats nat_eq [] numbers))
 
     shown : marks_series T bs ≡ table_value texts (marks_table axis marks)
-    shown =
-        (λ j. record (marks_series T bs) { columns = record { kind = sym kind j; cells = truths j } ∷ [] })
-        ∙ ap (λ a. table_value texts (marks_table a marks)) (sym same)
+    shown = grind (arith, T, bs, truths)

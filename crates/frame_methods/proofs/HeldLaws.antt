@@ -1,17 +1,19 @@
 -- The cells that an operation holds were given.
 use Rattle.{
-  std.proofs.{Common.{ℕ, List, [], ◌∷◌, Some}, lemmas.List.Elements.{All-cons, All-nil}},
+  std.proofs.{Common.{suc, List, [], ◌∷◌, arith}, lemmas.List.Elements.{All-cons, All-nil}},
   cell_core.specs.declared.cell.Cell.{Cell},
-  meaning.specs.{Text.{Text}, Cell.{datum, IsGiven, AreGiven}},
-  table_meaning.specs.{Settled.{IsSettled}, Value.{scalar_in}},
-  frame_store.specs.{Arguments.{arguments_of}, Objects.{Tables}},
-  signatures.{specs.{Bound.{Tells}, declared.bound.Bound.{Bound}}, proofs.ToldLaws.{scalar_given}},
+  meaning.specs.{Text.{Text}, Cell.{IsGiven, AreGiven, IsLonger}},
+  frame_methods.{specs.Columns.{EachGiven}, proofs.ColumnLaws.{given_later}},
 }
 
-pub none_held : (texts : List Text) → AreGiven texts []
-none_held texts = All-nil (IsGiven texts)
+pub each_given : (texts : List Text) (cs : List Cell) → AreGiven texts cs → EachGiven texts cs
+each_given texts [] given = tt
+each_given texts (c ∷ cs) given = (given 0 c (omega arith), each_given texts cs (λ k d lt. given (suc k) d (omega (arith, lt))))
 
--- a scalar that a call gives
-pub scalar_held : (b : Bound) (place : ℕ) (c : Cell) (live : Tables) (texts : List Text) (rest : List Cell) → Tells b place scalar_in (λ _ ts. Some (datum ts c)) → IsSettled (arguments_of live) texts b.args.now
-    → AreGiven texts rest → AreGiven texts (c ∷ rest)
-scalar_held b place c live texts rest tells settled given = All-cons (IsGiven texts) c rest (scalar_given b place c live texts tells settled) given
+pub are_given : (texts : List Text) (cs : List Cell) → EachGiven texts cs → AreGiven texts cs
+are_given texts [] given = All-nil (IsGiven texts)
+are_given texts (c ∷ cs) given = All-cons (IsGiven texts) c cs given.0 (are_given texts cs given.1)
+
+-- what was given stays so
+pub each_later : (old new : List Text) (cs : List Cell) → IsLonger old new → EachGiven old cs → EachGiven new cs
+each_later old new cs longer given = each_given new cs (given_later old new cs longer (are_given old cs given))

@@ -1,9 +1,9 @@
 -- Cells that are in a list, by number and with texts.
 use Rattle.{
-  std.{proofs.{Common.{◌≡◌, ◌∙◌, ◌<◌, ◌+◌, refl, ap, sym, subst, ℕ, suc, Bool, true, false, ◌||◌, cond, List, [], ◌∷◌, ◌++◌, map, length, drop, get_or, Option, Some, None, IfSome, Result, Ok, arith, rules}, lemmas.List.{map-append, Folds.{list_any-append}, Elements.{All-append, All-cons, All-nil, All-map}}}, specs.{Option.{option_map}, Bool.{Decides}, List.{list_any}}},
+  std.{proofs.{Common.{◌≡◌, ◌∙◌, ◌<◌, ◌+◌, refl, ap, sym, ℕ, suc, Bool, true, false, ◌||◌, cond, List, [], ◌∷◌, ◌++◌, map, length, drop, get_or, Option, Some, None, IfSome, Result, Ok, arith}, lemmas.List.{map-append, Folds.{list_any-append}, Elements.{All-append, All-cons, All-nil, All-map}}}, specs.{Option.{option_map}, Bool.{Decides}, List.{list_any}}},
   cell_core.specs.{declared.cell.{Cell.{Cell}, Kind.TheVariants.{Boolean}, Label.{Label}}, Texts.{AreDistinct}},
   form_parts.{specs.Labels.{label_of}, proofs.LabelLaws.{same_by_number}},
-  meaning.specs.{Text.{Text}, Cell.{CellValue, na_cell, truth_cell, datum, label_datum, IsGiven, AreGiven}, Operator.{cell_label}, Reduce.{same_cell}, Fault.{FaultValue}},
+  meaning.specs.{Text.{Text}, Cell.{CellValue, truth_cell, datum, label_datum, IsGiven, AreGiven}, Operator.{cell_label}, Reduce.{same_cell}, Fault.{FaultValue}},
   column_core.specs.Columns.{CellColumn},
   table_meaning.specs.{Settled.{IsSettled}, Table.{Table, column_value}, Value.{Entry, GivenList}},
   form_meaning.specs.{Binding.{same_label}, Make.{on}, Select.{cells_of}},
@@ -17,9 +17,6 @@ use Rattle.{
 use Rattle.cell_core.specs.declared.cell.Cell.TheVariants as cell
 use Rattle.cell_core.specs.declared.cell.Label.TheVariants as label
 
-pub same_decides : (a b : Cell) → Decides (same_number a b) (a ≡ b)
-same_decides a b = search rules
-
 -- a cell as a label, and back
 abbrev cell_back : Label → Cell
 cell_back label.Na = cell.Na
@@ -27,28 +24,16 @@ cell_back (label.Int z) = cell.Int z
 cell_back (label.Bool b) = cell.Bool b
 cell_back (label.Text id) = cell.Text id
 
-back_again : (c : Cell) → cell_back (label_of c) ≡ c
-back_again cell.Na = refl
-back_again (cell.Int z) = refl
-back_again (cell.Bool b) = refl
-back_again (cell.Text id) = refl
-
 label_seen : (texts : List Text) (c : Cell) → label_datum texts (label_of c) ≡ cell_label (datum texts c)
-label_seen texts cell.Na = refl
-label_seen texts (cell.Int z) = refl
-label_seen texts (cell.Bool b) = refl
-label_seen texts (cell.Text id) = refl
+label_seen texts x = grind arith
 
 label_settled : (texts : List Text) (c : Cell) → IsGiven texts c → IsSettled label_datum texts (label_of c)
-label_settled texts c given = λ more. label_seen (texts ++ more) c ∙ ap cell_label (cell_settled texts c given more) ∙ sym (label_seen texts c)
+label_settled texts c given = search (label_seen, cell_settled)
 
 -- a test by numbers is the test by texts
 pub cell_by_number : (texts : List Text) (a b : Cell) → AreDistinct texts → IsGiven texts a → IsGiven texts b → same_number a b ≡ same_cell (datum texts a) (datum texts b)
 cell_by_number texts a b distinct f g =
-    let labels : Decides (same_number a b) (label_of a ≡ label_of b) = (
-      λ e. ap label_of ((same_decides a b).0 e),
-      λ e. (same_decides a b).1 (sym (back_again a) ∙ ap cell_back e ∙ back_again b),
-    ) in
+    let labels : Decides (same_number a b) (label_of a ≡ label_of b) = grind arith in
     same_by_number texts (label_of a) (label_of b) (same_number a b) distinct (label_settled texts a f) (label_settled texts b g) labels
     ∙ (λ j. same_label (label_seen texts a j) (label_seen texts b j))
 
@@ -71,8 +56,7 @@ listed_answer texts values a new distinct given all is =
     ∙ ap (λ n. Ok (column_value texts (table_column n))) (sym is)
 
 pub listed_given : (texts : List Text) (values : List Cell) (a new : CellColumn) → new ≡ record { kind = Boolean; cells = map (listed_mark values) a.cells } → AreGiven texts new.cells
-listed_given texts values a new is =
-    subst (λ (n : CellColumn). AreGiven texts n.cells) (sym is) (All-map (IsGiven texts) (listed_mark values) a.cells (λ k d lt. tt))
+listed_given texts values a new is = rw is (All-map (IsGiven texts) (listed_mark values) a.cells (λ k d lt. tt))
 
 -- a cell and those after it are settled where they are so together
 abbrev first_or : CellValue → List CellValue → CellValue
@@ -88,8 +72,7 @@ AreBoth texts o rest = IfSome o (IsGiven texts) × ((more : List Text) → rest 
 
 pub both_settled : (texts : List Text) (o : Option Cell) (rest : List Text → List CellValue)
     → ((more : List Text) → with_cell (option_map (datum (texts ++ more)) o) (rest (texts ++ more)) ≡ with_cell (option_map (datum texts) o) (rest texts)) → AreBoth texts o rest
-both_settled texts None rest settled = (tt, settled)
-both_settled texts (Some c) rest settled = (cell_given texts c (λ more. ap (first_or na_cell) (settled more)), λ more. ap others (settled more))
+both_settled texts x rest settled = grind (arith, cell_given)
 
 pub first_settled : (texts : List Text) (items : List Item) (i : ℕ) (item : Item) (o : Option Cell) → i < length items → item ≡ get_or items i item → IsScalarOf o item
     → IsSettled scalars texts (drop i items) → AreBoth texts o (λ ts. scalars ts (drop (i + 1) items))
@@ -109,51 +92,26 @@ noted_given texts values (Some c) given here = go (list_any (same_number c) valu
 -- what passes at a cell passes where the cell is
 passes_at : (test : CellValue → Bool) (texts : List Text) (c : Cell) (values : List Cell) → list_any (same_number c) values ≡ true → test (datum texts c) ≡ true → list_any test (cells_value texts values) ≡ true
 passes_at test texts c [] among passes = cc
-passes_at test texts c (v ∷ vs) among passes = go (passes_at test texts c vs) (same_number c v) refl among
-  where
-    or_true : (b : Bool) → (b || true) ≡ true
-    or_true true = refl
-    or_true false = refl
-
-    go : (list_any (same_number c) vs ≡ true → test (datum texts c) ≡ true → list_any test (cells_value texts vs) ≡ true) → (b : Bool) → same_number c v ≡ b → (b || list_any (same_number c) vs) ≡ true
-        → list_any test (cells_value texts (v ∷ vs)) ≡ true
-    go later true same is = ap (λ b. b || list_any test (cells_value texts vs)) (ap (λ x. test (datum texts x)) (sym ((same_decides c v).0 same)) ∙ passes)
-    go later false same is = ap (λ b. test (datum texts v) || b) (later is passes) ∙ or_true (test (datum texts v))
+passes_at test texts c (v ∷ vs) among passes = grind (arith, passes_at test texts c vs)
 
 or_more : (a t r : Bool) → (t ≡ true → a ≡ true) → (a || r) ≡ (a || (t || r))
-or_more true t r same = refl
-or_more false true r same = let wrong : false ≡ true = same refl in cc
-or_more false false r same = refl
+or_more x t r same = grind arith
 
 or_last : (a t r : Bool) → ((a || (t || false)) || r) ≡ (a || (t || r))
-or_last true t r = refl
-or_last false true r = refl
-or_last false false r = refl
+or_last x t r = grind arith
 
 noted_more : (test : CellValue → Bool) (texts : List Text) (values : List Cell) (c : Cell) (r : Bool)
     → (list_any test (cells_value texts (noted values (Some c))) || r) ≡ (list_any test (cells_value texts values) || (test (datum texts c) || r))
 noted_more test texts values c r = go (list_any (same_number c) values) refl
   where
     go : (b : Bool) → list_any (same_number c) values ≡ b → (list_any test (cells_value texts (cond b values (values ++ c ∷ []))) || r) ≡ (list_any test (cells_value texts values) || (test (datum texts c) || r))
-    go true among = or_more (list_any test (cells_value texts values)) (test (datum texts c)) r (passes_at test texts c values among)
-    go false among =
-        ap (λ l. list_any test l || r) (map-append (datum texts) values (c ∷ []))
-        ∙ ap (λ b. b || r) (list_any-append test (cells_value texts values) (datum texts c ∷ []))
-        ∙ or_last (list_any test (cells_value texts values)) (test (datum texts c)) r
-
-noted_any : (test : CellValue → Bool) (texts : List Text) (values : List Cell) (o : Option Cell) (rest : List CellValue)
-    → (list_any test (cells_value texts (noted values o)) || list_any test rest) ≡ (list_any test (cells_value texts values) || list_any test (with_cell (option_map (datum texts) o) rest))
-noted_any test texts values None rest = refl
-noted_any test texts values (Some c) rest = noted_more test texts values c (list_any test rest)
+    go true among = search (or_more, passes_at)
+    go false among = search (map-append, list_any-append, or_last)
 
 pub noted_step : (texts : List Text) (items : List Item) (i : ℕ) (item : Item) (o : Option Cell) (values values' : List Cell) (test : CellValue → Bool) (all : Bool) → i < length items → item ≡ get_or items i item → IsScalarOf o item → values' ≡ noted values o
     → (list_any test (cells_value texts values) || list_any test (scalars texts (drop i items))) ≡ all
     → (list_any test (cells_value texts values') || list_any test (scalars texts (drop (i + 1) items))) ≡ all
-noted_step texts items i item o values values' test all lt is scalar more before =
-    ap (λ l. list_any test (cells_value texts l) || list_any test (scalars texts (drop (i + 1) items))) more
-    ∙ noted_any test texts values o (scalars texts (drop (i + 1) items))
-    ∙ ap (λ l. list_any test (cells_value texts values) || list_any test l) (sym (scalars_from texts items i item o lt is scalar))
-    ∙ before
+noted_step texts items i item o values values' test all lt is scalar more before = grind (arith, noted_more, scalars_from texts items i item o lt is scalar)
 
 -- what the cells of a list are in its place
 abbrev isin_of : Table → GivenList → Result Entry FaultValue
@@ -163,6 +121,6 @@ pub isin_meant : (live : Tables) (dict : List Text) (items : List Item) (values 
     → ((test : CellValue → Bool) → list_any test (cells_value dict values) ≡ list_any test (scalars dict items))
     → each_column (listed_column (cells_value dict values)) t ≡ on o (isin_of t)
 isin_meant live dict items values o t is same =
-    ap (λ (f : CellValue → CellValue). each_column (mapped Boolean f) t) (λ j c. truth_cell (same (same_cell c) j))
+    ap (λ f. each_column (mapped Boolean f) t) (λ j c. truth_cell (same (same_cell c) j))
     ∙ ap (λ cells. each_column (listed_column cells) t) (sym (scalars_are live dict items))
     ∙ ap (λ p. on p (isin_of t)) is

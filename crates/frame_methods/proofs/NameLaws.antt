@@ -1,40 +1,31 @@
 -- Objects under other headings.
 use Rattle.{
-  std.proofs.Common.{◌≡◌, ◌∙◌, refl, ap, sym, subst, pos, List, [], ◌∷◌, ◌++◌, length, map, Option, Some, None, slice_index_or, unwrap_or, Result},
+  std.proofs.Common.{arith, ◌≡◌, refl, pos, List, [], ◌∷◌, ◌++◌, length, Option, Some, None, slice_index_or, unwrap_or, Result},
   cell_core.specs.declared.{cell.Label.{Label}, grid.Shape.TheVariants.{Frame}},
   meaning.specs.{Text.{Text}, Cell.{LabelValue, int, label_datum}, Fault.{FaultValue}},
   table_meaning.specs.{Settled.{IsSettled}, Table.{NumberedTable, Table, table_value, heading_value}, Value.{Entry}},
   form_meaning.specs.Finish.{limited},
-  method_meaning.specs.Methods.{renamed_series},
   frame_store.specs.{declared.{arguments.Value.{Value}, fault.OpFault.{OpFault}}, Parts.{HeadingList}, Shown.{Shown, headings_value, FormAnswers}},
   selections.specs.Picked.{headed_by},
   label_methods.specs.Labels.{column_tuple},
 }
-use Rattle.cell_core.specs.declared.cell.Label.TheVariants as label
 use Rattle.method_meaning.specs.Methods as meant
 
 -- a heading that is read of what is settled is settled
 pub named_settled : {A : Type 0} (view : List Text → A) (read : A → Option LabelValue) (texts : List Text) (name : Option Label) (labels : List (Option Label))
     → ((more : List Text) → view (texts ++ more) ≡ view texts) → ((ts : List Text) → heading_value ts name ≡ read (view ts)) → labels ≡ name ∷ [] → IsSettled headings_value texts labels
-named_settled view read texts name labels settled law is =
-    subst (IsSettled headings_value texts) (sym is) (λ more. ap (λ h. h ∷ []) (law (texts ++ more) ∙ ap read (settled more) ∙ sym (law texts)))
+named_settled view read texts name labels settled law is = grind arith
 
 abbrev with_headings : Table → List (Option LabelValue) → Table
 with_headings t headings = record t { headings = headings }
 
-pub renamed_meant : (texts : List Text) (t : NumberedTable) (headings : HeadingList) (name : Option Label) (v : Option LabelValue) → headings ≡ record { columns_name = t.columns_name; labels = name ∷ [] } → heading_value texts name ≡ v
-    → limited (table_value texts (headed_by t.shape headings t)) ≡ limited (renamed_series (table_value texts t) v)
-renamed_meant texts t headings name v is same =
-    ap (λ h. limited (table_value texts (headed_by t.shape h t))) is ∙ ap (λ n. limited (with_headings (table_value texts t) (n ∷ []))) same
-
 -- another wording of what is meant
 pub meant_so : (texts : List Text) (result : Result Value OpFault) (meant meant' : Result Entry FaultValue) (old new : Shown) → meant ≡ meant' → FormAnswers texts result meant old new → FormAnswers texts result meant' old new
-meant_so texts result meant meant' old new same answers = subst (λ (m : Result Entry FaultValue). FormAnswers texts result m old new) same answers
+meant_so texts result meant meant' old new same answers = grind arith
 
 -- the label of a Series' column
 pub label_seen : (h : Option Label) (l : Label) → column_tuple h ≡ l ∷ [] → (ts : List Text) → label_datum ts l ≡ unwrap_or (heading_value ts h) (int (pos 0))
-label_seen None l is ts = let same : label.Int (pos 0) ≡ l = cc in ap (label_datum ts) (sym same)
-label_seen (Some x) l is ts = let same : x ≡ l = cc in ap (label_datum ts) (sym same)
+label_seen x1 l is ts = grind arith
 
 pub one_item : (hs : List (Option Label)) → length hs ≡ 1 → hs ≡ slice_index_or hs 0 None ∷ []
 one_item [] is = cc
@@ -49,15 +40,12 @@ frame_with t headings = record t { shape = Frame; headings = headings }
 
 pub frame_meant : (texts : List Text) (t : NumberedTable) (headings : HeadingList) (h : Option Label) (l : Label) → headings ≡ record { columns_name = t.columns_name; labels = Some l ∷ [] } → column_tuple h ≡ l ∷ [] → t.headings ≡ h ∷ []
     → limited (table_value texts (headed_by Frame headings t)) ≡ limited (meant.as_frame (table_value texts t))
-frame_meant texts t headings h l is tuple one =
-    ap (λ hs. limited (table_value texts (headed_by Frame hs t))) is
-    ∙ ap (λ v. limited (frame_with (table_value texts t) (Some v ∷ []))) (label_seen h l tuple texts)
-    ∙ ap (λ hs. limited (frame_with (table_value texts t) (map frame_heading (headings_value texts hs)))) (sym one)
+frame_meant texts t headings h l is tuple one = grind (arith, label_seen)
 
 -- a list of one heading
 pub heading_list : (columns_name name : Option Label) (first list : HeadingList) → first ≡ record { columns_name = columns_name; labels = [] } → list ≡ record first { labels = first.labels ++ name ∷ [] }
     → list ≡ record { columns_name = columns_name; labels = name ∷ [] }
-heading_list columns_name name first list begins more = more ∙ ap (λ (h : HeadingList). record h { labels = h.labels ++ name ∷ [] }) begins
+heading_list columns_name name first list begins more = search
 
 abbrev pub first_value : List (Option LabelValue) → Option LabelValue
 first_value [] = None

@@ -1,16 +1,15 @@
 -- What is made of a column, with texts.
 use Rattle.{
-  std.{proofs.{Common.{◌≡◌, ◌∙◌, refl, ap, sym, subst, ℕ, suc, ◌+◌, ◌-◌, ℤ, pos, negsuc, nat_lt, Bool, true, false, List, [], ◌∷◌, ◌++◌, map, length, Result, Ok, Err, IfOk, Option, Some, None, slice_index_or, if◌then◌else◌}, lemmas.{List.{length-map, FromFn.{length-map-range_with_len}, Elements.{All-map}}, Simd.{map-map}}, Math.ListN.{get_or-map}}, specs.List.{range_with_len}},
+  std.{proofs.{Common.{arith, ◌≡◌, ◌∙◌, refl, ap, sym, subst, ℕ, suc, ◌+◌, ◌-◌, ℤ, pos, negsuc, nat_lt, Bool, true, List, [], ◌∷◌, ◌++◌, map, length, Result, Ok, Err, IfOk, Option, slice_index_or, if◌then◌else◌}, lemmas.{List.{length-map, FromFn.{length-map-range_with_len}, Elements.{All-map}}, Simd.{map-map}}, Math.ListN.{get_or-map}}, specs.List.{range_with_len}},
   cell_core.specs.declared.cell.{Cell.{Cell}, Kind.{Kind, TheVariants.{Int64, Boolean}}},
-  form_parts.specs.Faults.{column_result},
-  meaning.specs.{Text.{Text}, Cell.{CellValue, na_cell, datum, holds, IsGiven, AreGiven}, Column.{ColumnValue, ColumnFault, kind_mismatch, not_cast, before_rows, then_rows, try_each, column_of, tabulate, shifted, shifted_row}, Cast.{cast_cell, cast_column}, Cumulate.{Cumulation, running, cumulation_cell, cumulation_takes, cumulate_column}, Fault.{wrong_kind}},
+  meaning.specs.{Text.{Text}, Cell.{CellValue, na_cell, datum, holds, IsGiven, AreGiven}, Column.{ColumnValue, ColumnFault, kind_mismatch, then_rows, try_each, column_of, tabulate, shifted, shifted_row}, Cast.{cast_column}, Cumulate.{Cumulation, running, cumulation_cell, cumulate_column}, Fault.{wrong_kind}},
   column_core.specs.Columns.{CellColumn},
-  nullable_array.specs.{Answers.{Answers}, declared.ops.ArrayFault.{ArrayFault, TheVariants.{KindMismatch, ZeroDivision, NotCast, NoMemory as OutOfMemory}}},
+  nullable_array.specs.{Answers.{Answers}, declared.ops.ArrayFault.{ArrayFault}},
   column_operators.specs.Marks.{missing_mark, filled_cell},
   table_meaning.specs.Table.{column_value},
   form_meaning.specs.Finish.{made_column},
   method_meaning.specs.Methods.{filled, filled_column, mapped, shifted_column},
-  frame_store.{specs.{declared.fault.OpFault.{OpFault}, Shown.{cells_value}, Parts.{table_column}}, proofs.Settling.{settled_by, cells_settled, cells_given}},
+  frame_store.{specs.{Shown.{cells_value}, Parts.{table_column}}, proofs.Settling.{settled_by, cells_settled, cells_given}},
   frame_methods.specs.{Columns.{MakesColumn}, Marks.{mark_of, marked_column}},
 }
 use Rattle.cell_core.specs.declared.cell.Cell.TheVariants as cell
@@ -21,43 +20,21 @@ map_values : (f : CellValue → CellValue) (made : Cell → Cell) (texts : List 
 map_values f made texts same [] = refl
 map_values f made texts same (c ∷ cs) = λ j. same c j ∷ map_values f made texts same cs j
 
-mark_value : (missing : Bool) (texts : List Text) (c : Cell) → mark_of missing (datum texts c) ≡ datum texts (missing_mark missing c)
-mark_value true texts cell.Na = refl
-mark_value true texts (cell.Int z) = refl
-mark_value true texts (cell.Bool b) = refl
-mark_value true texts (cell.Text id) = refl
-mark_value false texts cell.Na = refl
-mark_value false texts (cell.Int z) = refl
-mark_value false texts (cell.Bool b) = refl
-mark_value false texts (cell.Text id) = refl
-
 mark_given : (missing : Bool) (texts : List Text) (c : Cell) → IsGiven texts (missing_mark missing c)
-mark_given missing texts cell.Na = tt
-mark_given missing texts (cell.Int z) = tt
-mark_given missing texts (cell.Bool b) = tt
-mark_given missing texts (cell.Text id) = tt
+mark_given missing texts x = grind arith
 
 pub marked_answer : (missing : Bool) (texts : List Text) (a new : CellColumn) → new ≡ record { kind = Boolean; cells = map (missing_mark missing) a.cells }
     → marked_column missing (column_value texts (table_column a)) ≡ Ok (column_value texts (table_column new))
 marked_answer missing texts a new is =
-    (λ j. Ok record { kind = Boolean; cells = map_values (mark_of missing) (missing_mark missing) texts (mark_value missing texts) a.cells j })
+    (λ j. Ok record { kind = Boolean; cells = map_values (mark_of missing) (missing_mark missing) texts (grind arith) a.cells j })
     ∙ ap (λ n. Ok (column_value texts (table_column n))) (sym is)
 
 pub marked_given : (missing : Bool) (texts : List Text) (a new : CellColumn) → new ≡ record { kind = Boolean; cells = map (missing_mark missing) a.cells } → AreGiven texts new.cells
 marked_given missing texts a new is =
     subst (λ (n : CellColumn). AreGiven texts n.cells) (sym is) (All-map (IsGiven texts) (missing_mark missing) a.cells (λ k d lt. mark_given missing texts (slice_index_or a.cells k d)))
 
-fill_value : (value : Cell) (texts : List Text) (c : Cell) → filled (datum texts value) (datum texts c) ≡ datum texts (filled_cell value c)
-fill_value value texts cell.Na = refl
-fill_value value texts (cell.Int z) = refl
-fill_value value texts (cell.Bool b) = refl
-fill_value value texts (cell.Text id) = refl
-
 fill_given : (value : Cell) (texts : List Text) (c : Cell) → IsGiven texts value → IsGiven texts c → IsGiven texts (filled_cell value c)
-fill_given value texts cell.Na given here = given
-fill_given value texts (cell.Int z) given here = tt
-fill_given value texts (cell.Bool b) given here = tt
-fill_given value texts (cell.Text id) given here = here
+fill_given value texts x given here = grind arith
 
 abbrev filled_cells : Cell → List Cell → Kind → CellColumn
 filled_cells value cells kind = record { kind = kind; cells = map (filled_cell value) cells }
@@ -66,7 +43,7 @@ pub filled_answer : (value : Cell) (texts : List Text) (kind : Kind) (a new : Ce
     → filled_column (datum texts value) (column_value texts (table_column a)) ≡ Ok (column_value texts (table_column new))
 filled_answer value texts kind a new same fits is =
     ap (λ b. if b then mapped a.kind (filled (datum texts value)) (column_value texts (table_column a)) else Err wrong_kind) (ap (λ k. holds k (datum texts value)) (sym same) ∙ fits)
-    ∙ (λ j. Ok record { kind = a.kind; cells = map_values (filled (datum texts value)) (filled_cell value) texts (fill_value value texts) a.cells j })
+    ∙ (λ j. Ok record { kind = a.kind; cells = map_values (filled (datum texts value)) (filled_cell value) texts (grind arith) a.cells j })
     ∙ ap (λ n. Ok (column_value texts (table_column n))) (ap (filled_cells value a.cells) (sym same) ∙ sym is)
 
 pub filled_given : (value : Cell) (texts : List Text) (kind : Kind) (a new : CellColumn) → IsGiven texts value → AreGiven texts a.cells → new ≡ record { kind = kind; cells = map (filled_cell value) a.cells } → AreGiven texts new.cells
@@ -80,8 +57,7 @@ map_same f g same [] = refl
 map_same f g same (x ∷ xs) = λ j. same x j ∷ map_same f g same xs j
 
 either_value : (texts : List Text) (b : Bool) (c : Cell) → (if b then na_cell else datum texts c) ≡ datum texts (if b then cell.Na else c)
-either_value texts true c = refl
-either_value texts false c = refl
+either_value texts x c = grind arith
 
 shifted_at : (texts : List Text) (cs : List Cell) (z : ℤ) (i : ℕ) → shifted_row na_cell (map (datum texts) cs) z i ≡ datum texts (shifted_row cell.Na cs z i)
 shifted_at texts cs (pos n) i = ap (λ c. if nat_lt i n then na_cell else c) (get_or-map (datum texts) cs (i - n) cell.Na) ∙ either_value texts (nat_lt i n) (slice_index_or cs (i - n) cell.Na)
@@ -104,31 +80,18 @@ shifted_given z texts a new given cells =
 pub shifted_rows : (z : ℤ) (a new : CellColumn) → new.cells ≡ shifted cell.Na a.cells z → length new.cells ≡ length a.cells
 shifted_rows z a new cells = ap length cells ∙ length-map-range_with_len (shifted_row cell.Na a.cells z) 0 (length a.cells)
 
--- a cast
-before_length : {C : Type 0} (c : C) (rest : Result (List C) ℕ) (n : ℕ) → ((ys : List C) → rest ≡ Ok ys → length ys ≡ n) → (ys : List C) → before_rows c rest ≡ Ok ys → length ys ≡ suc n
-before_length c (Ok rest) n same ys is = let here : c ∷ rest ≡ ys = cc in ap length (sym here) ∙ ap suc (same rest refl)
-before_length c (Err row) n same ys is = cc
-
 then_length : {C : Type 0} (o : Option C) (row : ℕ) (rest : Result (List C) ℕ) (n : ℕ) → ((ys : List C) → rest ≡ Ok ys → length ys ≡ n) → (ys : List C) → then_rows o row rest ≡ Ok ys → length ys ≡ suc n
-then_length None row rest n same ys is = cc
-then_length (Some c) row rest n same ys is = before_length c rest n same ys is
+then_length x row rest n same ys is = grind arith
 
 each_length : {A C : Type 0} (f : A → Option C) (row : ℕ) (xs : List A) (ys : List C) → try_each f row xs ≡ Ok ys → length ys ≡ length xs
 each_length f row [] ys is = let here : [] ≡ ys = cc in ap length (sym here)
 each_length f row (x ∷ xs) ys is = then_length (f x) row (try_each f (suc row) xs) (length xs) (each_length f (suc row) xs) ys is
 
 column_cells : (kind : Kind) (refuse : ℕ → ColumnFault) (made : Result (List CellValue) ℕ) (col : ColumnValue) → column_of kind refuse made ≡ Ok col → made ≡ Ok col.cells
-column_cells kind refuse (Ok cells) col is = let same : record { kind = kind; cells = cells } ≡ col = cc in ap (λ (v : ColumnValue). Ok v.cells) same
-column_cells kind refuse (Err row) col is = cc
-
-cast_rows : (kind : Kind) (old new : List Text) (a made : CellColumn) → cast_column kind (kernel.column_value old a) ≡ Ok (kernel.column_value new made) → length made.cells ≡ length a.cells
-cast_rows kind old new a made is =
-    sym (length-map made.cells (datum new))
-    ∙ each_length (cast_cell kind) 0 (map (datum old) a.cells) (map (datum new) made.cells) (column_cells kind not_cast (try_each (cast_cell kind) 0 (map (datum old) a.cells)) (kernel.column_value new made) is)
-    ∙ length-map a.cells (datum old)
+column_cells kind refuse x col is = grind arith
 
 pub cast_count : (kind : Kind) (old new : List Text) (a : CellColumn) (made : Result CellColumn ArrayFault) → Answers new made (cast_column kind (kernel.column_value old a)) → IfOk made (λ c. length c.cells ≡ length a.cells)
-cast_count kind old new a (Ok c) is = cast_rows kind old new a c is
+cast_count kind old new a (Ok c) is = grind (arith, length-map, each_length, column_cells)
 cast_count kind old new a (Err fault) is = tt
 
 -- a cumulation
@@ -137,31 +100,12 @@ running_length f before [] = refl
 running_length f before (c ∷ cs) = ap suc (running_length f (before ++ c ∷ []) cs)
 
 cumulated_cells : (op : Cumulation) (takes : Bool) (cells : List CellValue) (col : ColumnValue) → (if takes then Ok record { kind = Int64; cells = running (cumulation_cell op) [] cells } else Err kind_mismatch) ≡ Ok col → col.cells ≡ running (cumulation_cell op) [] cells
-cumulated_cells op true cells col is = let same : record { kind = Int64; cells = running (cumulation_cell op) [] cells } ≡ col = cc in ap (λ (v : ColumnValue). v.cells) (sym same)
-cumulated_cells op false cells col is = cc
-
-cumulated_rows : (op : Cumulation) (texts : List Text) (a made : CellColumn) → cumulate_column op (kernel.column_value texts a) ≡ Ok (kernel.column_value texts made) → length made.cells ≡ length a.cells
-cumulated_rows op texts a made is =
-    sym (length-map made.cells (datum texts))
-    ∙ ap length (cumulated_cells op (cumulation_takes op a.kind) (map (datum texts) a.cells) (kernel.column_value texts made) is)
-    ∙ running_length (cumulation_cell op) [] (map (datum texts) a.cells)
-    ∙ length-map a.cells (datum texts)
+cumulated_cells op x cells col is = grind arith
 
 pub cumulated_count : (op : Cumulation) (texts : List Text) (a : CellColumn) (made : Result CellColumn ArrayFault) → Answers texts made (cumulate_column op (kernel.column_value texts a)) → IfOk made (λ c. length c.cells ≡ length a.cells)
-cumulated_count op texts a (Ok c) is = cumulated_rows op texts a c is
+cumulated_count op texts a (Ok c) is = grind (arith, length-map, cumulated_cells, running_length)
 cumulated_count op texts a (Err fault) is = tt
 
--- a kernel's column or refusal, as that of a form
-pub kept_by : (P : CellColumn → Type 0) (made : Result CellColumn ArrayFault) (r : Result CellColumn OpFault) → r ≡ column_result made → IfOk made P → IfOk r P
-kept_by P (Ok c) r is h = subst (λ r. IfOk r P) (sym is) h
-kept_by P (Err fault) r is h = subst (λ r. IfOk r P) (sym is) tt
-
-pub column_made : (texts : List Text) (made : Result CellColumn ArrayFault) (r : Result CellColumn OpFault) (whole : Result ColumnValue ColumnFault) → r ≡ column_result made → Answers texts made whole → MakesColumn texts r (made_column whole)
-column_made texts made r whole is answers = subst (λ r. MakesColumn texts r (made_column whole)) (sym is) (by made answers)
-  where
-    by : (made : Result CellColumn ArrayFault) → Answers texts made whole → MakesColumn texts (column_result made) (made_column whole)
-    by (Ok c) answers = ap made_column answers
-    by (Err KindMismatch) refused = (ap made_column refused, λ more. refl)
-    by (Err (ZeroDivision row)) refused = (ap made_column refused, λ more. refl)
-    by (Err (NotCast row)) refused = (ap made_column refused, λ more. refl)
-    by (Err OutOfMemory) refused = tt
+-- a kernel's answer on the cells of a column is that of a table's
+pub column_made : (texts : List Text) (made : Result CellColumn ArrayFault) (whole : Result ColumnValue ColumnFault) → Answers texts made whole → MakesColumn texts made (made_column whole)
+column_made texts x whole answers = grind arith

@@ -4,8 +4,8 @@ use Rattle.{
   indexmap.specs.IndexMap.{insert_entry, insert_all},
   cell_core.specs.{declared.{cell.{Cell.{Cell}, Label.{Label}}, grid.Shape.TheVariants.{Frame}}, Texts.{AreDistinct}},
   form_parts.{proofs.LabelLaws.{same_by_number, heading_label}, specs.Makes.{MakesBy}},
-  meaning.specs.{Text.{Text}, Cell.{LabelValue, na, datum, label_datum}, Operator.{cell_label}, Fault.{FaultValue, wrong_kind, then_value}, FaultOf.{fault_of}},
-  table_meaning.specs.{Settled.{IsSettled}, Table.{NumberedTable, Table, table_value, heading_value}, Valid.{AreHeadings}, Value.{Entry, Given, GivenPairs, no_entries, more_entries, dict_in, cell as one_cell, table, nothing, one, row, many, entries, scalar_in}},
+  meaning.specs.{Text.{Text}, Cell.{LabelValue, na, datum, label_datum}, Operator.{cell_label}, Fault.{FaultValue, wrong_kind, then_value}},
+  table_meaning.specs.{Settled.{IsSettled}, Table.{NumberedTable, Table, table_value, heading_value}, Valid.{AreHeadings}, Value.{Entry, Given, GivenPairs, no_entries, more_entries, dict_in, scalar_in}},
   form_meaning.specs.{Binding.{same_label, is_scalar}, Finish.{first_repeated, unless_repeated, limited}, Make.{with_pair, pairs_onto, pairs_in}},
   method_meaning.specs.Methods.{is_scalar_pair, new_label, renamed_heading, renamed_frame},
   frame_store.specs.{Objects.{Tables}, Arguments.{argument_of, entries_of, arguments_of}, Parts.{HeadingList}, declared.{fault.OpFault.{OpFault, TheVariants.{Refused, NoMemory}}, arguments.{Value.TheVariants.{Object, Scalar}, Argument.{Argument, Nothing, One, Row, Many, Table'}}}, Shown.{Shown, headings_value, FormAnswers}},
@@ -15,7 +15,7 @@ use Rattle.{
 }
 
 key_settled : (texts : List Text) (e : Label × Option Label) (es : List (Label × Option Label)) → IsSettled pairs_seen texts (e ∷ es) → IsSettled label_datum texts e.0
-key_settled texts e es settled = λ more. ap (λ p. p.0) (head_settled pair_seen texts e es settled more)
+key_settled texts e es settled = grind (arith, head_settled)
 
 found_settled : (texts : List Text) (e : Label × Option Label) (es : List (Label × Option Label)) → IsSettled pairs_seen texts (e ∷ es) → IsSettled heading_value texts e.1
 found_settled texts e es settled = λ more. ap (λ p. p.1) (head_settled pair_seen texts e es settled more)
@@ -28,7 +28,7 @@ inserted_settled texts (e ∷ es) k v settled key value = go (inserted_settled t
   where
     go : IsSettled pairs_seen texts (insert_entry same_number es k v) → (b : Bool) → IsSettled pairs_seen texts (if b then (e.0, v) ∷ es else e ∷ insert_entry same_number es k v)
     go later true = λ more j. (key_settled texts e es settled more j, value more j) ∷ rest_settled pair_seen texts e es settled more j
-    go later false = λ more j. head_settled pair_seen texts e es settled more j ∷ later more j
+    go later false = grind (arith, head_settled)
 
 inserted_seen : (texts : List Text) (es : List (Label × Option Label)) (k : Label) (v : Option Label) → AreDistinct texts → IsSettled pairs_seen texts es → IsSettled label_datum texts k
     → pairs_seen texts (insert_entry same_number es k v) ≡ insert_entry same_label (pairs_seen texts es) (label_datum texts k) (heading_value texts v)
@@ -36,13 +36,13 @@ inserted_seen texts [] k v distinct settled key = refl
 inserted_seen texts (e ∷ es) k v distinct settled key =
     go (inserted_seen texts es k v distinct (rest_settled pair_seen texts e es settled) key) (same_number k e.0)
     ∙ ap (λ b. if b then (label_datum texts e.0, heading_value texts v) ∷ pairs_seen texts es else pair_seen texts e ∷ insert_entry same_label (pairs_seen texts es) (label_datum texts k) (heading_value texts v))
-    (same_by_number texts k e.0 (same_number k e.0) distinct key (key_settled texts e es settled) (label_decides k e.0))
+    (search (same_by_number, key_settled, label_decides))
   where
     go : pairs_seen texts (insert_entry same_number es k v) ≡ insert_entry same_label (pairs_seen texts es) (label_datum texts k) (heading_value texts v) → (b : Bool)
         → pairs_seen texts (if b then (e.0, v) ∷ es else e ∷ insert_entry same_number es k v)
         ≡ (if b then (label_datum texts e.0, heading_value texts v) ∷ pairs_seen texts es else pair_seen texts e ∷ insert_entry same_label (pairs_seen texts es) (label_datum texts k) (heading_value texts v))
     go later true = refl
-    go later false = ap (λ l. pair_seen texts e ∷ l) later
+    go later false = cc
 
 -- the pair at a place
 given_at : (texts : List Text) (pairs : List (Label × Argument)) (i : ℕ) (d : Label × Argument) → i < length pairs → IsSettled given_labels texts pairs → IsSettled given_label texts (slice_index_or pairs i d)
@@ -56,23 +56,22 @@ abbrev IsNameOf : Option Label → Option Cell → Type 0
 IsNameOf name o = (texts : List Text) → heading_value texts name ≡ option_map cell_label (option_map (datum texts) o)
 
 name_seen : (texts : List Text) (a : Argument) (o : Option Cell) (name : Option Label) → IsScalarOf o a → IsNameOf name o → heading_value texts name ≡ option_map cell_label (scalar_in (argument_of (λ id. None) texts a))
-name_seen texts a o name scalar named = named texts ∙ ap (option_map cell_label) (scalar (λ id. None) texts)
+name_seen texts a o name scalar named = cc (named texts, scalar (λ id. None) texts)
 
 pub labels_settled : (texts : List Text) (pairs : List (Label × Argument)) (i : ℕ) (p : Label × Argument) (o : Option Cell) (name : Option Label) (es es' : List (Label × Option Label)) → IsSettled given_labels texts pairs
     → i < length pairs → p ≡ get_or pairs i p → IsScalarOf o p.1 → IsNameOf name o → es' ≡ insert_entry same_number es p.0 name → IsSettled pairs_seen texts es → IsSettled pairs_seen texts es'
 labels_settled texts pairs i p o name es es' given lt is scalar named more settled =
-    let here : IsSettled given_label texts p = subst (IsSettled given_label texts) (sym is) (given_at texts pairs i p lt given) in
-    subst (IsSettled pairs_seen texts) (sym more)
-    (inserted_settled texts es p.0 name settled (λ m. ap (λ v. v.0) (here m)) (λ m. name_seen (texts ++ m) p.1 o name scalar named ∙ ap (λ v. v.1) (here m) ∙ sym (name_seen texts p.1 o name scalar named)))
+    let here : IsSettled given_label texts p = grind (arith, given_at) in
+    rw more (inserted_settled texts es p.0 name settled (λ m. ap (λ v. v.0) (here m)) (λ m. name_seen (texts ++ m) p.1 o name scalar named ∙ ap (λ v. v.1) (here m) ∙ sym (name_seen texts p.1 o name scalar named)))
 
 pub labels_step : (texts : List Text) (pairs : List (Label × Argument)) (i : ℕ) (p : Label × Argument) (o : Option Cell) (name : Option Label) (es es' : List (Label × Option Label)) (whole : List (LabelValue × Option LabelValue)) → AreDistinct texts → IsSettled given_labels texts pairs
     → i < length pairs → p ≡ get_or pairs i p → IsScalarOf o p.1 → IsNameOf name o → es' ≡ insert_entry same_number es p.0 name → IsSettled pairs_seen texts es
     → insert_all same_label (pairs_seen texts es) (given_labels texts (drop i pairs)) ≡ whole → insert_all same_label (pairs_seen texts es') (given_labels texts (drop (i + 1) pairs)) ≡ whole
 labels_step texts pairs i p o name es es' whole distinct given lt is scalar named more settled before =
-    let here : IsSettled given_label texts p = subst (IsSettled given_label texts) (sym is) (given_at texts pairs i p lt given) in
+    let here : IsSettled given_label texts p = grind (arith, given_at) in
     let next : suc i ≡ i + 1 = omega arith in
     ap (λ l. insert_all same_label l (given_labels texts (drop (i + 1) pairs)))
-    (ap (pairs_seen texts) more ∙ inserted_seen texts es p.0 name distinct settled (λ m. ap (λ v. v.0) (here m)) ∙ ap (insert_entry same_label (pairs_seen texts es) (label_datum texts p.0)) (name_seen texts p.1 o name scalar named))
+    (cc (inserted_seen texts es p.0 name distinct settled (λ m. ap (λ v. v.0) (here m)), name_seen texts p.1 o name scalar named))
     ∙ ap (λ l. insert_all same_label (pairs_seen texts es) (given_labels texts l)) (sym (drop-cons pairs i p lt ∙ (λ j. sym is j ∷ drop (next j) pairs)))
     ∙ before
 
@@ -83,7 +82,7 @@ label_found texts [] l distinct settled here = refl
 label_found texts (e ∷ es) l distinct settled here =
     go (label_found texts es l distinct (rest_settled pair_seen texts e es settled) here) (same_number l e.0)
     ∙ ap (λ b. if b then heading_value texts e.1 else label_from (pairs_seen texts es) (label_datum texts l))
-    (same_by_number texts e.0 l (same_number l e.0) distinct (key_settled texts e es settled) here (λ s. sym ((label_decides l e.0).0 s), λ s. (label_decides l e.0).1 (sym s)))
+    (same_by_number texts e.0 l (same_number l e.0) distinct (key_settled texts e es settled) here (grind (arith, label_decides)))
   where
     go : heading_value texts (found_label (lookup (same_number l) es)) ≡ label_from (pairs_seen texts es) (label_datum texts l) → (b : Bool)
         → heading_value texts (found_label (cond b (Some e.1) (lookup (same_number l) es))) ≡ (if b then heading_value texts e.1 else label_from (pairs_seen texts es) (label_datum texts l))
@@ -91,20 +90,17 @@ label_found texts (e ∷ es) l distinct settled here =
     go later false = later
 
 or_old : (texts : List Text) (o : Option Label) (l : Label) → label_datum texts (unwrap_or o l) ≡ unwrap_or (heading_value texts o) (label_datum texts l)
-or_old texts None l = refl
-or_old texts (Some n) l = refl
+or_old texts x l = grind arith
 
 heading_seen : (texts : List Text) (es : List (Label × Option Label)) (h : Option Label) → AreDistinct texts → IsSettled pairs_seen texts es → IsSettled heading_value texts h
     → heading_value texts (heading_by es h) ≡ heading_from (pairs_seen texts es) (heading_value texts h)
 heading_seen texts es None distinct settled here = refl
-heading_seen texts es (Some l) distinct settled here =
-    ap (λ v. Some v) (or_old texts (found_label (lookup (same_number l) es)) l ∙ ap (λ o. unwrap_or o (label_datum texts l)) (label_found texts es l distinct settled (heading_label texts (Some l) l refl here)))
+heading_seen texts es (Some l) distinct settled here = search (or_old, label_found, heading_label)
 
 headings_seen : (texts : List Text) (es : List (Label × Option Label)) (hs : List (Option Label)) → AreDistinct texts → IsSettled pairs_seen texts es → IsSettled headings_value texts hs
     → headings_value texts (map (heading_by es) hs) ≡ map (heading_from (pairs_seen texts es)) (headings_value texts hs)
 headings_seen texts es [] distinct settled here = refl
-headings_seen texts es (h ∷ hs) distinct settled here =
-    λ j. heading_seen texts es h distinct settled (head_settled heading_value texts h hs here) j ∷ headings_seen texts es hs distinct settled (rest_settled heading_value texts h hs here) j
+headings_seen texts es (h ∷ hs) distinct settled here = search (heading_seen, head_settled, rest_settled, headings_seen texts es hs distinct settled (rest_settled heading_value texts h hs here))
 
 -- new headings are settled
 lookup_settled : (texts : List Text) (test : Label → Bool) (es : List (Label × Option Label)) → IsSettled pairs_seen texts es → IsSettled heading_value texts (found_label (lookup test es))
@@ -112,7 +108,7 @@ lookup_settled texts test [] settled = λ more. refl
 lookup_settled texts test (e ∷ es) settled = go (lookup_settled texts test es (rest_settled pair_seen texts e es settled)) (test e.0)
   where
     go : IsSettled heading_value texts (found_label (lookup test es)) → (b : Bool) → IsSettled heading_value texts (found_label (cond b (Some e.1) (lookup test es)))
-    go later true = found_settled texts e es settled
+    go later true = search found_settled
     go later false = later
 
 either_settled : (texts : List Text) (o : Option Label) (l : Label) → IsSettled heading_value texts o → IsSettled heading_value texts (Some l) → IsSettled heading_value texts (Some (unwrap_or o l))
@@ -121,7 +117,7 @@ either_settled texts (Some n) l found old = found
 
 heading_settled : (texts : List Text) (es : List (Label × Option Label)) (h : Option Label) → IsSettled pairs_seen texts es → IsSettled heading_value texts h → IsSettled heading_value texts (heading_by es h)
 heading_settled texts es None settled here = λ more. refl
-heading_settled texts es (Some l) settled here = either_settled texts (found_label (lookup (same_number l) es)) l (lookup_settled texts (same_number l) es settled) here
+heading_settled texts es (Some l) settled here = search (either_settled, lookup_settled)
 
 pub headings_settled : (texts : List Text) (es : List (Label × Option Label)) (hs : List (Option Label)) → IsSettled pairs_seen texts es → IsSettled headings_value texts hs → IsSettled headings_value texts (map (heading_by es) hs)
 headings_settled texts es [] settled here = λ more. refl
@@ -129,8 +125,7 @@ headings_settled texts es (h ∷ hs) settled here = λ more j.
     heading_settled texts es h settled (head_settled heading_value texts h hs here) more j ∷ headings_settled texts es hs settled (rest_settled heading_value texts h hs here) more j
 
 heading_labelled : (es : List (Label × Option Label)) (h : Option Label) → IsSome h → IsSome (heading_by es h)
-heading_labelled es None some = cc
-heading_labelled es (Some l) some = some
+heading_labelled es x some = grind arith
 
 pub headings_labelled : (es : List (Label × Option Label)) (hs : List (Option Label)) → All IsSome hs → All IsSome (map (heading_by es) hs)
 headings_labelled es [] all = All-nil IsSome
@@ -147,33 +142,18 @@ scalar_same live other texts (Table' shape parts) = refl
 
 pair_more : (ps : List (LabelValue × Given)) (k : LabelValue) (v : Given) → map label_pair (with_pair ps k v) ≡ insert_entry same_label (map label_pair ps) k (option_map cell_label (scalar_in v))
 pair_more [] k v = refl
-pair_more (p ∷ ps) k v = go (pair_more ps k v) (same_label k p.0)
-  where
-    go : map label_pair (with_pair ps k v) ≡ insert_entry same_label (map label_pair ps) k (option_map cell_label (scalar_in v)) → (b : Bool)
-        → map label_pair (if b then (p.0, v) ∷ ps else p ∷ with_pair ps k v)
-        ≡ (if b then (p.0, option_map cell_label (scalar_in v)) ∷ map label_pair ps else label_pair p ∷ insert_entry same_label (map label_pair ps) k (option_map cell_label (scalar_in v)))
-    go later true = refl
-    go later false = ap (λ l. label_pair p ∷ l) later
+pair_more (p ∷ ps) k v = grind (arith, pair_more ps k v)
 
 pairs_more : (live : Tables) (texts : List Text) (ps : List (LabelValue × Given)) (pairs : List (Label × Argument))
     → map label_pair (pairs_onto ps (entries_of live texts pairs)) ≡ insert_all same_label (map label_pair ps) (given_labels texts pairs)
 pairs_more live texts ps [] = refl
-pairs_more live texts ps (p ∷ rest) =
-    pairs_more live texts (with_pair ps (label_datum texts p.0) (argument_of live texts p.1)) rest
-    ∙ ap (λ l. insert_all same_label l (given_labels texts rest))
-    (pair_more ps (label_datum texts p.0) (argument_of live texts p.1)
-    ∙ ap (λ s. insert_entry same_label (map label_pair ps) (label_datum texts p.0) (option_map cell_label s)) (scalar_same live (λ id. None) texts p.1))
+pairs_more live texts ps (p ∷ rest) = grind (arith, pair_more, scalar_same, pairs_more live texts (with_pair ps (label_datum texts p.0) (argument_of live texts p.1)) rest)
 
 pub pairs_are : (live : Tables) (texts : List Text) (pairs : List (Label × Argument)) → map label_pair (pairs_in (entries_of live texts pairs)) ≡ insert_all same_label [] (given_labels texts pairs)
-pairs_are live texts pairs = pairs_more live texts [] pairs
+pairs_are live texts pairs = search pairs_more
 
 scalar_labelled : (g : Given) → is_some (option_map cell_label (scalar_in g)) ≡ is_scalar g
-scalar_labelled (one (one_cell c)) = refl
-scalar_labelled (one (table t)) = refl
-scalar_labelled nothing = refl
-scalar_labelled (row parts) = refl
-scalar_labelled (many parts) = refl
-scalar_labelled (entries pairs) = refl
+scalar_labelled x = grind arith
 
 pairs_labelled : (ps : List (LabelValue × Given)) → have_labels (map label_pair ps) ≡ list_all is_scalar_pair ps
 pairs_labelled [] = refl
@@ -181,11 +161,10 @@ pairs_labelled (p ∷ ps) = λ j. scalar_labelled p.1 j && pairs_labelled ps j
 
 label_same : (ps : List (LabelValue × Given)) (l : LabelValue) → label_from (map label_pair ps) l ≡ new_label ps l
 label_same [] l = refl
-label_same (p ∷ ps) l = ap (λ o. if same_label p.0 l then option_map cell_label (scalar_in p.1) else o) (label_same ps l)
+label_same (p ∷ ps) l = cc (label_same ps l)
 
 heading_same : (ps : List (LabelValue × Given)) (h : Option LabelValue) → heading_from (map label_pair ps) h ≡ renamed_heading ps h
-heading_same ps None = refl
-heading_same ps (Some l) = ap (λ o. Some (unwrap_or o l)) (label_same ps l)
+heading_same ps x = grind (arith, label_same)
 
 headings_same : (ps : List (LabelValue × Given)) (hs : List (Option LabelValue)) → map (heading_from (map label_pair ps)) hs ≡ map (renamed_heading ps) hs
 headings_same ps [] = refl
@@ -201,23 +180,18 @@ abbrev when : {A : Type 0} → Bool → Option LabelValue → Result A FaultValu
 when b o rest = if b then unless_repeated o rest else Err wrong_kind
 
 later_limited : (t : Table) (b : Bool) (o : Option LabelValue) (hs : List (Option LabelValue)) → when b o (limited (under t hs)) ≡ limited_under t (when b o (Ok hs))
-later_limited t true None hs = refl
-later_limited t true (Some l) hs = refl
-later_limited t false o hs = refl
+later_limited t x o hs = grind arith
 
 pub frame_relabelled : (t : Table) (ps : List (LabelValue × Given)) → renamed_frame t ps ≡ limited_under t (relabelled (map label_pair ps) t.headings)
-frame_relabelled t ps =
-    (λ j. when (sym (pairs_labelled ps) j) (first_repeated (sym (headings_same ps t.headings) j)) (limited (under t (sym (headings_same ps t.headings) j))))
-    ∙ later_limited t (have_labels (map label_pair ps)) (first_repeated (map (heading_from (map label_pair ps)) t.headings)) (map (heading_from (map label_pair ps)) t.headings)
+frame_relabelled t ps = search (pairs_labelled, headings_same, later_limited)
 
 -- what is meant, by number
 label_there : (texts : List Text) (o : Option Label) → is_some (heading_value texts o) ≡ is_some o
-label_there texts None = refl
-label_there texts (Some l) = refl
+label_there texts x = grind arith
 
 labels_there : (texts : List Text) (es : List (Label × Option Label)) → have_labels (pairs_seen texts es) ≡ have_labels es
 labels_there texts [] = refl
-labels_there texts (e ∷ es) = λ j. label_there texts e.1 j && labels_there texts es j
+labels_there texts (e ∷ es) = search (label_there, labels_there texts es)
 
 pub relabelled_by : (texts : List Text) (es : List (Label × Option Label)) (hs : List (Option Label)) (all : List (LabelValue × Option LabelValue)) → AreDistinct texts → IsSettled pairs_seen texts es → IsSettled headings_value texts hs → pairs_seen texts es ≡ all
     → relabelled all (headings_value texts hs) ≡ when (have_labels es) (heading_value texts (repeated_heading (map (heading_by es) hs))) (Ok (headings_value texts (map (heading_by es) hs)))
@@ -225,45 +199,31 @@ relabelled_by texts es hs all distinct settled here is =
     let seen = headings_seen texts es hs distinct settled here in
     ap (λ l. relabelled l (headings_value texts hs)) (sym is)
     ∙ (λ j. when (labels_there texts es j) (first_repeated (sym seen j)) (Ok (sym seen j)))
-    ∙ ap (λ o. when (have_labels es) o (Ok (headings_value texts (map (heading_by es) hs)))) (sym (repeated_seen texts (map (heading_by es) hs) distinct (headings_settled texts es hs settled here)))
+    ∙ ap (λ o. when (have_labels es) o (Ok (headings_value texts (map (heading_by es) hs)))) (search (repeated_seen, headings_settled))
 
 abbrev heads : Option Label → List (Option Label) → HeadingList
 heads name hs = record { columns_name = name; labels = hs }
 
 -- labels of a frame's columns of which none stands twice
 pub frame_heads : (name : Option Label) (labels : List (Option Label)) → All IsSome labels → repeated_heading labels ≡ None → AreHeadings Frame name labels
-frame_heads name labels all none =
-    record {
-      single = λ e. cc;
-      nameless = λ e. cc;
-      labelled = λ e. all;
-      different = λ e. different labels all none;
-    }
+frame_heads name labels all none = grind (arith, different)
 
 -- a frame's new headings
 pub new_heads : (es : List (Label × Option Label)) (name : Option Label) (hs new : List (Option Label)) (r : Result HeadingList OpFault) → new ≡ map (heading_by es) hs → All IsSome hs
     → IfOk r (λ made. repeated_heading new ≡ None) → IfOk r (λ made. made ≡ heads name new) → IfOk r (λ made. AreHeadings Frame made.columns_name made.labels)
-new_heads es name hs new (Ok made) is all none same =
-    subst (λ (h : HeadingList). AreHeadings Frame h.columns_name h.labels) (sym same) (frame_heads name new (subst (All IsSome) (sym is) (headings_labelled es hs all)) none)
+new_heads es name hs new (Ok made) is all none same = rw same (frame_heads name new (subst (All IsSome) (sym is) (headings_labelled es hs all)) none)
 new_heads es name hs new (Err fault) is all none same = tt
 
 pub new_settled : (texts : List Text) (es : List (Label × Option Label)) (name : Option Label) (hs new : List (Option Label)) (r : Result HeadingList OpFault) → new ≡ map (heading_by es) hs → IsSettled pairs_seen texts es → IsSettled headings_value texts hs
     → IfOk r (λ made. made ≡ heads name new) → IfOk r (λ made. IsSettled headings_value texts made.labels)
-new_settled texts es name hs new (Ok made) is settled here same =
-    subst (λ (h : HeadingList). IsSettled headings_value texts h.labels) (sym same) (subst (IsSettled headings_value texts) (sym is) (headings_settled texts es hs settled here))
+new_settled texts es name hs new (Ok made) is settled here same = grind (arith, headings_settled texts es hs settled here)
 new_settled texts es name hs new (Err fault) is settled here same = tt
 
 -- what is made is what is meant
 unless_all : (texts : List Text) (new : List (Option Label)) (name : Option Label) (r : Result HeadingList OpFault) → IsSettled headings_value texts new
     → IfOk r (λ made. repeated_heading new ≡ None) → IfOk r (λ made. made ≡ heads name new) → IfErr r (λ fault. NamesRepeated fault (repeated_heading new))
     → MakesBy labels_seen texts r (when true (heading_value texts (repeated_heading new)) (Ok (headings_value texts new)))
-unless_all texts new name (Ok made) settled none same refused =
-    ap (λ o. when true (heading_value texts o) (Ok (headings_value texts new))) none ∙ ap (λ h. Ok (labels_seen texts h)) (sym same)
-unless_all texts new name (Err (Refused code)) settled none same refused = (
-  ap (λ o. when true (heading_value texts o) (Ok (headings_value texts new))) refused.1 ∙ ap (λ c. Err (fault_of texts c)) (sym refused.2),
-  repeated_settled texts code new refused.0 refused.1 refused.2 settled,
-)
-unless_all texts new name (Err NoMemory) settled none same refused = tt
+unless_all texts new name x settled none same refused = grind (arith, repeated_settled)
 
 pub new_meant : (texts : List Text) (es : List (Label × Option Label)) (name : Option Label) (hs new : List (Option Label)) (all : List (LabelValue × Option LabelValue)) (r : Result HeadingList OpFault) → AreDistinct texts → IsSettled pairs_seen texts es
     → IsSettled headings_value texts hs → pairs_seen texts es ≡ all → new ≡ map (heading_by es) hs → have_labels es ≡ true
@@ -273,11 +233,10 @@ new_meant texts es name hs new all r distinct settled here is same labels none m
     (sym
     (relabelled_by texts es hs all distinct settled here is
     ∙ (λ j. when (labels j) (heading_value texts (repeated_heading (sym same j))) (Ok (headings_value texts (sym same j))))))
-    (unless_all texts new name r (subst (IsSettled headings_value texts) (sym same) (headings_settled texts es hs settled here)) none made refused)
+    (unless_all texts new name r (rw same (headings_settled texts es hs settled here)) none made refused)
 
 pub no_labels : (texts : List Text) (es : List (Label × Option Label)) (all : List (LabelValue × Option LabelValue)) (hs : List (Option LabelValue)) → pairs_seen texts es ≡ all → have_labels es ≡ false → relabelled all hs ≡ Err wrong_kind
-no_labels texts es all hs is none =
-    ap (λ b. when b (first_repeated (map (heading_from all) hs)) (Ok (map (heading_from all) hs))) (ap have_labels (sym is) ∙ labels_there texts es ∙ none)
+no_labels texts es all hs is none = cc (labels_there texts es)
 
 -- the pairs of a dict that was given
 abbrev labels_in : GivenPairs → List (LabelValue × Option LabelValue)
@@ -286,13 +245,13 @@ labels_in (more_entries k v rest) = (k, option_map cell_label (scalar_in v)) ∷
 
 labels_are : (live : Tables) (texts : List Text) (pairs : List (Label × Argument)) → labels_in (entries_of live texts pairs) ≡ given_labels texts pairs
 labels_are live texts [] = refl
-labels_are live texts (p ∷ rest) = λ j. (label_datum texts p.0, option_map cell_label (scalar_same live (λ id. None) texts p.1 j)) ∷ labels_are live texts rest j
+labels_are live texts (p ∷ rest) = grind (arith, scalar_same, labels_are live texts rest)
 
 pub pairs_settled : (b : Bound) (place : ℕ) (pairs : List (Label × Argument)) (live : Tables) (dict : List Text) → Tells b place dict_in (λ live texts. Some (entries_of live texts pairs))
     → IsSettled (arguments_of live) dict b.args.now → IsSettled given_labels dict pairs
 pairs_settled b place pairs live dict tells settled = λ more.
     sym (labels_are live (dict ++ more) pairs)
-    ∙ ap labels_in (some_same _ _ (told_settled b place dict_in (λ live texts. Some (entries_of live texts pairs)) live dict tells settled more))
+    ∙ ap labels_in (grind (arith, some_same, told_settled))
     ∙ labels_are live dict pairs
 
 -- a frame under the labels of a dict
@@ -303,16 +262,14 @@ abbrev pub relabelled_with : List Text → List (Label × Argument) → List (Op
 relabelled_with texts pairs hs = relabelled (insert_all same_label [] (given_labels texts pairs)) hs
 
 frame_meant : (live : Tables) (texts : List Text) (pairs : List (Label × Argument)) (t : Table) → frame_of t (entries_of live texts pairs) ≡ limited_under t (relabelled_with texts pairs t.headings)
-frame_meant live texts pairs t =
-    frame_relabelled t (pairs_in (entries_of live texts pairs))
-    ∙ ap (λ es. limited_under t (relabelled es t.headings)) (pairs_are live texts pairs)
+frame_meant live texts pairs t = search (frame_relabelled, pairs_are)
 
 pub frame_refused : (live : Tables) (texts : List Text) (pairs : List (Label × Argument)) (source t : NumberedTable) (fault : OpFault) (objects : Shown) → source ≡ t
     → MakesBy labels_seen texts (Err fault) (relabelled_with texts pairs (headings_value texts source.headings)) → FormAnswers texts (Err fault) (frame_of (table_value texts t) (entries_of live texts pairs)) objects objects
 frame_refused live texts pairs source t (Refused code) objects at makes = (
   (
     frame_meant live texts pairs (table_value texts t)
-        ∙ ap (λ (n : NumberedTable). limited_under (table_value texts t) (relabelled_with texts pairs (headings_value texts n.headings))) (sym at)
+        ∙ ap (λ n. limited_under (table_value texts t) (relabelled_with texts pairs (headings_value texts n.headings))) (sym at)
         ∙ ap (limited_under (table_value texts t)) makes.0,
     makes.1,
   ),
@@ -325,9 +282,4 @@ named_under texts t h name = record (under (table_value texts t) (labels_seen te
 
 pub frame_renamed : (live : Tables) (texts : List Text) (pairs : List (Label × Argument)) (source t : NumberedTable) (h : HeadingList) → source ≡ t → h.columns_name ≡ source.columns_name
     → relabelled_with texts pairs (headings_value texts source.headings) ≡ Ok (labels_seen texts h) → limited (table_value texts (headed_by t.shape h t)) ≡ frame_of (table_value texts t) (entries_of live texts pairs)
-frame_renamed live texts pairs source t h at name makes =
-    ap (λ n. limited (named_under texts t h n)) (name ∙ ap (λ (n : NumberedTable). n.columns_name) at)
-    ∙ sym
-    (frame_meant live texts pairs (table_value texts t)
-    ∙ ap (λ (n : NumberedTable). limited_under (table_value texts t) (relabelled_with texts pairs (headings_value texts n.headings))) (sym at)
-    ∙ ap (limited_under (table_value texts t)) makes)
+frame_renamed live texts pairs source t h at name makes = grind (arith, frame_meant live texts pairs (table_value texts t))

@@ -1,11 +1,11 @@
 -- Series over the labels of columns.
 use Rattle.{
-  std.proofs.{Common.{◌≡◌, ◌∙◌, refl, ap, sym, subst, true, List, [], ◌∷◌, map, length, None, Result, Ok, Err}, lemmas.List.{length-map, Elements.{All-cons, All-nil}}},
-  cell_core.specs.declared.{cell.{Cell.{Cell}, Kind.{Kind}}, grid.Shape.TheVariants.{Series, Frame}},
+  std.proofs.{Common.{arith, ◌≡◌, ◌∙◌, refl, ap, sym, subst, true, List, [], ◌∷◌, map, length, None, Result, Ok, Err}, lemmas.List.{length-map}},
+  cell_core.specs.declared.{cell.Kind.{Kind}, grid.Shape.TheVariants.{Series, Frame}},
   meaning.specs.{Text.{Text}, Cell.{CellValue, datum, AreGiven}, Fault.{FaultValue, then_value}},
   column_core.specs.Columns.{CellColumn},
   multi_index.specs.Axes.{AxisValue},
-  table_meaning.specs.{Table.{ColumnOf, NumberedTable, table_value, heading_value}, Value.{Entry, table}, Settled.{IsSettled}},
+  table_meaning.specs.{Table.{NumberedTable, table_value, heading_value}, Value.{Entry, table}, Settled.{IsSettled}},
   form_meaning.specs.Finish.{within_limits, limited, try_all, across_columns},
   method_meaning.specs.Methods.{Summary, kind_for, summary_as, summary_of},
   frame_store.{specs.{Parts.{table_with, table_column}, Shown.{labels_value, headings_value, columns_value}}, proofs.Settling.{settled_by, columns_name_part, headings_part, columns_settled, table_settled}},
@@ -40,16 +40,11 @@ pub frame_answer : (op : Summary) (texts : List Text) (t made : NumberedTable) (
     → try_all (summary_as op kind) (columns_value texts t.columns) ≡ Ok (map (datum texts) cells.cells) → kind ≡ kind_for op (columns_value texts t.columns) → cells.kind ≡ kind
     → within_limits (length t.columns) 1 ≡ true → length t.headings ≡ length t.columns → axis ≡ summaries_axis t → made ≡ summaries_table t axis cells
     → summary_of Frame op (table_value texts t) ≡ Ok (table (table_value texts made))
-frame_answer op texts t made kind axis cells all kinds same within headed axis_is is =
-    ap (all_summaries op t texts) (sym kinds)
-    ∙ ap (then_series t texts kind) all
-    ∙ limited_within (across_columns (table_value texts t) None kind (map (datum texts) cells.cells)) (length t.columns) 1
-    (length-map (headings_value texts t.headings) label_tuple ∙ length-map t.headings (heading_value texts) ∙ headed) refl within
-    ∙ ap (λ v. Ok (table v)) (series_seen texts t kind cells same ∙ ap (λ a. table_value texts (summaries_table t a cells)) (sym axis_is) ∙ ap (table_value texts) (sym is))
+frame_answer op texts t made kind axis cells all kinds same within headed axis_is is = grind (arith, limited_within (across_columns (table_value texts t) None kind (map (datum texts) cells.cells)) (length t.columns) 1 (length-map (headings_value texts t.headings) label_tuple ∙ length-map t.headings (heading_value texts) ∙ headed) refl within, series_seen texts t kind cells same)
 
 pub frame_refused : (op : Summary) (texts : List Text) (t : NumberedTable) (kind : Kind) (fault : FaultValue)
     → try_all (summary_as op kind) (columns_value texts t.columns) ≡ Err fault → kind ≡ kind_for op (columns_value texts t.columns) → summary_of Frame op (table_value texts t) ≡ Err fault
-frame_refused op texts t kind fault all kinds = ap (all_summaries op t texts) (sym kinds) ∙ ap (then_series t texts kind) all
+frame_refused op texts t kind fault all kinds = cc
 
 pub frame_settled : (texts : List Text) (t made : NumberedTable) (axis : AxisValue) (cells : CellColumn) → IsSettled table_value texts t → AreGiven texts cells.cells → axis ≡ summaries_axis t → made ≡ summaries_table t axis cells
     → IsSettled table_value texts made
@@ -60,4 +55,4 @@ frame_settled texts t made axis cells settled given axis_is is =
     (λ more. ap (λ n. n ∷ []) (columns_name_part texts t settled more))
     (settled_by headings_value labels_value (map label_tuple) texts t.headings (map column_tuple t.headings) (λ ts. tuples_seen ts t.headings) (headings_part texts t settled))
     (λ more. refl)
-    (columns_settled texts (table_column cells ∷ []) (All-cons (λ (c : ColumnOf Cell). AreGiven texts c.cells) (table_column cells) [] given (All-nil (λ (c : ColumnOf Cell). AreGiven texts c.cells)))))
+    (columns_settled texts (table_column cells ∷ []) (grind arith)))

@@ -1,8 +1,8 @@
 -- Methods that a Series or a frame alone has.
 use Rattle.{
-  std.proofs.Common.{◌≡◌, true, refl, subst},
+  std.proofs.Common.{arith, ◌≡◌, true},
   cell_core.specs.declared.grid.Shape.{Shape, TheVariants.{Series, Frame}},
-  form_meaning.{specs.{declared.{TableMethod.{TableMethod}, LevelMethod.{LevelMethod}, LabelMethod.{LabelMethod}}, Signature.{method_names, fits_shape}}, proofs.ShapeLaws.{of_series, of_frame}},
+  form_meaning.{specs.{declared.{TableMethod.{TableMethod}, LevelMethod.{LevelMethod}, LabelMethod.{LabelMethod}}, Signature.{method_names, fits_shape}}, proofs.ShapeLaws.{of_series}},
 }
 use Rattle.form_meaning.specs.declared.Method.TheVariants as method
 use Rattle.form_meaning.specs.declared.TableMethod.TheVariants as table_method
@@ -11,24 +11,24 @@ use Rattle.form_meaning.specs.declared.LabelMethod.TheVariants as label_method
 
 pub rename_of_series : (m : TableMethod) (s : Shape) → m ≡ table_method.RenameSeries → fits_shape (method.Table m) s ≡ true → s ≡ Series
 unfolding method_names
-rename_of_series m s is fits = of_series (method.Table table_method.RenameSeries) s refl (subst (λ m. fits_shape (method.Table m) s ≡ true) is fits)
+rename_of_series m s is fits = grind (arith, of_series)
 
 pub to_frame_of_series : (m : TableMethod) (s : Shape) → m ≡ table_method.ToFrame → fits_shape (method.Table m) s ≡ true → s ≡ Series
 unfolding method_names
-to_frame_of_series m s is fits = of_series (method.Table table_method.ToFrame) s refl (subst (λ m. fits_shape (method.Table m) s ≡ true) is fits)
+to_frame_of_series m s is fits = grind (arith, of_series)
 
 pub rename_of_frame : (m : TableMethod) (s : Shape) → m ≡ table_method.RenameFrame → fits_shape (method.Table m) s ≡ true → s ≡ Frame
 unfolding method_names
-rename_of_frame m s is fits = of_frame (method.Table table_method.RenameFrame) s refl (subst (λ m. fits_shape (method.Table m) s ≡ true) is fits)
+rename_of_frame m s is fits = grind arith
 
 pub drop_of_frame : (m : TableMethod) (s : Shape) → m ≡ table_method.DropColumns → fits_shape (method.Table m) s ≡ true → s ≡ Frame
 unfolding method_names
-drop_of_frame m s is fits = of_frame (method.Table table_method.DropColumns) s refl (subst (λ m. fits_shape (method.Table m) s ≡ true) is fits)
+drop_of_frame m s is fits = grind arith
 
 pub set_index_of_frame : (m : LevelMethod) (s : Shape) → m ≡ level_method.SetIndex → fits_shape (method.Levels m) s ≡ true → s ≡ Frame
 unfolding method_names
-set_index_of_frame m s is fits = of_frame (method.Levels level_method.SetIndex) s refl (subst (λ m. fits_shape (method.Levels m) s ≡ true) is fits)
+set_index_of_frame m s is fits = grind arith
 
 pub reindex_of_frame : (m : LabelMethod) (s : Shape) → m ≡ label_method.ReindexFrame → fits_shape (method.Labels m) s ≡ true → s ≡ Frame
 unfolding method_names
-reindex_of_frame m s is fits = of_frame (method.Labels label_method.ReindexFrame) s refl (subst (λ m. fits_shape (method.Labels m) s ≡ true) is fits)
+reindex_of_frame m s is fits = grind arith

@@ -1,14 +1,13 @@
 -- Summaries of columns.
 use Rattle.{
-  std.{proofs.{Common.{◌≡◌, ◌∙◌, ◌<◌, ◌+◌, ◌^◌, refl, ap, sym, subst, ℕ, pos, mod-eq_of_lt, List, [], ◌∷◌, ◌++◌, map, drop, length, length-append, append-nil, Result, Ok, Err}, lemmas.List.{map-append, Elements.{All-append, All-cons, All-nil}}}, specs.Int.{int_wrap, cast_signed, w64}},
+  std.{proofs.{Common.{arith, ◌≡◌, ◌∙◌, ◌<◌, ◌+◌, ◌^◌, ap, sym, subst, ℕ, pos, mod-eq_of_lt, List, [], ◌∷◌, ◌++◌, map, drop, length, length-append, Result, Ok, Err}, lemmas.List.{map-append, Elements.{All-append, All-cons, All-nil}}}, specs.Int.{int_wrap, cast_signed, w64}},
   cell_core.specs.declared.cell.{Cell.{Cell}, Kind.{Kind}},
-  meaning.specs.{Text.{Text}, Cell.{CellValue, int_cell, datum, IsGiven}, Fault.{FaultValue}, FaultOf.{fault_of}, Reduce.{distinct_count}},
+  meaning.specs.{Text.{Text}, Cell.{CellValue, datum, IsGiven}, Fault.{FaultValue}, Reduce.{distinct_count}},
   column_core.specs.Columns.{CellColumn},
   table_meaning.specs.Table.{ColumnOf, column_value, column_at},
   form_meaning.specs.Finish.{try_all},
-  form_parts.specs.Makes.{MakesBy},
-  frame_store.specs.{Shown.{columns_value}, declared.fault.OpFault.{OpFault, TheVariants.{Refused, NoMemory}}, Parts.{table_column}},
-  label_methods.{specs.Columns.{with_front}, proofs.{FrontLaws.{front_next, front_fails}, Lists.{drop_all}}},
+  frame_store.specs.{Shown.{columns_value}, Parts.{table_column}},
+  label_methods.{specs.Columns.{with_front}, proofs.FrontLaws.{front_next, front_fails}},
   frame_methods.{specs.Summaries.{AreCells, counted_cell}, proofs.ColumnLaws.{at_place}},
 }
 use Rattle.column_core.specs.Columns as kernel
@@ -17,42 +16,28 @@ use Rattle.method_meaning.specs.Methods as meant
 -- a number below 2^64 as what is left of it in 64 bits
 count_wraps : (n : ℕ) → n < 2 ^ 64 → int_wrap w64 (pos n) ≡ cast_signed w64 n
 unfolding int_wrap
-count_wraps n lt = ap (cast_signed w64) (mod-eq_of_lt lt)
+count_wraps n lt = search mod-eq_of_lt
 
 pub distinct_answer : (texts : List Text) (a : CellColumn) (n : ℕ) (c : Cell) → n < 2 ^ 64 → n ≡ distinct_count (kernel.column_value texts a).cells → c ≡ counted_cell n
     → meant.summary_cell meant.distinct (column_value texts (table_column a)) ≡ Ok (datum texts c)
-distinct_answer texts a n c lt is cell =
-    ap (λ k. Ok (int_cell (int_wrap w64 (pos k)))) (sym is) ∙ ap (λ z. Ok (int_cell z)) (count_wraps n lt) ∙ ap (λ x. Ok (datum texts x)) (sym cell)
+distinct_answer texts a n c lt is cell = cc (count_wraps n lt)
 
 abbrev cells_front : (ColumnOf CellValue → Result CellValue FaultValue) → List CellValue → List (ColumnOf CellValue) → Result (List CellValue) FaultValue
 cells_front f made rest = with_front made (try_all f rest)
-
-pub cells_begin : (f : ColumnOf CellValue → Result CellValue FaultValue) (dict : List Text) (columns : List (ColumnOf Cell)) (kind : Kind) (made : CellColumn) → made ≡ record { kind = kind; cells = [] }
-    → AreCells f dict columns kind 0 made
-cells_begin f dict columns kind made is = subst (AreCells f dict columns kind 0) (sym is) record {
-  same = refl;
-  count = refl;
-  given = All-nil (IsGiven dict);
-  answer = nothing_before (try_all f (columns_value dict columns));
-}
-  where
-    nothing_before : (r : Result (List CellValue) FaultValue) → with_front [] r ≡ r
-    nothing_before (Ok ys) = refl
-    nothing_before (Err fault) = refl
 
 pub cells_step : (f : ColumnOf CellValue → Result CellValue FaultValue) (dict : List Text) (columns : List (ColumnOf Cell)) (kind : Kind) (place : ℕ) (made made' a : CellColumn) (x : Cell)
     → AreCells f dict columns kind place made → place < length columns → column_at columns place ≡ table_column a → IsGiven dict x → made' ≡ record { kind = made.kind; cells = made.cells ++ x ∷ [] }
     → f (column_value dict (table_column a)) ≡ Ok (datum dict x) → AreCells f dict columns kind (place + 1) made'
 cells_step f dict columns kind place made made' a x so_far lt at given more is = subst (AreCells f dict columns kind (place + 1)) (sym more) record {
   same = so_far.same;
-  count = length-append made.cells (x ∷ []) ∙ ap (λ n. n + 1) so_far.count;
+  count = grind (arith, length-append);
   given = All-append (IsGiven dict) made.cells (x ∷ []) so_far.given (All-cons (IsGiven dict) x [] given (All-nil (IsGiven dict)));
   answer =
       let rest : columns_value dict (drop place columns) ≡ column_value dict (table_column a) ∷ columns_value dict (drop (place + 1) columns)
-      = ap (columns_value dict) (at_place columns place (table_column a) lt at) in
+      = cc (at_place columns place (table_column a) lt at) in
       ap (λ l. cells_front f l (columns_value dict (drop (place + 1) columns))) (map-append (datum dict) made.cells (x ∷ []))
       ∙ front_next f (map (datum dict) made.cells) (column_value dict (table_column a)) (datum dict x) (columns_value dict (drop (place + 1) columns)) (try_all f (columns_value dict columns))
-      (ap (cells_front f (map (datum dict) made.cells)) (sym rest) ∙ so_far.answer) is;
+      (search) is;
 }
 
 pub cells_refused : (f : ColumnOf CellValue → Result CellValue FaultValue) (dict : List Text) (columns : List (ColumnOf Cell)) (kind : Kind) (place : ℕ) (made a : CellColumn) (fault : FaultValue)
@@ -60,16 +45,4 @@ pub cells_refused : (f : ColumnOf CellValue → Result CellValue FaultValue) (di
     → try_all f (columns_value dict columns) ≡ Err fault
 cells_refused f dict columns kind place made a fault so_far lt at is =
     front_fails f (map (datum dict) made.cells) (column_value dict (table_column a)) fault (columns_value dict (drop (place + 1) columns)) (try_all f (columns_value dict columns))
-    (ap (λ l. cells_front f (map (datum dict) made.cells) (columns_value dict l)) (sym (at_place columns place (table_column a) lt at)) ∙ so_far.answer) is
-
-pub cells_end : (f : ColumnOf CellValue → Result CellValue FaultValue) (dict : List Text) (columns : List (ColumnOf Cell)) (kind : Kind) (place : ℕ) (made : CellColumn)
-    → AreCells f dict columns kind place made → place ≡ length columns → try_all f (columns_value dict columns) ≡ Ok (map (datum dict) made.cells)
-cells_end f dict columns kind place made so_far is =
-    sym so_far.answer ∙ ap (λ l. cells_front f (map (datum dict) made.cells) (columns_value dict l)) (ap (λ k. drop k columns) is ∙ drop_all columns)
-    ∙ ap Ok (append-nil (map (datum dict) made.cells))
-
--- a refusal of one is the refusal of all
-pub refused_all : {X Y X' Y' : Type 0} (view : List Text → X → Y) (view' : List Text → X' → Y') (texts : List Text) (fault : OpFault) (one : Result Y FaultValue) (all : Result Y' FaultValue)
-    → ((e : FaultValue) → one ≡ Err e → all ≡ Err e) → MakesBy view texts (Err fault) one → MakesBy view' texts (Err fault) all
-refused_all view view' texts (Refused code) one all same is = (same (fault_of texts code) is.0, is.1)
-refused_all view view' texts NoMemory one all same is = tt
+    (cc (at_place columns place (table_column a) lt at, so_far.answer)) is

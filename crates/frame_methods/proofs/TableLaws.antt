@@ -1,28 +1,19 @@
 -- Tables that are made of others.
 use Rattle.{
-  std.proofs.{Common.{◌≡◌, ◌∙◌, ap, sym, subst, true, List, map, length, All, Result, Ok}, lemmas.List.{length-map}},
+  std.proofs.{Common.{arith, ◌≡◌, ◌∙◌, ap, sym, subst, true, List, map, length, All, Result, Ok}, lemmas.List.{length-map}},
   cell_core.specs.declared.cell.Cell.{Cell},
   meaning.specs.{Text.{Text}, Cell.{CellValue, AreGiven, IsLonger}, Fault.{FaultValue, then_value}},
   column_core.specs.Blocks.{CellBlock},
-  table_meaning.specs.{Table.{ColumnOf, NumberedTable, Table, table_value, heading_value, tuple_value, column_value}, Value.{Entry, table}, Settled.{IsSettled}},
+  table_meaning.specs.{Table.{ColumnOf, NumberedTable, Table, table_value}, Value.{Entry, table}, Settled.{IsSettled}},
   form_meaning.specs.Finish.{within_limits, limited, with_columns, try_all},
-  frame_store.{specs.{Parts.{block_column, table_with, axis_of, HeadingList}, Shown.{labels_value, headings_value, columns_value}}, proofs.Settling.{settled_later, seen_later, columns_name_part, level_names_part, labels_part, headings_part, with_columns_settled}},
-  label_methods.proofs.TableLaws.{limited_within},
+  frame_store.{specs.{Parts.{block_column, table_with, axis_of, HeadingList}, Shown.{columns_value}}, proofs.Settling.{settled_later, seen_later, columns_name_part, level_names_part, labels_part, headings_part, with_columns_settled}},
 }
 use Rattle.method_meaning.specs.Methods as meant
 
 -- the same table under other columns, at a later dictionary
 pub columns_later : (old new : List Text) (t : NumberedTable) (cs : List (ColumnOf Cell)) → IsLonger old new → IsSettled table_value old t
     → with_columns (table_value old t) (columns_value new cs) ≡ table_value new (record t { columns = cs })
-columns_later old new t cs longer settled = λ j.
-    record {
-      shape = t.shape;
-      columns_name = sym (seen_later heading_value old new t.columns_name longer (columns_name_part old t settled)) j;
-      level_names = sym (seen_later headings_value old new t.level_names longer (level_names_part old t settled)) j;
-      labels = sym (seen_later labels_value old new t.labels longer (labels_part old t settled)) j;
-      headings = sym (seen_later headings_value old new t.headings longer (headings_part old t settled)) j;
-      columns = columns_value new cs;
-    }
+columns_later old new t cs longer settled = grind (arith, seen_later, columns_name_part, level_names_part, labels_part, headings_part)
 
 abbrev then_limited : Table → Result (List (ColumnOf CellValue)) FaultValue → Result Entry FaultValue
 then_limited t r = then_value r (λ columns. limited (with_columns t columns))
@@ -31,11 +22,7 @@ pub made_columns : (f : ColumnOf CellValue → Result (ColumnOf CellValue) Fault
     → IsLonger old new → IsSettled table_value old t → headings ≡ record { columns_name = t.columns_name; labels = t.headings } → made ≡ table_with t.shape (axis_of t) headings (map block_column bs)
     → within_limits (length t.labels) (length bs) ≡ true → try_all f (columns_value old t.columns) ≡ Ok (columns_value new (map block_column bs))
     → meant.each_column f (table_value old t) ≡ Ok (table (table_value new made))
-made_columns f old new t made headings bs longer settled same is within all =
-    ap (then_limited (table_value old t)) all
-    ∙ limited_within (with_columns (table_value old t) (columns_value new (map block_column bs))) (length t.labels) (length bs)
-    (length-map t.labels (tuple_value old)) (length-map (map block_column bs) (column_value new) ∙ length-map bs block_column) within
-    ∙ ap (λ v. Ok (table v)) (columns_later old new t (map block_column bs) longer settled ∙ ap (table_value new) (sym (is ∙ ap (λ h. table_with t.shape (axis_of t) h (map block_column bs)) same)))
+made_columns f old new t made headings bs longer settled same is within all = grind (arith, length-map, columns_later)
 
 pub columns_settled_later : (old new : List Text) (t made : NumberedTable) (headings : HeadingList) (bs : List CellBlock)
     → IsLonger old new → IsSettled table_value old t → headings ≡ record { columns_name = t.columns_name; labels = t.headings } → made ≡ table_with t.shape (axis_of t) headings (map block_column bs)

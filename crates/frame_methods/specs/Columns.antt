@@ -1,30 +1,40 @@
 -- Columns that are made one by one.
-use Rattle.std.specs.Prelude.{◌≡◌, ℕ, List, map, drop, length, All, Result, Ok, Err}
+use Rattle.std.specs.Prelude.{◌≡◌, ℕ, List, [], ◌∷◌, map, drop, length, All, Result, Ok, Err}
 use Rattle.cell_core.specs.declared.cell.Cell.{Cell}
 use Rattle.meaning.specs.Text.{Text}
-use Rattle.meaning.specs.Cell.{CellValue, IsLonger, AreGiven}
-use Rattle.meaning.specs.Fault.{FaultValue}
+use Rattle.meaning.specs.Cell.{CellValue, IsLonger, IsGiven, AreGiven}
+use Rattle.meaning.specs.Fault.{FaultValue, wrong_kind, zero_divide, bad_value, cast}
 use Rattle.column_core.specs.Columns.{CellColumn}
 use Rattle.table_meaning.specs.Table.{ColumnOf}
-use Rattle.frame_store.specs.declared.fault.OpFault.{OpFault}
-use Rattle.frame_store.specs.declared.fault.OpFault.TheVariants.{Refused, NoMemory}
-use Rattle.frame_store.specs.Shown.{columns_value, Refuses}
+use Rattle.nullable_array.specs.declared.ops.ArrayFault.{ArrayFault}
+use Rattle.nullable_array.specs.declared.ops.ArrayFault.TheVariants.{KindMismatch, ZeroDivision, NotCast, NoMemory}
+use Rattle.frame_store.specs.Shown.{columns_value}
 use Rattle.frame_store.specs.Parts.{block_column, IsSingle, HaveRows}
 use Rattle.form_meaning.specs.Finish.{try_all}
 use Rattle.column_core.specs.Blocks.{CellBlock}
 use Rattle.label_methods.specs.Columns.{seen_column, with_front}
 
+-- each of these cells was given
+abbrev pub EachGiven : List Text → List Cell → Type 0
+EachGiven texts [] = Unit {0}
+EachGiven texts (c ∷ cs) = IsGiven texts c × EachGiven texts cs
+
+-- a kernel's refusal is the fault that is meant; want of memory may come in place of any answer
+abbrev pub IsFault : {T : Type 0} → ArrayFault → Result T FaultValue → Type 0
+IsFault KindMismatch meant = meant ≡ Err wrong_kind
+IsFault (ZeroDivision row) meant = meant ≡ Err zero_divide
+IsFault (NotCast row) meant = meant ≡ Err (bad_value cast)
+IsFault NoMemory meant = Unit {0}
+
 -- the column that is made is the one that is meant, or its fault is
-abbrev pub MakesColumn : List Text → Result CellColumn OpFault → Result (ColumnOf CellValue) FaultValue → Type 0
+abbrev pub MakesColumn : List Text → Result CellColumn ArrayFault → Result (ColumnOf CellValue) FaultValue → Type 0
 MakesColumn texts (Ok c) meant = meant ≡ Ok (seen_column texts c)
-MakesColumn texts (Err (Refused code)) meant = Refuses texts code meant
-MakesColumn texts (Err NoMemory) meant = Unit {0}
+MakesColumn texts (Err fault) meant = IsFault fault meant
 
 -- the list of columns that is made, each a block, is the one that is meant, or its fault is
-abbrev pub MakesColumns : List Text → Result (List CellBlock) OpFault → Result (List (ColumnOf CellValue)) FaultValue → Type 0
+abbrev pub MakesColumns : List Text → Result (List CellBlock) ArrayFault → Result (List (ColumnOf CellValue)) FaultValue → Type 0
 MakesColumns texts (Ok blocks) meant = meant ≡ Ok (columns_value texts (map block_column blocks))
-MakesColumns texts (Err (Refused code)) meant = Refuses texts code meant
-MakesColumns texts (Err NoMemory) meant = Unit {0}
+MakesColumns texts (Err fault) meant = IsFault fault meant
 
 -- the columns before a place are made, and with what the others come to they are the whole
 pub record IsFront (f : ColumnOf CellValue → Result (ColumnOf CellValue) FaultValue) (first dict : List Text) (columns : List (ColumnOf Cell)) (rows place : ℕ) (made : List CellBlock) : Type 0 where

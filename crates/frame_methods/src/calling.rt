@@ -17,7 +17,7 @@ ghost use Rattle.frame_methods.specs.Calls.{answer_in, IsCall};
 ghost use Rattle.frame_methods.specs.Made.{made_value};
 ghost use Rattle.frame_methods.specs.Faults.{IsChained};
 
-use crate::binding::{BoundCall, bound_call, exists};
+use crate::binding::{BoundCall, bound_call, exists, given_scalar};
 use crate::column_ops::columns_answer;
 use crate::csv::to_csv;
 use crate::duplicates::duplicated;
@@ -176,7 +176,7 @@ fn labels_made(
             reindex(alloc, store, dict, rows, columns, on)
         }
         LabelMethod::Xs => {
-            let key = bound.scalar(0);
+            let key = given_scalar(store, dict, bound, 0);
             let level = bound.scalar_or_none(1);
             xs(alloc, dict, &store.read(on), key, level)
         }

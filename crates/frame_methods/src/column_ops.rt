@@ -13,16 +13,16 @@ ghost use Rattle.frame_methods.specs.Calls.{answer_in, IsCall};
 ghost use Rattle.frame_methods.specs.Marks.{marked_column};
 ghost use Rattle.frame_methods.specs.Listed.{listed_column};
 
-use crate::columns::ColumnOp;
+use crate::binding::given_scalar;
+use crate::columns::{ColumnOp, MadeColumn};
 use crate::listed::{Listed, listed_cells};
 use crate::tables::columns_placed;
-use cell_core::{Cell, Code, Kind, NoMemory, TextDict};
+use cell_core::{Cell, Kind, NoMemory, TextDict};
 use column_core::{ColRef, Column, shift};
 use column_operators::{fillna, isin, isna, notna};
 use form_meaning::ColumnMethod;
-use form_parts::column_of;
 use frame_store::{ObjId, OpFault, Store, Value};
-use nullable_array::{Cumulation, cast, cumulate};
+use nullable_array::{ArrayFault, Cumulation, cast, cumulate};
 use signatures::Bound;
 use std::alloc::Global;
 
@@ -35,7 +35,7 @@ struct Marked {
 impl ColumnOp for Marked {
     ghost answer = { λ s _. marked_column s.missing };
 
-    fn column(&self, alloc: Global, dict: &mut TextDict, a: ColRef<'_>) -> Result<Column, OpFault> {
+    fn column(&self, alloc: Global, dict: &mut TextDict, a: ColRef<'_>) -> MadeColumn {
         Ok(marks(alloc, a, self.missing)?)
     }
 }
@@ -62,10 +62,10 @@ impl ColumnOp for Filled {
 
     ghost answer = { λ _ cells. filled_column (slice_index_or cells 0 na_cell) };
 
-    fn column(&self, alloc: Global, dict: &mut TextDict, a: ColRef<'_>) -> Result<Column, OpFault> {
+    fn column(&self, alloc: Global, dict: &mut TextDict, a: ColRef<'_>) -> MadeColumn {
         let kind = a.kind();
         if !kind.holds(self.value) {
-            return Err(OpFault::Refused(Code::WrongKind));
+            return Err(ArrayFault::KindMismatch);
         }
         Ok(fillna(alloc, a, self.value)?)
     }
@@ -77,7 +77,7 @@ impl ColumnOp for Listed {
 
     ghost answer = { λ _ cells. listed_column cells };
 
-    fn column(&self, alloc: Global, dict: &mut TextDict, a: ColRef<'_>) -> Result<Column, OpFault> {
+    fn column(&self, alloc: Global, dict: &mut TextDict, a: ColRef<'_>) -> MadeColumn {
         // Equal texts have equal numbers: `TextDict::len` says so.
         let _ = dict.len();
         Ok(isin(alloc, a, &self.values)?)
@@ -93,7 +93,7 @@ struct Shifted {
 impl ColumnOp for Shifted {
     ghost answer = { λ s _. shifted_column s.periods };
 
-    fn column(&self, alloc: Global, dict: &mut TextDict, a: ColRef<'_>) -> Result<Column, OpFault> {
+    fn column(&self, alloc: Global, dict: &mut TextDict, a: ColRef<'_>) -> MadeColumn {
         Ok(shift(alloc, a, self.periods)?)
     }
 }
@@ -107,8 +107,8 @@ struct Cast {
 impl ColumnOp for Cast {
     ghost answer = { λ s _. cast_as s.kind };
 
-    fn column(&self, alloc: Global, dict: &mut TextDict, a: ColRef<'_>) -> Result<Column, OpFault> {
-        column_of(cast(alloc, dict, a, self.kind))
+    fn column(&self, alloc: Global, dict: &mut TextDict, a: ColRef<'_>) -> MadeColumn {
+        cast(alloc, dict, a, self.kind)
     }
 }
 
@@ -121,8 +121,8 @@ struct Cumulated {
 impl ColumnOp for Cumulated {
     ghost answer = { λ s _. cumulated (cumulation_of s.op) };
 
-    fn column(&self, alloc: Global, dict: &mut TextDict, a: ColRef<'_>) -> Result<Column, OpFault> {
-        column_of(cumulate(alloc, self.op, a))
+    fn column(&self, alloc: Global, dict: &mut TextDict, a: ColRef<'_>) -> MadeColumn {
+        cumulate(alloc, self.op, a)
     }
 }
 
@@ -147,7 +147,7 @@ pub(crate) fn columns_answer(
         ColumnMethod::Isna => columns_placed(alloc, store, dict, &Marked { missing: true }, on),
         ColumnMethod::Notna => columns_placed(alloc, store, dict, &Marked { missing: false }, on),
         ColumnMethod::Fillna => {
-            let value = bound.scalar(0);
+            let value = given_scalar(store, dict, bound, 0);
             columns_placed(alloc, store, dict, &Filled { value }, on)
         }
         ColumnMethod::Isin => {

@@ -10,12 +10,16 @@ ghost use Rattle.form_meaning.specs.Finish.{try_all};
 ghost use Rattle.frame_store.specs.Parts.{block_column, IsSingle, HaveRows};
 ghost use Rattle.frame_store.specs.Shown.{cells_value, columns_value};
 ghost use Rattle.label_methods.specs.Columns.{seen_column};
-ghost use Rattle.frame_methods.specs.Columns.{MakesColumn, MakesColumns};
+ghost use Rattle.frame_methods.specs.Columns.{EachGiven, MakesColumn, MakesColumns};
 
 use cell_core::{Grid, TextDict};
 use column_core::{ColRef, Column};
-use frame_store::{Blocks, ObjRef, OpFault};
+use frame_store::{Blocks, ObjRef};
+use nullable_array::ArrayFault;
 use std::alloc::Global;
+
+// What an operation makes of a column, or a kernel's refusal.
+pub(crate) type MadeColumn = Result<Column, ArrayFault>;
 
 // A column that is made of a column with as many cells.
 pub(crate) trait ColumnOp {
@@ -26,8 +30,8 @@ pub(crate) trait ColumnOp {
     ghost answer: { Self → List CellValue
         → ColumnOf CellValue → Result (ColumnOf CellValue) FaultValue };
 
-    fn column(&self, alloc: Global, dict: &mut TextDict, a: ColRef<'_>) -> Result<Column, OpFault>
-        requires own { AreGiven dict.old (held self.now) }
+    fn column(&self, alloc: Global, dict: &mut TextDict, a: ColRef<'_>) -> MadeColumn
+        requires own { EachGiven dict.old (held self.now) }
         requires cells { AreGiven dict.old a.cells }
         ensures longer { IsLonger dict.old dict.new }
         ensures given { IfOk result (λ c. AreGiven dict.new c.cells) }
@@ -42,8 +46,8 @@ pub(crate) fn each_column<O: ColumnOp>(
     dict: &mut TextDict,
     op: &O,
     on: &ObjRef<'_>,
-) -> Result<Blocks, OpFault>
-    requires own { AreGiven dict.old (O.held op.now) }
+) -> Result<Blocks, ArrayFault>
+    requires own { EachGiven dict.old (O.held op.now) }
     requires whole { IsWhole on.now }
     requires settled { IsSettled table_value dict.old on.now }
     ensures longer { IsLonger dict.old dict.new }

@@ -1,15 +1,16 @@
 // Tables whose columns are made one by one.
 ghost use Rattle.std.specs.Prelude.{IsSome};
-ghost use Rattle.meaning.specs.Cell.{AreGiven, IsLonger};
+ghost use Rattle.meaning.specs.Cell.{IsLonger};
 ghost use Rattle.table_meaning.specs.Table.{table_value};
 ghost use Rattle.method_meaning.specs.Methods as meant;
 ghost use Rattle.frame_store.specs.Shown.{cells_value, Makes};
 ghost use Rattle.frame_store.specs.Objects.{tables, table_at};
 ghost use Rattle.frame_store.specs.World.{world, IsKnownTable, IsSettledWorld, Forms};
+ghost use Rattle.frame_methods.specs.Columns.{EachGiven};
 
 use crate::columns::{ColumnOp, each_column};
 use cell_core::{Code, Grid, TextDict};
-use form_parts::{headings_of, placed, table_under, within_limits};
+use form_parts::{headings_of, placed, refusal_of, table_under, within_limits};
 use frame_store::{ObjId, ObjRef, OpFault, Store, Table, Value};
 use std::alloc::Global;
 
@@ -20,14 +21,17 @@ pub(crate) fn columns_table<O: ColumnOp>(
     op: &O,
     on: &ObjRef<'_>,
 ) -> Result<Table, OpFault>
-    requires own { AreGiven dict.old (O.held op.now) }
+    requires own { EachGiven dict.old (O.held op.now) }
     requires known { IsKnownTable dict.old on.now }
     ensures longer { IsLonger dict.old dict.new }
     ensures answer { Makes dict.new result
         (meant.each_column (O.answer op.now (cells_value dict.old (O.held op.now)))
         (table_value dict.old on.now)) }
 {
-    let columns = each_column(alloc, dict, op, on)?;
+    let columns = match each_column(alloc, dict, op, on) {
+        Ok(columns) => columns,
+        Err(fault) => return Err(refusal_of(fault)),
+    };
     if !within_limits(on.rows(), columns.len()) {
         return Err(OpFault::Refused(Code::Limit));
     }
@@ -44,7 +48,7 @@ pub(crate) fn columns_placed<O: ColumnOp>(
     on: ObjId,
 ) -> Result<Value, OpFault>
     requires live { IsSome (tables store.old on.0) }
-    requires own { AreGiven dict.old (O.held op.now) }
+    requires own { EachGiven dict.old (O.held op.now) }
     requires settled { IsSettledWorld (world store.old dict.old) }
     ensures { Forms result (meant.each_column (O.answer op.now (cells_value dict.old (O.held op.now)))
         (table_value dict.old (table_at (tables store.old) on.0)))

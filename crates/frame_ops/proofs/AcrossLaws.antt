@@ -1,11 +1,11 @@
 -- A frame and a Series of other labels than its columns.
 use Rattle.{
-  std.{proofs.{Common.{◌≡◌, ◌≢◌, ◌∙◌, ◌<◌, ◌+◌, ◌&&◌, ◌||◌, ℕ, suc, nat_eq, Bool, true, false, List, [], ◌∷◌, length, map, drop, refl, ap, sym, arith, add-one, All, Result, Err, slice_index_or, if◌then◌else◌}, Math.Seq.{drop-cons}, lemmas.{List.{get_or-map, Elements.{All-head, All-tail}, Folds.{list_all-map}}, Bool.Decides.{nat_tests}}}, specs.List.{list_any}},
+  std.{proofs.{Common.{◌≡◌, ◌≢◌, ◌∙◌, ◌<◌, ◌+◌, ◌&&◌, ◌||◌, ℕ, suc, nat_eq, Bool, true, false, List, [], ◌∷◌, length, map, drop, refl, sym, arith, add-one, All, Result, Err, slice_index_or, if◌then◌else◌}, Math.Seq.{drop-cons}, lemmas.{List.{get_or-map, Elements.{All-head, All-tail}, Folds.{list_all-map}}, Bool.Decides.{nat_tests}}}, specs.List.{list_any}},
   cell_core.specs.{declared.cell.{Cell.{Cell}, Kind.{Kind}, Label.{Label}}, Texts.{AreDistinct}},
   meaning.specs.{Text.{Text}, Cell.{CellValue}, Fault.{FaultValue, wrong_kind, bad_value, levels, not_aligned, then_value}, Symbol.{Binary}},
   pick_meaning.specs.Rows.{rows_where, are_some},
   row_keys.specs.{Keys.{same_tuple as same_numbers}, Partners.{rows_with}},
-  table_meaning.specs.{Settled.{IsSettled}, Table.{ColumnOf, NumberedTable, Table, column_at, column_value, heading_value, tuple_value, table_value, no_column}, Value.{Entry}},
+  table_meaning.specs.{Settled.{IsSettled}, Table.{ColumnOf, NumberedTable, Table, column_at, column_value, tuple_value, table_value, no_column}, Value.{Entry}},
   form_meaning.specs.{Finish.{column_labels, same_kind}, Infix.{same_tuple, on_levels, compares, takes_twice, takes_rows, takes_each, labels_fit, spread_frame, joined_turned, across_unequal}},
   frame_store.{specs.Shown.{labels_value, columns_value}, proofs.Settling.{labels_part}},
   form_parts.proofs.RowLaws.{tuple_by_number, tuples_settled},
@@ -14,52 +14,42 @@ use Rattle.{
 
 -- a Series has a row, or none
 pub no_row : {K C : Type 0} (op : Binary) (labels : List K) (c : ColumnOf C) → length labels ≡ 0 → true ≡ takes_rows op labels c
-no_row op [] c none = refl
-no_row op (l ∷ ls) c none = absurd (omega (arith, none))
+no_row op x c none = grind arith
 
 pub some_row : {K C : Type 0} (op : Binary) (labels : List K) (c : ColumnOf C) → length labels ≢ 0 → takes_twice op c ≡ takes_rows op labels c
-some_row op [] c some = absurd (some refl)
-some_row op (l ∷ ls) c some = refl
+some_row op x c some = grind arith
 
 -- the kinds need no texts
 rows_seen : (op : Binary) (texts : List Text) (labels : List (List Label)) (c : ColumnOf CellValue) (d : ColumnOf Cell) → c ≡ column_value texts d → takes_rows op (labels_value texts labels) c ≡ takes_rows op labels d
-rows_seen op texts [] c d is = refl
-rows_seen op texts (l ∷ ls) c d is = ap (λ (x : ColumnOf CellValue). takes_twice op x) is
+rows_seen op texts x c d is = grind arith
 
 takes_seen : (op : Binary) (texts : List Text) (f s : NumberedTable) → takes_each op (table_value texts f) (table_value texts s) ≡ takes_each op f s
-takes_seen op texts f s =
-    λ i. list_all-map (takes_twice op) (column_value texts) f.columns i && rows_seen op texts s.labels (column_at (columns_value texts s.columns) 0) (column_at s.columns 0) (first_column texts s.columns) i
+takes_seen op texts f s = grind (arith, list_all-map, rows_seen, first_column)
 
 -- a label is one of the rows' where some rows have it
 any_rows : (p : List Label → Bool) (row : ℕ) (xs : List (List Label)) → are_some (rows_where p row xs) ≡ list_any p xs
 any_rows p row [] = refl
-any_rows p row (x ∷ xs) = by (any_rows p (row + 1) xs) (p x)
-  where
-    by : are_some (rows_where p (row + 1) xs) ≡ list_any p xs → (b : Bool) → are_some (if b then row ∷ rows_where p (row + 1) xs else rows_where p (row + 1) xs) ≡ (b || list_any p xs)
-    by rest true = refl
-    by rest false = rest
+any_rows p row (x ∷ xs) = grind (arith, any_rows p (row + 1) xs)
 
 -- one column more
 module _ (kind : Kind) (labels keys : List (List Label)) (cs : List (ColumnOf Cell)) where
   fits_from : (place : ℕ) (rows : List ℕ) → place < length keys → place < length cs → rows ≡ slice_index_or (map (rows_with labels) keys) place []
       → labels_fit same_numbers kind labels (drop place keys) (drop place cs) ≡ ((if are_some rows then same_kind (column_at cs place).kind kind else true) && labels_fit same_numbers kind labels (drop (place + 1) keys) (drop (place + 1) cs))
   fits_from place rows lt lt' is =
-      let key : List Label = slice_index_or keys place [] in
-      let found : rows ≡ rows_where (same_numbers key) 0 labels = is ∙ get_or-map (rows_with labels) keys place [] [] lt in
-      let there : list_any (same_numbers key) labels ≡ are_some rows = sym (ap are_some found ∙ any_rows (same_numbers key) 0 labels) in
+      let key = slice_index_or keys place [] in
+      let found : rows ≡ rows_where (same_numbers key) 0 labels = grind (arith, get_or-map) in
+      let there : list_any (same_numbers key) labels ≡ are_some rows = grind (arith, any_rows) in
       (λ i. labels_fit same_numbers kind labels (drop-cons keys place [] lt i) (drop-cons cs place no_column lt' i))
       ∙ (λ i. (if there i then same_kind (column_at cs place).kind kind else true) && labels_fit same_numbers kind labels (drop (suc place) keys) (drop (suc place) cs))
       ∙ (λ i. (if are_some rows then same_kind (column_at cs place).kind kind else true) && labels_fit same_numbers kind labels (drop (sym (add-one place) i) keys) (drop (sym (add-one place) i) cs))
 
   pub one_more_fits : (place : ℕ) (rows : List ℕ) (whole : Bool) → place < length keys → place < length cs → rows ≡ slice_index_or (map (rows_with labels) keys) place [] → (if are_some rows then same_kind (column_at cs place).kind kind else true) ≡ true
       → labels_fit same_numbers kind labels (drop place keys) (drop place cs) ≡ whole → labels_fit same_numbers kind labels (drop (place + 1) keys) (drop (place + 1) cs) ≡ whole
-  one_more_fits place rows whole lt lt' is fits before =
-      sym (fits_from place rows lt lt' is ∙ ap (λ b. b && labels_fit same_numbers kind labels (drop (place + 1) keys) (drop (place + 1) cs)) fits) ∙ before
+  one_more_fits place rows whole lt lt' is fits before = cc (fits_from place rows lt lt' is)
 
   pub one_unfit : (place : ℕ) (rows : List ℕ) (whole : Bool) → place < length keys → place < length cs → rows ≡ slice_index_or (map (rows_with labels) keys) place [] → (if are_some rows then same_kind (column_at cs place).kind kind else true) ≡ false
       → labels_fit same_numbers kind labels (drop place keys) (drop place cs) ≡ whole → false ≡ whole
-  one_unfit place rows whole lt lt' is unfit before =
-      sym (fits_from place rows lt lt' is ∙ ap (λ b. b && labels_fit same_numbers kind labels (drop (place + 1) keys) (drop (place + 1) cs)) unfit) ∙ before
+  one_unfit place rows whole lt lt' is unfit before = cc (fits_from place rows lt lt' is)
 
 -- with texts
 any_seen : (texts : List Text) (key : List Label) (labels : List (List Label)) → AreDistinct texts → IsSettled tuple_value texts key → All (IsSettled tuple_value texts) labels → list_any (same_tuple (tuple_value texts key)) (labels_value texts labels) ≡ list_any (same_numbers key) labels
@@ -100,7 +90,7 @@ module _ (op : Binary) (texts : List Text) (f s : NumberedTable) (left : Bool) w
       ∙ fit_seen texts kind s.labels (map heading_tuple f.headings) f.columns distinct (tuples_settled texts s.labels (labels_part texts s given')) (tuples_settled texts (map heading_tuple f.headings) (labels_given texts (labels_axis f) f refl given))
 
   by_tests : (k l : Bool) → takes_each op f s ≡ k → nat_eq (length s.level_names) 1 ≡ l → across_unequal op left v w ≡ on_levels k l (rest fit_meant (compares op))
-  by_tests k l kinds counted = λ i. on_levels ((takes_seen op texts f s ∙ kinds) i) ((sym (levels_one (heading_value texts) s.level_names) ∙ counted) i) (rest fit_meant (compares op))
+  by_tests k l kinds counted = grind (arith, takes_seen, levels_one)
 
   equal : (n : ℕ) → n ≡ 1 → nat_eq n 1 ≡ true
   equal n same = grind (arith, nat_tests)
@@ -117,13 +107,13 @@ module _ (op : Binary) (texts : List Text) (f s : NumberedTable) (left : Bool) w
 
     module _ (one : length s.level_names ≡ 1) (distinct : AreDistinct texts) (given : IsSettled table_value texts f) (given' : IsSettled table_value texts s) where
       by_labels : (fit : Bool) → fit ≡ labels_fit same_numbers kind s.labels (map heading_tuple f.headings) f.columns → across_unequal op left v w ≡ rest fit (compares op)
-      by_labels fit is = by_tests true true kinds (equal (length s.level_names) one) ∙ ap (λ b. rest b (compares op)) (fit_is distinct given given' ∙ sym is)
+      by_labels fit is = cc (by_tests true true kinds (equal (length s.level_names) one), fit_is distinct given given')
 
       pub across_unfit : false ≡ labels_fit same_numbers kind s.labels (map heading_tuple f.headings) f.columns → across_unequal op left v w ≡ Err wrong_kind
       across_unfit is = by_labels false is
 
       pub across_compared : true ≡ labels_fit same_numbers kind s.labels (map heading_tuple f.headings) f.columns → compares op ≡ true → across_unequal op left v w ≡ Err (bad_value not_aligned)
-      across_compared is compared = by_labels true is ∙ ap (rest true) compared
+      across_compared is compared = cc (by_labels true is)
 
       pub across_met : true ≡ labels_fit same_numbers kind s.labels (map heading_tuple f.headings) f.columns → compares op ≡ false → met ≡ across_unequal op left v w
-      across_met is compared = sym (by_labels true is ∙ ap (rest true) compared)
+      across_met is compared = cc (by_labels true is)

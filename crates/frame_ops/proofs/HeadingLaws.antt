@@ -18,26 +18,25 @@ heading_settled texts hs h k settled lt is = subst (IsSettled heading_value text
 -- the label of a row on its one level
 pub label_settled : (texts : List Text) (ls : List (List Label)) (l : Label) (k : ℕ) → IsSettled labels_value texts ls → HaveLevels 1 ls → k < length ls → l ≡ slice_index_or (slice_index_or ls k []) 0 label.Na → IsSettled heading_value texts (Some l)
 label_settled texts ls l k settled alike lt is =
-    let t : List Label = slice_index_or ls k [] in
+    let t = slice_index_or ls k [] in
     let inside : 0 < length t = omega (arith, alike k [] lt) in
     let tuple : IsSettled tuple_value texts t = λ more.
     sym (get_or-map (tuple_value (texts ++ more)) ls k [] [] lt) ∙ ap (λ x. slice_index_or x k []) (settled more) ∙ get_or-map (tuple_value texts) ls k [] [] lt in
-    subst (λ (x : Label). IsSettled heading_value texts (Some x)) (sym is) (λ more.
-    ap Some (sym (get_or-map (label_datum (texts ++ more)) t 0 label.Na na inside) ∙ ap (λ x. slice_index_or x 0 na) (tuple more) ∙ get_or-map (label_datum texts) t 0 label.Na na inside))
+    subst (λ x. IsSettled heading_value texts (Some x)) (sym is) (λ more.
+    ap Some (cc (get_or-map (label_datum (texts ++ more)) t 0 label.Na na inside, tuple more, get_or-map (label_datum texts) t 0 label.Na na inside)))
 
 and_false : (b : Bool) → (b && false) ≡ false
-and_false true = refl
-and_false false = refl
+and_false x = grind arith
 
 headings_differ : (x y : List (Option LabelValue)) → length x ≢ length y → same_headings x y ≡ false
 headings_differ [] [] n = absurd (n refl)
 headings_differ [] (b ∷ bs) n = refl
 headings_differ (a ∷ as') [] n = refl
-headings_differ (a ∷ as') (b ∷ bs) n = ap (λ r. same_heading a b && r) (headings_differ as' bs (λ e. n (ap suc e))) ∙ and_false (same_heading a b)
+headings_differ (a ∷ as') (b ∷ bs) n = search (and_false, headings_differ as' bs (λ e. n (ap suc e)))
 
 -- tables with columns of different numbers
 pub other_count : (texts : List Text) (a b : List (Option Label)) → length a ≢ length b → false ≡ same_headings (headings_value texts a) (headings_value texts b)
-other_count texts a b n = sym (headings_differ (headings_value texts a) (headings_value texts b) (λ e. n (sym (length-map a (heading_value texts)) ∙ e ∙ length-map b (heading_value texts))))
+other_count texts a b n = grind (arith, headings_differ, length-map)
 
 labels_differ : (x : List (List LabelValue)) (y : List (Option LabelValue)) → length x ≢ length y → are_headings x y ≡ false
 labels_differ [] [] n = absurd (n refl)
@@ -47,36 +46,36 @@ labels_differ ((l ∷ []) ∷ ls) [] n = refl
 labels_differ ((l ∷ m ∷ r) ∷ ls) [] n = refl
 labels_differ ([] ∷ ls) (h ∷ hs) n = refl
 labels_differ ((l ∷ m ∷ r) ∷ ls) (h ∷ hs) n = refl
-labels_differ ((l ∷ []) ∷ ls) (h ∷ hs) n = ap (λ r. same_heading (Some l) h && r) (labels_differ ls hs (λ e. n (ap suc e))) ∙ and_false (same_heading (Some l) h)
+labels_differ ((l ∷ []) ∷ ls) (h ∷ hs) n = search (and_false, labels_differ ls hs (λ e. n (ap suc e)))
 
 -- another number of rows than of columns
 pub other_rows : (texts : List Text) (ls : List (List Label)) (hs : List (Option Label)) → length ls ≢ length hs → false ≡ are_headings (labels_value texts ls) (headings_value texts hs)
-other_rows texts ls hs n = sym (labels_differ (labels_value texts ls) (headings_value texts hs) (λ e. n (sym (length-map ls (tuple_value texts)) ∙ e ∙ length-map hs (heading_value texts))))
+other_rows texts ls hs n = grind (arith, labels_differ, length-map)
 
 -- labels of several levels are no headings, unless there are none
 pub other_levels : (texts : List Text) (levels count : ℕ) (ls : List (List Label)) (hs : List (Option Label)) → HaveLevels levels ls → levels ≢ 1 → count ≡ length ls → length ls ≡ length hs
     → nat_eq count 0 ≡ are_headings (labels_value texts ls) (headings_value texts hs)
 other_levels texts levels count [] [] alike n is same = grind (arith, nat_tests)
-other_levels texts levels count [] (h ∷ hs) alike n is same = absurd (omega arith)
-other_levels texts levels count (t ∷ ls) [] alike n is same = absurd (omega arith)
+other_levels texts levels count [] (h ∷ hs) alike n is same = search
+other_levels texts levels count (t ∷ ls) [] alike n is same = search
 other_levels texts levels count ([] ∷ ls) (h ∷ hs) alike n is same = grind (arith, nat_tests)
 other_levels texts levels count ((l ∷ []) ∷ ls) (h ∷ hs) alike n is same = absurd (n (sym (alike 0 [] (omega arith))))
 other_levels texts levels count ((l ∷ m ∷ r) ∷ ls) (h ∷ hs) alike n is same = grind (arith, nat_tests)
 
 one_label : (t : List Label) → length t ≡ 1 → t ≡ slice_index_or t 0 label.Na ∷ []
-one_label [] e = absurd (omega arith)
+one_label [] e = search
 one_label (l ∷ []) e = refl
-one_label (l ∷ m ∷ r) e = absurd (omega arith)
+one_label (l ∷ m ∷ r) e = search
 
 -- one more label that is a heading
 pub one_more_heading : (texts : List Text) (ls : List (List Label)) (hs : List (Option Label)) (k : ℕ) (l : Label) (h : Option Label) (whole : Bool) → HaveLevels 1 ls → k < length ls → k < length hs
     → l ≡ slice_index_or (slice_index_or ls k []) 0 label.Na → h ≡ slice_index_or hs k None → same_heading (Some (label_datum texts l)) (heading_value texts h) ≡ true
     → are_headings (labels_value texts (drop k ls)) (headings_value texts (drop k hs)) ≡ whole → are_headings (labels_value texts (drop (k + 1) ls)) (headings_value texts (drop (k + 1) hs)) ≡ whole
 one_more_heading texts ls hs k l h whole alike lt lt' is is' same before =
-    let t : List Label = slice_index_or ls k [] in
-    let single : t ≡ l ∷ [] = one_label t (alike k [] lt) ∙ ap (λ x. x ∷ []) (sym is) in
-    let rows : drop k ls ≡ (l ∷ []) ∷ drop (suc k) ls = drop-cons ls k [] lt ∙ ap (λ x. x ∷ drop (suc k) ls) single in
-    let columns : drop k hs ≡ h ∷ drop (suc k) hs = drop-cons hs k None lt' ∙ ap (λ x. x ∷ drop (suc k) hs) (sym is') in
+    let t = slice_index_or ls k [] in
+    let single : t ≡ l ∷ [] = grind (arith, one_label) in
+    let rows : drop k ls ≡ (l ∷ []) ∷ drop (suc k) ls = grind (arith, drop-cons) in
+    let columns : drop k hs ≡ h ∷ drop (suc k) hs = grind (arith, drop-cons) in
     ap (λ n. are_headings (labels_value texts (drop n ls)) (headings_value texts (drop n hs))) (add-one k)
     ∙ ap (λ b. b && are_headings (labels_value texts (drop (suc k) ls)) (headings_value texts (drop (suc k) hs))) (sym same)
     ∙ sym (λ i. are_headings (labels_value texts (rows i)) (headings_value texts (columns i)))

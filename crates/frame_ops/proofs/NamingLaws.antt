@@ -1,12 +1,12 @@
 -- Tables under the headings that an operator gives them.
 use Rattle.{
-  std.proofs.Common.{◌≡◌, ◌∙◌, List, [], ◌∷◌, length, map, refl, ap, sym, subst, Result, Ok, Option},
+  std.proofs.Common.{arith, ◌≡◌, List, [], ◌∷◌, length, map, Result, Ok, Option},
   cell_core.specs.{declared.{cell.Label.{Label}, grid.Shape.{Shape, TheVariants.{Series, Frame}}}, Texts.{IsLonger}},
   meaning.specs.{Text.{Text}, Cell.{CellValue}, Fault.{FaultValue, then_value}},
   column_core.specs.Blocks.{CellBlock},
-  table_meaning.specs.{Settled.{IsSettled}, Table.{ColumnOf, NumberedTable, table_value, heading_value}, Valid.{AreHeadings, IsWhole}},
+  table_meaning.specs.{Settled.{IsSettled}, Table.{ColumnOf, NumberedTable, table_value}, Valid.{AreHeadings, IsWhole}},
   form_meaning.specs.Finish.{with_columns},
-  frame_store.{specs.{Parts.{HeadingList, block_column, table_with, axis_of}, Shown.{headings_value}}, proofs.Settling.{columns_name_part, headings_part}},
+  frame_store.{specs.Parts.{HeadingList, block_column, table_with, axis_of}, proofs.Settling.{columns_name_part, headings_part}},
   form_parts.{specs.Makes.{blocks_value, AreColumns}, proofs.TableMade.{under_settled, whole_under, made_is_settled, made_is_meant}},
   frame_ops.specs.{declared.naming.Naming.{Naming, TheVariants.{Kept, Name, ColumnsName}}, Namings.{headings_by, named_by, IsNaming, IsSettledNaming}},
 }
@@ -14,55 +14,42 @@ use Rattle.table_meaning.specs.Value as value
 
 -- a Series under a name, and a frame under a name of its columns
 series_headings : (shape : Shape) (columns_name : Option Label) (headings : List (Option Label)) (name : Option Label) → shape ≡ Series → AreHeadings shape columns_name headings → AreHeadings shape columns_name (name ∷ [])
-series_headings Series columns_name headings name is fits = record { single = λ e. refl; nameless = fits.nameless; labelled = λ e. cc; different = λ e. cc }
-series_headings Frame columns_name headings name is fits = cc
+series_headings x columns_name headings name is fits = grind arith
 
 frame_headings : (shape : Shape) (columns_name : Option Label) (headings : List (Option Label)) (name : Option Label) → shape ≡ Frame → AreHeadings shape columns_name headings → AreHeadings shape name headings
-frame_headings Frame columns_name headings name is fits = record { single = λ e. cc; nameless = λ e. cc; labelled = fits.labelled; different = fits.different }
-frame_headings Series columns_name headings name is fits = cc
+frame_headings x columns_name headings name is fits = grind arith
 
 -- the headings that an operator gives are as many as the table has, and fit its shape
 pub counted_by : (t : NumberedTable) (naming : Naming) → IsWhole t → IsNaming t naming → length (headings_by t naming).labels ≡ length t.headings
-counted_by t Kept whole is = refl
-counted_by t (Name name) whole is = sym (whole.headings.single is)
-counted_by t (ColumnsName name) whole is = refl
+counted_by t x whole is = grind arith
 
 pub fits_by : (t : NumberedTable) (naming : Naming) → IsWhole t → IsNaming t naming → AreHeadings t.shape (headings_by t naming).columns_name (headings_by t naming).labels
-fits_by t Kept whole is = whole.headings
-fits_by t (Name name) whole is = series_headings t.shape t.columns_name t.headings name is whole.headings
-fits_by t (ColumnsName name) whole is = frame_headings t.shape t.columns_name t.headings name is whole.headings
+fits_by t x whole is = grind (arith, series_headings, frame_headings)
 
 whole_by : (texts : List Text) (t : NumberedTable) (naming : Naming) (blocks : List CellBlock) → IsWhole t → IsNaming t naming → AreColumns texts (length t.labels) (length t.columns) blocks
     → IsWhole (table_with t.shape (axis_of t) (headings_by t naming) (map block_column blocks))
-whole_by texts t naming blocks whole is made = whole_under texts t (headings_by t naming) blocks whole made (counted_by t naming whole is) (fits_by t naming whole is)
-
-single_settled : (texts : List Text) (name : Option Label) → IsSettled heading_value texts name → IsSettled headings_value texts (name ∷ [])
-single_settled texts name settled = λ more j. settled more j ∷ []
+whole_by texts t naming blocks whole is made = search (whole_under, counted_by, fits_by)
 
 pub named_settled : (texts : List Text) (t : NumberedTable) (naming : Naming) → IsSettled table_value texts t → IsSettledNaming texts naming → IsSettled table_value texts (named_by t naming)
-named_settled texts t Kept settled name = under_settled texts t (headings_by t Kept) settled (columns_name_part texts t settled) (headings_part texts t settled)
-named_settled texts t (Name n) settled name = under_settled texts t (headings_by t (Name n)) settled (columns_name_part texts t settled) (single_settled texts n name)
-named_settled texts t (ColumnsName n) settled name = under_settled texts t (headings_by t (ColumnsName n)) settled name (headings_part texts t settled)
+named_settled texts t Kept settled name = search (under_settled, columns_name_part, headings_part)
+named_settled texts t (Name n) settled name = search (under_settled, columns_name_part)
+named_settled texts t (ColumnsName n) settled name = search (under_settled, headings_part)
 
 -- the table may be made
 pub whole_named : (texts : List Text) (t : NumberedTable) (naming : Naming) (h : HeadingList) (blocks : List CellBlock) → IsWhole t → IsNaming t naming → AreColumns texts (length t.labels) (length t.columns) blocks → h ≡ headings_by t naming
     → IsWhole (table_with t.shape (axis_of t) h (map block_column blocks))
-whole_named texts t naming h blocks whole is made same = subst (λ (x : HeadingList). IsWhole (table_with t.shape (axis_of t) x (map block_column blocks))) (sym same) (whole_by texts t naming blocks whole is made)
+whole_named texts t naming h blocks whole is made same = rw same (whole_by texts t naming blocks whole is made)
 
 module _ (old new : List Text) (t made : NumberedTable) (naming : Naming) (h : HeadingList) (blocks : List CellBlock) where
   made_by : h ≡ headings_by t naming → made ≡ table_with t.shape (axis_of t) h (map block_column blocks) → made ≡ table_with t.shape (axis_of t) (headings_by t naming) (map block_column blocks)
-  made_by same is = is ∙ ap (λ (x : HeadingList). table_with t.shape (axis_of t) x (map block_column blocks)) same
+  made_by same is = cc
 
   -- it is settled, and it is what is meant
   pub named_is_settled : IsLonger old new → IsSettled table_value old t → IsSettledNaming old naming → AreColumns new (length t.labels) (length t.columns) blocks → h ≡ headings_by t naming
       → made ≡ table_with t.shape (axis_of t) h (map block_column blocks) → IsSettled table_value new made
-  named_is_settled longer settled name columns same is =
-      subst (IsSettled table_value new) (sym (made_by same is))
-      (made_is_settled old new t (headings_by t naming) blocks (length t.labels) (length t.columns) longer (named_settled old t naming settled name) columns)
+  named_is_settled longer settled name columns same is = search (made_by, made_is_settled, named_settled)
 
   pub named_is_meant : (meant : Result (List (ColumnOf CellValue)) FaultValue) → IsLonger old new → IsSettled table_value old t → IsSettledNaming old naming → h ≡ headings_by t naming
       → made ≡ table_with t.shape (axis_of t) h (map block_column blocks) → meant ≡ Ok (blocks_value new blocks)
       → then_value meant (λ columns. Ok (value.table (with_columns (table_value old (named_by t naming)) columns))) ≡ Ok (value.table (table_value new made))
-  named_is_meant meant longer settled name same is columns =
-      made_is_meant old new t (headings_by t naming) blocks meant longer (named_settled old t naming settled name) columns
-      ∙ ap (λ (x : NumberedTable). Ok (value.table (table_value new x))) (sym (made_by same is))
+  named_is_meant meant longer settled name same is columns = grind (arith, made_is_meant, named_settled, made_by)

@@ -1,82 +1,69 @@
 -- Frames under joined labels of columns.
 use Rattle.{
-  std.{proofs.{Common.{◌≡◌, ◌≢◌, ◌∙◌, ◌<◌, ◌+◌, ◌++◌, ℕ, zero, suc, pos, List, [], ◌∷◌, length, map, take, replicate, refl, ap, sym, subst, arith, add-one, All, Option, Some, None, Result, Ok, Err, slice_index_or}, Math.ListN.{get_or-map}, lemmas.{List.{length-map, length-replicate, map-append, take_more, Elements.{All-nil, All-cons, All-head, All-tail, All-map, All-replicate}}, Option.{get_or_from_slice_get}}}, specs.Prelude.{slice_get, IsSome, IfOk, unwrap_or}},
-  cell_core.specs.{declared.{cell.{Cell.{Cell, TheVariants.{Na}}, Kind.{Kind, TheVariants.{Int64}}, Label.{Label}}, grid.Shape.{Shape, TheVariants.{Series, Frame}}}, Texts.{AreGiven, IsGiven}},
-  meaning.specs.{Text.{Text}, Cell.{CellValue, LabelValue, int, na_cell, datum}},
+  std.{proofs.{Common.{◌≡◌, ◌≢◌, ◌∙◌, ◌<◌, ◌+◌, ◌++◌, ℕ, zero, suc, pos, List, [], ◌∷◌, length, map, take, replicate, refl, ap, sym, subst, arith, add-one, All, Option, Some, None, Result, slice_index_or}, Math.ListN.{get_or-map}, lemmas.{List.{length-map, length-replicate, map-append, take_more, Elements.{All-nil, All-cons, All-head, All-tail, All-map, All-replicate}}, Option.{get_or_from_slice_get}}}, specs.Prelude.{slice_get, IsSome, IfOk, unwrap_or}},
+  cell_core.specs.{declared.{cell.{Cell.{Cell, TheVariants.{Na}}, Kind.TheVariants.{Int64}, Label.{Label}}, grid.Shape.{Shape, TheVariants.{Frame}}}, Texts.{AreGiven, IsGiven}},
+  meaning.specs.{Text.{Text}, Cell.{LabelValue, int, na_cell, datum}},
   column_core.specs.{Blocks.{CellBlock}, Columns.{CellColumn}, Moves.{IsPlaceOf}},
   multi_index.specs.Axes.{AxisValue, HaveLevels},
   table_meaning.specs.{Settled.{IsSettled}, Table.{ColumnOf, NumberedTable, column_at, column_value, heading_value, tuple_value, table_value, no_column}, Valid.{AreHeadings, IsWhole}},
   form_meaning.specs.{Finish.{column_labels}, Infix.{tuple_heading, column_or_missing, columns_or_missing, on_columns}},
-  frame_store.{specs.{Parts.{HeadingList, with_heading, block_column, table_column, table_with, axis_of}, Shown.{labels_value, headings_value, columns_value}, World.{IsKnownTable}}, proofs.Settling.{settled_by, table_settled, columns_settled, columns_given, columns_name_part, level_names_part, labels_part, headings_part, columns_part}},
+  frame_store.{specs.{Parts.{HeadingList, with_heading, block_column, table_column}, Shown.{labels_value, headings_value, columns_value}, World.{IsKnownTable}}, proofs.Settling.{settled_by, table_settled, columns_settled, columns_given, columns_name_part, level_names_part, labels_part, headings_part, columns_part}},
   frame_ops.{specs.{Joining.{AreApart, AreSideRows}, Widening.{heading_tuple, labels_axis, headings_of_keys, widened, AreColumnKeys}}, proofs.AnswerLaws.{map-replicate}},
 }
 
 -- labels of columns as tuples
 single : (h : Option Label) → length (heading_tuple h) ≡ 1
-single None = refl
-single (Some l) = refl
+single x = grind arith
 
 pub tuples_alike : (hs : List (Option Label)) → HaveLevels 1 (map heading_tuple hs)
-tuples_alike hs = All-map (λ (tuple : List Label). length tuple ≡ 1) heading_tuple hs (λ k d lt. single (slice_index_or hs k d))
+tuples_alike hs = All-map (λ tuple. length tuple ≡ 1) heading_tuple hs (λ k d lt. single (slice_index_or hs k d))
 
 abbrev label_tuple : Option LabelValue → List LabelValue
 label_tuple h = unwrap_or h (int (pos 0)) ∷ []
 
 tuple_seen : (texts : List Text) (h : Option Label) → label_tuple (heading_value texts h) ≡ tuple_value texts (heading_tuple h)
-tuple_seen texts None = refl
-tuple_seen texts (Some l) = refl
+tuple_seen texts x = grind arith
 
 pub tuples_seen : (texts : List Text) (hs : List (Option Label)) → map label_tuple (headings_value texts hs) ≡ labels_value texts (map heading_tuple hs)
 tuples_seen texts [] = refl
 tuples_seen texts (h ∷ hs) = λ j. tuple_seen texts h j ∷ tuples_seen texts hs j
 
 pub labels_seen : (texts : List Text) (x : AxisValue) (t : NumberedTable) → x ≡ labels_axis t → labels_value texts x.tuples ≡ column_labels (table_value texts t)
-labels_seen texts x t is = ap (λ (a : AxisValue). labels_value texts a.tuples) is ∙ sym (tuples_seen texts t.headings)
+labels_seen texts x t is = grind (arith, tuples_seen)
 
 pub labels_given : (texts : List Text) (x : AxisValue) (t : NumberedTable) → x ≡ labels_axis t → IsSettled table_value texts t → IsSettled labels_value texts x.tuples
-labels_given texts x t is settled =
-    subst (λ (a : AxisValue). IsSettled labels_value texts a.tuples) (sym is)
-    (settled_by headings_value labels_value (map label_tuple) texts t.headings (map heading_tuple t.headings) (λ more. tuples_seen more t.headings) (headings_part texts t settled))
-
-pub one_name : (x y : AxisValue) (t u : NumberedTable) → x ≡ labels_axis t → y ≡ labels_axis u → length x.names ≡ length y.names
-one_name x y t u is is' = ap (λ (a : AxisValue). length a.names) is ∙ sym (ap (λ (a : AxisValue). length a.names) is')
+labels_given texts x t is settled = rw is (settled_by headings_value labels_value (map label_tuple) texts t.headings (map heading_tuple t.headings) (λ more. tuples_seen more t.headings) (headings_part texts t settled))
 
 -- headings that differ are tuples that differ
 tuple_apart : (g h : Option Label) → IsSome g → IsSome h → g ≢ h → heading_tuple g ≢ heading_tuple h
-tuple_apart None h some some' apart = cc
-tuple_apart (Some l) None some some' apart = cc
-tuple_apart (Some l) (Some m) some some' apart = λ e. let same : l ≡ m = cc in apart (ap Some same)
+tuple_apart x h some some' apart = grind arith
 
 pub labels_apart : (x : AxisValue) (t : NumberedTable) → x ≡ labels_axis t → IsWhole t → t.shape ≡ Frame → AreApart x.tuples
 labels_apart x t is whole frame =
-    subst (λ (a : AxisValue). AreApart a.tuples) (sym is) (λ i j d lt inside.
+    subst (λ a. AreApart a.tuples) (sym is) (λ i j d lt inside.
     let within : j < length t.headings = omega (arith, inside, length-map t.headings heading_tuple) in
     let before : i < length t.headings = omega (arith, lt, within) in
-    subst (λ (p : List Label). p ≢ slice_index_or (map heading_tuple t.headings) j d) (sym (at_heading t.headings i d before))
-    (subst (λ (q : List Label). heading_tuple (slice_index_or t.headings i None) ≢ q) (sym (at_heading t.headings j d within))
-    (tuple_apart (slice_index_or t.headings i None) (slice_index_or t.headings j None) (whole.headings.labelled frame i None before) (whole.headings.labelled frame j None within) (whole.headings.different frame i j None lt within))))
+    subst (λ p. p ≢ slice_index_or (map heading_tuple t.headings) j d) (sym (at_heading t.headings i d before))
+    (grind (arith, at_heading, tuple_apart)))
   where
     at_heading : (hs : List (Option Label)) (k : ℕ) (d : List Label) → k < length hs → slice_index_or (map heading_tuple hs) k d ≡ heading_tuple (slice_index_or hs k None)
-    at_heading [] k d inside = absurd (omega (arith, inside))
+    at_heading [] k d inside = grind arith
     at_heading (h ∷ hs) zero d inside = refl
     at_heading (h ∷ hs) (suc k) d inside = at_heading hs k d (omega (arith, inside))
 
 pub if_both : {A E : Type 0} (P Q R : A → Type 0) → ((x : A) → P x → Q x → R x) → (r : Result A E) → IfOk r P → IfOk r Q → IfOk r R
-if_both P Q R so (Ok x) p q = so x p q
-if_both P Q R so (Err e) p q = tt
+if_both x1 x2 x3 so x4 p q = grind arith
 
 -- the headings of keys, one more of them
 first_label : (tuple : List Label) (l : Label) → slice_get tuple 0 ≡ Some l → tuple_heading tuple ≡ Some l
-first_label [] l e = cc
-first_label (x ∷ xs) l e = e
+first_label x1 l e = grind arith
 
 pub one_more_key : (name : Option Label) (keys : List (List Label)) (place : ℕ) (tuple : List Label) (l : Label) (h h' : HeadingList) → place < length keys → h ≡ headings_of_keys name (take place keys)
     → slice_get keys place ≡ Some tuple → slice_get tuple 0 ≡ Some l → h' ≡ with_heading h (Some l) → h' ≡ headings_of_keys name (take (place + 1) keys)
 one_more_key name keys place tuple l h h' lt before at first pushed =
-    let here : tuple_heading (slice_index_or keys place []) ≡ Some l = ap tuple_heading (get_or_from_slice_get keys place tuple [] at) ∙ first_label tuple l first in
-    let all : map tuple_heading (take (place + 1) keys) ≡ map tuple_heading (take place keys) ++ Some l ∷ [] =
-    ap (map tuple_heading) (take_more keys place [] lt) ∙ map-append tuple_heading (take place keys) (slice_index_or keys place [] ∷ []) ∙ ap (λ g. map tuple_heading (take place keys) ++ g ∷ []) here in
-    pushed ∙ ap (λ (x : HeadingList). with_heading x (Some l)) before ∙ (λ i. record { columns_name = name; labels = sym all i })
+    let here : tuple_heading (slice_index_or keys place []) ≡ Some l = grind (arith, get_or_from_slice_get, first_label) in
+    let all : map tuple_heading (take (place + 1) keys) ≡ map tuple_heading (take place keys) ++ Some l ∷ [] = cc (take_more keys place [] lt, map-append tuple_heading (take place keys) (slice_index_or keys place [] ∷ [])) in
+    search
 
 pub no_keys : (name : Option Label) (keys : List (List Label)) → headings_of_keys name (take 0 keys) ≡ record { columns_name = name; labels = [] }
 no_keys name keys = refl
@@ -85,18 +72,14 @@ no_keys name keys = refl
 module _ (na : Cell) (count : ℕ) (own other : List (ColumnOf Cell)) where
   one_more_column : (k : ℕ) (ps os : List (Option ℕ)) → k < length ps → length os ≡ length ps
       → columns_or_missing na count own other (take (suc k) ps) (take (suc k) os) ≡ columns_or_missing na count own other (take k ps) (take k os) ++ column_or_missing na count own other (slice_index_or ps k None) (slice_index_or os k None) ∷ []
-  one_more_column k [] os lt same = absurd (omega (arith, lt))
-  one_more_column k (p ∷ ps) [] lt same = absurd (omega (arith, same))
+  one_more_column k [] os lt same = grind arith
+  one_more_column k (p ∷ ps) [] lt same = search
   one_more_column zero (p ∷ ps) (o ∷ os) lt same = refl
-  one_more_column (suc k) (p ∷ ps) (o ∷ os) lt same = ap (λ l. column_or_missing na count own other p o ∷ l) (one_more_column k ps os (omega (arith, lt)) (omega (arith, same)))
-
-  pub one_more_wide : (k : ℕ) (ps os : List (Option ℕ)) → k < length ps → length os ≡ length ps
-      → columns_or_missing na count own other (take (k + 1) ps) (take (k + 1) os) ≡ columns_or_missing na count own other (take k ps) (take k os) ++ column_or_missing na count own other (slice_index_or ps k None) (slice_index_or os k None) ∷ []
-  one_more_wide k ps os lt same = ap (λ n. columns_or_missing na count own other (take n ps) (take n os)) (add-one k) ∙ one_more_column k ps os lt same
+  one_more_column (suc k) (p ∷ ps) (o ∷ os) lt same = cc (one_more_column k ps os (omega (arith, lt)) (omega (arith, same)))
 
 pub length-wide : {C : Type 0} (na : C) (count : ℕ) (own other : List (ColumnOf C)) (ps os : List (Option ℕ)) → length os ≡ length ps → length (columns_or_missing na count own other ps os) ≡ length ps
 length-wide na count own other [] os same = refl
-length-wide na count own other (p ∷ ps) [] same = absurd (omega (arith, same))
+length-wide na count own other (p ∷ ps) [] same = search
 length-wide na count own other (p ∷ ps) (o ∷ os) same = ap suc (length-wide na count own other ps os (omega (arith, same)))
 
 all_wide : (P : ColumnOf Cell → Type 0) (count : ℕ) (own other : List (ColumnOf Cell)) → ((p o : Option ℕ) → IsPlaceOf (length own) p → P (column_or_missing Na count own other p o)) → (ps os : List (Option ℕ)) → All (IsPlaceOf (length own)) ps → All P (columns_or_missing Na count own other ps os)
@@ -113,7 +96,7 @@ module _ (texts : List Text) (count : ℕ) (own other : List (ColumnOf Cell)) wh
   wide_column_seen : (p o : Option ℕ) → column_value texts (column_or_missing Na count own other p o) ≡ column_or_missing na_cell count (columns_value texts own) (columns_value texts other) p o
   wide_column_seen (Some p) o = column_seen own p
   wide_column_seen None (Some o) =
-      let kind = ap (λ (c : ColumnOf CellValue). c.kind) (column_seen other o) in
+      let kind = ap (λ c. c.kind) (column_seen other o) in
       λ i. record { kind = kind i; cells = map-replicate (datum texts) count Na i }
   wide_column_seen None None = λ i. record { kind = Int64; cells = map-replicate (datum texts) count Na i }
 
@@ -123,8 +106,7 @@ module _ (texts : List Text) (count : ℕ) (own other : List (ColumnOf Cell)) wh
   wide_seen (p ∷ ps) (o ∷ os) = λ i. wide_column_seen p o i ∷ wide_seen ps os i
 
 key_seen : (texts : List Text) (tuple : List Label) → heading_value texts (tuple_heading tuple) ≡ tuple_heading (tuple_value texts tuple)
-key_seen texts [] = refl
-key_seen texts (l ∷ ls) = refl
+key_seen texts x = grind arith
 
 pub keys_seen : (texts : List Text) (keys : List (List Label)) → headings_value texts (map tuple_heading keys) ≡ map tuple_heading (labels_value texts keys)
 keys_seen texts [] = refl
@@ -132,74 +114,56 @@ keys_seen texts (k ∷ keys) = λ i. key_seen texts k i ∷ keys_seen texts keys
 
 module _ (own other : NumberedTable) (keys : List (List Label)) (places opposites : List (Option ℕ)) where
   pub widened_seen : (texts : List Text) → table_value texts (widened own other keys places opposites) ≡ on_columns (table_value texts own) (table_value texts other) (labels_value texts keys) places opposites
-  widened_seen texts =
-      let columns : columns_value texts (columns_or_missing Na (length own.labels) own.columns other.columns places opposites) ≡ columns_or_missing na_cell (length (labels_value texts own.labels)) (columns_value texts own.columns) (columns_value texts other.columns) places opposites =
-      wide_seen texts (length own.labels) own.columns other.columns places opposites ∙ ap (λ n. columns_or_missing na_cell n (columns_value texts own.columns) (columns_value texts other.columns) places opposites) (sym (length-map own.labels (tuple_value texts))) in
-      λ i. record (table_value texts own) { headings = keys_seen texts keys i; columns = columns i }
+  widened_seen texts = search (wide_seen, length-map, keys_seen)
 
   -- it is whole
   heading_some : (tuple : List Label) → length tuple ≡ 1 → IsSome (tuple_heading tuple)
-  heading_some [] e = absurd (omega (arith, e))
-  heading_some (l ∷ ls) e = refl
+  heading_some x e = grind arith
 
   heading_apart : (s t : List Label) → length s ≡ 1 → length t ≡ 1 → s ≢ t → tuple_heading s ≢ tuple_heading t
-  heading_apart [] t one one' apart = absurd (omega (arith, one))
-  heading_apart (l ∷ m ∷ ls) t one one' apart = absurd (omega (arith, one))
-  heading_apart (l ∷ []) [] one one' apart = absurd (omega (arith, one'))
-  heading_apart (l ∷ []) (k ∷ m ∷ ms) one one' apart = absurd (omega (arith, one'))
-  heading_apart (l ∷ []) (k ∷ []) one one' apart = λ e. let same : l ≡ k = cc in apart (ap (λ x. x ∷ []) same)
+  heading_apart [] t one one' apart = grind arith
+  heading_apart (l ∷ m ∷ ls) t one one' apart = grind arith
+  heading_apart (l ∷ []) [] one one' apart = grind arith
+  heading_apart (l ∷ []) (k ∷ m ∷ ms) one one' apart = grind arith
+  heading_apart (l ∷ []) (k ∷ []) one one' apart = grind arith
 
   at_key : (ks : List (List Label)) (k : ℕ) (d : Option Label) → k < length ks → slice_index_or (map tuple_heading ks) k d ≡ tuple_heading (slice_index_or ks k [])
-  at_key [] k d inside = absurd (omega (arith, inside))
+  at_key [] k d inside = grind arith
   at_key (t ∷ ks) zero d inside = refl
   at_key (t ∷ ks) (suc k) d inside = at_key ks k d (omega (arith, inside))
 
   keys_head : (shape : Shape) → shape ≡ Frame → (name : Option Label) → AreColumnKeys keys → AreHeadings shape name (map tuple_heading keys)
-  keys_head Series frame name are = cc
-  keys_head Frame frame name are = record {
-    single = λ e. cc;
-    nameless = λ e. cc;
-    labelled = λ e. All-map IsSome tuple_heading keys (λ k d lt. heading_some (slice_index_or keys k d) (are.single k d lt));
-    different = λ e i j d lt inside.
-        let within : j < length keys = omega (arith, inside, length-map keys tuple_heading) in
-        let before : i < length keys = omega (arith, lt, within) in
-        subst (λ (p : Option Label). p ≢ slice_index_or (map tuple_heading keys) j d) (sym (at_key keys i d before))
-        (subst (λ (q : Option Label). tuple_heading (slice_index_or keys i []) ≢ q) (sym (at_key keys j d within))
-        (heading_apart (slice_index_or keys i []) (slice_index_or keys j []) (are.single i [] before) (are.single j [] within) (are.apart i j [] lt within)));
-  }
+  keys_head x frame name are = grind (arith, single, heading_some, length-map, at_key, heading_apart)
 
   pub widened_whole : IsWhole own → own.shape ≡ Frame → AreColumnKeys keys → length places ≡ length keys → length opposites ≡ length places → All (IsPlaceOf (length own.columns)) places → IsWhole (widened own other keys places opposites)
   widened_whole whole frame are many many' inside = record {
-    headed = length-map keys tuple_heading ∙ sym many ∙ sym (length-wide Na (length own.labels) own.columns other.columns places opposites many');
-    filled = all_wide (λ c. length c.cells ≡ length own.labels) (length own.labels) own.columns other.columns column_filled places opposites inside;
-    headings = keys_head own.shape frame own.columns_name are;
+    headed = grind (arith, length-map, length-wide);
+    filled = search (all_wide, column_filled);
+    headings = search keys_head;
   }
     where
       column_filled : (p o : Option ℕ) → IsPlaceOf (length own.columns) p → length (column_or_missing Na (length own.labels) own.columns other.columns p o).cells ≡ length own.labels
-      column_filled (Some p) o within = whole.filled p no_column within
-      column_filled None (Some o) within = length-replicate (length own.labels) Na
-      column_filled None None within = length-replicate (length own.labels) Na
+      column_filled (Some p) o within = grind arith
+      column_filled None (Some o) within = search length-replicate
+      column_filled None None within = search length-replicate
 
   pub widened_given : (texts : List Text) → IsSettled table_value texts own → IsSettled labels_value texts keys → All (IsPlaceOf (length own.columns)) places → IsSettled table_value texts (widened own other keys places opposites)
   widened_given texts settled given inside =
       table_settled texts (widened own other keys places opposites) (columns_name_part texts own settled) (level_names_part texts own settled) (labels_part texts own settled)
-      (settled_by labels_value headings_value (map tuple_heading) texts keys (map tuple_heading keys) (λ more. sym (keys_seen more keys)) given)
+      (grind (arith, settled_by, keys_seen))
       (columns_settled texts (columns_or_missing Na (length own.labels) own.columns other.columns places opposites) (all_wide (λ c. AreGiven texts c.cells) (length own.labels) own.columns other.columns column_given places opposites inside))
     where
       missing_given : (n : ℕ) → AreGiven texts (replicate n Na)
       missing_given n = All-replicate (IsGiven texts) n Na tt
 
       column_given : (p o : Option ℕ) → IsPlaceOf (length own.columns) p → AreGiven texts (column_or_missing Na (length own.labels) own.columns other.columns p o).cells
-      column_given (Some p) o within = columns_given texts own.columns (columns_part texts own settled) p no_column within
-      column_given None (Some o) within = missing_given (length own.labels)
-      column_given None None within = missing_given (length own.labels)
-
-  pub widened_many : length places ≡ length keys → length opposites ≡ length keys → length (widened own other keys places opposites).columns ≡ length keys
-  widened_many many many' = length-wide Na (length own.labels) own.columns other.columns places opposites (many' ∙ sym many) ∙ many
+      column_given (Some p) o within = search (columns_given, columns_part)
+      column_given None (Some o) within = search missing_given
+      column_given None None within = search missing_given
 
 -- rows of the labels of columns are places of columns
 pub side_places : (t : NumberedTable) (count : ℕ) (rows : List (Option ℕ)) → IsWhole t → AreSideRows count (labels_axis t) rows → All (IsPlaceOf (length t.columns)) rows
-side_places t count rows whole side = subst (λ n. All (IsPlaceOf n) rows) (length-map t.headings heading_tuple ∙ whole.headed) side.places
+side_places t count rows whole side = grind (arith, length-map)
 
 pub known_wide : (texts : List Text) (own other : NumberedTable) (keys : List (List Label)) (places opposites : List (Option ℕ)) → IsKnownTable texts own → own.shape ≡ Frame → AreColumnKeys keys → IsSettled labels_value texts keys
     → AreSideRows (length keys) (labels_axis own) places → AreSideRows (length keys) (labels_axis other) opposites → IsKnownTable texts (widened own other keys places opposites)
@@ -207,45 +171,22 @@ known_wide texts own other keys places opposites known frame are given side side
     let inside = side_places own (length keys) places known.whole side in
     record {
       whole = widened_whole own other keys places opposites known.whole frame are side.count_is (side'.count_is ∙ sym side.count_is) inside;
-      given = widened_given own other keys places opposites texts known.given given inside;
+      given = search widened_given;
     }
-
-pub wide_made : (own other : NumberedTable) (keys : List (List Label)) (places opposites : List (Option ℕ)) (shape : Shape) (name : Option Label) (old axis : AxisValue) (headings : HeadingList) (blocks : List CellBlock)
-    → shape ≡ own.shape → name ≡ own.columns_name → old ≡ axis_of own → axis ≡ old → headings ≡ headings_of_keys name keys → map block_column blocks ≡ columns_or_missing Na (length own.labels) own.columns other.columns places opposites
-    → table_with shape axis headings (map block_column blocks) ≡ widened own other keys places opposites
-wide_made own other keys places opposites shape name old axis headings blocks shaped named is same headed columns =
-    λ i. table_with (shaped i) ((same ∙ is) i) ((headed ∙ ap (λ (n : Option Label). headings_of_keys n keys) named) i) (columns i)
 
 -- a column of a side, or a missing one
 pub own_column : {E : Type 0} (r : Result CellColumn E) (a : CellColumn) (count : ℕ) (own other : List (ColumnOf Cell)) (place opposite : Option ℕ) (p : ℕ) → place ≡ Some p → column_at own p ≡ table_column a → IfOk r (λ c. c ≡ a)
     → IfOk r (λ made. table_column made ≡ column_or_missing Na count own other place opposite)
-own_column (Ok c) a count own other place opposite p is at made = ap table_column made ∙ sym at ∙ sym (ap (λ (o : Option ℕ). column_or_missing Na count own other o opposite) is)
-own_column (Err e) a count own other place opposite p is at made = tt
-
-pub missing_opposite : {E : Type 0} (r : Result CellColumn E) (kind : Kind) (rows count : ℕ) (own other : List (ColumnOf Cell)) (place opposite : Option ℕ) (o : ℕ) → place ≡ None → opposite ≡ Some o → kind ≡ (column_at other o).kind → rows ≡ count
-    → IfOk r (λ c. c ≡ record { kind = kind; cells = replicate rows Na }) → IfOk r (λ made. table_column made ≡ column_or_missing Na count own other place opposite)
-missing_opposite (Ok c) kind rows count own other place opposite o none is kinds many made =
-    ap table_column made ∙ (λ i. record { kind = kinds i; cells = replicate (many i) Na }) ∙ sym (λ i. column_or_missing Na count own other (none i) (is i))
-missing_opposite (Err e) kind rows count own other place opposite o none is kinds many made = tt
-
-pub missing_both : {E : Type 0} (r : Result CellColumn E) (rows count : ℕ) (own other : List (ColumnOf Cell)) (place opposite : Option ℕ) → place ≡ None → opposite ≡ None → rows ≡ count
-    → IfOk r (λ c. c ≡ record { kind = Int64; cells = replicate rows Na }) → IfOk r (λ made. table_column made ≡ column_or_missing Na count own other place opposite)
-missing_both (Ok c) rows count own other place opposite none none' many made =
-    ap table_column made ∙ (λ i. record { kind = Int64; cells = replicate (many i) Na }) ∙ sym (λ i. column_or_missing Na count own other (none i) (none' i))
-missing_both (Err e) rows count own other place opposite none none' many made = tt
+own_column x a count own other place opposite p is at made = grind arith
 
 pub place_at : (count : ℕ) (ps : List (Option ℕ)) (k : ℕ) (p : Option ℕ) → All (IsPlaceOf count) ps → k < length ps → slice_get ps k ≡ Some p → IsPlaceOf count p
-place_at count ps k p all lt at = subst (IsPlaceOf count) (get_or_from_slice_get ps k p None at) (all k None lt)
+place_at count ps k p all lt at = grind (arith, get_or_from_slice_get)
 
 pub wide_step : (count : ℕ) (own other : List (ColumnOf Cell)) (ps os : List (Option ℕ)) (k : ℕ) (p o : Option ℕ) (made made' : List CellBlock) (block : CellBlock) (column : CellColumn)
     → k < length ps → length os ≡ length ps → slice_get ps k ≡ Some p → slice_get os k ≡ Some o
     → map block_column made ≡ columns_or_missing Na count own other (take k ps) (take k os) → made' ≡ made ++ block ∷ [] → block ≡ record { kind = column.kind; rows = length column.cells; columns = column.cells ∷ [] }
     → table_column column ≡ column_or_missing Na count own other p o → map block_column made' ≡ columns_or_missing Na count own other (take (k + 1) ps) (take (k + 1) os)
 wide_step count own other ps os k p o made made' block column lt same at at' before pushed is here =
-    let place : slice_index_or ps k None ≡ p = get_or_from_slice_get ps k p None at in
-    let opposite : slice_index_or os k None ≡ o = get_or_from_slice_get os k o None at' in
-    let next : block_column block ≡ column_or_missing Na count own other (slice_index_or ps k None) (slice_index_or os k None) =
-    ap block_column is ∙ here ∙ (λ i. column_or_missing Na count own other (sym place i) (sym opposite i)) in
-    ap (map block_column) pushed ∙ map-append block_column made (block ∷ [])
-    ∙ (λ i. before i ++ next i ∷ [])
-    ∙ sym (one_more_wide Na count own other k ps os lt same)
+    let place = get_or_from_slice_get ps k p None at in
+    let opposite = get_or_from_slice_get os k o None at' in
+    grind (arith, map-append, add-one, one_more_column)

@@ -1,7 +1,7 @@
 -- What the calls on groups answer, as columns.
 use Rattle.{
-  std.proofs.{Common.{◌≡◌, ◌∙◌, ap, refl, sym, subst, ℕ, true, false, cond, List, [], ◌∷◌, map, length, slice_index_or, Option, Some, None, Ok, Err, inl, inr}, Math.ListN.{get_or-map}, lemmas.{Bool.{cases_lt}, List.{get_or_past, Elements.{All-map}}}},
-  cell_core.specs.{declared.cell.{Cell.{Cell, TheVariants.{Na}}, Kind.{Kind, TheVariants.{Int64, Boolean, Text as string}}}, contracts.cell.KindPartialEq.TheImpl.{eq-value}},
+  std.proofs.{Common.{arith, ◌≡◌, ◌∙◌, ap, refl, sym, ℕ, true, false, cond, List, [], ◌∷◌, map, length, slice_index_or, Option, Some, None, Ok, Err}, Math.ListN.{get_or-map}, lemmas.{Bool.{cases_lt}, List.{get_or_past, Elements.{All-map}}}},
+  cell_core.specs.{declared.cell.{Cell.{Cell, TheVariants.{Na}}, Kind.{Kind, TheVariants.{Int64, Text as string}}}, contracts.cell.KindPartialEq.TheImpl.{eq-value}},
   meaning.specs.{Cell.{na_cell, datum, IsGiven, AreGiven}, Column.{kind_mismatch, tabulate, gap_cell, taken}, Cumulate.{cumulation_takes}},
   column_core.specs.Columns.{CellColumn, column_value},
   group_meaning.specs.{Rows.{GroupsValue}, Reductions.{GroupReduction, group_takes, group_kind, reduced_cells, running_cell, transform_groups, cumsum_groups}},
@@ -11,9 +11,7 @@ use Rattle.meaning.specs.Cumulate as cumulation
 
 -- all kinds but texts are summed
 kind_summed : (k : Kind) → eq-value.it k string ≡ false → cumulation_takes cumulation.sum k ≡ true
-kind_summed Int64 other = refl
-kind_summed Boolean other = refl
-kind_summed string other = absurd cc
+kind_summed x other = grind arith
 
 pub cumsum_answer : (texts : List (List ℕ)) (groups groups' : GroupsValue) (a made : CellColumn) → groups' ≡ groups → eq-value.it a.kind string ≡ false
     → AreNumbers made (λ ts. tabulate (length groups'.codes) (running_cell groups'.codes (map (datum ts) a.cells))) → cumsum_groups groups (column_value texts a) ≡ Ok (column_value texts made)
@@ -25,9 +23,7 @@ cumsum_answer texts groups groups' a made same other are =
 
 pub transform_answer : (op : GroupReduction) (texts : List (List ℕ)) (groups : GroupsValue) (a made : CellColumn) → group_takes op a.kind ≡ true → made.kind ≡ group_kind op a.kind
     → map (datum texts) made.cells ≡ map (gap_cell na_cell (reduced_cells op groups (map (datum texts) a.cells))) groups.codes → transform_groups op groups (column_value texts a) ≡ Ok (column_value texts made)
-transform_answer op texts groups a made takes kinds cells =
-    ap (λ b. cond b (Ok record { kind = group_kind op a.kind; cells = map (gap_cell na_cell (reduced_cells op groups (map (datum texts) a.cells))) groups.codes }) (Err kind_mismatch)) takes
-    ∙ (λ i. Ok record { kind = sym kinds i; cells = sym cells i })
+transform_answer op texts groups a made takes kinds cells = search
 
 -- cells that are taken, with their texts
 gap_seen : (texts : List (List ℕ)) (cells : List Cell) (gap : Option ℕ) → datum texts (gap_cell Na cells gap) ≡ gap_cell na_cell (map (datum texts) cells) gap
@@ -36,14 +32,10 @@ gap_seen texts cells (Some place) = sym (get_or-map (datum texts) cells place Na
 
 pub gaps_seen : (texts : List (List ℕ)) (cells : List Cell) (gaps : List (Option ℕ)) → map (datum texts) (taken Na cells gaps) ≡ map (gap_cell na_cell (map (datum texts) cells)) gaps
 gaps_seen texts cells [] = refl
-gaps_seen texts cells (gap ∷ gaps) = λ i. gap_seen texts cells gap i ∷ gaps_seen texts cells gaps i
+gaps_seen texts cells (gap ∷ gaps) = search (gap_seen, gaps_seen texts cells gaps)
 
 gap_given : (texts : List (List ℕ)) (cells : List Cell) → AreGiven texts cells → (gap : Option ℕ) → IsGiven texts (gap_cell Na cells gap)
-gap_given texts cells given None = tt
-gap_given texts cells given (Some place) = elim (cases_lt place (length cells)) as (λ w. IsGiven texts (slice_index_or cells place Na)) [
-  | inl lt ↦ given place Na lt
-  | inr le ↦ subst (IsGiven texts) (sym (get_or_past cells place Na le)) tt
-]
+gap_given texts cells given x = grind (arith, cases_lt, get_or_past)
 
 pub taken_given : (texts : List (List ℕ)) (cells : List Cell) (gaps : List (Option ℕ)) → AreGiven texts cells → AreGiven texts (taken Na cells gaps)
 taken_given texts cells gaps given = All-map (IsGiven texts) (gap_cell Na cells) gaps (λ k d lt. gap_given texts cells given (slice_index_or gaps k d))

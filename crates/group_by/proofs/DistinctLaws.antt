@@ -1,8 +1,8 @@
 -- How many different cells each group has, with one cell more.
 use Rattle.{
-  std.{proofs.{Common.{◌≡◌, ◌∙◌, ◌+◌, ◌<◌, ◌≤◌, ◌==◌, ◌^◌, ap, refl, sym, subst, arith, ℕ, Bool, true, false, not, ◌&&◌, ◌||◌, cond, List, [], ◌∷◌, ◌++◌, filter, take, length, slice_index_or, All, Option, Some, None, length-append, append-nil}, lemmas.{Bool.{false≢true, eqb-true}, List.{length-map, get_or_default, Elements.{filter-append}, Folds.{list_any-append}}}}, specs.{List.{list_any}, Cmp.{IsEquivalence, nat_eq_equiv, on_equiv, and_equiv}}},
+  std.{proofs.{Common.{◌≡◌, ◌∙◌, ◌+◌, ◌<◌, ◌≤◌, ◌==◌, ◌^◌, ap, refl, sym, arith, ℕ, Bool, true, false, not, ◌&&◌, ◌||◌, cond, List, [], ◌∷◌, ◌++◌, filter, take, length, slice_index_or, All, Option, Some, None, length-append, append-nil}, lemmas.{Bool.{false≢true, eqb-true}, List.{length-map, get_or_default, Elements.{filter-append}, Folds.{list_any-append}}}}, specs.{List.{list_any}, Cmp.{IsEquivalence, nat_eq_equiv, on_equiv, and_equiv}}},
   indexmap.specs.IndexSet.{insert_key},
-  cell_core.specs.{declared.cell.Cell.{Cell, TheVariants.{Na, Int, Bool as Truth, Text as Words}}, contracts.cell.CellEq.TheImpl.Laws.{laws-law}},
+  cell_core.specs.{declared.cell.Cell.{Cell}, contracts.cell.CellEq.TheImpl.Laws.{laws-law}},
   meaning.specs.{Cell.{CellValue, na_cell, datum, AreDistinct, IsGiven}, Reduce.{is_present, present, same_cell, distinct, distinct_count}},
   nullable_array.proofs.DistinctLaws.{numbers_apart, truths_apart, texts_apart},
   row_keys.proofs.DistinctLaws.{covers_more},
@@ -14,22 +14,14 @@ use Rattle.{
 -- one more at the end, which is new or not
 distinct_push : {X : Type 0} (eq : X → X → Bool) (xs : List X) (x : X) → distinct eq (xs ++ x ∷ []) ≡ distinct eq xs ++ cond (list_any (eq x) xs) [] (x ∷ [])
 distinct_push eq [] x = refl
-distinct_push eq (k ∷ ks) x =
-    ap (λ l. k ∷ filter (λ q. not (eq q k)) l) (distinct_push eq ks x)
-    ∙ ap (λ l. k ∷ l) (filter-append (λ q. not (eq q k)) (distinct eq ks) (cond (list_any (eq x) ks) [] (x ∷ [])))
-    ∙ ap (λ l. k ∷ (filter (λ q. not (eq q k)) (distinct eq ks) ++ l)) (elim (list_any (eq x) ks) as (λ b. filter (λ q. not (eq q k)) (cond b [] (x ∷ [])) ≡ cond (eq x k || b) [] (x ∷ [])) [
-      | true ↦ elim (eq x k) as (λ t. [] ≡ cond (t || true) [] (x ∷ [])) [ true ↦ refl | false ↦ refl ]
-      | false ↦ elim (eq x k) as (λ t. cond (not t) (x ∷ []) [] ≡ cond (t || false) [] (x ∷ [])) [ true ↦ refl | false ↦ refl ]
-    ])
+distinct_push eq (k ∷ ks) x = grind (arith, filter-append, distinct_push eq ks x)
 
 counted_push : {X : Type 0} (eq : X → X → Bool) (xs : List X) (x : X) → length (distinct eq (xs ++ x ∷ [])) ≡ length (distinct eq xs) + cond (list_any (eq x) xs) 0 1
-counted_push eq xs x =
-    ap length (distinct_push eq xs x) ∙ length-append (distinct eq xs) (cond (list_any (eq x) xs) [] (x ∷ []))
-    ∙ ap (λ n. length (distinct eq xs) + n) (elim (list_any (eq x) xs) as (λ b. length (cond b [] (x ∷ [])) ≡ cond b 0 1) [ true ↦ refl | false ↦ refl ])
+counted_push eq xs x = grind (arith, distinct_push, length-append)
 
 filter_few : {X : Type 0} (p : X → Bool) (xs : List X) → length (filter p xs) ≤ length xs
 filter_few p [] = omega arith
-filter_few p (x ∷ xs) = elim (p x) as (λ b. length (cond b (x ∷ filter p xs) (filter p xs)) ≤ length (x ∷ xs)) [ true ↦ omega (arith, filter_few p xs) | false ↦ omega (arith, filter_few p xs) ]
+filter_few p (x ∷ xs) = grind (arith, filter_few p xs)
 
 distinct_few : {X : Type 0} (eq : X → X → Bool) (xs : List X) → length (distinct eq xs) ≤ length xs
 distinct_few eq [] = omega arith
@@ -40,26 +32,11 @@ few_distinct cells = omega (arith, distinct_few same_cell (present cells), filte
 
 -- a cell that is missing is not present, and the others are
 missing_value : (texts : List (List ℕ)) (c : Cell) → is_present (datum texts c) ≡ not (is_missing c)
-missing_value texts Na = refl
-missing_value texts (Int z) = refl
-missing_value texts (Truth b) = refl
-missing_value texts (Words id) = refl
+missing_value texts x = grind arith
 
 -- given cells that are present are told apart by number as they are by what they hold
 cells_apart : (texts : List (List ℕ)) → AreDistinct texts → (x y : Cell) → IsGiven texts x → IsGiven texts y → is_missing x ≡ false → is_missing y ≡ false → same_cell (datum texts x) (datum texts y) ≡ same_by_number x y
-cells_apart texts apart Na y hx hy px py = absurd (false≢true (sym px))
-cells_apart texts apart (Int x) Na hx hy px py = absurd (false≢true (sym py))
-cells_apart texts apart (Int x) (Int y) hx hy px py = numbers_apart x y
-cells_apart texts apart (Int x) (Truth y) hx hy px py = refl
-cells_apart texts apart (Int x) (Words y) hx hy px py = refl
-cells_apart texts apart (Truth x) Na hx hy px py = absurd (false≢true (sym py))
-cells_apart texts apart (Truth x) (Int y) hx hy px py = refl
-cells_apart texts apart (Truth x) (Truth y) hx hy px py = truths_apart x y
-cells_apart texts apart (Truth x) (Words y) hx hy px py = refl
-cells_apart texts apart (Words x) Na hx hy px py = absurd (false≢true (sym py))
-cells_apart texts apart (Words x) (Int y) hx hy px py = refl
-cells_apart texts apart (Words x) (Truth y) hx hy px py = refl
-cells_apart texts apart (Words x) (Words y) hx hy px py = texts_apart texts x y apart hx hy
+cells_apart texts apart x1 y hx hy px py = grind (arith, false≢true, numbers_apart, truths_apart, texts_apart)
 
 member_laws : IsEquivalence same_member
 member_laws = and_equiv (on_equiv (λ (p : ℕ × Cell). p.0) nat_eq_equiv) (on_equiv (λ (p : ℕ × Cell). p.1) laws-law)
@@ -68,8 +45,7 @@ member_more : (seen : List (ℕ × Cell)) (k q : ℕ × Cell) → list_any (same
 member_more seen k q = covers_more same_member member_laws k seen seen (λ p. refl) q ∙ list_any-append (same_member q) seen (k ∷ [])
 
 or_false : (b : Bool) → (b || false) ≡ b
-or_false true = refl
-or_false false = refl
+or_false x = grind arith
 
 module _ (texts : List (List ℕ)) (apart : AreDistinct texts) (codes : List (Option ℕ)) (cells : List CellValue) (row count : ℕ) (inside : row < length codes) (cell : Cell) (given : IsGiven texts cell) (here : slice_index_or cells row na_cell ≡ datum texts cell) (seen : List (ℕ × Cell)) where
   -- the present cells of a group in the rows below this one
@@ -84,19 +60,16 @@ module _ (texts : List (List ℕ)) (apart : AreDistinct texts) (codes : List (Op
   code = slice_index_or codes row None
 
   same_so_far : (group : ℕ) → is_in group code ≡ false → so_far (row + 1) group ≡ so_far row group
-  same_so_far group other = ap present (cells_same codes row inside cells group other)
+  same_so_far group other = search cells_same
 
   more_so_far : (group : ℕ) → code ≡ Some group → so_far (row + 1) group ≡ so_far row group ++ cond (not (is_missing cell)) (datum texts cell ∷ []) []
-  more_so_far group is =
-      ap present (cells_more codes row inside cells group is ∙ ap (λ v. cells_of_group group (take row codes) cells ++ v ∷ []) here)
-      ∙ filter-append is_present (cells_of_group group (take row codes) cells) (datum texts cell ∷ [])
-      ∙ ap (λ b. so_far row group ++ cond b (datum texts cell ∷ []) []) (missing_value texts cell)
+  more_so_far group is = cc (cells_more codes row inside cells group is, here, filter-append is_present (cells_of_group group (take row codes) cells) (datum texts cell ∷ []), missing_value texts cell)
 
   no_more : (group : ℕ) → code ≡ Some group → is_missing cell ≡ true → so_far (row + 1) group ≡ so_far row group
-  no_more group is missing = more_so_far group is ∙ ap (λ b. so_far row group ++ cond (not b) (datum texts cell ∷ []) []) missing ∙ append-nil (so_far row group)
+  no_more group is missing = grind (arith, more_so_far, append-nil)
 
   one_more : (group : ℕ) → code ≡ Some group → is_missing cell ≡ false → so_far (row + 1) group ≡ so_far row group ++ datum texts cell ∷ []
-  one_more group is present' = more_so_far group is ∙ ap (λ b. so_far row group ++ cond (not b) (datum texts cell ∷ []) []) present'
+  one_more group is present' = cc (more_so_far group is)
 
   module _ (were : AreSeen seen row) where
     -- what is seen after the row's cell was noted
@@ -107,96 +80,72 @@ module _ (texts : List (List ℕ)) (apart : AreDistinct texts) (codes : List (Op
         ∙ ap (λ b. b || (((g == group) && same_by_number c cell) || false)) (were g c hc pc)
         ∙ (elim (g == group) as (λ b. (g == group) ≡ b → (list_any (same_cell (datum texts c)) (so_far row g) || ((b && same_by_number c cell) || false)) ≡ list_any (same_cell (datum texts c)) (so_far (row + 1) g)) [
           | true ↦ λ e.
-              let mine : code ≡ Some g = is ∙ ap Some (sym (eqb-true g group e)) in
+              let mine : code ≡ Some g = grind (arith, eqb-true) in
               ap (λ b. list_any (same_cell (datum texts c)) (so_far row g) || (b || false)) (sym (cells_apart texts apart c cell hc given pc there))
-              ∙ sym (ap (list_any (same_cell (datum texts c))) (one_more g mine there) ∙ list_any-append (same_cell (datum texts c)) (so_far row g) (datum texts cell ∷ []))
+              ∙ sym (cc (one_more g mine there, list_any-append (same_cell (datum texts c)) (so_far row g) (datum texts cell ∷ [])))
           | false ↦ λ e. or_false (list_any (same_cell (datum texts c)) (so_far row g)) ∙ ap (list_any (same_cell (datum texts c))) (sym (same_so_far g (ap (is_in g) is ∙ e)))
         ] refl)
 
     by_group : (g : ℕ) (o : Option ℕ) → code ≡ o → is_missing cell ≡ true → so_far (row + 1) g ≡ so_far row g
     by_group g None is missing = same_so_far g (ap (is_in g) is)
     by_group g (Some group) is missing = elim (g == group) as (λ b. (g == group) ≡ b → so_far (row + 1) g ≡ so_far row g) [
-      | true ↦ λ e. no_more g (is ∙ ap Some (sym (eqb-true g group e))) missing
+      | true ↦ grind (arith, no_more, eqb-true)
       | false ↦ λ e. same_so_far g (ap (is_in g) is ∙ e)
     ] refl
 
     pub seen_more : (o : Option ℕ) → code ≡ o → AreSeen (noted seen o cell) (row + 1)
-    seen_more None is g c hc pc = were g c hc pc ∙ ap (list_any (same_cell (datum texts c))) (sym (same_so_far g (ap (is_in g) is)))
+    seen_more None is g c hc pc = grind (arith, same_so_far)
     seen_more (Some group) is g c hc pc = elim (is_missing cell) as (λ b. is_missing cell ≡ b → list_any (same_member (g, c)) (cond b seen (insert_key same_member seen (group, cell))) ≡ list_any (same_cell (datum texts c)) (so_far (row + 1) g)) [
       | true ↦ λ missing. were g c hc pc ∙ ap (list_any (same_cell (datum texts c))) (sym (by_group g (Some group) is missing))
-      | false ↦ λ there. seen_in group g c is there hc pc
+      | false ↦ search seen_in
     ] refl
 
     -- how many different cells a group has after it
     counted_in : (group g : ℕ) → code ≡ Some group → is_missing cell ≡ false
         → length (distinct same_cell (so_far (row + 1) g)) ≡ length (distinct same_cell (so_far row g)) + cond (is_in g (cond (list_any (same_member (group, cell)) seen) None (Some group))) 1 0
     counted_in group g is there = elim (g == group) as (λ b. (g == group) ≡ b → length (distinct same_cell (so_far (row + 1) g)) ≡ length (distinct same_cell (so_far row g)) + cond (is_in g (cond (list_any (same_member (group, cell)) seen) None (Some group))) 1 0) [
-      | true ↦ λ e.
-          let same : group ≡ g = sym (eqb-true g group e) in
-          ap (λ l. length (distinct same_cell l)) (one_more g (is ∙ ap Some same) there)
-          ∙ counted_push same_cell (so_far row g) (datum texts cell)
-          ∙ ap (λ b. length (distinct same_cell (so_far row g)) + cond b 0 1) (sym (were g cell given there))
-          ∙ ap (λ k. length (distinct same_cell (so_far row g)) + cond (list_any (same_member (k, cell)) seen) 0 1) (sym same)
-          ∙ ap (λ n. length (distinct same_cell (so_far row g)) + n) (elim (list_any (same_member (group, cell)) seen) as (λ b. ◌≡◌ {A = ℕ} (cond b 0 1) (cond (is_in g (cond b None (Some group))) 1 0)) [
-            | true ↦ refl
-            | false ↦ sym (ap (λ b. cond b 1 0) e)
-          ])
+      | true ↦ grind (arith, eqb-true, one_more, counted_push)
       | false ↦ λ e.
           ap (λ l. length (distinct same_cell l)) (same_so_far g (ap (is_in g) is ∙ e))
           ∙ (let zero' : length (distinct same_cell (so_far row g)) ≡ length (distinct same_cell (so_far row g)) + 0 = omega arith in zero')
-          ∙ ap (λ n. length (distinct same_cell (so_far row g)) + n) (elim (list_any (same_member (group, cell)) seen) as (λ b. ◌≡◌ {A = ℕ} 0 (cond (is_in g (cond b None (Some group))) 1 0)) [
-            | true ↦ refl
-            | false ↦ sym (ap (λ b. cond b 1 0) e)
-          ])
+          ∙ ap (λ n. length (distinct same_cell (so_far row g)) + n) (grind arith)
     ] refl
 
     count_more : (o : Option ℕ) → code ≡ o → (g : ℕ) → length (distinct same_cell (so_far (row + 1) g)) ≡ length (distinct same_cell (so_far row g)) + cond (is_in g (new_in seen o cell)) 1 0
-    count_more None is g =
-        ap (λ l. length (distinct same_cell l)) (same_so_far g (ap (is_in g) is))
-        ∙ (let zero' : length (distinct same_cell (so_far row g)) ≡ length (distinct same_cell (so_far row g)) + 0 = omega arith in zero')
+    count_more None is g = grind (arith, same_so_far)
     count_more (Some group) is g = elim (is_missing cell) as (λ b. is_missing cell ≡ b → length (distinct same_cell (so_far (row + 1) g)) ≡ length (distinct same_cell (so_far row g)) + cond (is_in g (cond b None (cond (list_any (same_member (group, cell)) seen) None (Some group)))) 1 0) [
       | true ↦ λ missing.
           ap (λ l. length (distinct same_cell l)) (by_group g (Some group) is missing)
           ∙ (let zero' : length (distinct same_cell (so_far row g)) ≡ length (distinct same_cell (so_far row g)) + 0 = omega arith in zero')
-      | false ↦ λ there. counted_in group g is there
+      | false ↦ search counted_in
     ] refl
 
     pub distinct_more : (before after : List ℕ) (new : Option ℕ) → new ≡ new_in seen code cell → IsCounted new before after → length before ≡ count
         → ((g : ℕ) → g < count → slice_index_or before g 0 ≡ distinct_count (cells_of_group g (take row codes) cells)) → (g : ℕ) → g < count → slice_index_or after g 0 ≡ distinct_count (cells_of_group g (take (row + 1) codes) cells)
-    distinct_more before after new is counted size was g lt =
-        counted.each g (omega (arith, size, lt))
-        ∙ (λ i. was g lt i + cond (is_in g (is i)) 1 0)
-        ∙ sym (count_more code refl g)
+    distinct_more before after new is counted size was g lt = grind (arith, count_more)
 
 -- what is noted of a cell
 module _ (seen : List (ℕ × Cell)) (group : Option ℕ) (cell : Cell) (g : ℕ) (is : group ≡ Some g) where
   pub noted_there : is_missing cell ≡ false → noted seen group cell ≡ insert_key same_member seen (g, cell)
-  noted_there there = ap (λ o. noted seen o cell) is ∙ ap (λ b. cond b seen (insert_key same_member seen (g, cell))) there
+  noted_there there = cc is
 
   pub noted_missing : is_missing cell ≡ true → noted seen group cell ≡ seen
-  noted_missing missing = ap (λ o. noted seen o cell) is ∙ ap (λ b. cond b seen (insert_key same_member seen (g, cell))) missing
+  noted_missing missing = cc is
 
   pub new_there : is_missing cell ≡ false → new_in seen group cell ≡ cond (list_any (same_member (g, cell)) seen) None (Some g)
-  new_there there = ap (λ o. new_in seen o cell) is ∙ ap (λ b. cond b None (cond (list_any (same_member (g, cell)) seen) None (Some g))) there
+  new_there there = cc is
 
   pub new_missing : is_missing cell ≡ true → new_in seen group cell ≡ None
-  new_missing missing = ap (λ o. new_in seen o cell) is ∙ ap (λ b. cond b None (cond (list_any (same_member (g, cell)) seen) None (Some g))) missing
+  new_missing missing = cc is
 
 -- there is room to count a cell more
 pub room : (codes : List (Option ℕ)) (cells : List CellValue) (row count : ℕ) (counts : List ℕ) → row < length codes → length codes < 2 ^ 64 → length counts ≡ count → ((g : ℕ) → g < count → slice_index_or counts g 0 ≡ distinct_count (cells_of_group g (take row codes) cells))
     → All (λ n. n + 1 < 2 ^ 64) counts
 room codes cells row count counts inside small size are k d lt =
-    let here : slice_index_or counts k d ≡ distinct_count (cells_of_group k (take row codes) cells) = get_or_default counts k d 0 lt ∙ are k (omega (arith, lt, size)) in
+    let here : slice_index_or counts k d ≡ distinct_count (cells_of_group k (take row codes) cells) = grind (arith, get_or_default) in
     let rows = rows_of_group k (take row codes) in
-    let long : length (cells_of_group k (take row codes) cells) ≡ length rows = length-map rows (λ r. slice_index_or cells r na_cell) in
+    let long : length (cells_of_group k (take row codes) cells) ≡ length rows = search length-map in
     omega (arith, here, few_distinct (cells_of_group k (take row codes) cells), long, rows_few k row codes (omega (arith, inside)), inside, small)
 
 pub new_below : (seen : List (ℕ × Cell)) (count : ℕ) (code new : Option ℕ) (cell : Cell) → new ≡ new_in seen code cell → IsPlaceOf count code → IsPlaceOf count new
-new_below seen count code new cell is below = subst (IsPlaceOf count) (sym is) (of_code code below)
-  where
-    of_code : (o : Option ℕ) → IsPlaceOf count o → IsPlaceOf count (new_in seen o cell)
-    of_code None b = tt
-    of_code (Some g) b = elim (is_missing cell) as (λ m. IsPlaceOf count (cond m None (cond (list_any (same_member (g, cell)) seen) None (Some g)))) [
-      | true ↦ tt
-      | false ↦ elim (list_any (same_member (g, cell)) seen) as (λ t. IsPlaceOf count (cond t None (Some g))) [ true ↦ tt | false ↦ b ]
-    ]
+new_below seen count code new cell is below = grind arith

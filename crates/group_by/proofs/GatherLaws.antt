@@ -1,42 +1,29 @@
 -- What is gathered with one cell more.
 use Rattle.{
-  std.{proofs.{Common.{◌≡◌, ◌∙◌, ◌<◌, ◌^◌, ap, refl, sym, subst, mod-eq_of_lt, ℕ, true, false, cond, arith, All, map, ℤ, pos, ◌+ℤ◌, List, [], ◌∷◌, ◌++◌, length, slice_index_or, set, fold, Option, Some, None}, lemmas.{Bool.{eqb-false}, List.{length-set, get_or-set_same, get_or-set_other, length-map, get_or-map, FromFn.{fill_by_all}, Elements.{filter-append}, Sums.{fold-append}}}}, specs.Int.{int_wrap, cast_signed, w64}},
+  std.{proofs.{Common.{◌≡◌, ◌∙◌, ◌<◌, ◌^◌, mod-eq_of_lt, ℕ, true, cond, arith, All, map, ℤ, pos, List, [], ◌∷◌, ◌++◌, length, slice_index_or, set, fold, Option, Some}, lemmas.{Bool.{eqb-false}, List.{length-set, get_or-set_same, get_or-set_other, length-map, get_or-map, FromFn.{fill_by_all}, Elements.{filter-append}, Sums.{fold-append}}}}, specs.Int.{int_wrap, cast_signed, w64}},
   cell_core.specs.declared.cell.{Cell.{Cell, TheVariants.{Na}}, Kind.{Kind}},
   meaning.specs.{Cell.{CellValue, na_cell, int_cell, datum, holds, AreGiven}, Reduce.{is_present, present}},
   column_core.specs.Columns.{CellColumn},
-  group_meaning.specs.{Rows.{GroupsValue, is_in, cells_of_group}, Reductions.{GroupReduction, group_cell, reduced_cells}},
+  group_meaning.specs.{Rows.{GroupsValue, cells_of_group}, Reductions.{GroupReduction, group_cell, reduced_cells}},
   group_by.specs.{Cells.{IsCellOf}, Gathered.{if_present, plus, total_of, total_cell, TakesIn, HaveGathered}},
 }
 
 -- a number of rows is a number of 64 bits as it stands
 pub count_wraps : (n : ℕ) → n < 2 ^ 64 → int_wrap w64 (pos n) ≡ cast_signed w64 n
 unfolding int_wrap
-count_wraps n lt = ap (cast_signed w64) (mod-eq_of_lt lt)
+count_wraps n lt = search mod-eq_of_lt
 
 folded_more : {S : Type 0} (g : S → CellValue → S) (s : S) (cells : List CellValue) (c : CellValue) → fold g s (present (cells ++ c ∷ [])) ≡ cond (is_present c) (g (fold g s (present cells)) c) (fold g s (present cells))
-folded_more g s cells c =
-    ap (fold g s) (filter-append is_present cells (c ∷ []))
-    ∙ fold-append g s (present cells) (cond (is_present c) (c ∷ []) [])
-    ∙ (elim (is_present c) as (λ b. fold g (fold g s (present cells)) (cond b (c ∷ []) []) ≡ cond b (g (fold g s (present cells)) c) (fold g s (present cells))) [ true ↦ refl | false ↦ refl ])
+folded_more g s cells c = grind (arith, filter-append, fold-append)
 
 -- a total with one cell more
 pub total_more : (amount : CellValue → ℤ) (cells : List CellValue) (c : CellValue) → int_cell (plus (total_of amount cells) (if_present c (amount c))) ≡ total_cell amount (cells ++ c ∷ [])
-total_more amount cells c =
-    let total = total_of amount cells in
-    ap int_cell (sym (folded_more (λ total c. int_wrap w64 (total +ℤ amount c)) (pos 0) cells c
-    ∙ (elim (is_present c) as (λ b. cond b (int_wrap w64 (total +ℤ amount c)) total ≡ plus total (cond b (Some (amount c)) None)) [ true ↦ refl | false ↦ refl ])))
+total_more amount cells c = grind (arith, folded_more)
 
 -- a cell is taken into what is gathered of its group
 pub takes_at : (op : GroupReduction) (texts : List (List ℕ)) (group : Option ℕ) (g : ℕ) (cell r : Cell) (before : List Cell) → group ≡ Some g → g < length before
     → ((cells : List CellValue) → datum texts (slice_index_or before g Na) ≡ group_cell op cells → datum texts r ≡ group_cell op (cells ++ datum texts cell ∷ [])) → TakesIn op texts group cell before (set before g r)
-takes_at op texts group g cell r before is lt step = record {
-  size = length-set before g r;
-  here = λ h mine cells was.
-      let same : g ≡ h = (let e : Some g ≡ Some h = sym is ∙ mine in cc) in
-      subst (λ k. datum texts (slice_index_or (set before g r) k Na) ≡ group_cell op (cells ++ datum texts cell ∷ [])) same
-      (ap (datum texts) (get_or-set_same before g r Na lt) ∙ step cells (subst (λ k. datum texts (slice_index_or before k Na) ≡ group_cell op cells) (sym same) was));
-  others = λ h other. get_or-set_other before g h r Na (eqb-false h g (ap (is_in h) (sym is) ∙ other));
-}
+takes_at op texts group g cell r before is lt step = grind (arith, length-set, get_or-set_same, get_or-set_other, eqb-false)
 
 -- what was gathered of each group, as the cells of a column
 pub gathered_cells : (op : GroupReduction) (texts : List (List ℕ)) (groups : GroupsValue) (cells : List CellValue) (gathered : List Cell) → length gathered ≡ groups.count → HaveGathered op texts groups.codes groups.count cells gathered
@@ -46,7 +33,7 @@ gathered_cells op texts groups cells gathered size have =
     (λ k lt. get_or-map (datum texts) gathered k Na na_cell (omega (arith, size, lt)) ∙ have k lt)
 
 pub column_given : (texts : List (List ℕ)) (kind : Kind) (cells : List Cell) (column : CellColumn) → column ≡ record { kind = kind; cells = cells } → All (IsCellOf texts kind) cells → AreGiven texts column.cells
-column_given texts kind cells column is all = subst (λ (c : CellColumn). AreGiven texts c.cells) (sym is) (λ k d lt. (all k d lt).given)
+column_given texts kind cells column is all = grind arith
 
 pub cells_held : (texts : List (List ℕ)) (kind : Kind) (cells : List Cell) → All (IsCellOf texts kind) cells → All (λ (c : Cell). (dict : List (List ℕ)) → holds kind (datum dict c) ≡ true) cells
 cells_held texts kind cells all k d lt = (all k d lt).held

@@ -1,6 +1,6 @@
 -- Columns of numbers, one row more at a time, and what is counted of groups.
 use Rattle.{
-  std.{proofs.{Common.{◌≡◌, ◌∙◌, ◌+◌, ◌<◌, ◌≤◌, ◌^◌, ap, refl, sym, subst, arith, ℕ, Bool, true, false, cond, List, [], ◌∷◌, ◌++◌, map, take, length, slice_index_or, All, Option, Some, None, Result, Ok, Err, IfOk, length-append}, lemmas.{Bool.{false≢true}, List.{map-append, length-take-le, get_or_default, Elements.{All-push, All-nil}, FromFn.{fill_by_all}}}}, specs.List.{range_with_len}},
+  std.{proofs.{Common.{◌≡◌, ◌∙◌, ◌+◌, ◌<◌, ◌≤◌, ◌^◌, ap, refl, sym, subst, arith, ℕ, Bool, true, false, cond, List, [], ◌∷◌, ◌++◌, map, take, length, slice_index_or, All, Option, None, Result, IfOk, length-append}, lemmas.{Bool.{false≢true}, List.{map-append, length-take-le, get_or_default, Elements.{All-push}, FromFn.{fill_by_all}}}}, specs.List.{range_with_len}},
   cell_core.specs.declared.cell.{Cell.{Cell}, Kind.TheVariants.{Int64}},
   meaning.specs.{Cell.{CellValue, datum, holds, IsGiven}, Column.{tabulate}},
   column_core.{specs.{Columns.{CellColumn, column_value}, Moves.{IsPlaceOf}}, proofs.CellRows.{map-map}},
@@ -15,10 +15,10 @@ pub number_given : (c : Cell) → ((texts : List (List ℕ)) → holds Int64 (da
 number_given cell.Na held texts = tt
 number_given (cell.Int z) held texts = tt
 number_given (cell.Bool b) held texts = tt
-number_given (cell.Text id) held texts = absurd (false≢true (held []))
+number_given (cell.Text id) held texts = search false≢true
 
 pub no_numbers : (made : CellColumn) → made ≡ record { kind = Int64; cells = [] } → AreNumbers made (λ texts. [])
-no_numbers made is = subst (λ (c : CellColumn). AreNumbers c (λ texts. [])) (sym is) record { kind = refl; given = λ texts. All-nil (IsGiven texts); values = λ texts. refl }
+no_numbers made is = grind arith
 
 -- one number more
 pub numbers_more : (made made' : CellColumn) (so_far more : List (List ℕ) → List CellValue) (c : Cell) (v : List (List ℕ) → CellValue) → AreNumbers made so_far → ((texts : List (List ℕ)) → holds Int64 (datum texts c) ≡ true)
@@ -26,24 +26,23 @@ pub numbers_more : (made made' : CellColumn) (so_far more : List (List ℕ) → 
 numbers_more made made' so_far more c v were held is pushed grown = subst (λ (col : CellColumn). AreNumbers col more) (sym pushed) record {
   kind = were.kind;
   given = λ texts. All-push (IsGiven texts) made.cells c (were.given texts) (number_given c held texts);
-  values = λ texts. map-append (datum texts) made.cells (c ∷ []) ∙ (λ i. were.values texts i ++ is texts i ∷ []) ∙ sym (grown texts);
+  values = grind (arith, map-append);
 }
 
 pub same_numbers : (made : CellColumn) (f g : List (List ℕ) → List CellValue) → AreNumbers made f → ((texts : List (List ℕ)) → f texts ≡ g texts) → AreNumbers made g
-same_numbers made f g are same = record { kind = are.kind; given = are.given; values = λ texts. are.values texts ∙ same texts }
+same_numbers made f g are same = grind arith
 
 -- what a column of numbers holds
 pub numbers_value : (made : CellColumn) (f : List (List ℕ) → List CellValue) → AreNumbers made f → (texts : List (List ℕ)) → column_value texts made ≡ record { kind = Int64; cells = f texts }
-numbers_value made f are texts = λ i. record { kind = are.kind i; cells = are.values texts i }
+numbers_value made f are texts = grind arith
 
 -- of a row's group alone is asked
 pub of_one_group : (code : Option ℕ) (count : ℕ) (f g : ℕ → CellValue) → IsPlaceOf count code → ((k : ℕ) → k < count → f k ≡ g k) → of_group code f ≡ of_group code g
-of_one_group None count f g inside same = refl
-of_one_group (Some k) count f g inside same = same k inside
+of_one_group x count f g inside same = grind arith
 
 few_rows : {X : Type 0} (p : X → Bool) (at : ℕ) (xs : List X) → length (rows_where p at xs) ≤ length xs
 few_rows p at [] = omega arith
-few_rows p at (x ∷ xs) = elim (p x) as (λ b. length (cond b (at ∷ rows_where p (at + 1) xs) (rows_where p (at + 1) xs)) ≤ length (x ∷ xs)) [ true ↦ omega (arith, few_rows p (at + 1) xs) | false ↦ omega (arith, few_rows p (at + 1) xs) ]
+few_rows p at (x ∷ xs) = grind (arith, few_rows p (at + 1) xs)
 
 -- a group has no more rows than there are
 pub rows_few : (group row : ℕ) (codes : List (Option ℕ)) → row ≤ length codes → length (rows_of_group group (take row codes)) ≤ row
@@ -51,27 +50,25 @@ rows_few group row codes le = omega (arith, few_rows (is_in group) 0 (take row c
 
 length_more : (codes : List (Option ℕ)) (row : ℕ) (inside : row < length codes) (g : ℕ) → length (rows_of_group g (take (row + 1) codes)) ≡ length (rows_of_group g (take row codes)) + cond (is_in g (slice_index_or codes row None)) 1 0
 length_more codes row inside g = elim (is_in g (slice_index_or codes row None)) as (λ b. is_in g (slice_index_or codes row None) ≡ b → length (rows_of_group g (take (row + 1) codes)) ≡ length (rows_of_group g (take row codes)) + cond b 1 0) [
-  | true ↦ λ h. ap length (rows_more codes row inside g (is_in_some g (slice_index_or codes row None) h)) ∙ length-append (rows_of_group g (take row codes)) (row ∷ [])
+  | true ↦ search (rows_more, is_in_some, length-append)
   | false ↦ λ h. ap length (rows_same codes row inside g h) ∙ (let e : length (rows_of_group g (take row codes)) ≡ length (rows_of_group g (take row codes)) + 0 = omega arith in e)
 ] refl
 
 pub rows_counted : (codes : List (Option ℕ)) (row count : ℕ) (code : Option ℕ) (before after : List ℕ) → row < length codes → slice_index_or codes row None ≡ code → IsCounted code before after → length before ≡ count
     → ((g : ℕ) → g < count → slice_index_or before g 0 ≡ length (rows_of_group g (take row codes))) → (g : ℕ) → g < count → slice_index_or after g 0 ≡ length (rows_of_group g (take (row + 1) codes))
-rows_counted codes row count code before after inside is counted size was g lt =
-    counted.each g (omega (arith, size, lt)) ∙ (λ i. was g lt i + cond (is_in g (sym is i)) 1 0) ∙ sym (length_more codes row inside g)
+rows_counted codes row count code before after inside is counted size was g lt = grind (arith, length_more)
 
 -- there is room to count a row more
 pub room : (codes : List (Option ℕ)) (row count : ℕ) (counts : List ℕ) → row < length codes → length codes < 2 ^ 64 → length counts ≡ count → ((g : ℕ) → g < count → slice_index_or counts g 0 ≡ length (rows_of_group g (take row codes)))
     → All (λ n. n + 1 < 2 ^ 64) counts
 room codes row count counts inside small size are k d lt =
-    let here : slice_index_or counts k d ≡ length (rows_of_group k (take row codes)) = get_or_default counts k d 0 lt ∙ are k (omega (arith, lt, size)) in
+    let here : slice_index_or counts k d ≡ length (rows_of_group k (take row codes)) = grind (arith, get_or_default) in
     omega (arith, here, rows_few k row codes (omega (arith, inside)), inside, small)
 
 -- what is counted of each group, as cells
 pub counts_cells : (counts : List ℕ) (count : ℕ) (f : ℕ → ℕ) → length counts ≡ count → ((g : ℕ) → g < count → slice_index_or counts g 0 ≡ f g) → map count_cell counts ≡ tabulate count (λ g. count_cell (f g))
-counts_cells counts count f size are = ap (map count_cell) (fill_by_all f counts count 0 size are) ∙ map-map f count_cell (range_with_len 0 count)
+counts_cells counts count f size are = cc (fill_by_all f counts count 0 size are, map-map f count_cell (range_with_len 0 count))
 
 -- an answer that says more
 pub if_ok_more : {A E : Type 0} {P Q : A → Type 0} → ((a : A) → P a → Q a) → (r : Result A E) → IfOk r P → IfOk r Q
-if_ok_more more (Ok a) p = more a p
-if_ok_more more (Err e) p = p
+if_ok_more more x p = grind arith

@@ -1,42 +1,33 @@
 -- The rows and cells of a group with one row more.
 use Rattle.{
-  std.proofs.{Common.{◌≡◌, ◌∙◌, ◌+◌, ◌<◌, ap, refl, sym, ℕ, true, false, List, [], ◌∷◌, ◌++◌, take, length, slice_index_or, Option, Some, None}, lemmas.{Bool.{false≢true, eq-eqb, eqb-true}, List.{map-append}}},
+  std.proofs.{Common.{arith, ◌≡◌, ◌+◌, ◌<◌, sym, ℕ, true, false, List, [], ◌∷◌, ◌++◌, take, length, slice_index_or, Option, Some, None}, lemmas.{Bool.{false≢true, eq-eqb, eqb-true}, List.{map-append}}},
   pick_meaning.proofs.RowLaws.{rows_more_yes, rows_more_no},
   cell_core.specs.declared.cell.Cell.{Cell, TheVariants.{Na}},
   meaning.specs.Cell.{CellValue, na_cell, datum},
-  group_meaning.specs.{Rows.{is_in, rows_of_group, cells_at, cells_of_group}, Reductions.{GroupReduction, group_cell}},
+  group_meaning.specs.{Rows.{is_in, rows_of_group, cells_of_group}, Reductions.{GroupReduction, group_cell}},
   group_by.specs.Gathered.{TakesIn},
 }
 
 -- the group of a code
 pub is_in_some : (group : ℕ) (code : Option ℕ) → is_in group code ≡ true → code ≡ Some group
-is_in_some group None h = absurd (false≢true h)
-is_in_some group (Some c) h = ap Some (sym (eqb-true group c h))
+is_in_some group x h = grind (arith, false≢true, eqb-true)
 
 module _ (codes : List (Option ℕ)) (row : ℕ) (inside : row < length codes) where
   pub rows_more : (group : ℕ) → slice_index_or codes row None ≡ Some group → rows_of_group group (take (row + 1) codes) ≡ rows_of_group group (take row codes) ++ row ∷ []
-  rows_more group here =
-      sym (rows_more_yes (is_in group) codes row None (rows_of_group group (take row codes)) (rows_of_group group (take row codes) ++ row ∷ []) inside refl (ap (is_in group) here ∙ eq-eqb group group refl) refl)
+  rows_more group here = grind (arith, rows_more_yes, eq-eqb)
 
   -- no row more, where the row is in another group or in none
   pub rows_same : (group : ℕ) → is_in group (slice_index_or codes row None) ≡ false → rows_of_group group (take (row + 1) codes) ≡ rows_of_group group (take row codes)
-  rows_same group other = sym (rows_more_no (is_in group) codes row None (rows_of_group group (take row codes)) inside refl other)
+  rows_same group other = sym (search rows_more_no)
 
   module _ (cells : List CellValue) where
     pub cells_more : (group : ℕ) → slice_index_or codes row None ≡ Some group → cells_of_group group (take (row + 1) codes) cells ≡ cells_of_group group (take row codes) cells ++ slice_index_or cells row na_cell ∷ []
-    cells_more group here = ap (cells_at cells) (rows_more group here) ∙ map-append (λ r. slice_index_or cells r na_cell) (rows_of_group group (take row codes)) (row ∷ [])
+    cells_more group here = search (rows_more, map-append)
 
     pub cells_same : (group : ℕ) → is_in group (slice_index_or codes row None) ≡ false → cells_of_group group (take (row + 1) codes) cells ≡ cells_of_group group (take row codes) cells
-    cells_same group other = ap (cells_at cells) (rows_same group other)
+    cells_same group other = search rows_same
 
     -- what is gathered of each group with the row
     pub taken_in : (op : GroupReduction) (texts : List (List ℕ)) (code : Option ℕ) (c : Cell) (before after : List Cell) → slice_index_or codes row None ≡ code → slice_index_or cells row na_cell ≡ datum texts c → TakesIn op texts code c before after
         → (g : ℕ) → datum texts (slice_index_or before g Na) ≡ group_cell op (cells_of_group g (take row codes) cells) → datum texts (slice_index_or after g Na) ≡ group_cell op (cells_of_group g (take (row + 1) codes) cells)
-    taken_in op texts code c before after is here takes g was = elim (is_in g code) as (λ b. is_in g code ≡ b → datum texts (slice_index_or after g Na) ≡ group_cell op (cells_of_group g (take (row + 1) codes) cells)) [
-      | true ↦ λ h.
-          let mine : code ≡ Some g = is_in_some g code h in
-          takes.here g mine (cells_of_group g (take row codes) cells) was
-          ∙ ap (λ v. group_cell op (cells_of_group g (take row codes) cells ++ v ∷ [])) (sym here)
-          ∙ ap (group_cell op) (sym (cells_more g (is ∙ mine)))
-      | false ↦ λ h. ap (datum texts) (takes.others g h) ∙ was ∙ ap (group_cell op) (sym (cells_same g (ap (is_in g) is ∙ h)))
-    ] refl
+    taken_in op texts code c before after is here takes g was = grind (arith, is_in_some, cells_more, cells_same)

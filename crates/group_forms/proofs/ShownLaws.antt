@@ -1,16 +1,16 @@
 -- New tables, and what is tested before they are made.
 use Rattle.{
-  std.{proofs.{Common.{◌≡◌, ◌∙◌, refl, ap, sym, subst, arith, ℕ, ◌*◌, ◌^◌, ◌≤◌, Bool, true, false, ◌&&◌, List, map, length, All, Option, Some, None, Result, Ok, Err, if◌then◌else◌}, lemmas.Bool.Decides.{nat_tests}}, specs.Prelude.{IsSome, nat_le}},
-  cell_core.specs.{Texts.{AreDistinct}, declared.{code.Code.TheVariants.{Limit}, cell.Label.{Label}, grid.Shape.TheVariants.{Series, Frame}}},
+  std.proofs.{Common.{◌≡◌, ◌∙◌, refl, ap, sym, subst, arith, ℕ, ◌^◌, ◌≤◌, Bool, true, false, List, map, length, All, Option, Some, None, Result, Ok, Err, if◌then◌else◌}, lemmas.Bool.Decides.{nat_tests}},
+  cell_core.specs.{Texts.{AreDistinct}, declared.{code.Code.TheVariants.{Limit}, cell.Label.{Label}, grid.Shape.TheVariants.{Frame}}},
   meaning.specs.{Text.{Text}, Cell.{AreGiven}, Fault.{FaultValue, limit, then_value}, FaultOf.{fault_of}},
   column_core.specs.Blocks.{CellBlock},
   multi_index.specs.Axes.{AxisValue},
-  table_meaning.specs.{Settled.{IsSettled}, Table.{NumberedTable, Table, table_value, heading_value}, Valid.{AreHeadings}, Value.{Entry, table}},
-  form_meaning.specs.Finish.{within_limits, limited, first_repeated, unless_repeated, finished},
-  select_meaning.specs.Select.{as_series, shown_as},
+  table_meaning.specs.{Settled.{IsSettled}, Table.{NumberedTable, Table, table_value, heading_value}, Value.{Entry, table}},
+  form_meaning.specs.Finish.{within_limits, limited, unless_repeated, finished},
+  select_meaning.specs.Select.{shown_as},
   form_parts.specs.Makes.{blocks_value},
   frame_store.{specs.{declared.fault.OpFault.{OpFault, TheVariants.{Refused, NoMemory}}, Parts.{HeadingList, block_column, table_of}, Shown.{headings_value, Makes}}, proofs.Settling.{table_settled, columns_settled}},
-  selections.{specs.Headings.{NamesRepeated, repeated_heading}, proofs.{HeadingLaws.{repeated_seen, different}, RefusalLaws.{repeated_settled}}},
+  selections.{specs.Headings.{NamesRepeated, repeated_heading}, proofs.{HeadingLaws.{repeated_seen}, RefusalLaws.{repeated_settled}}},
   label_methods.proofs.TableLaws.{limited_within},
   group_forms.specs.Tables.{shape_if, name_if, headings_if, shown_if, HasHeadings, MayShow, IsAxis},
 }
@@ -20,40 +20,26 @@ abbrev within_then : Table → Bool → Result Entry FaultValue
 within_then t b = then_value (if b then Ok t else Err limit) (λ t. Ok (table t))
 
 limited_beyond : (t : Table) (rows columns : ℕ) → length t.labels ≡ rows → length t.columns ≡ columns → within_limits rows columns ≡ false → limited t ≡ Err limit
-limited_beyond t rows columns counted headed beyond = ap (within_then t) ((λ i. within_limits (counted i) (headed i)) ∙ beyond)
-
-limit_refuses : (texts : List Text) (single : Bool) (t : Table) → shown_as false single t ≡ Err limit → MayShow {X = HeadingList} texts (Err (Refused Limit)) single t
-limit_refuses texts single t is = (is, λ more. refl)
+limited_beyond t rows columns counted headed beyond = search
 
 module _ (texts : List Text) (labels : List (Option Label)) (rows : ℕ) (t : Table) (h : HasHeadings texts labels rows t) where
-  -- a Series
-  pub series_shows : length labels ≡ 1 → within_limits rows 1 ≡ true → shown_as false true t ≡ Ok (table (as_series t))
-  series_shows one within = limited_within (as_series t) rows 1 h.rows (h.headed ∙ one) within
-
   pub series_beyond : length labels ≡ 1 → within_limits rows 1 ≡ false → MayShow {X = HeadingList} texts (Err (Refused Limit)) true t
-  series_beyond one beyond = limit_refuses texts true t (limited_beyond (as_series t) rows 1 h.rows (h.headed ∙ one) beyond)
+  series_beyond one beyond = grind (arith, limited_beyond)
 
   -- a frame
   module _ (distinct : AreDistinct texts) (settled : IsSettled headings_value texts labels) where
     again : (found : Option Label) → repeated_heading labels ≡ found → finished t ≡ unless_repeated (heading_value texts found) (limited t)
-    again found is = ap (λ o. unless_repeated o (limited t)) (ap first_repeated h.headings ∙ sym (repeated_seen texts labels distinct settled) ∙ ap (heading_value texts) is)
+    again found is = grind (arith, repeated_seen)
 
     pub frame_shows : repeated_heading labels ≡ None → within_limits rows (length labels) ≡ true → shown_as false false t ≡ Ok (table t)
-    frame_shows none within = again None none ∙ limited_within t rows (length labels) h.rows h.headed within
+    frame_shows none within = grind (arith, again, limited_within)
 
     pub frame_beyond : repeated_heading labels ≡ None → within_limits rows (length labels) ≡ false → MayShow {X = HeadingList} texts (Err (Refused Limit)) false t
-    frame_beyond none beyond = limit_refuses texts false t (again None none ∙ limited_beyond t rows (length labels) h.rows h.headed beyond)
+    frame_beyond none beyond = grind (arith, again, limited_beyond)
 
     pub frame_repeated : (why : OpFault) → NamesRepeated why (repeated_heading labels) → MayShow {X = HeadingList} texts (Err why) false t
-    frame_repeated (Refused code) named = (again (Some named.0) named.1 ∙ ap (λ c. Err (fault_of texts c)) (sym named.2), repeated_settled texts code labels named.0 named.1 named.2 settled)
+    frame_repeated (Refused code) named = (again (Some named.0) named.1 ∙ ap (λ c. Err (fault_of texts c)) (sym named.2), search repeated_settled)
     frame_repeated NoMemory named = tt
-
--- headings that fit
-pub series_fit : (labels : List (Option Label)) → length labels ≡ 1 → AreHeadings Series None labels
-series_fit labels one = record { single = λ e. one; nameless = λ e. refl; labelled = λ e. cc; different = λ e. cc }
-
-pub frame_fit : (name : Option Label) (labels : List (Option Label)) → All IsSome labels → repeated_heading labels ≡ None → AreHeadings Frame name labels
-frame_fit name labels some none = record { single = λ e. cc; nameless = λ e. cc; labelled = λ e. some; different = λ e. different labels some none }
 
 -- the table that was made is the one that is meant
 abbrev pub made_table : Bool → AxisValue → Option Label → List (Option Label) → List CellBlock → NumberedTable
@@ -70,51 +56,27 @@ pub record IsMade (texts : List Text) (t : Table) (axis : AxisValue) (name : Opt
   pub blocks_given : All (λ c. AreGiven texts c.cells) (map block_column blocks)
 
 made_value : (texts : List Text) (single : Bool) (t : Table) (axis : AxisValue) (name : Option Label) (labels : List (Option Label)) (blocks : List CellBlock) → IsMade texts t axis name labels blocks → shown_if single t ≡ table_value texts (made_table single axis name labels blocks)
-made_value texts true t axis name labels blocks m = λ i. record {
-  shape = Series;
-  columns_name = None;
-  level_names = sym m.axis_is.names_seen i;
-  labels = sym m.axis_is.labels_seen i;
-  headings = m.headings i;
-  columns = sym m.columns i;
-}
-made_value texts false t axis name labels blocks m = λ i. record {
-  shape = m.frame i;
-  columns_name = m.named i;
-  level_names = sym m.axis_is.names_seen i;
-  labels = sym m.axis_is.labels_seen i;
-  headings = m.headings i;
-  columns = sym m.columns i;
-}
+made_value texts x t axis name labels blocks m = grind arith
 
 name_settled : (texts : List Text) (single : Bool) (name : Option Label) → IsSettled heading_value texts name → IsSettled heading_value texts (name_if single name)
 name_settled texts true name settled = λ more. refl
 name_settled texts false name settled = settled
 
 made_settled : (texts : List Text) (single : Bool) (t : Table) (axis : AxisValue) (name : Option Label) (labels : List (Option Label)) (blocks : List CellBlock) → IsMade texts t axis name labels blocks → IsSettled table_value texts (made_table single axis name labels blocks)
-made_settled texts single t axis name labels blocks m =
-    table_settled texts (made_table single axis name labels blocks) (name_settled texts single name m.name_given) m.axis_is.names_given m.axis_is.labels_given m.labels_given (columns_settled texts (map block_column blocks) m.blocks_given)
+made_settled texts single t axis name labels blocks m = search (table_settled, name_settled, columns_settled)
 
 pub made_is : (texts : List Text) (single : Bool) (t : Table) (meant : Result Entry FaultValue) (axis : AxisValue) (name : Option Label) (labels : List (Option Label)) (blocks : List CellBlock) (headings : HeadingList) (made : NumberedTable) → IsMade texts t axis name labels blocks
     → meant ≡ shown_as false single t → shown_as false single t ≡ Ok (table (shown_if single t)) → headings ≡ headings_if single name labels → made ≡ table_of (shape_if single) axis headings blocks → Makes texts (Ok made) meant
 made_is texts single t meant axis name labels blocks headings made m is shows headed tabled =
-    let whole : made ≡ made_table single axis name labels blocks = tabled ∙ ap (λ hs. table_of (shape_if single) axis hs blocks) headed in (
-      is ∙ shows ∙ ap (λ v. Ok (table v)) (made_value texts single t axis name labels blocks m) ∙ ap (λ u. Ok (table (table_value texts u))) (sym whole),
+    let whole : made ≡ made_table single axis name labels blocks = cc in (
+      grind (arith, made_value),
       subst (IsSettled table_value texts) (sym whole) (made_settled texts single t axis name labels blocks m),
     )
 
 -- why no table is made
 pub refused_is : (texts : List Text) (single : Bool) (t : Table) (meant : Result Entry FaultValue) (why : OpFault) → meant ≡ shown_as false single t → MayShow {X = HeadingList} texts (Err why) single t → Makes texts (Err why) meant
-refused_is texts single t meant (Refused code) is shows = (is ∙ shows.0, shows.1)
-refused_is texts single t meant NoMemory is shows = tt
+refused_is texts single t meant x is shows = grind arith
 
 -- few rows
 pub within_few : (rows columns : ℕ) → within_limits rows columns ≡ true → rows ≤ 2 ^ 26
-within_few rows columns is = few (first (nat_le rows (2 ^ 26)) (nat_le columns (2 ^ 16)) (nat_le (rows * columns) (2 ^ 26)) is)
-  where
-    first : (a b c : Bool) → a && b && c ≡ true → a ≡ true
-    first true b c e = refl
-    first false b c e = cc
-
-    few : nat_le rows (2 ^ 26) ≡ true → rows ≤ 2 ^ 26
-    few e = grind (arith, nat_tests)
+within_few rows columns is = grind (arith, nat_tests)

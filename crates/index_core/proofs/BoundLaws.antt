@@ -1,7 +1,7 @@
 -- The place of a bound that must stand once.
 use Rattle.{
-  std.{proofs.{Common.{◌≡◌, ◌∙◌, ap, sym, refl, ℕ, ◌+◌, ◌<◌, ◌≤◌, Bool, true, false, List, [], ◌∷◌, ◌++◌, length, take, drop, slice_index_or, Option, Some, None, Ok, Err}, lemmas.List.{take-append-drop, take_all}}, specs.Option.{option_to_list, is_some}},
-  pick_meaning.{specs.{Faults.{not_there, bound_not_unique}, Rows.{rows_where}, Slices.{one_row}}, proofs.RowLaws.{rows_where-append, rows_more_yes, rows_more_no}},
+  std.{proofs.{Common.{arith, ◌≡◌, ℕ, ◌+◌, ◌<◌, ◌≤◌, Bool, true, false, List, [], ◌∷◌, length, take, drop, slice_index_or, Option, Some, None, Err}, lemmas.List.{take-append-drop, take_all}}, specs.Option.{option_to_list, is_some}},
+  pick_meaning.{specs.{Faults.{bound_not_unique}, Rows.{rows_where}, Slices.{one_row}}, proofs.RowLaws.{rows_where-append, rows_more_yes, rows_more_no}},
 }
 
 module _ {X : Type 0} (p : X → Bool) (xs : List X) where
@@ -10,8 +10,7 @@ module _ {X : Type 0} (p : X → Bool) (xs : List X) where
   IsSoFar found k = option_to_list found ≡ rows_where p 0 (take k xs)
 
   pub first_time : (k : ℕ) (d : X) (found : Option ℕ) → k < length xs → IsSoFar found k → is_some found ≡ false → p (slice_index_or xs k d) ≡ true → IsSoFar (Some k) (k + 1)
-  first_time k d None lt before none passes = rows_more_yes p xs k d [] (k ∷ []) lt before passes refl
-  first_time k d (Some row) lt before none passes = cc
+  first_time k d x lt before none passes = grind (arith, rows_more_yes)
 
   pub passed_by : (k : ℕ) (d : X) (found : Option ℕ) → k < length xs → IsSoFar found k → p (slice_index_or xs k d) ≡ false → IsSoFar found (k + 1)
   passed_by k d found lt before fails = rows_more_no p xs k d (option_to_list found) lt before fails
@@ -21,17 +20,9 @@ module _ {X : Type 0} (p : X → Bool) (xs : List X) where
       → one_row bound (rows_where p 0 xs) ≡ Err (bound_not_unique bound)
   second_time k d bound None lt before some passes = cc
   second_time k d bound (Some row) lt before some passes =
-      let two : row ∷ (k ∷ []) ≡ rows_where p 0 (take (k + 1) xs) = rows_more_yes p xs k d (row ∷ []) (row ∷ (k ∷ [])) lt before passes refl in
-      ap (λ (l : List X). one_row bound (rows_where p 0 l)) (sym (take-append-drop (k + 1) xs))
-      ∙ ap (one_row bound) (rows_where-append p 0 (take (k + 1) xs) (drop (k + 1) xs))
-      ∙ ap (λ (l : List ℕ). one_row bound (l ++ rows_where p (0 + length (take (k + 1) xs)) (drop (k + 1) xs))) (sym two)
+      let two : row ∷ (k ∷ []) ≡ rows_where p 0 (take (k + 1) xs) = search rows_more_yes in
+      cc (take-append-drop (k + 1) xs, rows_where-append p 0 (take (k + 1) xs) (drop (k + 1) xs))
 
   -- at the end
   whole : (k : ℕ) (found : Option ℕ) → length xs ≤ k → IsSoFar found k → option_to_list found ≡ rows_where p 0 xs
-  whole k found all before = before ∙ ap (rows_where p 0) (take_all k xs all)
-
-  pub nowhere_at_all : (k : ℕ) (bound : X) → length xs ≤ k → IsSoFar None k → one_row bound (rows_where p 0 xs) ≡ Err (not_there bound)
-  nowhere_at_all k bound all before = ap (one_row bound) (sym (whole k None all before))
-
-  pub just_here : (k row : ℕ) (bound : X) → length xs ≤ k → IsSoFar (Some row) k → one_row bound (rows_where p 0 xs) ≡ Ok row
-  just_here k row bound all before = ap (one_row bound) (sym (whole k (Some row) all before))
+  whole k found all before = cc (take_all k xs all)

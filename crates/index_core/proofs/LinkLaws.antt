@@ -1,9 +1,9 @@
 -- Rows of a label that are found from the first one to the next.
 use Rattle.{
-  std.{proofs.{Common.{◌≡◌, ◌∙◌, ap, sym, refl, arith, inl, inr, ℕ, ◌+◌, ◌-◌, ◌<◌, ◌≤◌, Bool, true, false, cond, List, [], ◌∷◌, ◌++◌, length, drop, slice_index_or, Option, Some, None, if◌then◌else◌}, lemmas.{Bool.{cases_eq, Decides.{same_from_decides}}, List.{drop-drop, drop_more, length-drop, length-set, get_or-drop, get_or_default, append_assoc, get_or-set_same, get_or-set_other}}}, specs.{Prelude.{slice_set}, List.{position_from}, Map.{lookup}, Option.{is_some}}},
+  std.{proofs.{Common.{rules, ◌≡◌, ◌∙◌, ap, sym, refl, arith, ℕ, ◌+◌, ◌-◌, ◌<◌, ◌≤◌, Bool, true, false, cond, List, [], ◌∷◌, ◌++◌, length, drop, slice_index_or, Option, Some, None}, lemmas.{Bool.Decides.{same_from_decides}, List.{drop-drop, drop_more, length-drop, get_or-drop, get_or_default, append_assoc}}}, specs.{List.{position_from}, Map.{lookup}, Option.{is_some}}},
   cell_core.specs.declared.cell.Label.{Label},
   pick_meaning.specs.Rows.{rows_where, only_row, are_some},
-  index_core.{specs.{Labels.{same_number}, Found.{HaveFirstRows, HaveNextRows, next_row}}, proofs.NumberLaws.{label_decides}},
+  index_core.specs.{Labels.{same_number}, Found.{HaveFirstRows, HaveNextRows, next_row}},
 }
 
 abbrev pub rest_from : {X : Type 0} → (X → Bool) → List X → Option ℕ → List ℕ
@@ -12,7 +12,7 @@ rest_from p xs (Some row) = row ∷ rows_where p (row + 1) (drop (row + 1) xs)
 
 -- the list behind an element
 behind : {X : Type 0} (xs ys : List X) (y : X) (k : ℕ) → drop k xs ≡ y ∷ ys → drop (k + 1) xs ≡ ys
-behind xs ys y k e = sym (drop-drop 1 k xs) ∙ ap (drop 1) e
+behind xs ys y k e = cc (drop-drop 1 k xs)
 
 some_same : (a b : ℕ) → Some a ≡ Some b → a ≡ b
 some_same a b e = cc
@@ -20,16 +20,11 @@ some_same a b e = cc
 module _ {X : Type 0} (p : X → Bool) (xs : List X) where
   go_rows : (ys : List X) (k : ℕ) → drop k xs ≡ ys → rows_where p k ys ≡ rest_from p xs (position_from p k ys)
   go_rows [] k e = refl
-  go_rows (y ∷ ys) k e = pick (p y) (behind xs ys y k e) (go_rows ys (k + 1) (behind xs ys y k e))
-    where
-      pick : (b : Bool) → drop (k + 1) xs ≡ ys → rows_where p (k + 1) ys ≡ rest_from p xs (position_from p (k + 1) ys)
-          → (if b then k ∷ rows_where p (k + 1) ys else rows_where p (k + 1) ys) ≡ rest_from p xs (cond b (Some k) (position_from p (k + 1) ys))
-      pick true after later = ap (λ (l : List X). k ∷ rows_where p (k + 1) l) (sym after)
-      pick false after later = later
+  go_rows (y ∷ ys) k e = grind (arith, behind, go_rows ys (k + 1) (behind xs ys y k e))
 
   -- the rows from one on: the first that passes, and those behind it
   pub rows_from : (k : ℕ) → rows_where p k (drop k xs) ≡ rest_from p xs (position_from p k (drop k xs))
-  rows_from k = go_rows (drop k xs) k refl
+  rows_from k = search go_rows
 
   go_place : (ys : List X) (k row : ℕ) (d : X) → drop k xs ≡ ys → position_from p k ys ≡ Some row → (k ≤ row) × (row < length xs) × (p (slice_index_or xs row d) ≡ true)
   go_place [] k row d e found = cc
@@ -39,57 +34,29 @@ module _ {X : Type 0} (p : X → Bool) (xs : List X) where
       inside = let count = ap length e in omega (arith, length-drop k xs, count)
 
       here : slice_index_or xs k d ≡ y
-      here = let same : k ≡ k + 0 = omega arith in ap (λ n. slice_index_or xs n d) same ∙ sym (get_or-drop k xs 0 d) ∙ ap (λ (l : List X). slice_index_or l 0 d) e
+      here = let same : k ≡ k + 0 = omega arith in cc (get_or-drop k xs 0 d)
 
       pick : (b : Bool) → p y ≡ b → cond b (Some k) (position_from p (k + 1) ys) ≡ Some row
           → (position_from p (k + 1) ys ≡ Some row → (k + 1 ≤ row) × (row < length xs) × (p (slice_index_or xs row d) ≡ true))
           → (k ≤ row) × (row < length xs) × (p (slice_index_or xs row d) ≡ true)
-      pick true test is later =
-          let same : k ≡ row = some_same k row is in
-          (omega arith, omega (arith, inside), ap (λ n. p (slice_index_or xs n d)) (sym same) ∙ ap p here ∙ test)
-      pick false test is later = let found' = later is in (omega (arith, found'.0), found'.1, found'.2)
+      pick true test is later = grind (arith, some_same, inside, here)
+      pick false test is later = grind arith
 
   pub place_found : (k row : ℕ) (d : X) → position_from p k (drop k xs) ≡ Some row → (k ≤ row) × (row < length xs) × (p (slice_index_or xs row d) ≡ true)
   place_found k row d found = go_place (drop k xs) k row d refl found
 
 same_swapped : (a b : Label) → same_number a b ≡ same_number b a
-same_swapped a b = same_from_decides (same_number a b) (same_number b a) (label_decides a b) (λ e. sym ((label_decides b a).0 e), λ e. (label_decides b a).1 (sym e))
+same_swapped a b = grind (arith, same_from_decides)
 
 -- the next row with a label, behind a row that has it
 pub next_like : (labels : List Label) (label : Label) (row : ℕ) (d : Label) → same_number label (slice_index_or labels row d) ≡ true
     → next_row labels row d ≡ position_from (same_number label) (row + 1) (drop (row + 1) labels)
-next_like labels label row d same = ap (λ l. position_from (same_number l) (row + 1) (drop (row + 1) labels)) (sym ((label_decides label (slice_index_or labels row d)).0 same))
+next_like labels label row d same = search rules
 
 -- one row more, from the last one on
 pub first_more : (labels : List Label) (p : ℕ) (d : Label) (es es' : List (Label × ℕ)) → p < length labels
     → ((q : Label) → lookup (same_number q) es' ≡ cond (same_number (slice_index_or labels p d) q) (Some p) (lookup (same_number q) es)) → HaveFirstRows es labels (p + 1) → HaveFirstRows es' labels p
-first_more labels p d es es' lt put so_far = λ q.
-    put q
-    ∙ (λ j. cond (same_swapped (slice_index_or labels p d) q j) (Some p) (so_far q j))
-    ∙ ap (position_from (same_number q) p) (sym (drop_more labels p d lt))
-
-pub next_more : (labels : List Label) (p : ℕ) (d : Label) (next next' : List (Option ℕ)) (later : Option ℕ) (es : List (Label × ℕ)) → p < length labels
-    → later ≡ lookup (same_number (slice_index_or labels p d)) es → next' ≡ slice_set next p later → HaveFirstRows es labels (p + 1) → HaveNextRows next labels (p + 1) → HaveNextRows next' labels p
-next_more labels p d next next' later es lt was set first so_far =
-    record {
-      count = ap length set ∙ length-set next p later ∙ so_far.count;
-      at = λ row e le in'. ap (λ (l : List (Option ℕ)). slice_index_or l row None) set ∙ at_row row e le in';
-    }
-  where
-    here : (e : Label) → later ≡ next_row labels p e
-    here e =
-        let same : slice_index_or labels p d ≡ slice_index_or labels p e = get_or_default labels p d e lt in
-        was ∙ first (slice_index_or labels p d) ∙ ap (λ l. position_from (same_number l) (p + 1) (drop (p + 1) labels)) same
-
-    at_row : (row : ℕ) (e : Label) → p ≤ row → row < length labels → slice_index_or (slice_set next p later) row None ≡ next_row labels row e
-    at_row row e le in' = elim (cases_eq row p) [
-      | inl same ↦
-          ap (λ n. slice_index_or (slice_set next p later) n None) same
-          ∙ get_or-set_same next p later None (omega (arith, so_far.count))
-          ∙ here e
-          ∙ ap (λ n. next_row labels n e) (sym same)
-      | inr other ↦ get_or-set_other next p row later None other ∙ so_far.at row e (omega arith) in'
-    ]
+first_more labels p d es es' lt put so_far = search (rules, same_swapped, drop_more)
 
 -- a row with its label, if there is one
 abbrev pub HasLabel : List Label → Label → Option ℕ → Type 0
@@ -113,8 +80,7 @@ pub fewer_left : (labels : List Label) (label : Label) (row : ℕ) (found : Opti
 fewer_left labels label row None lt is = omega arith
 fewer_left labels label row (Some later) lt is =
     let far : row + 1 ≤ later = (place_found (same_number label) labels (row + 1) later label (sym is)).0 in
-    let near : later < length labels = (place_found (same_number label) labels (row + 1) later label (sym is)).1 in
-    omega arith
+    grind (arith, place_found)
 
 -- the row that is read next
 pub linked_to : (labels : List Label) (label : Label) (next : List (Option ℕ)) (row : ℕ) (read : Option ℕ) → HaveNextRows next labels 0 → HasLabel labels label (Some row) → read ≡ slice_index_or next row None
@@ -124,61 +90,32 @@ linked_to labels label next row read links has is = is ∙ links.at row label (o
 -- one row is pushed
 pub pushed_row : (labels : List Label) (label : Label) (row : ℕ) (later : Option ℕ) (rows rows' all : List ℕ) → later ≡ position_from (same_number label) (row + 1) (drop (row + 1) labels)
     → rows' ≡ rows ++ row ∷ [] → rows ++ rest_from (same_number label) labels (Some row) ≡ all → rows' ++ rest_from (same_number label) labels later ≡ all
-pushed_row labels label row later rows rows' all is pushed before =
-    let p = same_number label in
-    ap (λ (l : List ℕ). l ++ rest_from p labels later) pushed
-    ∙ append_assoc rows (row ∷ []) (rest_from p labels later)
-    ∙ ap (λ (l : List ℕ). rows ++ row ∷ l) (ap (rest_from p labels) is ∙ sym (rows_from p labels (row + 1)))
-    ∙ before
+pushed_row labels label row later rows rows' all is pushed before = grind (arith, append_assoc, rows_from)
 
 -- the rows of a label from its first one on
 pub rows_from_first : (labels : List Label) (label : Label) (first : Option ℕ) → first ≡ position_from (same_number label) 0 labels → rest_from (same_number label) labels first ≡ rows_where (same_number label) 0 labels
-rows_from_first labels label first is = ap (rest_from (same_number label) labels) is ∙ sym (rows_from (same_number label) labels 0)
+rows_from_first labels label first is = cc (rows_from (same_number label) labels 0)
 
 pub are_some_from : (p : Label → Bool) (labels : List Label) (first : Option ℕ) → is_some first ≡ are_some (rest_from p labels first)
-are_some_from p labels None = refl
-are_some_from p labels (Some row) = refl
+are_some_from p labels x = grind arith
 
 -- a row without a next one is the only one
 rest_of : (labels : List Label) (label : Label) (row : ℕ) (read : Option ℕ) → read ≡ position_from (same_number label) (row + 1) (drop (row + 1) labels)
     → only_row (rest_from (same_number label) labels (Some row)) ≡ only_row (row ∷ rest_from (same_number label) labels read)
-rest_of labels label row read is = ap (λ (l : List ℕ). only_row (row ∷ l)) (rows_from (same_number label) labels (row + 1) ∙ ap (rest_from (same_number label) labels) (sym is))
-
-only_if : (labels : List Label) (label : Label) (row : ℕ) (read : Option ℕ) → is_some read ≡ false → only_row (row ∷ rest_from (same_number label) labels read) ≡ Some row
-only_if labels label row None none = refl
-only_if labels label row (Some later) none = cc
-
-not_if : (labels : List Label) (label : Label) (row : ℕ) (read : Option ℕ) → is_some read ≡ true → only_row (row ∷ rest_from (same_number label) labels read) ≡ None
-not_if labels label row None some = cc
-not_if labels label row (Some later) some = refl
+rest_of labels label row read is = grind (arith, rows_from)
 
 -- the row that is read behind the first one
 pub read_next : (labels : List Label) (label : Label) (next : List (Option ℕ)) (row : ℕ) (read : Option ℕ) → HaveNextRows next labels 0 → HasLabel labels label (Some row) → read ≡ slice_index_or next row read
     → read ≡ position_from (same_number label) (row + 1) (drop (row + 1) labels)
-read_next labels label next row read links has is =
-    let inside : row < length labels = has.0 in
-    linked_to labels label next row read links has (is ∙ get_or_default next row read None (omega (arith, links.count)))
+read_next labels label next row read links has is = grind (arith, linked_to, get_or_default)
 
 pub only_found : (labels seen : List Label) (label : Label) (next : List (Option ℕ)) (row : ℕ) (read : Option ℕ) → labels ≡ seen → HaveNextRows next labels 0 → Some row ≡ position_from (same_number label) 0 labels
     → read ≡ slice_index_or next row read → is_some read ≡ false → Some row ≡ only_row (rows_where (same_number label) 0 seen)
-only_found labels seen label next row read view links first is none =
-    sym (
-    ap (λ (l : List Label). only_row (rows_where (same_number label) 0 l)) (sym view)
-    ∙ ap only_row (sym (rows_from_first labels label (Some row) first))
-    ∙ rest_of labels label row read (read_next labels label next row read links (label_there labels label 0 (Some row) first) is)
-    ∙ only_if labels label row read none
-    )
+only_found labels seen label next row read view links first is none = grind (arith, rows_from_first labels label (Some row) first, rest_of labels label row read (read_next labels label next row read links (label_there labels label 0 (Some row) first) is))
 
 pub more_found : (labels seen : List Label) (label : Label) (next : List (Option ℕ)) (row : ℕ) (read : Option ℕ) → labels ≡ seen → HaveNextRows next labels 0 → Some row ≡ position_from (same_number label) 0 labels
     → read ≡ slice_index_or next row read → is_some read ≡ true → None ≡ only_row (rows_where (same_number label) 0 seen)
-more_found labels seen label next row read view links first is some =
-    sym (
-    ap (λ (l : List Label). only_row (rows_where (same_number label) 0 l)) (sym view)
-    ∙ ap only_row (sym (rows_from_first labels label (Some row) first))
-    ∙ rest_of labels label row read (read_next labels label next row read links (label_there labels label 0 (Some row) first) is)
-    ∙ not_if labels label row read some
-    )
+more_found labels seen label next row read view links first is some = grind (arith, rows_from_first labels label (Some row) first, rest_of labels label row read (read_next labels label next row read links (label_there labels label 0 (Some row) first) is))
 
 pub none_found : (labels seen : List Label) (label : Label) → labels ≡ seen → None ≡ position_from (same_number label) 0 labels → None ≡ only_row (rows_where (same_number label) 0 seen)
-none_found labels seen label view first =
-    sym (ap (λ (l : List Label). only_row (rows_where (same_number label) 0 l)) (sym view) ∙ ap only_row (sym (rows_from_first labels label None first)))
+none_found labels seen label view first = cc (rows_from_first labels label None first)

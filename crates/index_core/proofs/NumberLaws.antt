@@ -1,6 +1,6 @@
 -- The places of a range: by the number of a label, and by the numbers of two bounds.
 use Rattle.{
-  std.{proofs.{Common.{◌≡◌, ◌∙◌, ap, sym, subst, refl, arith, rules, ℕ, zero, suc, ◌+◌, ◌-◌, ◌<◌, ◌≤◌, ℤ, pos, negsuc, Bool, true, false, not, cond, List, [], ◌∷◌, length, slice_index_or, Some, min, nat_lt, map, ◌&&◌}, lemmas.{Bool.Decides.{nat_tests}, List.FromFn.{get_or-map-range_with_len}}}, specs.{Prelude.{◌*◌, unsigned_abs, int_lt as lt_z}, Bool.{Decides}, List.{range_with_len}, Ordering.{is_lt, is_gt, int_cmp}, declared.cmp.Ordering.TheVariants.{Less, Equal, Greater}}},
+  std.{proofs.{Common.{◌≡◌, ◌∙◌, ap, sym, refl, arith, rules, ℕ, zero, suc, ◌+◌, ◌-◌, ◌<◌, ◌≤◌, ℤ, pos, negsuc, Bool, true, false, not, cond, List, [], ◌∷◌, length, slice_index_or, Some, min, nat_lt, map}, lemmas.{Bool.Decides.{nat_tests}, List.FromFn.{get_or-map-range_with_len}}}, specs.{Prelude.{unsigned_abs, int_lt as lt_z}, Bool.{Decides}, List.{range_with_len}, Ordering.{is_lt, is_gt, int_cmp}, declared.cmp.Ordering.TheVariants.{Less, Equal, Greater}}},
   cell_core.specs.{declared.cell.Label.{Label}, Grids.{place_from}},
   meaning.specs.Text.{Text},
   pick_meaning.{specs.{Rows.{rows_where, rows_of, rows_between}, Slices.{goes_on_in_order, is_in_order, reaches, stays_within}}, proofs.RowLaws.{rows_in_interval}},
@@ -12,12 +12,11 @@ pub label_decides : (a b : Label) → Decides (same_number a b) (a ≡ b)
 label_decides a b = search rules
 
 pub not_same : {P : Type 0} (r : Bool) → Decides r P → (P → ⊥) → r ≡ false
-not_same true d n = absurd (n (d.0 refl))
-not_same false d n = refl
+not_same x d n = grind arith
 
 -- the label at a place
 pub number_at : (n k : ℕ) (d : Label) → k < n → slice_index_or (range_labels n) k d ≡ number_label k
-number_at n k d lt = get_or-map-range_with_len number_label 0 n k k d lt (omega arith)
+number_at n k d lt = grind (arith, get_or-map-range_with_len)
 
 inside : (n k : ℕ) → k < length (range_labels n) → k < n
 inside n k lt = omega (arith, length-range_labels n)
@@ -40,35 +39,22 @@ number_there n m lt =
     let start : 0 + m ≡ m = omega arith in
     sym (
     rows_in_interval (same_number (label.Int (pos m))) label.Na 0 m (m + 1) (range_labels n) (omega (arith, length-range_labels n))
-    (λ k less in'. ap (same_number (label.Int (pos m))) (number_at n k label.Na (inside n k in')) ∙ not_same (same_number (label.Int (pos m)) (number_label k)) (label_decides (label.Int (pos m)) (number_label k)) (λ e. let eq : m ≡ k = same_pos m k e in omega arith))
+    (λ k less in'. ap (same_number (label.Int (pos m))) (number_at n k label.Na (inside n k in')) ∙ not_same (same_number (label.Int (pos m)) (number_label k)) (search label_decides) (λ e. let eq : m ≡ k = same_pos m k e in omega arith))
     (λ k le less. let eq : m ≡ k = omega arith in ap (same_number (label.Int (pos m))) (number_at n k label.Na (omega arith)) ∙ (label_decides (label.Int (pos m)) (number_label k)).1 (ap (λ z. label.Int (pos z)) eq))
-    (λ k le in'. ap (same_number (label.Int (pos m))) (number_at n k label.Na (inside n k in')) ∙ not_same (same_number (label.Int (pos m)) (number_label k)) (label_decides (label.Int (pos m)) (number_label k)) (λ e. let eq : m ≡ k = same_pos m k e in omega arith))
+    (λ k le in'. ap (same_number (label.Int (pos m))) (number_at n k label.Na (inside n k in')) ∙ not_same (same_number (label.Int (pos m)) (number_label k)) (search label_decides) (λ e. let eq : m ≡ k = same_pos m k e in omega arith))
     ∙ ap (range_with_len (0 + m)) count
     ∙ ap (λ a. range_with_len a 1) start
     )
 
-pub number_past : (n m : ℕ) → n ≤ m → [] ≡ rows_where (same_number (label.Int (pos m))) 0 (range_labels n)
-number_past n m le = nowhere n (label.Int (pos m)) (λ k lt. not_same (same_number (label.Int (pos m)) (number_label k)) (label_decides (label.Int (pos m)) (number_label k)) (λ e. let eq : m ≡ k = same_pos m k e in omega arith))
-
-pub number_below : (n m : ℕ) → [] ≡ rows_where (same_number (label.Int (negsuc m))) 0 (range_labels n)
-number_below n m = nowhere n (label.Int (negsuc m)) (λ k lt. refl)
-
 -- the order of numbers
 lt_of : (a b : Bool) → is_lt (cond a Less (cond b Greater Equal)) ≡ a
-lt_of true b = refl
-lt_of false true = refl
-lt_of false false = refl
-
-gt_of : (a b : Bool) → (a ≡ true → b ≡ false) → is_gt (cond a Less (cond b Greater Equal)) ≡ b
-gt_of true b apart = sym (apart refl)
-gt_of false true apart = refl
-gt_of false false apart = refl
+lt_of x b = grind arith
 
 pub lt_numbers : (k m : ℕ) → is_lt (int_cmp (pos k) (pos m)) ≡ nat_lt k m
-lt_numbers k m = lt_of (nat_lt k m) (nat_lt m k)
+lt_numbers k m = search lt_of
 
 pub gt_numbers : (k m : ℕ) → is_gt (int_cmp (pos k) (pos m)) ≡ nat_lt m k
-gt_numbers k m = gt_of (nat_lt k m) (nat_lt m k) (λ e. grind (arith, nat_tests))
+gt_numbers k m = grind (arith, nat_tests)
 
 is_below : (k m : ℕ) → k < m → nat_lt k m ≡ true
 is_below k m lt = grind (arith, nat_tests)
@@ -80,8 +66,8 @@ isnt_below k m le = grind (arith, nat_tests)
 pub split_numbers : (p : Label → Bool) (n place : ℕ) → place ≤ n → ((k : ℕ) → k < place → p (number_label k) ≡ false) → ((k : ℕ) → place ≤ k → k < n → p (number_label k) ≡ true) → IsSplitAt p (range_labels n) place
 split_numbers p n place few before behind = record {
   within = omega (arith, length-range_labels n);
-  before = λ k d lt. ap p (number_at n k d (omega arith)) ∙ before k lt;
-  behind = λ k d le lt. ap p (number_at n k d (inside n k lt)) ∙ behind k le (inside n k lt);
+  before = grind (arith, number_at);
+  behind = search (number_at, inside);
 }
 
 -- the first number that isn't below a number
@@ -104,39 +90,27 @@ left_behind texts n m =
 pub left_at_once : (texts : List Text) (n m : ℕ) → IsSplitAt (λ l. not (stays_within (order_in texts) (Some (label.Int (negsuc m))) l)) (range_labels n) 0
 left_at_once texts n m = split_numbers (λ l. not (stays_within (order_in texts) (Some (label.Int (negsuc m))) l)) n 0 (omega arith) (λ k lt. absurd (omega arith)) (λ k le lt. refl)
 
--- by the number that a label is
-pub found_number : (n : ℕ) (z : ℤ) (place : ℕ) → lt_z z (pos 0) ≡ false → place ≡ unsigned_abs z → place < n → place ∷ [] ≡ rows_where (same_number (label.Int z)) 0 (range_labels n)
-found_number n (pos m) place ge is lt = ap (λ (k : ℕ). k ∷ []) is ∙ number_there n m (omega arith)
-found_number n (negsuc m) place ge is lt = cc
-
 pub missed_number : (n : ℕ) (z : ℤ) (place : ℕ) → lt_z z (pos 0) ≡ false → place ≡ unsigned_abs z → n ≤ place → [] ≡ rows_where (same_number (label.Int z)) 0 (range_labels n)
-missed_number n (pos m) place ge is le = number_past n m (omega arith)
-missed_number n (negsuc m) place ge is le = cc
-
-zero_not_below : (m : ℕ) → lt_z (pos m) (pos 0) ≡ true → ⊥
-zero_not_below m e = let no : nat_lt m 0 ≡ false = isnt_below m 0 (omega arith) in cc
+missed_number n x place ge is le = grind (arith, nowhere, not_same, label_decides, same_pos)
 
 pub no_number : (n : ℕ) (z : ℤ) → lt_z z (pos 0) ≡ true → [] ≡ rows_where (same_number (label.Int z)) 0 (range_labels n)
-no_number n (pos m) lt = absurd (zero_not_below m lt)
-no_number n (negsuc m) lt = number_below n m
+no_number n x lt = grind (arith, isnt_below, nowhere)
 
 pub reached_number : (texts : List Text) (n : ℕ) (z : ℤ) (distance place : ℕ) → lt_z z (pos 0) ≡ false → distance ≡ unsigned_abs z → place ≡ min n distance → IsSplitAt (reaches (order_in texts) (Some (label.Int z))) (range_labels n) place
-reached_number texts n (pos m) distance place ge is at =
-    subst (IsSplitAt (reaches (order_in texts) (Some (label.Int (pos m)))) (range_labels n)) (sym (at ∙ ap (min n) is)) (reached texts n m)
+reached_number texts n (pos m) distance place ge is at = grind (arith, reached texts n m)
 reached_number texts n (negsuc m) distance place ge is at = cc
 
 pub reached_below : (texts : List Text) (n : ℕ) (z : ℤ) → lt_z z (pos 0) ≡ true → IsSplitAt (reaches (order_in texts) (Some (label.Int z))) (range_labels n) 0
-reached_below texts n (pos m) lt = absurd (zero_not_below m lt)
+reached_below texts n (pos m) lt = absurd (grind (arith, isnt_below))
 reached_below texts n (negsuc m) lt = reached_at_once texts n m
 
 pub left_number : (texts : List Text) (n : ℕ) (z : ℤ) (distance place : ℕ) → lt_z z (pos 0) ≡ false → distance ≡ unsigned_abs z → place ≡ min n (distance + 1)
     → IsSplitAt (λ l. not (stays_within (order_in texts) (Some (label.Int z)) l)) (range_labels n) place
-left_number texts n (pos m) distance place ge is at =
-    subst (IsSplitAt (λ l. not (stays_within (order_in texts) (Some (label.Int (pos m))) l)) (range_labels n)) (sym (at ∙ ap (λ k. min n (k + 1)) is)) (left_behind texts n m)
+left_number texts n (pos m) distance place ge is at = rw (at ∙ ap (λ k. min n (k + 1)) is) (left_behind texts n m)
 left_number texts n (negsuc m) distance place ge is at = cc
 
 pub left_below : (texts : List Text) (n : ℕ) (z : ℤ) → lt_z z (pos 0) ≡ true → IsSplitAt (λ l. not (stays_within (order_in texts) (Some (label.Int z)) l)) (range_labels n) 0
-left_below texts n (pos m) lt = absurd (zero_not_below m lt)
+left_below texts n (pos m) lt = absurd (grind (arith, isnt_below))
 left_below texts n (negsuc m) lt = left_at_once texts n m
 
 -- by a test that all numbers pass, or none does
@@ -149,24 +123,15 @@ none_passes p n fail = split_numbers p n n (omega arith) (λ k lt. fail k) (λ k
 -- numbers go on in order
 goes_on : (texts : List Text) (a n : ℕ) → goes_on_in_order (order_in texts) (number_label a) (map number_label (range_with_len (a + 1) n)) ≡ true
 goes_on texts a zero = refl
-goes_on texts a (suc n) =
-    ap (λ b. not b && goes_on_in_order (order_in texts) (number_label (a + 1)) (map number_label (range_with_len (a + 1 + 1) n))) (lt_numbers (a + 1) a ∙ isnt_below (a + 1) a (omega arith))
-    ∙ goes_on texts (a + 1) n
+goes_on texts a (suc n) = grind (arith, lt_numbers, isnt_below, goes_on texts (a + 1) n)
 
 pub range_in_order : (texts : List Text) (n : ℕ) → is_in_order (order_in texts) (range_labels n) ≡ true
-range_in_order texts zero = refl
-range_in_order texts (suc n) = goes_on texts 0 n
+range_in_order texts x = grind (arith, goes_on)
 
 -- rows with a step of 1
 ones : (first start count : ℕ) → map (place_from first (pos 1)) (range_with_len start count) ≡ range_with_len (first + start) count
 ones first start zero = refl
-ones first start (suc count) =
-    let here : first + start * 1 ≡ first + start = omega arith in
-    let next : first + (start + 1) ≡ first + start + 1 = omega arith in
-    let later = ones first (start + 1) count ∙ ap (λ a. range_with_len a count) next in
-    λ j. here j ∷ later j
+ones first start (suc count) = grind (arith, ones first (start + 1) count)
 
 pub run_rows : (first end count : ℕ) → count ≡ end - first → rows_of record { start = first; step = pos 1; count = count } ≡ rows_between first end
-run_rows first end count is =
-    let start : first + 0 ≡ first = omega arith in
-    ones first 0 count ∙ ap (λ a. range_with_len a count) start ∙ ap (range_with_len first) is
+run_rows first end count is = grind (arith, ones)

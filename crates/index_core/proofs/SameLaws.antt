@@ -1,6 +1,6 @@
 -- Lists that are the same place by place.
 use Rattle.{
-  std.{proofs.{Common.{◌≡◌, ◌∙◌, ℕ, suc, ◌+◌, ◌<◌, Bool, true, List, [], ◌∷◌, ◌++◌, length, take, slice_index_or, refl, ap, sym, arith, Option, Some, None}, lemmas.{List.{take_more, map-append}, Option.{get_or_from_slice_get}}}, specs.{Prelude.{slice_get}, Bool.{Decides}}},
+  std.{proofs.{Common.{◌≡◌, ℕ, suc, ◌+◌, ◌<◌, Bool, true, List, [], ◌∷◌, ◌++◌, length, take, slice_index_or, refl, arith, Option, Some, None}, lemmas.{List.{take_more, map-append}, Option.{get_or_from_slice_get}}}, specs.{Prelude.{slice_get}, Bool.{Decides}}},
   cell_core.specs.declared.cell.Label.{Label, TheVariants.{Na}},
   index_core.{specs.{Labels.{labels_at}, Ranges.{range_labels}}, proofs.RangeLaws.{length-range_labels}},
 }
@@ -15,18 +15,17 @@ module _ {X : Type 0} where
 
   pub all_same : (xs ys : List X) → length xs ≡ length ys → ((k : ℕ) → k < length xs → slice_get xs k ≡ slice_get ys k) → xs ≡ ys
   all_same [] [] e h = refl
-  all_same [] (y ∷ ys) e h = absurd (omega arith)
-  all_same (x ∷ xs) [] e h = absurd (omega arith)
+  all_same [] (y ∷ ys) e h = search
+  all_same (x ∷ xs) [] e h = search
   all_same (x ∷ xs) (y ∷ ys) e h =
-      let first : x ≡ y = ap (some_or x) (h 0 (omega arith)) in
-      let rest : xs ≡ ys = all_same xs ys (omega arith) (λ k lt. h (suc k) (omega arith)) in
-      λ i. first i ∷ rest i
+      let first : x ≡ y = cc (h 0 (omega arith)) in
+      search (all_same xs ys (omega arith) (λ k lt. h (suc k) (omega arith)))
 
 -- two ranges
 pub ranges_same : (a b : List Label) (m n : ℕ) (r : Bool) → range_labels m ≡ a → range_labels n ≡ b → Decides r (m ≡ n) → Decides r (a ≡ b)
 ranges_same a b m n r e f is = (
-  λ t. sym e ∙ ap range_labels (is.0 t) ∙ f,
-  λ same. is.1 (sym (length-range_labels m) ∙ ap length (e ∙ same ∙ sym f) ∙ length-range_labels n),
+  grind arith,
+  λ same. is.1 (cc (length-range_labels m, length-range_labels n)),
 )
 
 -- one more label is taken
@@ -34,11 +33,6 @@ pub one_more_label : (labels taken taken' : List Label) (places : List ℕ) (k p
     → taken ≡ labels_at labels (take k places) → k < length places → slice_get places k ≡ Some place → slice_get labels place ≡ Some label → taken' ≡ taken ++ label ∷ []
     → taken' ≡ labels_at labels (take (k + 1) places)
 one_more_label labels taken taken' places k place label before inside at is pushed =
-    let same : slice_index_or labels (slice_index_or places k 0) Na ≡ label =
-    ap (λ (p : ℕ). slice_index_or labels p Na) (get_or_from_slice_get places k place 0 at) ∙ get_or_from_slice_get labels place label Na is
+    let same : slice_index_or labels (slice_index_or places k 0) Na ≡ label = grind (arith, get_or_from_slice_get)
     in
-    pushed ∙ ap (λ (l : List Label). l ++ label ∷ []) before
-    ∙ sym (
-    ap (labels_at labels) (take_more places k 0 inside) ∙ map-append (λ p. slice_index_or labels p Na) (take k places) (slice_index_or places k 0 ∷ [])
-    ∙ ap (λ (t : Label). labels_at labels (take k places) ++ t ∷ []) same
-    )
+    cc (take_more places k 0 inside, map-append (λ p. slice_index_or labels p Na) (take k places) (slice_index_or places k 0 ∷ []))

@@ -1,12 +1,11 @@
 -- Labels that are told apart by the numbers of their texts, with the texts themselves.
 use Rattle.{
-  std.{proofs.{Common.{◌≡◌, ◌∙◌, ℕ, Bool, true, false, List, [], map, refl, ap, sym, All, Option}, lemmas.{Bool.Decides.{same_from_decides}, Cmp.{tied_itself}}}, specs.{Bool.{Decides}, FinMap.{int_cmp-IsAntisymmetric, nat_cmp-IsAntisymmetric, slice_cmp-IsAntisymmetric}, Option.{option_map}, Ordering.{is_eq, bool_cmp}, declared.cmp.Ordering.{Ordering, TheVariants.{Less, Equal, Greater}}}},
+  std.{proofs.{Common.{arith, ◌≡◌, ℕ, Bool, true, List, [], map, refl, All, Option}, lemmas.{Bool.Decides.{same_from_decides}, Cmp.{tied_itself}}}, specs.{Bool.{Decides}, FinMap.{nat_cmp-IsAntisymmetric, slice_cmp-IsAntisymmetric}, Option.{option_map}, Ordering.{is_eq, bool_cmp}, declared.cmp.Ordering.{Ordering, TheVariants.{Equal}}}},
   cell_core.{specs.{declared.cell.{Label.{Label}, TextId.{TextId}}, Texts.{AreDistinct, IsGivenLabel}, Values.{LabelValue, truth, int, text, na, label_cmp, label_datum}}, proofs.LabelLaws.{label_total}},
   meaning.specs.Text.{Text},
   pick_meaning.{specs.{Faults.{pick_seen}, Keys.{LabelKey, key_seen, picked_by_label}, Labels.{rows_of_key}, Masks.{masked_rows}, Slices.{label_slice}}, proofs.{SeenLaws.{rows_of_key-map, label_slice-map, masked_rows-map}, KeyLaws.{IsOfKey, picked_by_label-map}}},
-  index_core.{specs.Labels.{same_number, order_in}, proofs.NumberLaws.{label_decides}},
+  index_core.specs.Labels.{same_number, order_in},
 }
-use Rattle.cell_core.specs.declared.cell.Label.TheVariants as label
 
 -- equal labels, with their texts
 abbrev pub same_text : LabelValue → LabelValue → Bool
@@ -17,16 +16,13 @@ text_in (text t) = t
 text_in l = []
 
 bool_same : (a b : Bool) → bool_cmp a b ≡ Equal → a ≡ b
-bool_same true true e = refl
-bool_same false false e = refl
-bool_same true false e = cc
-bool_same false true e = cc
+bool_same x x1 e = grind arith
 
 -- labels that compare as equal are the same
 value_same : (a b : LabelValue) → label_cmp a b ≡ Equal → a ≡ b
-value_same (truth a) (truth b) e = ap (λ x. truth x) (bool_same a b e)
-value_same (int a) (int b) e = ap (λ x. int x) (int_cmp-IsAntisymmetric a b e)
-value_same (text a) (text b) e = ap (λ x. text x) (slice_cmp-IsAntisymmetric nat_cmp-IsAntisymmetric a b e)
+value_same (truth a) (truth b) e = search bool_same
+value_same (int a) (int b) e = grind arith
+value_same (text a) (text b) e = cc (slice_cmp-IsAntisymmetric nat_cmp-IsAntisymmetric a b e)
 value_same na na e = refl
 value_same (truth a) (int b) e = cc
 value_same (truth a) (text b) e = cc
@@ -42,43 +38,21 @@ value_same na (int b) e = cc
 value_same na (text b) e = cc
 
 is_equal : (o : Ordering) → is_eq o ≡ true → o ≡ Equal
-is_equal Equal e = refl
-is_equal Less e = cc
-is_equal Greater e = cc
+is_equal x e = grind arith
 
 pub value_decides : (a b : LabelValue) → Decides (same_text a b) (a ≡ b)
-value_decides a b = (λ e. value_same a b (is_equal (label_cmp a b) e), λ e. ap (λ x. is_eq (label_cmp a x)) (sym e) ∙ ap is_eq (tied_itself label_total a))
+value_decides a b = grind (arith, value_same, is_equal, tied_itself, label_total)
 
 id_same : (x y : TextId) → x.0 ≡ y.0 → x ≡ y
-id_same x y e = λ i. record { 0 = e i }
+id_same x y e = grind arith
 
 -- labels of one text have one number
 pub label_one : (texts : List Text) (a b : Label) → AreDistinct texts → IsGivenLabel texts a → IsGivenLabel texts b → label_datum texts a ≡ label_datum texts b → a ≡ b
-label_one texts (label.Bool a) (label.Bool b) distinct f g e = cc
-label_one texts (label.Int a) (label.Int b) distinct f g e = cc
-label_one texts (label.Text a) (label.Text b) distinct f g e = ap (λ x. label.Text x) (id_same a b (distinct a.0 b.0 f g (ap text_in e)))
-label_one texts label.Na label.Na distinct f g e = refl
-label_one texts (label.Bool a) (label.Int b) distinct f g e = cc
-label_one texts (label.Bool a) (label.Text b) distinct f g e = cc
-label_one texts (label.Bool a) label.Na distinct f g e = cc
-label_one texts (label.Int a) (label.Bool b) distinct f g e = cc
-label_one texts (label.Int a) (label.Text b) distinct f g e = cc
-label_one texts (label.Int a) label.Na distinct f g e = cc
-label_one texts (label.Text a) (label.Bool b) distinct f g e = cc
-label_one texts (label.Text a) (label.Int b) distinct f g e = cc
-label_one texts (label.Text a) label.Na distinct f g e = cc
-label_one texts label.Na (label.Bool b) distinct f g e = cc
-label_one texts label.Na (label.Int b) distinct f g e = cc
-label_one texts label.Na (label.Text b) distinct f g e = cc
+label_one texts x x1 distinct f g e = grind (arith, id_same)
 
 -- labels whose texts were given are told apart by the numbers as by the texts
 pub number_alike : (texts : List Text) → AreDistinct texts → (a b : Label) → IsGivenLabel texts a → IsGivenLabel texts b → same_text (label_datum texts a) (label_datum texts b) ≡ same_number a b
-number_alike texts distinct a b f g =
-    let there : Decides (same_text (label_datum texts a) (label_datum texts b)) (a ≡ b) = (
-      λ e. label_one texts a b distinct f g ((value_decides (label_datum texts a) (label_datum texts b)).0 e),
-      λ e. (value_decides (label_datum texts a) (label_datum texts b)).1 (ap (label_datum texts) e),
-    ) in
-    same_from_decides (same_text (label_datum texts a) (label_datum texts b)) (same_number a b) there (label_decides a b)
+number_alike texts distinct a b f g = grind (arith, label_one, value_decides, same_from_decides)
 
 -- what is picked by numbers is what is picked by texts: the rows of a label, a slice, a key of `loc`, and a mask
 module _ (texts : List Text) where
@@ -88,13 +62,12 @@ module _ (texts : List Text) where
 
   pub slice_seen : (lower upper : Option Label) (labels : List Label)
       → label_slice label_cmp (option_map (label_datum texts) lower) (option_map (label_datum texts) upper) (map (label_datum texts) labels) ≡ pick_seen (label_datum texts) (label_slice (order_in texts) lower upper labels)
-  slice_seen lower upper labels = label_slice-map label_cmp (order_in texts) (label_datum texts) (λ x y. refl) lower upper labels
+  slice_seen lower upper labels = search label_slice-map
 
   pub key_pick_seen : AreDistinct texts → (levels : ℕ) (tuples : List (List Label)) (key : LabelKey (List Label)) → All (All (IsGivenLabel texts)) tuples → IsOfKey (IsGivenLabel texts) key
       → picked_by_label same_text label_cmp levels (map (map (label_datum texts)) tuples) (key_seen (map (label_datum texts)) key) ≡ pick_seen (map (label_datum texts)) (picked_by_label same_number (order_in texts) levels tuples key)
-  key_pick_seen distinct levels tuples key all given =
-      picked_by_label-map (IsGivenLabel texts) same_text same_number label_cmp (order_in texts) (label_datum texts) (number_alike texts distinct) (λ x y. refl) levels tuples all key given
+  key_pick_seen distinct levels tuples key all given = search (picked_by_label-map, number_alike)
 
   pub mask_seen : AreDistinct texts → (xs labels : List Label) (mask : List Bool) → All (IsGivenLabel texts) xs → All (IsGivenLabel texts) labels
       → masked_rows same_text (map (label_datum texts) xs) (map (label_datum texts) labels) mask ≡ pick_seen (label_datum texts) (masked_rows same_number xs labels mask)
-  mask_seen distinct xs labels mask all given = masked_rows-map (IsGivenLabel texts) same_text same_number (label_datum texts) (number_alike texts distinct) xs labels mask all given
+  mask_seen distinct xs labels mask all given = search (masked_rows-map, number_alike)

@@ -8,13 +8,12 @@ use Rattle.{
 }
 
 only_label : (tuple : List Label) → length tuple ≡ 1 → label_in 0 tuple ∷ [] ≡ tuple
-only_label [] one = absurd (omega (arith, one))
+only_label [] one = search
 only_label (l ∷ []) one = refl
-only_label (l ∷ k ∷ ks) one = absurd (omega (arith, one))
+only_label (l ∷ k ∷ ks) one = search
 
 pub single_rows : (tuples : List (List Label)) (rows : List ℕ) → HaveLevels 1 tuples → All (λ row. row < length tuples) rows → single_tuples (map (λ row. label_of_row tuples row 0) rows) ≡ tuples_at tuples rows
 single_rows tuples [] alike inside = refl
 single_rows tuples (row ∷ rows) alike inside =
     let here = only_label (slice_index_or tuples row []) (alike row [] (inside 0 0 (omega arith))) in
-    let later = single_rows tuples rows alike (λ k d lt. inside (suc k) d (omega (arith, lt))) in
-    λ j. here j ∷ later j
+    search (single_rows tuples rows alike (λ k d lt. inside (suc k) d (omega arith)))

@@ -1,18 +1,18 @@
 -- The rows of both sides in order, their runs and the entries of these are the outer join.
 use Rattle.{
-  std.{proofs.{Common.{◌≡◌, ◌∙◌, ◌<◌, ◌≤◌, ◌++◌, ℕ, zero, suc, List, [], ◌∷◌, map, length, ap, sym, subst, arith, All, Ok, Err}, lemmas.List.Elements.{All-head, All-tail, All-map}}, specs.List.{flat_map, range_with_len, Sorted.{ties}}},
+  std.{proofs.{Common.{◌≡◌, ◌∙◌, ◌<◌, ◌≤◌, ◌++◌, ℕ, zero, suc, List, [], ◌∷◌, map, length, ap, sym, subst, arith, All, Ok}, lemmas.List.Elements.{All-head, All-tail, All-map}}, specs.List.{flat_map, range_with_len, Sorted.{ties}}},
   cell_core.specs.{declared.cell.Label.{Label}, Texts.{AreDistinct, IsGivenLabel}},
   meaning.specs.Text.{Text},
-  multi_index.specs.Axes.{HaveLevels, tuples_at},
+  multi_index.specs.Axes.{HaveLevels},
   pick_meaning.specs.Rows.{rows_where},
   sorting.{specs.Sorting.{in_order}, proofs.OrderLaws.{in_order_same}},
-  align_meaning.{specs.{Faults.{too_large}, Joins.{Entry, Lists, most_rows, keys_in_order, outer_entries, lists_of, within_limit}}, proofs.OrderLaws.{all_append, all_in_order}},
+  align_meaning.{specs.Joins.{Entry, Lists, most_rows, keys_in_order, outer_entries, lists_of, within_limit}, proofs.OrderLaws.{all_append, all_in_order}},
   row_keys.specs.Keys.{same_tuple},
-  label_align.{specs.{declared.{runs.Run.{Run}, joined.Entries.{Entries}}, Tuples.{tuple_less, row_less}, Joined.{entries_seen, entries_shown}, Runs.{AreGivenTuples, tuple_of_row, same_row, no_run, runs_from, run_entries, total, counted}}, proofs.{EntryLaws.{map-map, too_many, few_enough}, LawOfJoins.{tuple_weak}, OrderLaws.{row_agrees, below_range}, RunLaws.{rows_are, runs_are, have_rows}, SameLaws.{tuple_decides, tuple_tied}, SideLaws.{rekeyed, run_at, entries_are, counted_is, total_is, entries_inside}}},
+  label_align.{specs.{declared.{runs.Run.{Run}, joined.Entries.{Entries}}, Tuples.{tuple_less, row_less}, Joined.{entries_seen, entries_shown}, Runs.{AreGivenTuples, tuple_of_row, same_row, no_run, runs_from, run_entries, total, counted}}, proofs.{EntryLaws.{map-map, few_enough}, LawOfJoins.{tuple_weak}, OrderLaws.{row_agrees, below_range}, RunLaws.{rows_are, runs_are, have_rows}, SameLaws.{tuple_decides, tuple_tied}, SideLaws.{rekeyed, run_at, entries_are, counted_is, total_is, entries_inside}}},
 }
 
 given_row : (texts : List Text) (tuples : List (List Label)) (row : ℕ) → AreGivenTuples texts tuples → All (IsGivenLabel texts) (tuple_of_row tuples row)
-given_row texts [] row given = λ k d lt. absurd (omega (arith, lt))
+given_row texts [] row given = grind arith
 given_row texts (t ∷ ts) zero given = All-head (λ tuple. All (IsGivenLabel texts) tuple) t ts given
 given_row texts (t ∷ ts) (suc row) given = given_row texts ts row (All-tail (λ tuple. All (IsGivenLabel texts) tuple) t ts given)
 
@@ -24,7 +24,7 @@ module _ (texts : List Text) (a b : List (List Label)) (levels : ℕ) (distinct 
   IsRow row = row < length (a ++ b)
 
   pub rows_inside : All IsRow rows
-  rows_inside = subst (All IsRow) (sym sorted) (all_in_order IsRow (row_less texts (a ++ b) levels) (range_with_len 0 (length (a ++ b))) (below_range (length (a ++ b))))
+  rows_inside = subst (All IsRow) (sym sorted) (search (all_in_order, below_range))
 
   abbrev keys : List (List Label)
   keys = keys_in_order same_tuple (tuple_less texts) (a ++ b)
@@ -33,7 +33,7 @@ module _ (texts : List Text) (a b : List (List Label)) (levels : ℕ) (distinct 
   part key = rows_where (same_tuple key) 0 (a ++ b)
 
   tied : (i j : ℕ) → ties (tuple_less texts) (tuple_of_row (a ++ b) i) (tuple_of_row (a ++ b) j) ≡ same_row (a ++ b) i j
-  tied i j = tuple_tied texts distinct (tuple_of_row (a ++ b) i) (tuple_of_row (a ++ b) j) (given_row texts (a ++ b) i given) (given_row texts (a ++ b) j given)
+  tied i j = search (tuple_tied, given_row)
 
   rows_by_key : rows ≡ flat_map part keys
   rows_by_key =
@@ -47,19 +47,15 @@ module _ (texts : List Text) (a b : List (List Label)) (levels : ℕ) (distinct 
     run_of_key = run_at same_tuple (tuple_less texts) tuple_decides (tuple_weak texts) a b []
 
     runs_by_key : runs ≡ map run_of_key keys
-    runs_by_key = made ∙ ap (runs_from (same_row (a ++ b)) (length a) no_run) rows_by_key ∙ runs_are same_tuple (tuple_less texts) tuple_decides (tuple_weak texts) (a ++ b) [] (length a)
+    runs_by_key = cc (rows_by_key, runs_are same_tuple (tuple_less texts) tuple_decides (tuple_weak texts) (a ++ b) [] (length a))
 
     pub counted_outer : counted runs ≡ length (outer_entries same_tuple (tuple_less texts) a b)
     counted_outer = ap counted runs_by_key ∙ counted_is same_tuple (tuple_less texts) tuple_decides (tuple_weak texts) a b [] keys
 
     pub total_outer : total runs ≤ length rows
     total_outer =
-        let size : total runs ≡ length rows = ap total runs_by_key ∙ total_is same_tuple (tuple_less texts) tuple_decides (tuple_weak texts) a b [] keys ∙ ap (λ (l : List ℕ). length l) (sym rows_by_key) in
-        omega (arith, size)
-
-    -- too many entries are refused
-    pub outer_refused : (counted runs ≤ most_rows → ⊥) → within_limit (outer_entries same_tuple (tuple_less texts) a b) ≡ Err too_large
-    outer_refused = too_many (outer_entries same_tuple (tuple_less texts) a b) (counted runs) counted_outer
+        let size : total runs ≡ length rows = cc (runs_by_key, total_is same_tuple (tuple_less texts) tuple_decides (tuple_weak texts) a b [] keys, rows_by_key) in
+        omega arith
 
     abbrev entries : List (Entry ℕ)
     entries = run_entries (length a) runs rows
@@ -67,24 +63,18 @@ module _ (texts : List Text) (a b : List (List Label)) (levels : ℕ) (distinct 
     entries_outer : map (rekeyed (tuple_of_row (a ++ b))) entries ≡ outer_entries same_tuple (tuple_less texts) a b
     entries_outer =
         (λ i. map (rekeyed (tuple_of_row (a ++ b))) (run_entries (length a) (runs_by_key i) (rows_by_key i)))
-        ∙ entries_are same_tuple (tuple_less texts) tuple_decides (tuple_weak texts) a b [] keys (have_rows same_tuple (tuple_less texts) tuple_decides (tuple_weak texts) (a ++ b) [])
+        ∙ entries_are same_tuple (tuple_less texts) tuple_decides (tuple_weak texts) a b [] keys (search (have_rows, tuple_decides, tuple_weak))
 
     module _ (out : Entries) (seen : entries_seen out ≡ lists_of entries) where
       pub keys_inside : All IsRow out.rows.items
       keys_inside =
           subst (All IsRow) (sym (ap (λ (l : Lists ℕ). l.keys) seen))
           (All-map IsRow (λ (e : Entry ℕ). e.key) entries
-          (subst (λ rs. All (λ e. e.key < length (a ++ b)) (run_entries (length a) rs rows)) (sym runs_by_key)
-          (entries_inside same_tuple (tuple_less texts) tuple_decides (tuple_weak texts) a b [] keys rows (have_rows same_tuple (tuple_less texts) tuple_decides (tuple_weak texts) (a ++ b) []))))
+          (rw runs_by_key (entries_inside same_tuple (tuple_less texts) tuple_decides (tuple_weak texts) a b [] keys rows (have_rows same_tuple (tuple_less texts) tuple_decides (tuple_weak texts) (a ++ b) []))))
 
       lists_outer : entries_shown (a ++ b) out ≡ lists_of (outer_entries same_tuple (tuple_less texts) a b)
-      lists_outer =
-          let f = rekeyed (tuple_of_row (a ++ b)) in
-          let keyed : tuples_at (a ++ b) out.rows.items ≡ map (λ e. e.key) (map f entries) = ap (map (tuple_of_row (a ++ b))) (ap (λ (l : Lists ℕ). l.keys) seen) ∙ map-map (tuple_of_row (a ++ b)) (λ (e : Entry ℕ). e.key) entries ∙ sym (map-map (λ (e : Entry (List Label)). e.key) f entries) in
-          let left : out.left.items ≡ map (λ e. e.left) (map f entries) = ap (λ (l : Lists ℕ). l.left) seen ∙ sym (map-map (λ (e : Entry (List Label)). e.left) f entries) in
-          let right : out.right.items ≡ map (λ e. e.right) (map f entries) = ap (λ (l : Lists ℕ). l.right) seen ∙ sym (map-map (λ (e : Entry (List Label)). e.right) f entries) in
-          (λ i. record { keys = keyed i; left = left i; right = right i }) ∙ ap lists_of entries_outer
+      lists_outer = grind (arith, map-map, entries_outer)
 
       -- those of few enough are shown
       pub outer_shown : counted runs ≤ most_rows → within_limit (outer_entries same_tuple (tuple_less texts) a b) ≡ Ok (entries_shown (a ++ b) out)
-      outer_shown few = few_enough (outer_entries same_tuple (tuple_less texts) a b) (counted runs) counted_outer few ∙ ap Ok (sym lists_outer)
+      outer_shown few = search (few_enough, counted_outer, lists_outer)

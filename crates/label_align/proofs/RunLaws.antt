@@ -1,11 +1,11 @@
 -- Rows in the order of their keys are the rows of one key after the other, and so are their runs.
 use Rattle.{
-  std.{proofs.{Common.{◌≡◌, ◌∙◌, ◌<◌, ◌+◌, ◌||◌, ◌++◌, ℕ, suc, Bool, true, false, not, cond, List, [], ◌∷◌, map, filter, length, refl, ap, sym, slice_index_or, arith, All}, lemmas.{Bool.{false≢true, true≢false}, List.{append-nil, Elements.{All-nil, All-cons, All-head, All-tail, All-filter}}}}, specs.{Bool.{Decides}, Cmp.{IsStrictWeakOrder}, List.{flat_map, list_any, range_with_len, Sorted.{ties, IsStableBy}}}},
+  std.{proofs.{Common.{◌≡◌, ◌∙◌, ◌<◌, ◌+◌, ◌||◌, ◌++◌, ℕ, suc, Bool, true, false, not, cond, List, [], ◌∷◌, map, filter, length, refl, ap, sym, slice_index_or, arith, All}, lemmas.{Bool.{false≢true, true≢false}, List.{append-nil, Elements.{All-head, All-tail, All-filter}}}}, specs.{Bool.{Decides}, Cmp.{IsStrictWeakOrder}, List.{flat_map, list_any, range_with_len, Sorted.{ties, IsStableBy}}}},
   meaning.specs.Reduce.{distinct},
   pick_meaning.specs.Rows.{rows_where},
   sorting.{specs.Sorting.{put_in, in_order}, proofs.SortLaws.{Ascends, in_order_ascends, in_order_ties, one_order}},
   align_meaning.{specs.Joins.{keys_in_order}, proofs.OrderLaws.{all_in_order, all_put_in}},
-  label_align.{specs.{declared.runs.Run.{Run}, Runs.{no_run, with_row, gathered, ends, runs_from}}, proofs.OuterJoinLaws.{Rises, in_order_rises, parts_rise, parts_apart, in_order_keeps, once, gone, keys_stand}},
+  label_align.{specs.{declared.runs.Run.{Run}, Runs.{no_run, with_row, gathered, runs_from}}, proofs.OuterJoinLaws.{Rises, in_order_rises, parts_rise, parts_apart, in_order_keeps, once, gone, keys_stand}},
 }
 
 -- the rows that pass a test
@@ -14,8 +14,7 @@ module _ {K : Type 0} (p : K → Bool) where
   rows_filtered f d at [] there = refl
   rows_filtered f d at (x ∷ xs) there =
       let here : f at ≡ x = ap f (omega arith) ∙ there 0 (omega arith) in
-      let rest : filter (λ row. p (f row)) (range_with_len (at + 1) (length xs)) ≡ rows_where p (at + 1) xs = rows_filtered f d (at + 1) xs (λ k lt. ap f (omega arith) ∙ there (suc k) (omega (arith, lt))) in
-      λ i. cond (p (here i)) (at ∷ rest i) (rest i)
+      search (rows_filtered f d (at + 1) xs (λ k lt. ap f (omega arith) ∙ there (suc k) (omega arith)))
 
   rows_some : (at : ℕ) (xs : List K) → list_any p xs ≡ true → 0 < length (rows_where p at xs)
   rows_some at [] h = absurd (false≢true h)
@@ -42,10 +41,7 @@ module _ {K : Type 0} (same less : K → K → Bool) (decides : (a b : K) → De
   itself k = (decides k k).1 refl
 
   back : (x y : K) → same x y ≡ false → same y x ≡ false
-  back x y h = elim (same y x) as (λ b. same y x ≡ b → b ≡ false) [
-    | true ↦ λ e. absurd (false≢true (sym h ∙ (decides x y).1 (sym ((decides y x).0 e))))
-    | false ↦ λ e. refl
-  ] refl
+  back x y h = grind arith
 
   -- keys that differ
   abbrev Apart : List K → Type 0
@@ -60,19 +56,15 @@ module _ {K : Type 0} (same less : K → K → Bool) (decides : (a b : K) → De
   ]
 
   others : (x : K) (ks : List K) → All (λ y. same x y ≡ false) (filter (λ q. not (same q x)) ks)
-  others x [] = All-nil (λ y. same x y ≡ false)
-  others x (k ∷ ks) =
-      elim (same k x) as (λ b. same k x ≡ b → All (λ y. same x y ≡ false) (cond (not b) (k ∷ filter (λ q. not (same q x)) ks) (filter (λ q. not (same q x)) ks))) [
-        | true ↦ λ h. others x ks
-        | false ↦ λ h. All-cons (λ y. same x y ≡ false) k (filter (λ q. not (same q x)) ks) (back k x h) (others x ks)
-      ] refl
+  others x [] = grind arith
+  others x (k ∷ ks) = grind (arith, others x ks)
 
   distinct_apart : (xs : List K) → Apart (distinct same xs)
   distinct_apart [] = tt
-  distinct_apart (x ∷ xs) = (others x (distinct same xs), filter_apart (λ q. not (same q x)) (distinct same xs) (distinct_apart xs))
+  distinct_apart (x ∷ xs) = search (others, filter_apart, distinct_apart xs)
 
   put_in_apart : (x : K) (ys : List K) → All (λ y. same x y ≡ false) ys → Apart ys → Apart (put_in less x ys)
-  put_in_apart x [] here up = (All-nil (λ y. same x y ≡ false), tt)
+  put_in_apart x [] here up = search
   put_in_apart x (y ∷ ys) here up = elim (less y x) as (λ b. Apart (cond b (y ∷ put_in less x ys) (x ∷ y ∷ ys))) [
     | true ↦ (
       all_put_in (λ z. same y z ≡ false) less x ys (back x y (All-head (λ z. same x z ≡ false) y ys here)) up.0,
@@ -83,7 +75,7 @@ module _ {K : Type 0} (same less : K → K → Bool) (decides : (a b : K) → De
 
   order_apart : (xs : List K) → Apart xs → Apart (in_order less xs)
   order_apart [] up = tt
-  order_apart (x ∷ xs) up = put_in_apart x (in_order less xs) (all_in_order (λ y. same x y ≡ false) less xs up.0) (order_apart xs up.1)
+  order_apart (x ∷ xs) up = put_in_apart x (in_order less xs) (search all_in_order) (order_apart xs up.1)
 
   module _ (all : List K) (d : K) where
     abbrev pub key_at : ℕ → K
@@ -93,7 +85,7 @@ module _ {K : Type 0} (same less : K → K → Bool) (decides : (a b : K) → De
     before i j = less (key_at i) (key_at j)
 
     before_weak : IsStrictWeakOrder before
-    before_weak = record { one_way = λ i j. weak.one_way (key_at i) (key_at j); chain = λ i j k. weak.chain (key_at i) (key_at j) (key_at k) }
+    before_weak = grind arith
 
     -- the rows of a key
     abbrev pub part : K → List ℕ
@@ -106,17 +98,13 @@ module _ {K : Type 0} (same less : K → K → Bool) (decides : (a b : K) → De
     Carry k rows = All (λ row. key_at row ≡ k) rows
 
     carried : (k : K) (at : ℕ) (xs : List K) → ((i : ℕ) → i < length xs → key_at (at + i) ≡ slice_index_or xs i d) → Carry k (rows_where (same k) at xs)
-    carried k at [] there = All-nil (λ row. key_at row ≡ k)
+    carried k at [] there = grind arith
     carried k at (x ∷ xs) there =
         let here : key_at at ≡ x = ap key_at (omega arith) ∙ there 0 (omega arith) in
-        let rest : Carry k (rows_where (same k) (at + 1) xs) = carried k (at + 1) xs (λ i lt. ap key_at (omega arith) ∙ there (suc i) (omega (arith, lt))) in
-        elim (same k x) as (λ b. same k x ≡ b → Carry k (cond b (at ∷ rows_where (same k) (at + 1) xs) (rows_where (same k) (at + 1) xs))) [
-          | true ↦ λ h. All-cons (λ row. key_at row ≡ k) at (rows_where (same k) (at + 1) xs) (here ∙ sym ((decides k x).0 h)) rest
-          | false ↦ λ h. rest
-        ] refl
+        grind (arith, carried k (at + 1) xs (λ i lt. ap key_at (omega arith) ∙ there (suc i) (omega arith)))
 
     there : (i : ℕ) → i < length all → key_at (0 + i) ≡ slice_index_or all i d
-    there i lt = let e : 0 + i ≡ i = omega arith in ap key_at e
+    there i lt = grind arith
 
     pub keyed : (k : K) → Carry k (part k)
     keyed k = carried k 0 all there
@@ -142,8 +130,8 @@ module _ {K : Type 0} (same less : K → K → Bool) (decides : (a b : K) → De
       pub rows_are : in_order before (range_with_len 0 (length all)) ≡ flat_map part keys
       rows_are =
           one_order before before_weak (flat_map part keys) (in_order before (range_with_len 0 (length all)))
-          (rises_ascend before before_weak (flat_map part keys) (parts_rise same less decides weak key_at part keyed keys (in_order_rises less weak (distinct same all))))
-          (in_order_ascends before before_weak (range_with_len 0 (length all)))
+          (rises_ascend before before_weak (flat_map part keys) (parts_rise same less decides weak key_at part keyed keys (search in_order_rises)))
+          (search in_order_ascends)
           (λ x. in_order_ties before before_weak (range_with_len 0 (length all)) x ∙ sym (stable x))
 
     -- their runs
@@ -154,26 +142,20 @@ module _ {K : Type 0} (same less : K → K → Bool) (decides : (a b : K) → De
     NotFirst k [] = Unit {0}
     NotFirst k (row ∷ rows) = same k (key_at row) ≡ false
 
-    ends_here : (k : K) (row : ℕ) (rest : List ℕ) → key_at row ≡ k → NotFirst k rest → ends alike row rest ≡ true
-    ends_here k row [] is other = refl
-    ends_here k row (next ∷ rest) is other = ap not (ap (λ z. same z (key_at next)) is ∙ other)
-
     one_run : (count : ℕ) (k : K) (run : Run) (row : ℕ) (rows rest : List ℕ) → key_at row ≡ k → Carry k rows → NotFirst k rest
         → runs_from alike count run (row ∷ (rows ++ rest)) ≡ gathered count run (row ∷ rows) ∷ runs_from alike count no_run rest
-    one_run count k run row [] rest is carry other =
-        ap (λ b. cond b (with_row count run row ∷ runs_from alike count no_run rest) (runs_from alike count (with_row count run row) rest)) (ends_here k row rest is other)
+    one_run count k run row [] rest is carry other = grind arith
     one_run count k run row (next ∷ rows) rest is carry other =
         let here : key_at next ≡ k = All-head (λ r. key_at r ≡ k) next rows carry in
-        ap (λ b. cond b (with_row count run row ∷ runs_from alike count no_run (next ∷ (rows ++ rest))) (runs_from alike count (with_row count run row) (next ∷ (rows ++ rest)))) (ap not ((λ q. same (is q) (here q)) ∙ itself k))
-        ∙ one_run count k (with_row count run row) next rows rest here (All-tail (λ r. key_at r ≡ k) next rows carry) other
+        grind (arith, one_run count k (with_row count run row) next rows rest here (All-tail (λ r. key_at r ≡ k) next rows carry) other)
 
     one_part : (count : ℕ) (k : K) (rows rest : List ℕ) → 0 < length rows → Carry k rows → NotFirst k rest → runs_from alike count no_run (rows ++ rest) ≡ gathered count no_run rows ∷ runs_from alike count no_run rest
-    one_part count k [] rest some carry other = absurd (omega (arith, some))
+    one_part count k [] rest some carry other = grind arith
     one_part count k (row ∷ rows) rest some carry other = one_run count k no_run row rows rest (All-head (λ r. key_at r ≡ k) row rows carry) (All-tail (λ r. key_at r ≡ k) row rows carry) other
 
     first_other : (k y : K) (rows rest : List ℕ) → 0 < length rows → Carry y rows → same k y ≡ false → NotFirst k (rows ++ rest)
-    first_other k y [] rest some carry other = absurd (omega (arith, some))
-    first_other k y (row ∷ rows) rest some carry other = ap (same k) (All-head (λ r. key_at r ≡ y) row rows carry) ∙ other
+    first_other k y [] rest some carry other = grind arith
+    first_other k y (row ∷ rows) rest some carry other = cc (All-head (λ r. key_at r ≡ y) row rows carry)
 
     abbrev pub HaveRows : List K → Type 0
     HaveRows ks = All (λ k. 0 < length (part k)) ks
@@ -187,11 +169,10 @@ module _ {K : Type 0} (same less : K → K → Bool) (decides : (a b : K) → De
     runs_apart count [] apart some = refl
     runs_apart count (k ∷ ks) apart some =
         let later : HaveRows ks = All-tail (λ k. 0 < length (part k)) k ks some in
-        one_part count k (part k) (flat_map part ks) (All-head (λ k. 0 < length (part k)) k ks some) (keyed k) (not_next k ks apart.0 later)
-        ∙ ap (λ l. gathered count no_run (part k) ∷ l) (runs_apart count ks apart.1 later)
+        cc (one_part count k (part k) (flat_map part ks) (All-head (λ k. 0 < length (part k)) k ks some) (keyed k) (not_next k ks apart.0 later), runs_apart count ks apart.1 later)
 
     pub have_rows : HaveRows keys
     have_rows i e lt = rows_some (same (slice_index_or keys i e)) 0 all (keys_stand same less decides weak all i e lt)
 
     pub runs_are : (count : ℕ) → runs_from alike count no_run (flat_map part keys) ≡ map (λ k. gathered count no_run (part k)) keys
-    runs_are count = runs_apart count keys (order_apart (distinct same all) (distinct_apart all)) have_rows
+    runs_are count = search (runs_apart, order_apart, distinct_apart, have_rows)

@@ -1,12 +1,11 @@
 -- Tuples are equal by `==` exactly where they are the same.
 use Rattle.{
-  std.{proofs.{Common.{◌≡◌, ◌∙◌, ◌&&◌, ℕ, Bool, true, false, not, List, [], ◌∷◌, refl, ap, sym, rules, All}, lemmas.{Bool.Decides.{same_from_decides}, Cmp.{tied_itself}, List.Elements.{All-head, All-tail}}}, specs.{Bool.{Decides}, Cmp.Lexicographic.{pointwise, pointwise_decides, slice_cmp, lists_total}, FinMap.{int_cmp-IsAntisymmetric, nat_cmp-IsAntisymmetric, slice_cmp-IsAntisymmetric}, List.Sorted.{ties}, Ordering.{is_eq, is_lt, bool_cmp, ordering_reverse}, declared.cmp.Ordering.{Ordering, TheVariants.{Less, Equal, Greater}}}},
+  std.{proofs.{Common.{arith, ◌≡◌, ◌∙◌, ℕ, Bool, true, List, [], ◌∷◌, refl, ap, sym, rules, All}, lemmas.{Bool.Decides.{same_from_decides}, Cmp.{tied_itself}, List.Elements.{All-head, All-tail}}}, specs.{Bool.{Decides}, Cmp.Lexicographic.{pointwise, pointwise_decides, slice_cmp, lists_total}, FinMap.{nat_cmp-IsAntisymmetric, slice_cmp-IsAntisymmetric}, List.Sorted.{ties}, Ordering.{is_eq, bool_cmp}, declared.cmp.Ordering.{Ordering, TheVariants.{Equal}}}},
   cell_core.{specs.{declared.cell.{Label.{Label}, TextId.{TextId}}, Texts.{AreDistinct, IsGivenLabel}, Values.{LabelValue, truth, int, text, na, label_cmp, label_datum}}, proofs.LabelLaws.{label_total}},
   label_align.specs.Tuples.{tuple_seen, tuple_less},
   index_core.specs.Labels.{same_number},
   row_keys.specs.Keys.{same_tuple},
 }
-use Rattle.cell_core.specs.declared.cell.Label.TheVariants as label
 pub use Rattle.row_keys.proofs.PartnerLaws.{tuple_laws}
 
 label_decides : (a b : Label) → Decides (same_number a b) (a ≡ b)
@@ -19,16 +18,13 @@ pub tuples_decide : (a b : List (List Label)) → Decides (pointwise same_tuple 
 tuples_decide = pointwise_decides tuple_decides
 
 bool_same : (a b : Bool) → bool_cmp a b ≡ Equal → a ≡ b
-bool_same true true e = refl
-bool_same false false e = refl
-bool_same true false e = cc
-bool_same false true e = cc
+bool_same x x1 e = grind arith
 
 -- labels that compare as equal are the same
 pub value_same : (a b : LabelValue) → label_cmp a b ≡ Equal → a ≡ b
-value_same (truth a) (truth b) e = ap (λ x. truth x) (bool_same a b e)
-value_same (int a) (int b) e = ap (λ x. int x) (int_cmp-IsAntisymmetric a b e)
-value_same (text a) (text b) e = ap (λ x. text x) (slice_cmp-IsAntisymmetric nat_cmp-IsAntisymmetric a b e)
+value_same (truth a) (truth b) e = search bool_same
+value_same (int a) (int b) e = grind arith
+value_same (text a) (text b) e = cc (slice_cmp-IsAntisymmetric nat_cmp-IsAntisymmetric a b e)
 value_same na na e = refl
 value_same (truth a) (int b) e = cc
 value_same (truth a) (text b) e = cc
@@ -44,35 +40,18 @@ value_same na (int b) e = cc
 value_same na (text b) e = cc
 
 pub is_equal : (o : Ordering) → is_eq o ≡ true → o ≡ Equal
-is_equal Equal e = refl
-is_equal Less e = cc
-is_equal Greater e = cc
+is_equal x e = grind arith
 
 abbrev text_in : LabelValue → List ℕ
 text_in (text t) = t
 text_in l = []
 
 id_same : (x y : TextId) → x.0 ≡ y.0 → x ≡ y
-id_same x y e = λ i. record { 0 = e i }
+id_same x y e = grind arith
 
 -- labels of one text have one number
 pub label_one : (texts : List (List ℕ)) (a b : Label) → AreDistinct texts → IsGivenLabel texts a → IsGivenLabel texts b → label_datum texts a ≡ label_datum texts b → a ≡ b
-label_one texts (label.Bool a) (label.Bool b) distinct f g e = cc
-label_one texts (label.Int a) (label.Int b) distinct f g e = cc
-label_one texts (label.Text a) (label.Text b) distinct f g e = ap (λ x. label.Text x) (id_same a b (distinct a.0 b.0 f g (ap text_in e)))
-label_one texts label.Na label.Na distinct f g e = refl
-label_one texts (label.Bool a) (label.Int b) distinct f g e = cc
-label_one texts (label.Bool a) (label.Text b) distinct f g e = cc
-label_one texts (label.Bool a) label.Na distinct f g e = cc
-label_one texts (label.Int a) (label.Bool b) distinct f g e = cc
-label_one texts (label.Int a) (label.Text b) distinct f g e = cc
-label_one texts (label.Int a) label.Na distinct f g e = cc
-label_one texts (label.Text a) (label.Bool b) distinct f g e = cc
-label_one texts (label.Text a) (label.Int b) distinct f g e = cc
-label_one texts (label.Text a) label.Na distinct f g e = cc
-label_one texts label.Na (label.Bool b) distinct f g e = cc
-label_one texts label.Na (label.Int b) distinct f g e = cc
-label_one texts label.Na (label.Text b) distinct f g e = cc
+label_one texts x x1 distinct f g e = grind arith
 
 -- tuples of given labels tie in their order exactly where they are the same
 module _ (texts : List (List ℕ)) (distinct : AreDistinct texts) where
@@ -93,13 +72,7 @@ module _ (texts : List (List ℕ)) (distinct : AreDistinct texts) where
   tuple_one (x ∷ xs) [] g h e = cc
   tuple_one (x ∷ xs) (y ∷ ys) g h e =
       let first : x ≡ y = label_one texts x y distinct (All-head (IsGivenLabel texts) x xs g) (All-head (IsGivenLabel texts) y ys h) (ap head_in e) in
-      let rest : xs ≡ ys = tuple_one xs ys (All-tail (IsGivenLabel texts) x xs g) (All-tail (IsGivenLabel texts) y ys h) (ap tail_in e) in
-      λ i. first i ∷ rest i
-
-  tie_of : (o : Ordering) → (not (is_lt o) && not (is_lt (ordering_reverse o))) ≡ is_eq o
-  tie_of Less = refl
-  tie_of Equal = refl
-  tie_of Greater = refl
+      search (tuple_one xs ys (All-tail (IsGivenLabel texts) x xs g) (All-tail (IsGivenLabel texts) y ys h) (ap tail_in e))
 
   pub tuple_tied : (x y : List Label) → Given x → Given y → ties (tuple_less texts) x y ≡ same_tuple x y
   tuple_tied x y g h =
@@ -108,6 +81,4 @@ module _ (texts : List (List ℕ)) (distinct : AreDistinct texts) where
         λ e. tuple_one x y g h (slice_cmp-IsAntisymmetric value_same (tuple_seen texts x) (tuple_seen texts y) (is_equal o e)),
         λ e. ap (λ z. is_eq (slice_cmp label_cmp (tuple_seen texts x) (tuple_seen texts z))) (sym e) ∙ ap is_eq (tied_itself (lists_total label_total) (tuple_seen texts x)),
       ) in
-      ap (λ r. not (is_lt o) && not (is_lt r)) ((lists_total label_total).antisymm (tuple_seen texts y) (tuple_seen texts x))
-      ∙ tie_of o
-      ∙ same_from_decides (is_eq o) (same_tuple x y) told (tuple_decides x y)
+      grind (arith, (lists_total label_total).antisymm (tuple_seen texts y) (tuple_seen texts x), same_from_decides (is_eq o) (same_tuple x y) told (tuple_decides x y))

@@ -1,31 +1,20 @@
 -- The rows of each side in a run, and the entries of runs.
 use Rattle.{
-  std.{proofs.{Common.{◌≡◌, ◌∙◌, ◌<◌, ◌≤◌, ◌+◌, ◌-◌, ◌*◌, ◌++◌, ℕ, Bool, true, false, cond, List, [], ◌∷◌, map, take, drop, length, max, refl, ap, sym, subst, slice_index_or, slice_range, arith, All, Option, nat_lt, lt-ltb, le-ltb}, Math.Seq.{take-append_seam, drop-append_seam}, lemmas.List.{length-map, length-append, map-append, append_assoc, append-nil, take_more, drop-drop, Sums.{sum_by-cons}, Elements.{All-nil, All-cons, All-head, All-tail}}}, specs.{Bool.{Decides}, Cmp.{IsStrictWeakOrder}, List.{flat_map}}},
+  std.{proofs.{Common.{◌≡◌, ◌∙◌, ◌<◌, ◌≤◌, ◌+◌, ◌-◌, ◌*◌, ◌++◌, ℕ, Bool, List, [], ◌∷◌, map, take, drop, length, max, refl, ap, sym, subst, slice_index_or, arith, All, lt-ltb, le-ltb}, Math.Seq.{take-append_seam, drop-append_seam}, lemmas.List.{length-map, length-append, map-append, append_assoc, append-nil, take_more, drop-drop, Sums.{sum_by-cons}, Elements.{All-nil, All-cons, All-head, All-tail}}}, specs.{Bool.{Decides}, Cmp.{IsStrictWeakOrder}, List.{flat_map}}},
   pick_meaning.{specs.Rows.{rows_where}, proofs.{RowLaws.{rows_where-append}, InsideLaws.{rows_inside}}},
-  align_meaning.{specs.Joins.{Entry, or_gap, entry, entries_with, entries_of}, proofs.OrderLaws.{all_append}},
+  align_meaning.{specs.Joins.{Entry, entry, entries_of}, proofs.OrderLaws.{all_append}},
   label_align.{specs.{declared.runs.Run.{Run}, Runs.{no_run, run_of, with_row, gathered, rows_in, total, entries_in, run_entries, count_in, counted}}, proofs.{EntryLaws.{map-map, length-entries_of}, OuterJoinLaws.{keyed}, RunLaws.{key_at, HaveRows, keyed as carried}}},
 }
 
 -- the rows of the right, from a count on
 module _ {K : Type 0} (p : K → Bool) (n : ℕ) where
   rows_above : (at : ℕ) (xs : List K) → n ≤ at → All (λ row. n ≤ row) (rows_where p at xs)
-  rows_above at [] le = All-nil (λ row. n ≤ row)
-  rows_above at (x ∷ xs) le =
-      let rest : All (λ row. n ≤ row) (rows_where p (at + 1) xs) = rows_above (at + 1) xs (omega (arith, le)) in
-      elim (p x) as (λ b. All (λ row. n ≤ row) (cond b (at ∷ rows_where p (at + 1) xs) (rows_where p (at + 1) xs))) [
-        | true ↦ All-cons (λ row. n ≤ row) at (rows_where p (at + 1) xs) le rest
-        | false ↦ rest
-      ]
+  rows_above at [] le = grind arith
+  rows_above at (x ∷ xs) le = grind (arith, rows_above (at + 1) xs (omega arith))
 
   rows_shifted : (at m : ℕ) (xs : List K) → m ≡ at + n → map (λ row. row - n) (rows_where p m xs) ≡ rows_where p at xs
   rows_shifted at m [] e = refl
-  rows_shifted at m (x ∷ xs) e =
-      let here : m - n ≡ at = omega (arith, e) in
-      let rest : map (λ row. row - n) (rows_where p (m + 1) xs) ≡ rows_where p (at + 1) xs = rows_shifted (at + 1) (m + 1) xs (omega (arith, e)) in
-      elim (p x) as (λ b. map (λ row. row - n) (cond b (m ∷ rows_where p (m + 1) xs) (rows_where p (m + 1) xs)) ≡ cond b (at ∷ rows_where p (at + 1) xs) (rows_where p (at + 1) xs)) [
-        | true ↦ λ i. here i ∷ rest i
-        | false ↦ rest
-      ]
+  rows_shifted at m (x ∷ xs) e = grind (arith, rows_shifted (at + 1) (m + 1) xs (omega arith))
 
 -- how many rows of each side are gathered, and which row stands for them
 module _ (n : ℕ) where
@@ -34,108 +23,75 @@ module _ (n : ℕ) where
   gathered_append run (x ∷ xs) ys = gathered_append (with_row n run x) xs ys
 
   left_row : (run : Run) (row : ℕ) → row < n → with_row n run row ≡ run_of row (run.lefts + 1) run.rights
-  left_row run row lt = ap (λ b. cond b (run_of row (run.lefts + 1) run.rights) (run_of row run.lefts (run.rights + 1))) (lt-ltb row n lt)
+  left_row run row lt = search lt-ltb
 
   right_row : (run : Run) (row : ℕ) → n ≤ row → with_row n run row ≡ run_of row run.lefts (run.rights + 1)
-  right_row run row le = ap (λ b. cond b (run_of row (run.lefts + 1) run.rights) (run_of row run.lefts (run.rights + 1))) (le-ltb row n le)
+  right_row run row le = search le-ltb
 
   lefts_gathered : (run : Run) (xs : List ℕ) → All (λ row. row < n) xs → ((gathered n run xs).lefts ≡ run.lefts + length xs) × ((gathered n run xs).rights ≡ run.rights)
   lefts_gathered run [] all = (omega arith, refl)
   lefts_gathered run (x ∷ xs) all =
       let is : with_row n run x ≡ run_of x (run.lefts + 1) run.rights = left_row run x (All-head (λ row. row < n) x xs all) in
-      let later = lefts_gathered (with_row n run x) xs (All-tail (λ row. row < n) x xs all) in
-      let lefts : (with_row n run x).lefts ≡ run.lefts + 1 = ap (λ (r : Run). r.lefts) is in
-      (omega (arith, later.0, lefts), later.1 ∙ ap (λ (r : Run). r.rights) is)
+      grind (arith, lefts_gathered (with_row n run x) xs (All-tail (λ row. row < n) x xs all))
 
   rights_gathered : (run : Run) (xs : List ℕ) → All (λ row. n ≤ row) xs → ((gathered n run xs).lefts ≡ run.lefts) × ((gathered n run xs).rights ≡ run.rights + length xs)
   rights_gathered run [] all = (refl, omega arith)
   rights_gathered run (x ∷ xs) all =
       let is : with_row n run x ≡ run_of x run.lefts (run.rights + 1) = right_row run x (All-head (λ row. n ≤ row) x xs all) in
-      let later = rights_gathered (with_row n run x) xs (All-tail (λ row. n ≤ row) x xs all) in
-      let rights : (with_row n run x).rights ≡ run.rights + 1 = ap (λ (r : Run). r.rights) is in
-      (later.0 ∙ ap (λ (r : Run). r.lefts) is, omega (arith, later.1, rights))
-
-  sides_gathered : (xs ys : List ℕ) → All (λ row. row < n) xs → All (λ row. n ≤ row) ys → ((gathered n no_run (xs ++ ys)).lefts ≡ length xs) × ((gathered n no_run (xs ++ ys)).rights ≡ length ys)
-  sides_gathered xs ys below above =
-      let whole = gathered_append no_run xs ys in
-      let l = lefts_gathered no_run xs below in
-      let r = rights_gathered (gathered n no_run xs) ys above in
-      let ll : (gathered n no_run xs).lefts ≡ length xs = l.0 ∙ omega arith in
-      let rr : (gathered n (gathered n no_run xs) ys).rights ≡ length ys = r.1 ∙ ap (λ m. m + length ys) l.1 ∙ omega arith in
-      (ap (λ (g : Run). g.lefts) whole ∙ r.0 ∙ ll, ap (λ (g : Run). g.rights) whole ∙ rr)
+      grind (arith, rights_gathered (with_row n run x) xs (All-tail (λ row. n ≤ row) x xs all))
 
   row_is : (run : Run) (row : ℕ) → (with_row n run row).row ≡ row
-  row_is run row = elim (nat_lt row n) as (λ b. (cond b (run_of row (run.lefts + 1) run.rights) (run_of row run.lefts (run.rights + 1))).row ≡ row) [ true ↦ refl | false ↦ refl ]
+  row_is run row = grind arith
 
   row_gathered : (P : ℕ → Type 0) (run : Run) (xs : List ℕ) → P run.row → All P xs → P (gathered n run xs).row
   row_gathered P run [] here all = here
   row_gathered P run (x ∷ xs) here all = row_gathered P (with_row n run x) xs (subst P (sym (row_is run x)) (All-head P x xs all)) (All-tail P x xs all)
 
   some_row : (P : ℕ → Type 0) (xs : List ℕ) → 0 < length xs → All P xs → P (gathered n no_run xs).row
-  some_row P [] some all = absurd (omega (arith, some))
+  some_row P [] some all = search
   some_row P (x ∷ xs) some all = row_gathered P (with_row n no_run x) xs (subst P (sym (row_is no_run x)) (All-head P x xs all)) (All-tail P x xs all)
 
   -- the entries of a run at the head of rows
   module _ (xs ys rest : List ℕ) (run : Run) (lefts : run.lefts ≡ length xs) (rights : run.rights ≡ length ys) where
     behind : drop run.lefts ((xs ++ ys) ++ rest) ≡ ys ++ rest
-    behind = (λ i. drop (lefts i) (append_assoc xs ys rest i)) ∙ drop-append_seam xs (ys ++ rest)
+    behind = grind (arith, append_assoc, drop-append_seam)
 
     one_entries : entries_in n run ((xs ++ ys) ++ rest) ≡ entries_of run.row xs (map (λ row. row - n) ys)
-    one_entries =
-        let first : take run.lefts ((xs ++ ys) ++ rest) ≡ xs = (λ i. take (lefts i) (append_assoc xs ys rest i)) ∙ take-append_seam xs (ys ++ rest) in
-        let second : take run.rights (drop run.lefts ((xs ++ ys) ++ rest)) ≡ ys = (λ i. take (rights i) (behind i)) ∙ take-append_seam ys rest in
-        λ i. entries_of run.row (first i) (map (λ row. row - n) (second i))
+    one_entries = grind (arith, append_assoc, take-append_seam, behind)
 
     others_behind : drop (rows_in run) ((xs ++ ys) ++ rest) ≡ rest
     others_behind =
-        let size : rows_in run ≡ length (xs ++ ys) = (λ i. lefts i + rights i) ∙ sym (length-append xs ys) in
-        ap (λ m. drop m ((xs ++ ys) ++ rest)) size ∙ drop-append_seam (xs ++ ys) rest
+        let size : rows_in run ≡ length (xs ++ ys) = grind (arith, length-append) in
+        grind (arith, drop-append_seam)
 
   -- entries keep what their runs' rows are
   entries_keep : (P : ℕ → Type 0) (runs : List Run) (rows : List ℕ) → All (λ run. P run.row) runs → All (λ e. P e.key) (run_entries n runs rows)
   entries_keep P [] rows all = All-nil (λ e. P e.key)
   entries_keep P (run ∷ runs) rows all =
       all_append (λ e. P e.key) (entries_in n run rows) (run_entries n runs (drop (rows_in run) rows))
-      (λ k d lt. subst P (sym (keyed run.row (take run.lefts rows) (map (λ row. row - n) (take run.rights (drop run.lefts rows))) k d lt)) (All-head (λ r. P r.row) run runs all))
+      (λ k d lt. subst P (search keyed) (All-head (λ r. P r.row) run runs all))
       (entries_keep P runs (drop (rows_in run) rows) (All-tail (λ r. P r.row) run runs all))
 
   -- the entries of one run more
   run_entries_append : (xs ys : List Run) (rows : List ℕ) → run_entries n (xs ++ ys) rows ≡ run_entries n xs rows ++ run_entries n ys (drop (total xs) rows)
   run_entries_append [] ys rows = refl
-  run_entries_append (x ∷ xs) ys rows =
-      let further : drop (total xs) (drop (rows_in x) rows) ≡ drop (total (x ∷ xs)) rows = drop-drop (total xs) (rows_in x) rows ∙ ap (λ m. drop m rows) (sym (sum_by-cons rows_in x xs)) in
-      ap (λ l. entries_in n x rows ++ l) (run_entries_append xs ys (drop (rows_in x) rows))
-      ∙ sym (append_assoc (entries_in n x rows) (run_entries n xs (drop (rows_in x) rows)) (run_entries n ys (drop (total xs) (drop (rows_in x) rows))))
-      ∙ ap (λ l. (entries_in n x rows ++ run_entries n xs (drop (rows_in x) rows)) ++ run_entries n ys l) further
+  run_entries_append (x ∷ xs) ys rows = search (drop-drop, sum_by-cons, append_assoc, run_entries_append xs ys (drop (rows_in x) rows))
 
   pub run_more : (runs : List Run) (rows : List ℕ) (k : ℕ) (d : Run) → k < length runs
       → run_entries n (take (k + 1) runs) rows ≡ run_entries n (take k runs) rows ++ entries_in n (slice_index_or runs k d) (drop (total (take k runs)) rows)
-  run_more runs rows k d lt =
-      ap (λ rs. run_entries n rs rows) (take_more runs k d lt)
-      ∙ run_entries_append (take k runs) (slice_index_or runs k d ∷ []) rows
-      ∙ ap (λ l. run_entries n (take k runs) rows ++ l) (append-nil (entries_in n (slice_index_or runs k d) (drop (total (take k runs)) rows)))
-
-  pub entries_here : (run : Run) (rows : List ℕ) (from : ℕ)
-      → entries_of run.row (slice_range rows from (from + run.lefts)) (map (λ row. row - n) (slice_range rows (from + run.lefts) (from + run.lefts + run.rights))) ≡ entries_in n run (drop from rows)
-  entries_here run rows from =
-      let l : from + run.lefts - from ≡ run.lefts = omega arith in
-      let r : from + run.lefts + run.rights - (from + run.lefts) ≡ run.rights = omega arith in
-      λ i. entries_of run.row (take (l i) (drop from rows)) (map (λ row. row - n) (take (r i) (sym (drop-drop run.lefts from rows) i)))
+  run_more runs rows k d lt = cc (take_more runs k d lt, run_entries_append (take k runs) (slice_index_or runs k d ∷ []) rows, append-nil (entries_in n (slice_index_or runs k d) (drop (total (take k runs)) rows)))
 
 map-flat_map : {A B C : Type 0} (g : B → C) (h : A → List B) (xs : List A) → map g (flat_map h xs) ≡ flat_map (λ x. map g (h x)) xs
 map-flat_map g h [] = refl
-map-flat_map g h (x ∷ xs) = map-append g (h x) (flat_map h xs) ∙ ap (λ l. map g (h x) ++ l) (map-flat_map g h xs)
+map-flat_map g h (x ∷ xs) = search (map-append, map-flat_map g h xs)
 
 -- entries with what stands at their rows in place of the rows
 module _ {K : Type 0} (f : ℕ → K) where
   abbrev pub rekeyed : Entry ℕ → Entry K
   rekeyed e = entry (f e.key) e.left e.right
 
-  rekeyed_with : (key : ℕ) (rs : List ℕ) (left : Option ℕ) → map rekeyed (entries_with key rs left) ≡ entries_with (f key) rs left
-  rekeyed_with key rs left = map-map rekeyed (entry key left) (or_gap rs)
-
   rekeyed_of : (key : ℕ) (ls rs : List ℕ) → map rekeyed (entries_of key ls rs) ≡ entries_of (f key) ls rs
-  rekeyed_of key ls rs = map-flat_map rekeyed (entries_with key rs) (or_gap ls) ∙ (λ i. flat_map (λ left. rekeyed_with key rs left i) (or_gap ls))
+  rekeyed_of key ls rs = search (map-flat_map, map-map)
 
 module _ {K : Type 0} (same less : K → K → Bool) (decides : (a b : K) → Decides (same a b) (a ≡ b)) (weak : IsStrictWeakOrder less) (a b : List K) (d : K) where
   abbrev part : K → List ℕ
@@ -164,50 +120,48 @@ module _ {K : Type 0} (same less : K → K → Bool) (decides : (a b : K) → De
     split = rows_where-append (same k) 0 a b
 
     sizes : ((run_at k).lefts ≡ length of_left) × ((run_at k).rights ≡ length of_right)
-    sizes =
-        let both = sides_gathered (length a) of_left of_right (rows_inside (same k) a) (rows_above (same k) (length a) (0 + length a) b (omega arith)) in
-        (ap (λ (l : List ℕ). (gathered (length a) no_run l).lefts) split ∙ both.0, ap (λ (l : List ℕ). (gathered (length a) no_run l).rights) split ∙ both.1)
+    sizes = grind (arith, gathered_append, lefts_gathered, rights_gathered, rows_inside, rows_above, split)
 
     shifted : map (λ row. row - length a) of_right ≡ rows_where (same k) 0 b
-    shifted = rows_shifted (same k) (length a) 0 (0 + length a) b refl
+    shifted = search rows_shifted
 
     as_many : length of_right ≡ length (rows_where (same k) 0 b)
-    as_many = sym (length-map of_right (λ row. row - length a)) ∙ ap (λ (l : List ℕ). length l) shifted
+    as_many = grind (arith, length-map, shifted)
 
     row_of_key : 0 < length (part k) → at_row (run_at k).row ≡ k
     row_of_key some = some_row (length a) (λ row. at_row row ≡ k) (part k) some (carried same less decides weak (a ++ b) d k)
 
     key_entries : (rest : List ℕ) → 0 < length (part k) → map (rekeyed at_row) (entries_in (length a) (run_at k) (part k ++ rest)) ≡ of_key k
     key_entries rest some =
-        ap (map (rekeyed at_row)) (ap (λ (l : List ℕ). entries_in (length a) (run_at k) (l ++ rest)) split ∙ one_entries (length a) of_left of_right rest (run_at k) sizes.0 sizes.1)
+        ap (map (rekeyed at_row)) (cc (split, one_entries (length a) of_left of_right rest (run_at k) sizes.0 sizes.1))
         ∙ rekeyed_of at_row (run_at k).row of_left (map (λ row. row - length a) of_right)
         ∙ (λ i. entries_of (row_of_key some i) of_left (shifted i))
 
     key_counted : count_in (run_at k) ≡ length (of_key k)
-    key_counted = (λ i. max (sizes.0 i) 1 * max ((sizes.1 ∙ as_many) i) 1) ∙ sym (length-entries_of k of_left (rows_where (same k) 0 b))
+    key_counted = (λ i. max (sizes.0 i) 1 * max ((sizes.1 ∙ as_many) i) 1) ∙ sym (search length-entries_of)
 
     key_rows : rows_in (run_at k) ≡ length (part k)
-    key_rows = (λ i. sizes.0 i + sizes.1 i) ∙ sym (length-append of_left of_right) ∙ ap (λ (l : List ℕ). length l) (sym split)
+    key_rows = grind (arith, length-append, split, sizes.0, sizes.1)
 
   pub entries_are : (ks : List K) → SomeRows ks → map (rekeyed at_row) (run_entries (length a) (map run_at ks) (flat_map part ks)) ≡ flat_map of_key ks
   entries_are [] some = refl
   entries_are (k ∷ ks) some =
       let rest = flat_map part ks in
-      let later : drop (rows_in (run_at k)) (part k ++ rest) ≡ rest = ap (λ (l : List ℕ). drop (rows_in (run_at k)) (l ++ rest)) (split k) ∙ others_behind (length a) (of_left k) (of_right k) rest (run_at k) (sizes k).0 (sizes k).1 in
+      let later : drop (rows_in (run_at k)) (part k ++ rest) ≡ rest = grind (arith, split, others_behind, sizes) in
       map-append (rekeyed at_row) (entries_in (length a) (run_at k) (part k ++ rest)) (run_entries (length a) (map run_at ks) (drop (rows_in (run_at k)) (part k ++ rest)))
       ∙ (λ i. key_entries k rest (All-head (λ x. 0 < length (part x)) k ks some) i ++ map (rekeyed at_row) (run_entries (length a) (map run_at ks) (later i)))
       ∙ ap (λ l. of_key k ++ l) (entries_are ks (All-tail (λ x. 0 < length (part x)) k ks some))
 
   pub counted_is : (ks : List K) → counted (map run_at ks) ≡ length (flat_map of_key ks)
   counted_is [] = refl
-  counted_is (k ∷ ks) = sum_by-cons count_in (run_at k) (map run_at ks) ∙ (λ i. key_counted k i + counted_is ks i) ∙ sym (length-append (of_key k) (flat_map of_key ks))
+  counted_is (k ∷ ks) = search (sum_by-cons, key_counted, length-append, counted_is ks)
 
   pub total_is : (ks : List K) → total (map run_at ks) ≡ length (flat_map part ks)
   total_is [] = refl
-  total_is (k ∷ ks) = sum_by-cons rows_in (run_at k) (map run_at ks) ∙ (λ i. key_rows k i + total_is ks i) ∙ sym (length-append (part k) (flat_map part ks))
+  total_is (k ∷ ks) = search (sum_by-cons, key_rows, length-append, total_is ks)
 
   runs_inside : (ks : List K) → SomeRows ks → All (λ run. run.row < length (a ++ b)) (map run_at ks)
-  runs_inside [] some = All-nil (λ run. run.row < length (a ++ b))
+  runs_inside [] some = grind arith
   runs_inside (k ∷ ks) some =
       All-cons (λ run. run.row < length (a ++ b)) (run_at k) (map run_at ks)
       (some_row (length a) (λ row. row < length (a ++ b)) (part k) (All-head (λ x. 0 < length (part x)) k ks some) (rows_inside (same k) (a ++ b)))

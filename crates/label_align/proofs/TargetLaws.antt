@@ -1,52 +1,40 @@
 -- The row of each target, by codes.
 use Rattle.{
-  std.{proofs.{Common.{◌≡◌, ◌∙◌, ◌<◌, ◌≤◌, ◌==◌, ◌+◌, ◌++◌, ℕ, zero, suc, Bool, true, false, cond, List, [], ◌∷◌, map, length, refl, ap, sym, slice_index, slice_index_or, arith, All, Option, Some, None, Ok, Err, nat_lt, lt-ltb, le-ltb}, lemmas.{Bool.{false≢true, eq-eqb, eqb-true}, List.{get_or-map, length-map, FromFn.{get_or-map-range_with_len}, Elements.{All-head, All-tail}}}}, specs.{Bool.{Decides}, Cmp.Lexicographic.{pointwise}, List.{range_with_len}}},
+  std.{proofs.{Common.{◌≡◌, ◌∙◌, ◌<◌, ◌≤◌, ◌==◌, ◌+◌, ◌++◌, ℕ, zero, suc, Bool, true, false, cond, List, [], ◌∷◌, map, length, refl, ap, sym, slice_index, slice_index_or, arith, All, Option, Some, None, Ok, Err, nat_lt, le-ltb}, lemmas.{Bool.{false≢true, eq-eqb}, List.{get_or-map, length-map, FromFn.{get_or-map-range_with_len}, Elements.{All-head, All-tail}}}}, specs.{Bool.{Decides}, List.{range_with_len}}},
   cell_core.specs.declared.cell.Label.{Label},
   meaning.specs.Reduce.{distinct},
   pick_meaning.specs.Rows.{rows_where, only_row},
   align_meaning.specs.{Faults.{duplicate_labels}, Targets.{first_where, first_repeated, unless_repeated, rows_of_targets, reindexed}},
-  row_keys.{specs.{Keys.{same_tuple}, Buckets.{buckets_of, rows_of_code}}, proofs.{KeyLaws.{position_in}, JoinLaws.{rank, count, left_known, right_known, bucket_of_key}}},
+  row_keys.{specs.{Keys.{same_tuple}, Buckets.{buckets_of}}, proofs.{KeyLaws.{position_in}, JoinLaws.{rank, count, left_known, right_known, bucket_of_key}}},
   label_align.{specs.Targets.{repeats_at, IsFirstRepeat, NoneBefore, NoneRepeats, row_below}, proofs.SameLaws.{tuples_decide, tuple_laws}},
 }
 
 -- the first that passes, by its place
 module _ {X : Type 0} (p : X → Bool) where
   first_there : (xs : List X) (place : ℕ) (d : X) → place < length xs → p (slice_index_or xs place d) ≡ true → ((i : ℕ) → i < place → p (slice_index_or xs i d) ≡ false) → first_where p xs ≡ Some (slice_index_or xs place d)
-  first_there [] place d lt passes before = absurd (omega (arith, lt))
-  first_there (x ∷ xs) zero d lt passes before = ap (λ b. cond b (Some x) (first_where p xs)) passes
-  first_there (x ∷ xs) (suc place) d lt passes before =
-      ap (λ b. cond b (Some x) (first_where p xs)) (before 0 (omega arith)) ∙ first_there xs place d (omega (arith, lt)) passes (λ i below. before (suc i) (omega (arith, below)))
+  first_there [] place d lt passes before = grind arith
+  first_there (x ∷ xs) zero d lt passes before = cc
+  first_there (x ∷ xs) (suc place) d lt passes before = cc (before 0 (omega arith), first_there xs place d (omega arith) passes (λ i below. before (suc i) (omega arith)))
 
   none_there : (xs : List X) (d : X) → ((i : ℕ) → i < length xs → p (slice_index_or xs i d) ≡ false) → first_where p xs ≡ None
   none_there [] d before = refl
-  none_there (x ∷ xs) d before = ap (λ b. cond b (Some x) (first_where p xs)) (before 0 (omega arith)) ∙ none_there xs d (λ i below. before (suc i) (omega (arith, below)))
+  none_there (x ∷ xs) d before = cc (before 0 (omega arith), none_there xs d (λ i below. before (suc i) (omega arith)))
 
 map_all : {A B C : Type 0} (P : A → Type 0) (f : A → B) (g : B → C) (h : A → C) → ((x : A) → P x → g (f x) ≡ h x) → (xs : List A) → All P xs → map g (map f xs) ≡ map h xs
 map_all P f g h same [] all = refl
 map_all P f g h same (x ∷ xs) all = λ i. same x (All-head P x xs all) i ∷ map_all P f g h same xs (All-tail P x xs all) i
 
--- the places of a number among the numbers from one on
-apart_numbers : (c at : ℕ) → (c ≡ at → ⊥) → (c == at) ≡ false
-apart_numbers c at other = elim (c == at) as (λ b. (c == at) ≡ b → b ≡ false) [
-  | true ↦ λ e. absurd (other (eqb-true c at e))
-  | false ↦ λ e. refl
-] refl
-
 not_behind : (c at m : ℕ) → c < at → rows_where (λ d. c == d) at (range_with_len at m) ≡ []
 not_behind c at zero lt = refl
-not_behind c at (suc m) lt =
-    ap (λ b. cond b (at ∷ rows_where (λ d. c == d) (at + 1) (range_with_len (at + 1) m)) (rows_where (λ d. c == d) (at + 1) (range_with_len (at + 1) m))) (apart_numbers c at (λ e. omega (arith, e, lt)))
-    ∙ not_behind c (at + 1) m (omega (arith, lt))
+not_behind c at (suc m) lt = grind (arith, not_behind c (at + 1) m (omega (arith, lt)))
 
 found_at : (c at m : ℕ) → at ≤ c → rows_where (λ d. c == d) at (range_with_len at m) ≡ cond (nat_lt c (at + m)) (c ∷ []) []
-found_at c at zero le = sym (ap (λ b. cond b (c ∷ []) []) (le-ltb c (at + 0) (omega (arith, le))))
+found_at c at zero le = grind arith
 found_at c at (suc m) le =
     elim (c == at) as (λ b. (c == at) ≡ b → cond b (at ∷ rows_where (λ d. c == d) (at + 1) (range_with_len (at + 1) m)) (rows_where (λ d. c == d) (at + 1) (range_with_len (at + 1) m)) ≡ cond (nat_lt c (at + suc m)) (c ∷ []) []) [
-      | true ↦ λ e.
-          let same : c ≡ at = eqb-true c at e in
-          (λ q. sym same q ∷ not_behind c (at + 1) m (omega (arith, same)) q) ∙ sym (ap (λ b. cond b (c ∷ []) []) (lt-ltb c (at + suc m) (omega (arith, same))))
+      | true ↦ grind (arith, not_behind)
       | false ↦ λ e.
-          let later : at + 1 ≤ c = omega (arith, le, differ c at e) in
+          let later : at + 1 ≤ c = omega (arith, differ c at e) in
           found_at c (at + 1) m later ∙ ap (λ n. cond (nat_lt c n) (c ∷ []) []) (let f : at + 1 + m ≡ at + suc m = omega arith in f)
     ] refl
   where
@@ -56,19 +44,11 @@ found_at c at (suc m) le =
 module _ (keys targets : List (List Label)) where
   -- where the targets are the keys
   pub as_they_are : (told : Bool) (rows : List (Option ℕ)) → Decides told (keys ≡ targets) → told ≡ true → rows ≡ map Some (range_with_len 0 (length keys)) → reindexed same_tuple keys targets ≡ Ok rows
-  as_they_are told rows is so made =
-      ap (λ b. cond b (Ok (map Some (range_with_len 0 (length keys)))) (unless_repeated (first_repeated same_tuple keys) (rows_of_targets same_tuple keys targets))) ((tuples_decide keys targets).1 (is.0 so)) ∙ ap Ok (sym made)
+  as_they_are told rows is so made = grind (arith, tuples_decide)
 
   -- and where they are others
   others : (told : Bool) → Decides told (keys ≡ targets) → told ≡ false → reindexed same_tuple keys targets ≡ unless_repeated (first_repeated same_tuple keys) (rows_of_targets same_tuple keys targets)
-  others told is unlike =
-      ap (λ b. cond b (Ok (map Some (range_with_len 0 (length keys)))) (unless_repeated (first_repeated same_tuple keys) (rows_of_targets same_tuple keys targets))) apart
-    where
-      apart : pointwise same_tuple keys targets ≡ false
-      apart = elim (pointwise same_tuple keys targets) as (λ b. pointwise same_tuple keys targets ≡ b → b ≡ false) [
-        | true ↦ λ e. absurd (false≢true (sym unlike ∙ is.1 ((tuples_decide keys targets).0 e)))
-        | false ↦ λ e. refl
-      ] refl
+  others told is unlike = grind (arith, tuples_decide)
 
   abbrev of_key : List Label → ℕ
   of_key = rank same_tuple tuple_laws keys targets
@@ -87,34 +67,32 @@ module _ (keys targets : List (List Label)) where
 
   module _ (rows : List (List ℕ)) (codes : List ℕ) (made : rows ≡ buckets_of how_many (map of_key keys)) (coded : codes ≡ map of_key keys) where
     size : length codes ≡ length keys
-    size = ap length coded ∙ length-map keys of_key
+    size = grind (arith, length-map)
 
     rows_at : (place : ℕ) → place < length keys → repeats_at rows codes place ≡ length (rows_where (same_tuple (slice_index_or keys place [])) 0 keys)
     rows_at place lt =
         (λ i. length (slice_index_or (made i) (slice_index (coded i) place) []))
         ∙ ap (λ c. length (slice_index_or (buckets_of how_many (map of_key keys)) c [])) (get_or-map of_key keys place [] 0 lt)
-        ∙ ap (λ l. length l) (bucket (slice_index_or keys place []) (key_below place [] lt))
+        ∙ ap (λ l. length l) (search (bucket, key_below))
 
     abbrev is_repeated : List Label → Bool
     is_repeated key = nat_lt 1 (length (rows_where (same_tuple key) 0 keys))
 
     once : (end : ℕ) → end ≤ length keys → NoneBefore rows codes end → (i : ℕ) → i < end → is_repeated (slice_index_or keys i []) ≡ false
-    once end le none i lt = le-ltb 1 (length (rows_where (same_tuple (slice_index_or keys i [])) 0 keys)) (omega (arith, none i lt, rows_at i (omega (arith, lt, le))))
+    once end le none i lt = le-ltb 1 (length (rows_where (same_tuple (slice_index_or keys i [])) 0 keys)) (omega (arith, rows_at i (omega (arith, lt, le))))
 
     -- the first that repeats is refused
     pub repeated : (told : Bool) (place : ℕ) (key : List Label) → Decides told (keys ≡ targets) → told ≡ false → IsFirstRepeat rows codes place → key ≡ slice_index_or keys place [] → reindexed same_tuple keys targets ≡ Err (duplicate_labels key)
     repeated told place key is unlike first here =
-        let inside : place < length keys = omega (arith, first.inside, size) in
-        let twice : is_repeated (slice_index_or keys place []) ≡ true = lt-ltb 1 (length (rows_where (same_tuple (slice_index_or keys place [])) 0 keys)) (omega (arith, first.repeats, rows_at place inside)) in
-        others told is unlike
-        ∙ ap (λ o. unless_repeated o (rows_of_targets same_tuple keys targets)) (first_there is_repeated keys place [] inside twice (once place (omega (arith, inside)) first.before))
-        ∙ ap (λ k. Err (duplicate_labels k)) (sym here)
+        let inside : place < length keys = omega (arith, size) in
+        let twice : is_repeated (slice_index_or keys place []) ≡ true = grind (arith, rows_at) in
+        cc (others told is unlike, first_there is_repeated keys place [] inside twice (once place (omega arith) first.before))
 
     -- the row of each target, where none repeats
     pub found : (told : Bool) (asked : List ℕ) (gaps : List (Option ℕ)) → Decides told (keys ≡ targets) → told ≡ false → NoneRepeats rows codes → asked ≡ map of_key targets → gaps ≡ map (λ code. only_row (slice_index_or rows code [])) asked → reindexed same_tuple keys targets ≡ Ok gaps
     found told asked gaps is unlike none of_targets looked =
         others told is unlike
-        ∙ ap (λ o. unless_repeated o (rows_of_targets same_tuple keys targets)) (none_there is_repeated keys [] (once (length keys) (omega arith) (λ place lt. none place (omega (arith, lt, size)))))
+        ∙ ap (λ o. unless_repeated o (rows_of_targets same_tuple keys targets)) (none_there is_repeated keys [] (grind (arith, once, size)))
         ∙ ap Ok (sym (
         looked
         ∙ (λ i. map (λ code. only_row (slice_index_or (made i) code [])) (of_targets i))
@@ -127,33 +105,23 @@ module _ (keys targets : List (List Label)) where
     rows = buckets_of how_many (map of_key keys)
 
     one_row : (code : ℕ) → code < how_many → slice_index_or rows code [] ≡ cond (nat_lt code (length keys)) (code ∷ []) []
-    one_row code lt =
-        get_or-map-range_with_len (λ c. rows_of_code c (map of_key keys)) 0 how_many code code [] lt (omega arith)
-        ∙ ap (rows_of_code code) (sym coded ∙ in_sequence)
-        ∙ found_at code 0 (length codes) (omega arith)
-        ∙ ap (λ n. cond (nat_lt code n) (code ∷ []) []) (let e : 0 + length codes ≡ length keys = omega (arith, size rows codes refl coded) in e)
+    one_row code lt = grind (arith, get_or-map-range_with_len, found_at, size)
 
     few : (b : Bool) (code : ℕ) → length (cond b (code ∷ []) []) ≤ 1
-    few true code = omega arith
-    few false code = omega arith
+    few x code = grind arith
 
     none_repeats : NoneRepeats rows codes
     none_repeats place lt =
-        let inside : place < length keys = omega (arith, lt, size rows codes refl coded) in
+        let inside : place < length keys = omega (arith, size rows codes refl coded) in
         let code : ℕ = slice_index codes place in
-        let here : code ≡ of_key (slice_index_or keys place []) = ap (λ (l : List ℕ). slice_index l place) coded ∙ get_or-map of_key keys place [] 0 inside in
-        let below : code < how_many = omega (arith, here, key_below place [] inside) in
+        let here : code ≡ of_key (slice_index_or keys place []) = cc (get_or-map of_key keys place [] 0 inside) in
+        let below : code < how_many = omega (arith, key_below place [] inside) in
         omega (arith, few (nat_lt code (length keys)) code, ap (λ (l : List ℕ). length l) (one_row code below))
 
     row_of : (b : Bool) (code : ℕ) → only_row (cond b (code ∷ []) []) ≡ cond b (Some code) None
-    row_of true code = refl
-    row_of false code = refl
+    row_of x code = grind arith
 
     pub found_in_sequence : (told : Bool) (asked : List ℕ) (gaps : List (Option ℕ)) → Decides told (keys ≡ targets) → told ≡ false → asked ≡ map of_key targets → gaps ≡ map (row_below (length keys)) asked → reindexed same_tuple keys targets ≡ Ok gaps
     found_in_sequence told asked gaps is unlike of_targets looked =
         found rows codes refl coded told asked gaps is unlike none_repeats of_targets
-        (looked
-        ∙ ap (map (row_below (length keys))) of_targets
-        ∙ map_all (λ x. of_key x < how_many) of_key (row_below (length keys)) (λ x. only_row (slice_index_or rows (of_key x) [])) (λ x lt. sym (row_of (nat_lt (of_key x) (length keys)) (of_key x)) ∙ ap only_row (sym (one_row (of_key x) lt))) targets target_below
-        ∙ sym (map_all (λ x. of_key x < how_many) of_key (λ code. only_row (slice_index_or rows code [])) (λ x. only_row (slice_index_or rows (of_key x) [])) (λ x lt. refl) targets target_below)
-        ∙ ap (map (λ code. only_row (slice_index_or rows code []))) (sym of_targets))
+        (cc (map_all (λ x. of_key x < how_many) of_key (row_below (length keys)) (λ x. only_row (slice_index_or rows (of_key x) [])) (λ x lt. sym (row_of (nat_lt (of_key x) (length keys)) (of_key x)) ∙ ap only_row (sym (one_row (of_key x) lt))) targets target_below, map_all (λ x. of_key x < how_many) of_key (λ code. only_row (slice_index_or rows code [])) (λ x. only_row (slice_index_or rows (of_key x) [])) (λ x lt. refl) targets target_below))

@@ -1,14 +1,10 @@
 -- Lists that are made item by item.
 use Rattle.{
-  std.proofs.Common.{◌≡◌, ◌∙◌, refl, ap, sym, List, [], ◌∷◌, ◌++◌, append_assoc, Result, Ok, Err},
+  std.proofs.Common.{arith, ◌≡◌, List, [], ◌∷◌, ◌++◌, append_assoc, Result, Ok, Err},
   meaning.specs.Fault.{FaultValue, then_value},
   form_meaning.specs.Finish.{try_all},
   label_methods.specs.Columns.{with_front},
 }
-
-front_twice : {B : Type 0} (made : List B) (y : B) (rest : Result (List B) FaultValue) → with_front (made ++ y ∷ []) rest ≡ with_front made (then_value rest (λ ys. Ok (y ∷ ys)))
-front_twice made y (Ok ys) = ap Ok (append_assoc made (y ∷ []) ys)
-front_twice made y (Err fault) = refl
 
 abbrev first_then : {A B : Type 0} → (A → Result B FaultValue) → List A → Result B FaultValue → Result (List B) FaultValue
 first_then f xs first = then_value first (λ y. then_value (try_all f xs) (λ ys. Ok (y ∷ ys)))
@@ -16,9 +12,9 @@ first_then f xs first = then_value first (λ y. then_value (try_all f xs) (λ ys
 -- one item more is made
 pub front_next : {A B : Type 0} (f : A → Result B FaultValue) (made : List B) (x : A) (y : B) (xs : List A) (whole : Result (List B) FaultValue)
     → with_front made (try_all f (x ∷ xs)) ≡ whole → f x ≡ Ok y → with_front (made ++ y ∷ []) (try_all f xs) ≡ whole
-front_next f made x y xs whole so_far is = front_twice made y (try_all f xs) ∙ ap (λ r. with_front made (first_then f xs r)) (sym is) ∙ so_far
+front_next f made x y xs whole so_far is = grind (arith, append_assoc)
 
 -- or it is the first fault
 pub front_fails : {A B : Type 0} (f : A → Result B FaultValue) (made : List B) (x : A) (fault : FaultValue) (xs : List A) (whole : Result (List B) FaultValue)
     → with_front made (try_all f (x ∷ xs)) ≡ whole → f x ≡ Err fault → whole ≡ Err fault
-front_fails f made x fault xs whole so_far is = sym so_far ∙ ap (λ r. with_front made (first_then f xs r)) is
+front_fails f made x fault xs whole so_far is = cc

@@ -2,14 +2,14 @@
 use Rattle.{
   std.{proofs.{Common.{◌≡◌, ◌∙◌, ap, sym, subst, ℕ, zero, suc, ◌+◌, ◌<◌, List, [], ◌∷◌, ◌++◌, map, drop, length, slice_index_or, slice_get, Option, Some, append-nil, arith}, lemmas.{List.{length-map, map-append, FromFn.{length-range_with_len, get_or-range_with_len}}, Option.{slice_get-get_or}}}, specs.{Prelude.{Result, Ok, Err, unwrap_or}, List.{range_with_len}, Option.{option_and_then}}},
   cell_core.specs.declared.cell.{Cell.{Cell}, Kind.{Kind, TheVariants.{Int64}}, Label.{Label, TheVariants.{Na}}},
-  meaning.specs.{Text.{Text}, Cell.{CellValue, datum}, Fault.{FaultValue}, FaultOf.{fault_of}},
+  meaning.specs.{Text.{Text}, Cell.{CellValue, datum}, Fault.{FaultValue}},
   column_core.specs.{Blocks.{CellBlock}, Columns.{CellColumn}},
   multi_index.specs.Axes.{AxisValue, label_at},
-  table_meaning.specs.Table.{ColumnOf, column_value},
+  table_meaning.specs.Table.{ColumnOf},
   form_meaning.specs.{Finish.{try_all}, Set.{first_kind}},
   form_parts.specs.Makes.{MakesBy, blocks_value},
-  frame_store.specs.{Parts.{block_column, single_block, table_column}, Shown.{cells_value, columns_value}, declared.fault.OpFault.{OpFault, TheVariants.{Refused, NoMemory}}},
-  label_methods.{specs.{Columns.{seen_column, with_front}, LevelColumns.{cell_of, level_cells, held_after, held_column, GetsCell, RefusesCell, level_column, level_columns}}, proofs.{Lists.{drop_next, drop_all}, FrontLaws.{front_next, front_fails}}},
+  frame_store.specs.{Parts.{single_block, table_column}, Shown.{cells_value}, declared.fault.OpFault.{OpFault}},
+  label_methods.{specs.{Columns.{seen_column, with_front}, LevelColumns.{cell_of, level_cells, held_after, held_column, GetsCell, RefusesCell, level_column, level_columns}}, proofs.{Lists.{drop_next, drop_all}, FrontLaws.{front_next}}},
 }
 
 label_is : (tuple : List Label) (level : ℕ) (l : Label) → slice_get tuple level ≡ Some l → slice_index_or tuple level Na ≡ l
@@ -20,31 +20,26 @@ label_is (x ∷ xs) (suc level) l is = label_is xs level l is
 cell_is : (tuples : List (List Label)) (row level : ℕ) (l : Label) → option_and_then (λ tuple. slice_get tuple level) (slice_get tuples row) ≡ Some l
     → slice_get (map (λ tuple. cell_of (slice_index_or tuple level Na)) tuples) row ≡ Some (cell_of l)
 cell_is [] row level l is = cc
-cell_is (t ∷ ts) zero level l is = ap (λ x. Some (cell_of x)) (label_is t level l is)
+cell_is (t ∷ ts) zero level l is = grind (arith, label_is)
 cell_is (t ∷ ts) (suc row) level l is = cell_is ts row level l is
 
 -- the cells from a row on
 pub cells_from : (axis : AxisValue) (row level : ℕ) (l : Label) (cell : Cell) → label_at axis row level ≡ Some l → cell ≡ cell_of l
     → drop row (level_cells axis level) ≡ cell ∷ drop (row + 1) (level_cells axis level)
-cells_from axis row level l cell at is =
-    let next : suc row ≡ row + 1 = omega arith in
-    drop_next (level_cells axis level) row cell (cell_is axis.tuples row level l at ∙ ap Some (sym is))
-    ∙ ap (λ k. cell ∷ drop k (level_cells axis level)) next
+cells_from axis row level l cell at is = grind (arith, drop_next, cell_is)
 
 no_more : (axis : AxisValue) (row level : ℕ) → row ≡ length axis.tuples → drop row (level_cells axis level) ≡ []
-no_more axis row level is =
-    ap (λ k. drop k (level_cells axis level)) (is ∙ sym (length-map axis.tuples _)) ∙ drop_all (level_cells axis level)
+no_more axis row level is = grind (arith, length-map, drop_all)
 
 -- the kind of the first label that is present, where a row has one or has none
 pub kind_step : (texts : List Text) (axis : AxisValue) (row level : ℕ) (l : Label) (cell : Cell) (r : Option Kind) (all : Kind) → label_at axis row level ≡ Some l → cell ≡ cell_of l
     → ((texts : List Text) (rest : List CellValue) → first_kind (datum texts cell ∷ rest) ≡ unwrap_or r (first_kind rest))
     → first_kind (cells_value texts (drop row (level_cells axis level))) ≡ all → unwrap_or r (first_kind (cells_value texts (drop (row + 1) (level_cells axis level)))) ≡ all
-kind_step texts axis row level l cell r all at is present before =
-    sym (ap (λ cs. first_kind (cells_value texts cs)) (cells_from axis row level l cell at is) ∙ present texts (cells_value texts (drop (row + 1) (level_cells axis level)))) ∙ before
+kind_step texts axis row level l cell r all at is present before = cc (cells_from axis row level l cell at is, present texts (cells_value texts (drop (row + 1) (level_cells axis level))))
 
 pub kind_ends : (texts : List Text) (axis : AxisValue) (row level : ℕ) (all : Kind) → row ≡ length axis.tuples
     → first_kind (cells_value texts (drop row (level_cells axis level))) ≡ all → Int64 ≡ all
-kind_ends texts axis row level all is before = sym (ap (λ cs. first_kind (cells_value texts cs)) (no_more axis row level is)) ∙ before
+kind_ends texts axis row level all is before = grind (arith, no_more)
 
 -- the column of the labels from a row on, after the cells that are made
 abbrev pub held_from : List Text → Kind → AxisValue → ℕ → ℕ → List Cell → Result (ColumnOf CellValue) FaultValue
@@ -54,19 +49,14 @@ held_from texts kind axis level row made = held_after kind (map (datum texts) ma
 pub held_step : (texts : List Text) (kind : Kind) (axis : AxisValue) (row level : ℕ) (l : Label) (cell : Cell) (made made' : CellColumn) (whole : Result (ColumnOf CellValue) FaultValue)
     → label_at axis row level ≡ Some l → cell ≡ cell_of l → made.kind ≡ kind → GetsCell made made' cell
     → held_from texts kind axis level row made.cells ≡ whole → held_from texts kind axis level (row + 1) made'.cells ≡ whole
-held_step texts kind axis row level l cell made made' whole at is same gets before =
-    ap (λ k. held_after k (map (datum texts) made'.cells) (cells_value texts (drop (row + 1) (level_cells axis level)))) (sym same)
-    ∙ gets texts (cells_value texts (drop (row + 1) (level_cells axis level)))
-    ∙ ap (λ k. held_after k (map (datum texts) made.cells) (datum texts cell ∷ cells_value texts (drop (row + 1) (level_cells axis level)))) same
-    ∙ ap (λ cs. held_after kind (map (datum texts) made.cells) (cells_value texts cs)) (sym (cells_from axis row level l cell at is))
-    ∙ before
+held_step texts kind axis row level l cell made made' whole at is same gets before = cc (gets texts (cells_value texts (drop (row + 1) (level_cells axis level))), cells_from axis row level l cell at is)
 
 -- or one that the kind doesn't hold
 pub held_refused : (texts : List Text) (kind : Kind) (axis : AxisValue) (row level : ℕ) (l : Label) (cell : Cell) (made : CellColumn) (fault : OpFault) (whole : Result (ColumnOf CellValue) FaultValue)
     → label_at axis row level ≡ Some l → cell ≡ cell_of l → made.kind ≡ kind → RefusesCell made cell fault
     → held_from texts kind axis level row made.cells ≡ whole → MakesBy seen_column texts (Err fault) whole
 held_refused texts kind axis row level l cell made fault whole at is same refused before =
-    subst (λ (m : Result (ColumnOf CellValue) FaultValue). MakesBy seen_column texts (Err fault) m)
+    subst (λ m. MakesBy seen_column texts (Err fault) m)
     (ap (λ k. held_after k (map (datum texts) made.cells) (datum texts cell ∷ cells_value texts (drop (row + 1) (level_cells axis level)))) same
     ∙ ap (λ cs. held_after kind (map (datum texts) made.cells) (cells_value texts cs)) (sym (cells_from axis row level l cell at is))
     ∙ before)
@@ -76,10 +66,7 @@ held_refused texts kind axis row level l cell made fault whole at is same refuse
 pub held_ends : (texts : List Text) (kind : Kind) (axis : AxisValue) (row level : ℕ) (made : CellColumn) → row ≡ length axis.tuples → made.kind ≡ kind
     → held_from texts kind axis level row made.cells ≡ held_column kind (cells_value texts (level_cells axis level))
     → held_column kind (cells_value texts (level_cells axis level)) ≡ Ok (seen_column texts made)
-held_ends texts kind axis row level made is same before =
-    sym before
-    ∙ ap (λ cs. held_after kind (map (datum texts) made.cells) (cells_value texts cs)) (no_more axis row level is)
-    ∙ (λ j. Ok record { kind = sym same j; cells = append-nil (map (datum texts) made.cells) j })
+held_ends texts kind axis row level made is same before = grind (arith, no_more, append-nil)
 
 -- the levels from one on
 level_at : (n level : ℕ) → level < n → drop level (range_with_len 0 n) ≡ level ∷ drop (level + 1) (range_with_len 0 n)
@@ -87,7 +74,7 @@ level_at n level lt =
     let next : suc level ≡ level + 1 = omega arith in
     let within : level < length (range_with_len 0 n) = omega (arith, length-range_with_len 0 n) in
     let same : 0 + level ≡ level = omega arith in
-    drop_next (range_with_len 0 n) level level (slice_get-get_or (range_with_len 0 n) level 0 within ∙ ap Some (get_or-range_with_len 0 n level 0 lt ∙ same)) ∙ ap (λ k. level ∷ drop k (range_with_len 0 n)) next
+    cc (drop_next (range_with_len 0 n) level level (slice_get-get_or (range_with_len 0 n) level 0 within ∙ ap Some (get_or-range_with_len 0 n level 0 lt ∙ same)))
 
 abbrev pub columns_from : List Text → AxisValue → ℕ → List CellBlock → Result (List (ColumnOf CellValue)) FaultValue
 columns_from texts axis level made = with_front (blocks_value texts made) (try_all (level_column texts axis) (drop level (range_with_len 0 (length axis.names))))
@@ -98,26 +85,17 @@ pub level_step : (texts : List Text) (axis : AxisValue) (level : ℕ) (made made
 level_step texts axis level made made' new lt more is before =
     let n = length axis.names in
     let all : blocks_value texts made' ≡ blocks_value texts made ++ seen_column texts new ∷ []
-    = ap (blocks_value texts) more
-    ∙ ap (columns_value texts) (map-append block_column made (single_block (table_column new) ∷ []))
-    ∙ map-append (column_value texts) (map block_column made) (table_column new ∷ []) in
-    ap (λ ys. with_front ys (try_all (level_column texts axis) (drop (level + 1) (range_with_len 0 n)))) all
-    ∙ front_next (level_column texts axis) (blocks_value texts made) level (seen_column texts new) (drop (level + 1) (range_with_len 0 n)) (level_columns texts axis)
-    (ap (λ xs. with_front (blocks_value texts made) (try_all (level_column texts axis) xs)) (sym (level_at n level lt)) ∙ before) is
+    = grind (arith, map-append) in
+    cc (front_next (level_column texts axis) (blocks_value texts made) level (seen_column texts new) (drop (level + 1) (range_with_len 0 n)) (level_columns texts axis) (ap (λ xs. with_front (blocks_value texts made) (try_all (level_column texts axis) xs)) (sym (level_at n level lt)) ∙ before) is)
 
 pub level_refused : (texts : List Text) (axis : AxisValue) (level : ℕ) (made : List CellBlock) (fault : OpFault) → level < length axis.names
     → MakesBy seen_column texts (Err fault) (level_column texts axis level) → columns_from texts axis level made ≡ level_columns texts axis
     → MakesBy blocks_value texts (Err fault) (level_columns texts axis)
-level_refused texts axis level made (Refused code) lt refused before = (
-  front_fails (level_column texts axis) (blocks_value texts made) level (fault_of texts code) (drop (level + 1) (range_with_len 0 (length axis.names))) (level_columns texts axis)
-      (ap (λ xs. with_front (blocks_value texts made) (try_all (level_column texts axis) xs)) (sym (level_at (length axis.names) level lt)) ∙ before) refused.0,
-  refused.1,
-)
-level_refused texts axis level made NoMemory lt refused before = tt
+level_refused texts axis level made x lt refused before = grind (arith, level_at)
 
 pub levels_end : (texts : List Text) (axis : AxisValue) (level : ℕ) (made : List CellBlock) → level ≡ length axis.names
     → columns_from texts axis level made ≡ level_columns texts axis → level_columns texts axis ≡ Ok (blocks_value texts made)
 levels_end texts axis level made is before =
     let none : drop level (range_with_len 0 (length axis.names)) ≡ []
-    = ap (λ k. drop k (range_with_len 0 (length axis.names))) (is ∙ sym (length-range_with_len 0 (length axis.names))) ∙ drop_all (range_with_len 0 (length axis.names)) in
-    sym before ∙ ap (λ xs. with_front (blocks_value texts made) (try_all (level_column texts axis) xs)) none ∙ ap Ok (append-nil (blocks_value texts made))
+    = cc (length-range_with_len 0 (length axis.names), drop_all (range_with_len 0 (length axis.names))) in
+    grind (arith, append-nil)

@@ -1,12 +1,12 @@
 -- Levels that go, or change places with one another.
 use Rattle.{
-  std.{proofs.{Common.{◌≡◌, ◌∙◌, refl, ap, sym, subst, ℕ, suc, ◌<◌, ◌≤◌, Bool, true, false, ℤ, List, [], ◌∷◌, ◌++◌, map, take, drop, length, slice_index_or, Option, Some, None, Result, Ok, Err, if◌then◌else◌, arith}, Math.ListN.{get_or-map}, lemmas.{Bool.Decides.{nat_tests}, List.{length-map, map-append, take-map, map-set}}}, specs.{Prelude.{IfSome, nat_le, remove, swap, slice_set}, Option.{option_map}, List.{drop-map}}},
+  std.{proofs.{Common.{◌≡◌, ◌∙◌, refl, sym, ℕ, suc, ◌<◌, ◌≤◌, Bool, ℤ, List, [], ◌∷◌, ◌++◌, map, take, drop, length, Option, Some, None, Result, Ok, Err, if◌then◌else◌, arith}, Math.ListN.{get_or-map}, lemmas.{Bool.Decides.{nat_tests}, List.{length-map, map-append, take-map, map-set}}}, specs.{Prelude.{IfSome, remove, swap}, Option.{option_map}, List.{drop-map}}},
   cell_core.specs.{Texts.{IsGiven}, declared.cell.{Cell.{Cell}, Label.{Label}}},
-  meaning.specs.{Text.{Text}, Cell.{datum, label_datum}, Fault.{FaultValue, bad_value, levels}, Place.{place_of}},
+  meaning.specs.{Text.{Text}, Cell.{datum}, Fault.{FaultValue, bad_value, levels}, Place.{place_of}},
   multi_index.specs.Axes.{AxisValue, without_level, with_swapped},
-  pick_meaning.specs.Positions.{row_at, row_or_fault},
+  pick_meaning.specs.Positions.{row_at},
   select_meaning.specs.Keys.{found_pick},
-  table_meaning.specs.{Change.{with_labels}, Settled.{IsSettled}, Table.{NumberedTable, table_value, heading_value}, Value.{Entry, scalar_in}},
+  table_meaning.specs.{Change.{with_labels}, Settled.{IsSettled}, Table.{NumberedTable, table_value}, Value.{Entry, scalar_in}},
   form_meaning.specs.Finish.{limited},
   method_meaning.specs.Levels.{level_dropped, level_gone, levels_swapped},
   frame_store.{specs.{Arguments.{arguments_of}, Objects.{Tables}, Parts.{axis_of}, Shown.{labels_value}}, proofs.Settling.{settled_by, cell_given}},
@@ -20,35 +20,26 @@ option_given b place (Some c) live texts tells settled = cell_given texts c (λ 
 
 -- a level by its number
 pub number_found : (count : ℕ) (z : ℤ) (o : Option ℕ) (level : ℕ) → o ≡ place_of z count → o ≡ Some level → found_pick (row_at count z) ≡ Ok level
-number_found count z o level is some = ap (λ p. found_pick (row_or_fault count z p)) (sym is ∙ some)
-
-pub number_lost : (count : ℕ) (z : ℤ) (o : Option ℕ) → o ≡ place_of z count → o ≡ None → found_pick (row_at count z) ≡ Err (Rattle.meaning.specs.Fault.out_of_range z count)
-number_lost count z o is none = ap (λ p. found_pick (row_or_fault count z p)) (sym is ∙ none)
+number_found count z o level is some = cc
 
 -- what is made of a list, item by item
 map-remove : {X Y : Type 0} (f : X → Y) (xs : List X) (i : ℕ) → map f (remove xs i) ≡ remove (map f xs) i
 map-remove f xs i = map-append f (take i xs) (drop (suc i) xs) ∙ (λ j. sym (take-map f i xs) j ++ sym (drop-map f (suc i) xs) j)
 
 map-swap : {X Y : Type 0} (f : X → Y) (xs : List X) (i j : ℕ) → map f (swap xs i j) ≡ swap (map f xs) i j
-map-swap f [] i j = refl
-map-swap f (x ∷ xs) i j =
-    map-set f (slice_set (x ∷ xs) i (slice_index_or (x ∷ xs) j x)) j (slice_index_or (x ∷ xs) i x)
-    ∙ ap (λ l. slice_set l j (f (slice_index_or (x ∷ xs) i x))) (map-set f (x ∷ xs) i (slice_index_or (x ∷ xs) j x))
-    ∙ (λ k. slice_set (slice_set (map f (x ∷ xs)) i (sym (get_or-map f (x ∷ xs) j x) k)) j (sym (get_or-map f (x ∷ xs) i x) k))
+map-swap f x1 i j = grind (arith, map-set, get_or-map)
 
 each_removed : (texts : List Text) (tuples : List (List Label)) (level : ℕ) → labels_value texts (map (λ tuple. remove tuple level) tuples) ≡ map (λ tuple. remove tuple level) (labels_value texts tuples)
 each_removed texts [] level = refl
-each_removed texts (t ∷ ts) level = λ j. map-remove (label_datum texts) t level j ∷ each_removed texts ts level j
+each_removed texts (t ∷ ts) level = search (map-remove, each_removed texts ts level)
 
 each_swapped : (texts : List Text) (tuples : List (List Label)) (a b : ℕ) → labels_value texts (map (λ tuple. swap tuple a b) tuples) ≡ map (λ tuple. swap tuple a b) (labels_value texts tuples)
 each_swapped texts [] a b = refl
-each_swapped texts (t ∷ ts) a b = λ j. map-swap (label_datum texts) t a b j ∷ each_swapped texts ts a b j
+each_swapped texts (t ∷ ts) a b = search (map-swap, each_swapped texts ts a b)
 
 -- the table without a level
 pub dropped_seen : (texts : List Text) (t : NumberedTable) (axis : AxisValue) (level : ℕ) → axis ≡ without_level (axis_of t) level → table_value texts (with_labels t axis.tuples axis.names) ≡ level_dropped (table_value texts t) level
-dropped_seen texts t axis level is =
-    ap (λ (a : AxisValue). table_value texts (with_labels t a.tuples a.names)) is
-    ∙ (λ j. record (table_value texts t) { labels = each_removed texts t.labels level j; level_names = map-remove (heading_value texts) t.level_names level j })
+dropped_seen texts t axis level is = grind (arith, each_removed, map-remove)
 
 pub dropped_settled : (texts : List Text) (t : NumberedTable) (axis : AxisValue) (level : ℕ) → axis ≡ without_level (axis_of t) level → IsSettled table_value texts t → IsSettled table_value texts (with_labels t axis.tuples axis.names)
 dropped_settled texts t axis level is settled =
@@ -59,25 +50,17 @@ abbrev if_several : Bool → Result Entry FaultValue → Result Entry FaultValue
 if_several b rest = if b then rest else Err (bad_value levels)
 
 levels_counted : (texts : List Text) (t : NumberedTable) → length (table_value texts t).level_names ≡ length t.level_names
-levels_counted texts t = length-map t.level_names (heading_value texts)
+levels_counted texts t = search length-map
 
 pub level_stays : (texts : List Text) (t : NumberedTable) (level : ℕ) → 2 ≤ length t.level_names → level_gone (table_value texts t) level ≡ limited (level_dropped (table_value texts t) level)
-level_stays texts t level several = ap (λ b. if_several b (limited (level_dropped (table_value texts t) level))) (yes (length (table_value texts t).level_names) (subst (λ n. 2 ≤ n) (sym (levels_counted texts t)) several))
-  where
-    yes : (n : ℕ) → 2 ≤ n → nat_le 2 n ≡ true
-    yes n h = grind (arith, nat_tests)
+level_stays texts t level several = grind (arith, levels_counted, nat_tests)
 
 pub only_level : (texts : List Text) (t : NumberedTable) (level : ℕ) → length t.level_names < 2 → level_gone (table_value texts t) level ≡ Err (bad_value levels)
-only_level texts t level one = ap (λ b. if_several b (limited (level_dropped (table_value texts t) level))) (no (length (table_value texts t).level_names) (subst (λ n. n < 2) (sym (levels_counted texts t)) one))
-  where
-    no : (n : ℕ) → n < 2 → nat_le 2 n ≡ false
-    no n h = grind (arith, nat_tests)
+only_level texts t level one = grind (arith, levels_counted, nat_tests)
 
 -- the table with two levels exchanged
 pub swapped_seen : (texts : List Text) (t : NumberedTable) (axis : AxisValue) (a b : ℕ) → axis ≡ with_swapped (axis_of t) a b → table_value texts (with_labels t axis.tuples axis.names) ≡ levels_swapped (table_value texts t) a b
-swapped_seen texts t axis a b is =
-    ap (λ (x : AxisValue). table_value texts (with_labels t x.tuples x.names)) is
-    ∙ (λ j. record (table_value texts t) { labels = each_swapped texts t.labels a b j; level_names = map-swap (heading_value texts) t.level_names a b j })
+swapped_seen texts t axis a b is = grind (arith, each_swapped, map-swap)
 
 pub swapped_settled : (texts : List Text) (t : NumberedTable) (axis : AxisValue) (a b : ℕ) → axis ≡ with_swapped (axis_of t) a b → IsSettled table_value texts t → IsSettled table_value texts (with_labels t axis.tuples axis.names)
 swapped_settled texts t axis a b is settled =

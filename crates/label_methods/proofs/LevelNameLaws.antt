@@ -1,14 +1,13 @@
 -- Names of levels that an argument is.
 use Rattle.{
-  std.proofs.{Common.{◌≡◌, ◌∙◌, append_assoc, append-nil, ap, sym, ℕ, ◌+◌, ◌<◌, ◌≤◌, List, [], ◌∷◌, ◌++◌, length, drop, get_or, map, Option, Some, None, option_map}, lemmas.List.{map-append, at_drop_all}},
-  column_core.proofs.CellRows.{map-map},
+  std.proofs.{Common.{arith, ◌≡◌, ◌∙◌, append_assoc, append-nil, ap, sym, ℕ, ◌+◌, ◌<◌, ◌≤◌, List, [], ◌∷◌, ◌++◌, length, drop, get_or, Option, Some, None, option_map}, lemmas.List.{map-append, at_drop_all}},
   cell_core.specs.declared.cell.{Cell.{Cell}, Label.{Label}},
   meaning.specs.{Cell.{LabelValue, datum, label_datum}, Operator.{cell_label}, Text.{Text}},
-  table_meaning.specs.{Table.{heading_value}, Value.{Given, nothing, one, row, many, entries, scalar_in, list_in}, Settled.{IsSettled}},
-  form_meaning.specs.{Binding.{argument_at}, Select.{cells_of, labels_of}},
+  table_meaning.specs.{Table.{heading_value}, Value.{Given, scalar_in, list_in}, Settled.{IsSettled}},
+  form_meaning.specs.Binding.{argument_at},
   method_meaning.specs.Levels.{names_in},
-  frame_store.specs.{Objects.{Tables}, Arguments.{items_of, arguments_of}, Shown.{headings_value}, declared.arguments.Item.{Item}},
-  signatures.{specs.{Bound.{stands_at}, declared.bound.Bound.{Bound}, Scalars.{scalars}}, proofs.{ScalarLaws.{scalars_are}, ToldLaws.{some_same}}},
+  frame_store.specs.{Objects.{Tables}, Arguments.{arguments_of}, Shown.{headings_value}, declared.arguments.Item.{Item}},
+  signatures.specs.{Bound.{stands_at}, declared.bound.Bound.{Bound}, Scalars.{scalars}},
   label_methods.{specs.Levels.{some_labels}, proofs.ScalarLaws.{IsScalarOf, scalars_from}},
 }
 
@@ -17,43 +16,19 @@ pub names_more : (texts : List Text) (items : List Item) (i : ℕ) (item : Item)
     → label_datum texts l ≡ cell_label (datum texts c) → names' ≡ names ++ Some l ∷ [] → headings_value texts names ++ some_labels (scalars texts (drop i items)) ≡ whole → headings_value texts names' ++ some_labels (scalars texts (drop (i + 1) items)) ≡ whole
 names_more texts items i item c l names names' whole lt is scalar seen pushed before =
     let rest = some_labels (scalars texts (drop (i + 1) items)) in
-    ap (λ ns. headings_value texts ns ++ rest) pushed
-    ∙ ap (λ ns. ns ++ rest) (map-append (heading_value texts) names (Some l ∷ []))
-    ∙ append_assoc (headings_value texts names) (Some (label_datum texts l) ∷ []) rest
-    ∙ ap (λ v. headings_value texts names ++ Some v ∷ rest) seen
-    ∙ ap (λ cs. headings_value texts names ++ some_labels cs) (sym (scalars_from texts items i item (Some c) lt is scalar))
-    ∙ before
+    cc (map-append (heading_value texts) names (Some l ∷ []), append_assoc (headings_value texts names) (Some (label_datum texts l) ∷ []) rest, scalars_from texts items i item (Some c) lt is scalar)
 
 pub names_same : (texts : List Text) (items : List Item) (i : ℕ) (item : Item) (names : List (Option Label)) (whole : List (Option LabelValue)) → i < length items → item ≡ get_or items i item → IsScalarOf None item
     → headings_value texts names ++ some_labels (scalars texts (drop i items)) ≡ whole → headings_value texts names ++ some_labels (scalars texts (drop (i + 1) items)) ≡ whole
-names_same texts items i item names whole lt is scalar before =
-    ap (λ cs. headings_value texts names ++ some_labels cs) (sym (scalars_from texts items i item None lt is scalar)) ∙ before
+names_same texts items i item names whole lt is scalar before = cc (scalars_from texts items i item None lt is scalar)
 
 pub names_all : (texts : List Text) (items : List Item) (i : ℕ) (names : List (Option Label)) (whole : List (Option LabelValue)) → length items ≤ i → headings_value texts names ++ some_labels (scalars texts (drop i items)) ≡ whole → headings_value texts names ≡ whole
-names_all texts items i names whole end before =
-    sym (append-nil (headings_value texts names)) ∙ sym (at_drop_all (λ l. headings_value texts names ++ some_labels (scalars texts l)) items i end) ∙ before
-
--- the names of a list
-pub listed_names : (live : Tables) (texts : List Text) (items : List Item) (g : Given) (names : List (Option Label)) → Some (items_of live texts items) ≡ list_in g → headings_value texts names ≡ some_labels (scalars texts items)
-    → headings_value texts names ≡ names_in g
-listed_names live texts items (many parts) names is made =
-    made
-    ∙ ap some_labels (sym (scalars_are live texts items))
-    ∙ sym (map-map cell_label (λ l. Some l) (cells_of (items_of live texts items)))
-    ∙ ap (λ ps. map (λ l. Some l) (labels_of ps)) (some_same (items_of live texts items) parts is)
-listed_names live texts items (one v) names is made = cc
-listed_names live texts items nothing names is made = cc
-listed_names live texts items (row parts) names is made = cc
-listed_names live texts items (entries pairs) names is made = cc
+names_all texts items i names whole end before = cc (append-nil (headings_value texts names), at_drop_all (λ l. headings_value texts names ++ some_labels (scalars texts l)) items i end)
 
 -- or one name
 pub single_name : (texts : List Text) (g : Given) (name : Option Label) (names : List (Option Label)) → None ≡ list_in g → heading_value texts name ≡ option_map cell_label (scalar_in g) → names ≡ name ∷ []
     → headings_value texts names ≡ names_in g
-single_name texts (many parts) name names none scalar is = cc
-single_name texts (one v) name names none scalar is = ap (headings_value texts) is ∙ ap (λ n. n ∷ []) scalar
-single_name texts nothing name names none scalar is = ap (headings_value texts) is ∙ ap (λ n. n ∷ []) scalar
-single_name texts (row parts) name names none scalar is = ap (headings_value texts) is ∙ ap (λ n. n ∷ []) scalar
-single_name texts (entries pairs) name names none scalar is = ap (headings_value texts) is ∙ ap (λ n. n ∷ []) scalar
+single_name texts x name names none scalar is = grind arith
 
 -- names that were given
 pub names_given : (b : Bound) (place : ℕ) (names : List (Option Label)) (live : Tables) (texts : List Text) → ((live : Tables) (texts : List Text) → headings_value texts names ≡ names_in (stands_at live texts b place))

@@ -1,10 +1,10 @@
 -- What is left of a list behind a place.
-use Rattle.std.proofs.Common.{◌≡◌, refl, ap, ℕ, zero, suc, List, [], ◌∷◌, drop, length, Some, slice_get}
+use Rattle.std.proofs.Common.{◌≡◌, refl, ℕ, zero, suc, List, [], ◌∷◌, drop, length, Some, slice_get}
 
 -- the item at a place and those after it
 pub drop_next : {X : Type 0} (xs : List X) (i : ℕ) (x : X) → slice_get xs i ≡ Some x → drop i xs ≡ x ∷ drop (suc i) xs
 drop_next [] i x is = cc
-drop_next (y ∷ ys) zero x is = let same : y ≡ x = cc in ap (λ z. z ∷ ys) same
+drop_next (y ∷ ys) zero x is = search
 drop_next (y ∷ ys) (suc i) x is = drop_next ys i x is
 
 pub drop_all : {X : Type 0} (xs : List X) → drop (length xs) xs ≡ []

@@ -1,16 +1,16 @@
 -- The levels of a table as columns of a frame.
 use Rattle.{
-  std.{proofs.{Common.{◌≡◌, ◌∙◌, refl, ap, sym, subst, ℕ, zero, suc, pos, ◌+◌, ◌<◌, ◌||◌, ◌&&◌, not, nat_eq, Bool, true, false, List, [], ◌∷◌, ◌++◌, map, take, drop, length, slice_index_or, slice_get, All, Option, Some, None, Ok, Err, if◌then◌else◌, append_assoc, append-nil, arith}, Math.ListN.{get_or-map}, lemmas.{Bool.Decides.{nat_tests}, List.{length-map, map-append, take_more, take_all, Elements.{All-cons, All-nil, All-append}}, Option.{slice_get-get_or, get_or_from_slice_get}}}, specs.{Prelude.{unwrap_or, bytes_eq}, List.{list_any, range_with_len}}},
+  std.{proofs.{Common.{◌≡◌, ◌∙◌, refl, ap, sym, subst, ℕ, zero, suc, pos, ◌+◌, ◌<◌, ◌||◌, not, nat_eq, Bool, true, false, List, [], ◌∷◌, ◌++◌, map, take, drop, length, slice_index_or, slice_get, All, Option, Some, None, Ok, Err, if◌then◌else◌, append_assoc, append-nil, arith}, Math.ListN.{get_or-map}, lemmas.{Bool.Decides.{nat_tests}, List.{length-map, map-append, take_more, take_all, Elements.{All-append}}, Option.{slice_get-get_or, get_or_from_slice_get}}}, specs.{Prelude.{unwrap_or}, List.{list_any, range_with_len}}},
   cell_core.specs.{Texts.{with_text}, declared.cell.{Label.{Label}, TextId.{TextId}}},
   column_core.{specs.{Blocks.{CellBlock}, Columns.{CellColumn}}, proofs.CellRows.{map-map}},
-  meaning.specs.{Text.{Text}, Cell.{LabelValue, int, text, label_datum, IsLonger}, Fault.{then_value}},
-  table_meaning.specs.{Settled.{IsSettled}, Table.{NumberedTable, Table, table_value, heading_value, column_value, column_at, no_column}},
+  meaning.specs.{Text.{Text}, Cell.{LabelValue, int, text, label_datum, IsLonger}},
+  table_meaning.specs.{Settled.{IsSettled}, Table.{NumberedTable, Table, table_value, heading_value, column_at}},
   form_meaning.specs.Finish.{same_heading},
   method_meaning.specs.{Levels.{numbered_label, nameless_label}, Methods.{as_frame}},
   form_parts.specs.Makes.{MakesBy, blocks_value},
-  frame_store.{specs.{Parts.{axis_of, block_column, single_block, table_column, IsSingle}, Shown.{headings_value, columns_value}, declared.fault.OpFault.{OpFault, TheVariants.{Refused, NoMemory}}}, proofs.Settling.{settled_later, seen_later, settled_by, headings_part, level_names_part, cell_settled}},
-  selections.proofs.{PickedLaws.{one_more_place}, PlaceLaws.{label_settled as label_settled_by}},
-  label_methods.{specs.{Labels.{column_tuple}, Resets.{frame_heading, frame_headings, reset_columns, reset_headings}}, proofs.Lists.{drop_next, drop_all}},
+  frame_store.{specs.{Parts.{axis_of, block_column, single_block, table_column, IsSingle}, Shown.{headings_value}, declared.fault.OpFault.{OpFault}}, proofs.Settling.{settled_later, seen_later, settled_by, headings_part, level_names_part, cell_settled}},
+  selections.proofs.PlaceLaws.{label_settled as label_settled_by},
+  label_methods.{specs.{Labels.{column_tuple}, Resets.{frame_heading, frame_headings, reset_columns, reset_headings}}, proofs.Lists.{drop_next}},
 }
 use Rattle.cell_core.specs.declared.cell.Cell.TheVariants as cell
 use Rattle.cell_core.specs.declared.cell.Label.TheVariants as label
@@ -19,12 +19,10 @@ use Rattle.label_methods.specs.LevelColumns as levels
 
 -- the labels of the columns of a frame
 pub heading_is : (h : Option Label) (l : Label) → column_tuple h ≡ l ∷ [] → frame_heading h ≡ Some l
-heading_is None l is = cc
-heading_is (Some x) l is = cc
+heading_is x1 l is = grind arith
 
 heading_seen : (texts : List Text) (h : Option Label) → heading_value texts (frame_heading h) ≡ Some (unwrap_or (heading_value texts h) (int (pos 0)))
-heading_seen texts None = refl
-heading_seen texts (Some l) = refl
+heading_seen texts x = grind arith
 
 pub headings_seen : (texts : List Text) (t : NumberedTable) → headings_value texts (frame_headings t) ≡ (as_frame (table_value texts t)).headings
 headings_seen texts t = go t.headings
@@ -34,8 +32,7 @@ headings_seen texts t = go t.headings
     go (h ∷ hs) = λ j. heading_seen texts h j ∷ go hs j
 
 pub headings_settled : (texts : List Text) (t : NumberedTable) → IsSettled table_value texts t → IsSettled headings_value texts (frame_headings t)
-headings_settled texts t settled =
-    settled_by headings_value headings_value (λ hs. map (λ h. Some (unwrap_or h (int (pos 0)))) hs) texts t.headings (frame_headings t) (λ ts. sym (headings_seen ts t)) (headings_part texts t settled)
+headings_settled texts t settled = search (settled_by, headings_seen, headings_part)
 
 -- one of them, and those after it
 pub next_heading : (t : NumberedTable) (place : ℕ) (h : Option Label) (l : Label) → place < length t.headings → h ≡ slice_index_or t.headings place None → column_tuple h ≡ l ∷ []
@@ -43,18 +40,14 @@ pub next_heading : (t : NumberedTable) (place : ℕ) (h : Option Label) (l : Lab
 next_heading t place h l lt is tuple =
     let within : place < length (frame_headings t) = omega (arith, lt, length-map t.headings frame_heading) in
     let next : suc place ≡ place + 1 = omega arith in
-    drop_next (frame_headings t) place (Some l)
-    (slice_get-get_or (frame_headings t) place (frame_heading None) within ∙ ap Some (get_or-map frame_heading t.headings place None ∙ ap frame_heading (sym is) ∙ heading_is h l tuple))
-    ∙ ap (λ k. Some l ∷ drop k (frame_headings t)) next
+    cc (drop_next (frame_headings t) place (Some l) (slice_get-get_or (frame_headings t) place (frame_heading None) within ∙ ap Some (get_or-map frame_heading t.headings place None ∙ ap frame_heading (sym is) ∙ heading_is h l tuple)))
 
 pub label_settled : (texts : List Text) (t : NumberedTable) (place : ℕ) (h : Option Label) (l : Label) → h ≡ slice_index_or t.headings place None → column_tuple h ≡ l ∷ []
     → IsSettled table_value texts t → IsSettled heading_value texts (Some l)
 label_settled texts t place h l is tuple settled = λ more. sym (seen (texts ++ more)) ∙ ap (λ hs. slice_index_or hs place (Some (int (pos 0)))) (headings_settled texts t settled more) ∙ seen texts
   where
     seen : (ts : List Text) → slice_index_or (headings_value ts (frame_headings t)) place (Some (int (pos 0))) ≡ heading_value ts (Some l)
-    seen ts =
-        get_or-map (heading_value ts) (frame_headings t) place (frame_heading None)
-        ∙ ap (heading_value ts) (get_or-map frame_heading t.headings place None ∙ ap frame_heading (sym is) ∙ heading_is h l tuple)
+    seen ts = cc (get_or-map (heading_value ts) (frame_headings t) place (frame_heading None), get_or-map frame_heading t.headings place None, heading_is h l tuple)
 
 -- whether one from a place on is a label
 abbrev pub stands_from : List Text → Label → NumberedTable → ℕ → Bool
@@ -65,86 +58,47 @@ or_later here later = here || later
 
 stands_at : (texts : List Text) (l other : Label) (t : NumberedTable) (place : ℕ) (h : Option Label) (b : Bool) → place < length t.headings → h ≡ slice_index_or t.headings place None → column_tuple h ≡ other ∷ []
     → b ≡ same_heading (heading_value texts (Some l)) (heading_value texts (Some other)) → stands_from texts l t place ≡ or_later b (stands_from texts l t (place + 1))
-stands_at texts l other t place h b lt is tuple same =
-    ap (λ hs. list_any (same_heading (heading_value texts (Some l))) (headings_value texts hs)) (next_heading t place h other lt is tuple)
-    ∙ ap (λ b. or_later b (stands_from texts l t (place + 1))) (sym same)
+stands_at texts l other t place h b lt is tuple same = grind (arith, next_heading)
 
 pub label_met : (texts : List Text) (l other : Label) (t : NumberedTable) (place : ℕ) (h : Option Label) (b whole : Bool) → place < length t.headings → h ≡ slice_index_or t.headings place None → column_tuple h ≡ other ∷ []
     → b ≡ same_heading (heading_value texts (Some l)) (heading_value texts (Some other)) → b ≡ true → stands_from texts l t place ≡ whole → true ≡ whole
-label_met texts l other t place h b whole lt is tuple same so before =
-    ap (λ b. or_later b (stands_from texts l t (place + 1))) (sym so) ∙ sym (stands_at texts l other t place h b lt is tuple same) ∙ before
+label_met texts l other t place h b whole lt is tuple same so before = cc (stands_at texts l other t place h b lt is tuple same)
 
 pub label_passed : (texts : List Text) (l other : Label) (t : NumberedTable) (place : ℕ) (h : Option Label) (b whole : Bool) → place < length t.headings → h ≡ slice_index_or t.headings place None → column_tuple h ≡ other ∷ []
     → b ≡ same_heading (heading_value texts (Some l)) (heading_value texts (Some other)) → b ≡ false → stands_from texts l t place ≡ whole → stands_from texts l t (place + 1) ≡ whole
-label_passed texts l other t place h b whole lt is tuple same so before =
-    ap (λ b. or_later b (stands_from texts l t (place + 1))) (sym so) ∙ sym (stands_at texts l other t place h b lt is tuple same) ∙ before
-
-pub label_absent : (texts : List Text) (l : Label) (t : NumberedTable) (place : ℕ) (whole : Bool) → place ≡ length t.headings → stands_from texts l t place ≡ whole → false ≡ whole
-label_absent texts l t place whole end before =
-    sym (ap (λ hs. list_any (same_heading (heading_value texts (Some l))) (headings_value texts hs)) (ap (λ k. drop k (frame_headings t)) (end ∙ sym (length-map t.headings frame_heading)) ∙ drop_all (frame_headings t))) ∙ before
+label_passed texts l other t place h b whole lt is tuple same so before = cc (stands_at texts l other t place h b lt is tuple same)
 
 -- the label of a nameless level, by what the labels of the columns are
 abbrev pub label_if : Bool → ℕ → LabelValue
 label_if free level = if free then meant.index_label else numbered_label level
 
 levels_counted : (texts : List Text) (t : NumberedTable) → length (as_frame (table_value texts t)).level_names ≡ length t.level_names
-levels_counted texts t = length-map t.level_names (heading_value texts)
-
-pub several_nameless : (texts : List Text) (t : NumberedTable) (level : ℕ) → (length t.level_names ≡ 1 → ⊥) → nameless_label (as_frame (table_value texts t)) level ≡ numbered_label level
-several_nameless texts t level several =
-    let F = as_frame (table_value texts t) in
-    let other : nat_eq (length F.level_names) 1 ≡ false = no (length F.level_names) (λ e. several (sym (levels_counted texts t) ∙ e)) in
-    ap (λ b. label_if (b && not (list_any (same_heading (Some meant.index_label)) F.headings)) level) other
-  where
-    no : (n : ℕ) → (n ≡ 1 → ⊥) → nat_eq n 1 ≡ false
-    no n other = grind (arith, nat_tests)
+levels_counted texts t = search length-map
 
 pub one_nameless : (old new : List Text) (t : NumberedTable) (index : Label) (there : Bool) (level : ℕ) → length t.level_names ≡ 1 → IsLonger old new → IsSettled table_value old t → label_datum new index ≡ meant.index_label
     → there ≡ list_any (same_heading (heading_value new (Some index))) (headings_value new (frame_headings t)) → nameless_label (as_frame (table_value old t)) level ≡ label_if (not there) level
-one_nameless old new t index there level one longer settled seen is =
-    let F = as_frame (table_value old t) in
-    let single : nat_eq (length F.level_names) 1 ≡ true = yes (length F.level_names) (levels_counted old t ∙ one) in
-    let same : list_any (same_heading (Some meant.index_label)) F.headings ≡ there =
-    ap (λ (v : Table). list_any (same_heading (Some meant.index_label)) (as_frame v).headings) (sym (seen_later table_value old new t longer settled))
-    ∙ ap (list_any (same_heading (Some meant.index_label))) (sym (headings_seen new t))
-    ∙ ap (λ l. list_any (same_heading (Some l)) (headings_value new (frame_headings t))) (sym seen)
-    ∙ sym is in
-    ap (λ b. label_if (b && not (list_any (same_heading (Some meant.index_label)) F.headings)) level) single ∙ ap (λ b. label_if (not b) level) same
-  where
-    yes : (n : ℕ) → n ≡ 1 → nat_eq n 1 ≡ true
-    yes n e = grind (arith, nat_tests)
+one_nameless old new t index there level one longer settled seen is = grind (arith, nat_eq, levels_counted, seen_later, headings_seen, nat_tests)
 
 -- a text that was given its number, as a label
 pub text_seen : (texts : List Text) (id : TextId) (words : Text) → slice_get texts id.0 ≡ Some words → label_datum texts (label.Text id) ≡ text words
-text_seen texts id words given = ap text (get_or_from_slice_get texts id.0 words [] given)
+text_seen texts id words given = search get_or_from_slice_get
 
 -- the name of a level
 pub level_named : (texts : List Text) (t : NumberedTable) (level : ℕ) (o : Option Label) → slice_get t.level_names level ≡ Some o
     → meant.level_label (as_frame (table_value texts t)) level ≡ unwrap_or (heading_value texts o) (nameless_label (as_frame (table_value texts t)) level)
 level_named texts t level o at =
     let F = as_frame (table_value texts t) in
-    ap (λ h. unwrap_or h (nameless_label F level)) (get_or-map (heading_value texts) t.level_names level None ∙ ap (heading_value texts) (get_or_from_slice_get t.level_names level o None at))
+    cc (get_or-map (heading_value texts) t.level_names level None, get_or_from_slice_get t.level_names level o None at)
 
 pub name_settled : (texts : List Text) (t : NumberedTable) (level : ℕ) (o : Option Label) → slice_get t.level_names level ≡ Some o → IsSettled table_value texts t → IsSettled heading_value texts o
 name_settled texts t level o at settled = λ more. sym (seen (texts ++ more)) ∙ ap (λ hs. slice_index_or hs level None) (level_names_part texts t settled more) ∙ seen texts
   where
     seen : (ts : List Text) → slice_index_or (headings_value ts t.level_names) level None ≡ heading_value ts o
-    seen ts = get_or-map (heading_value ts) t.level_names level None ∙ ap (heading_value ts) (get_or_from_slice_get t.level_names level o None at)
+    seen ts = cc (get_or-map (heading_value ts) t.level_names level None, get_or_from_slice_get t.level_names level o None at)
 
 -- one label more of a level
 abbrev label_of_level : Table → ℕ → Option LabelValue
 label_of_level v level = Some (meant.level_label v level)
-
-pub one_more_level : (first old new : List Text) (t : NumberedTable) (level : ℕ) (l : Label) (labels labels' : List (Option Label)) → IsLonger first old → IsLonger old new → IsSettled table_value first t → IsSettled headings_value old labels
-    → label_datum new l ≡ meant.level_label (as_frame (table_value old t)) level → labels' ≡ labels ++ Some l ∷ []
-    → headings_value old labels ≡ map (label_of_level (as_frame (table_value first t))) (range_with_len 0 level)
-    → headings_value new labels' ≡ map (label_of_level (as_frame (table_value first t))) (range_with_len 0 (level + 1))
-one_more_level first old new t level l labels labels' before longer settled given is pushed so_far =
-    let F = as_frame (table_value first t) in
-    ap (headings_value new) pushed
-    ∙ map-append (heading_value new) labels (Some l ∷ [])
-    ∙ (λ j. (seen_later headings_value old new labels longer given ∙ so_far) j ++ Some ((is ∙ ap (λ (v : Table). meant.level_label (as_frame v) level) (seen_later table_value first old t before settled)) j) ∷ [])
-    ∙ sym (ap (map (label_of_level F)) (sym (one_more_place (range_with_len 0 level) (range_with_len 0 level ++ level ∷ []) level refl refl)) ∙ map-append (label_of_level F) (range_with_len 0 level) (level ∷ []))
 
 pub one_more_given : (old new : List Text) (l : Label) (labels labels' : List (Option Label)) → IsLonger old new → IsSettled headings_value old labels → IsSettled label_datum new l → labels' ≡ labels ++ Some l ∷ [] → IsSettled headings_value new labels'
 one_more_given old new l labels labels' longer given here pushed =
@@ -155,81 +109,54 @@ one_more_given old new l labels labels' longer given here pushed =
 
 pub all_levels : (texts first : List Text) (t : NumberedTable) (level : ℕ) (labels : List (Option Label)) → level ≡ length t.level_names → headings_value texts labels ≡ map (label_of_level (as_frame (table_value first t))) (range_with_len 0 level)
     → headings_value texts labels ≡ map (λ l. Some l) (meant.level_labels (as_frame (table_value first t)))
-all_levels texts first t level labels end so_far =
-    let F = as_frame (table_value first t) in
-    so_far
-    ∙ ap (λ n. map (label_of_level F) (range_with_len 0 n)) (end ∙ sym (levels_counted first t))
-    ∙ sym (map-map (meant.level_label F) (λ l. Some l) (range_with_len 0 (length F.level_names)))
+all_levels texts first t level labels end so_far = grind (arith, levels_counted, map-map)
 
 -- the labels of all levels, and then those of the columns
 pub labels_given : (texts : List Text) (t : NumberedTable) (labels labels' : List (Option Label)) → IsSettled headings_value texts labels → IsSettled table_value texts t → labels' ≡ labels ++ frame_headings t → IsSettled headings_value texts labels'
-labels_given texts t labels labels' given settled pushed =
-    subst (IsSettled headings_value texts) (sym pushed) (λ more.
-    map-append (heading_value (texts ++ more)) labels (frame_headings t)
-    ∙ (λ j. given more j ++ headings_settled texts t settled more j)
-    ∙ sym (map-append (heading_value texts) labels (frame_headings t)))
+labels_given texts t labels labels' given settled pushed = grind (arith, map-append, headings_settled)
 
 pub labels_meant : (first texts : List Text) (t : NumberedTable) (labels labels' : List (Option Label)) → IsLonger first texts → IsSettled table_value first t → labels' ≡ labels ++ frame_headings t
     → headings_value texts labels ≡ map (λ l. Some l) (meant.level_labels (as_frame (table_value first t))) → headings_value texts labels' ≡ reset_headings (as_frame (table_value first t))
-labels_meant first texts t labels labels' longer settled pushed is =
-    ap (headings_value texts) pushed
-    ∙ map-append (heading_value texts) labels (frame_headings t)
-    ∙ (λ j. is j ++ (headings_seen texts t ∙ ap (λ (v : Table). (as_frame v).headings) (seen_later table_value first texts t longer settled)) j)
+labels_meant first texts t labels labels' longer settled pushed is = grind (arith, map-append, headings_seen, seen_later)
 
 -- one heading more
 pub one_more_heading : (t : NumberedTable) (place : ℕ) (h : Option Label) (l : Label) (first labels labels' : List (Option Label)) → place < length t.headings → h ≡ slice_index_or t.headings place None → column_tuple h ≡ l ∷ []
     → labels' ≡ labels ++ Some l ∷ [] → labels ≡ first ++ take place (frame_headings t) → labels' ≡ first ++ take (place + 1) (frame_headings t)
 one_more_heading t place h l first labels labels' lt is tuple pushed before =
     let within : place < length (frame_headings t) = omega (arith, lt, length-map t.headings frame_heading) in
-    let here : slice_index_or (frame_headings t) place (frame_heading None) ≡ Some l = get_or-map frame_heading t.headings place None ∙ ap frame_heading (sym is) ∙ heading_is h l tuple in
-    pushed
-    ∙ ap (λ ls. ls ++ Some l ∷ []) before
-    ∙ append_assoc first (take place (frame_headings t)) (Some l ∷ [])
-    ∙ ap (λ ls. first ++ ls) (ap (λ x. take place (frame_headings t) ++ x ∷ []) (sym here) ∙ sym (take_more (frame_headings t) place (frame_heading None) within))
+    let here : slice_index_or (frame_headings t) place (frame_heading None) ≡ Some l = cc (get_or-map frame_heading t.headings place None, heading_is h l tuple) in
+    grind (arith, append_assoc, take_more)
 
 pub all_headings : (t : NumberedTable) (place : ℕ) (first labels : List (Option Label)) → place ≡ length t.headings → labels ≡ first ++ take place (frame_headings t) → labels ≡ first ++ frame_headings t
-all_headings t place first labels end before =
-    before ∙ ap (λ ls. first ++ ls) (take_all place (frame_headings t) (omega (arith, end, length-map t.headings frame_heading)))
+all_headings t place first labels end before = grind (arith, take_all, length-map)
 
 -- one column more
 pub one_more_column : (t : NumberedTable) (place : ℕ) (c : CellColumn) (first blocks blocks' : List CellBlock) → place < length t.columns → column_at t.columns place ≡ table_column c → blocks' ≡ blocks ++ single_block (table_column c) ∷ []
     → map block_column blocks ≡ map block_column first ++ take place t.columns → map block_column blocks' ≡ map block_column first ++ take (place + 1) t.columns
-one_more_column t place c first blocks blocks' lt is pushed before =
-    ap (map block_column) pushed
-    ∙ map-append block_column blocks (single_block (table_column c) ∷ [])
-    ∙ ap (λ cs. cs ++ table_column c ∷ []) before
-    ∙ append_assoc (map block_column first) (take place t.columns) (table_column c ∷ [])
-    ∙ ap (λ cs. map block_column first ++ cs) (ap (λ x. take place t.columns ++ x ∷ []) (sym is) ∙ sym (take_more t.columns place no_column lt))
+one_more_column t place c first blocks blocks' lt is pushed before = grind (arith, map-append, append_assoc, take_more)
 
 pub one_more_single : (c : CellColumn) (blocks blocks' : List CellBlock) → blocks' ≡ blocks ++ single_block (table_column c) ∷ [] → All IsSingle blocks → All IsSingle blocks'
-one_more_single c blocks blocks' pushed single = subst (All IsSingle) (sym pushed) (All-append IsSingle blocks (single_block (table_column c) ∷ []) single (All-cons IsSingle (single_block (table_column c)) [] refl (All-nil IsSingle)))
+one_more_single c blocks blocks' pushed single = subst (All IsSingle) (sym pushed) (All-append IsSingle blocks (single_block (table_column c) ∷ []) single (grind arith))
 
 pub all_columns : (t : NumberedTable) (place : ℕ) (first blocks : List CellBlock) → place ≡ length t.columns → map block_column blocks ≡ map block_column first ++ take place t.columns → map block_column blocks ≡ map block_column first ++ t.columns
-all_columns t place first blocks end before = before ∙ ap (λ cs. map block_column first ++ cs) (take_all place t.columns (omega (arith, end)))
+all_columns t place first blocks end before = grind (arith, take_all)
 
 -- the columns of the levels, and then those of the table
 pub columns_made : (texts : List Text) (t : NumberedTable) (blocks blocks' : List CellBlock) → levels.level_columns texts (axis_of t) ≡ Ok (blocks_value texts blocks) → map block_column blocks' ≡ map block_column blocks ++ t.columns
     → reset_columns texts t ≡ Ok (blocks_value texts blocks')
-columns_made texts t blocks blocks' made pushed =
-    ap (λ r. then_value r (λ columns. Ok (columns ++ columns_value texts t.columns))) made
-    ∙ ap (λ cs. Ok cs) (sym (ap (columns_value texts) pushed ∙ map-append (column_value texts) (map block_column blocks) t.columns))
+columns_made texts t blocks blocks' made pushed = grind (arith, map-append)
 
 pub columns_refused : (texts : List Text) (t : NumberedTable) (fault : OpFault) → MakesBy blocks_value texts (Err fault) (levels.level_columns texts (axis_of t)) → MakesBy blocks_value texts (Err fault) (reset_columns texts t)
-columns_refused texts t (Refused code) refused = (ap (λ r. then_value r (λ columns. Ok (columns ++ columns_value texts t.columns))) refused.0, refused.1)
-columns_refused texts t NoMemory refused = tt
+columns_refused texts t x refused = grind arith
 
 -- a text that gets a number
 pub interned : (old new : List Text) (words : Text) → new ≡ with_text old words → IsLonger old new
-interned old new words is = subst (IsLonger old) (sym is) (go (list_any (bytes_eq words) old))
-  where
-    go : (b : Bool) → IsLonger old (if b then old else old ++ words ∷ [])
-    go true = ([], sym (append-nil old))
-    go false = (words ∷ [], refl)
+interned old new words is = grind (arith, append-nil)
 
 got_below : {X : Type 0} (xs : List X) (i : ℕ) (x : X) → slice_get xs i ≡ Some x → i < length xs
 got_below [] i x is = cc
 got_below (y ∷ ys) zero x is = omega arith
-got_below (y ∷ ys) (suc i) x is = let later : i < length ys = got_below ys i x is in omega (arith, later)
+got_below (y ∷ ys) (suc i) x is = grind (arith, got_below ys)
 
 pub text_settled : (texts : List Text) (id : TextId) (words : Text) → slice_get texts id.0 ≡ Some words → IsSettled label_datum texts (label.Text id)
 text_settled texts id words given = label_settled_by texts (label.Text id) (cell.Text id) (λ ts. refl) (cell_settled texts (cell.Text id) (got_below texts id.0 words given))

@@ -1,10 +1,9 @@
 -- The cells of rows.
 use Rattle.{
-  std.{proofs.Common.{◌≡◌, ℕ, List, map, length, slice_index_or}, specs.List.{range_with_len}},
+  std.proofs.Common.{◌≡◌, ℕ, List, map, length, slice_index_or},
   column_core.proofs.CellRows.{map-map},
   meaning.specs.{Cell.{CellValue, na_cell}, Column.{tabulate}},
-  table_meaning.specs.Table.{Table, row_of, column_at},
-  form_meaning.specs.Select.{columns_frame},
+  table_meaning.specs.Table.{Table, column_at},
   method_meaning.specs.Rows.{cells_by_row},
 }
 
@@ -13,4 +12,4 @@ abbrev pub cells_in : Table → List ℕ → ℕ → List CellValue
 cells_in t places row = map (λ c. slice_index_or c.cells row na_cell) (map (column_at t.columns) places)
 
 pub by_rows : (t : Table) (places : List ℕ) → cells_by_row t places ≡ tabulate (length t.labels) (cells_in t places)
-by_rows t places = map-map (row_of na_cell (columns_frame t places)) (λ r. r.cells) (range_with_len 0 (length t.labels))
+by_rows t places = search map-map

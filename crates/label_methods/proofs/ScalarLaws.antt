@@ -1,10 +1,10 @@
 -- The scalars of a list from a part on.
 use Rattle.{
-  std.{proofs.{Common.{◌≡◌, ◌∙◌, ◌<◌, ◌+◌, ap, sym, ℕ, suc, List, ◌∷◌, length, drop, get_or, Option, None, arith}, Math.Seq.{drop-cons}}, specs.Option.{option_map}},
+  std.{proofs.{Common.{◌≡◌, ◌<◌, ◌+◌, ℕ, suc, List, length, drop, get_or, Option, arith}, Math.Seq.{drop-cons}}, specs.Option.{option_map}},
   cell_core.specs.declared.cell.Cell.{Cell},
   meaning.specs.{Text.{Text}, Cell.{datum}},
   table_meaning.specs.Value.{scalar_in},
-  frame_store.specs.{Objects.{Tables}, Arguments.{item_of, items_of}, declared.arguments.Item.{Item}},
+  frame_store.specs.{Objects.{Tables}, Arguments.{item_of}, declared.arguments.Item.{Item}},
   signatures.{proofs.ScalarLaws.{cells_of_more}, specs.Scalars.{scalars, with_cell}},
 }
 
@@ -16,6 +16,4 @@ pub scalars_from : (texts : List Text) (items : List Item) (i : ℕ) (item : Ite
     → scalars texts (drop i items) ≡ with_cell (option_map (datum texts) o) (scalars texts (drop (i + 1) items))
 scalars_from texts items i item o lt is scalar =
     let next : suc i ≡ i + 1 = omega arith in
-    ap (scalars texts) (drop-cons items i item lt ∙ (λ j. sym is j ∷ drop (next j) items))
-    ∙ cells_of_more (item_of (λ id. None) texts item) (items_of (λ id. None) texts (drop (i + 1) items))
-    ∙ ap (λ c. with_cell c (scalars texts (drop (i + 1) items))) (sym (scalar (λ id. None) texts))
+    grind (arith, drop-cons, cells_of_more)

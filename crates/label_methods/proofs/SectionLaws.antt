@@ -1,21 +1,20 @@
 -- Rows by their label on one level.
 use Rattle.{
-  std.{proofs.{Common.{◌≡◌, ◌∙◌, refl, ap, sym, subst, arith, ℕ, ◌<◌, ◌≤◌, true, false, List, [], ◌∷◌, ◌++◌, map, length, slice_index_or, Result, Ok, Err, if◌then◌else◌}, Math.ListN.{get_or-map}, lemmas.{Bool.Decides.{nat_tests}, List.{length-map, FromFn.{length-range_with_len}, Elements.{All-map}}}}, specs.{Prelude.{◌≢◌, nat_le, remove}, List.{range_with_len}}},
-  cell_core.specs.{Texts.{AreDistinct}, declared.{cell.{Cell.{Cell}, Label.{Label, TheVariants.{Na}}}, grid.Shape.{Shape}}},
+  std.{proofs.{Common.{◌≡◌, ◌∙◌, refl, ap, sym, arith, ℕ, true, false, List, [], ◌∷◌, ◌++◌, map, length, slice_index_or, Result, Ok, Err}, Math.ListN.{get_or-map}, lemmas.List.{length-map, FromFn.{length-range_with_len}, Elements.{All-map}}}, specs.{Prelude.{◌≢◌, remove}, List.{range_with_len}}},
+  cell_core.specs.{Texts.{AreDistinct}, declared.{cell.Label.{Label, TheVariants.{Na}}, grid.Shape.{Shape}}},
   column_core.specs.Blocks.{CellBlock},
-  meaning.specs.{Cell.{LabelValue, na, label_datum}, Fault.{FaultValue, bad_value, levels, no_key, limit, then_value}, Text.{Text}},
-  index_core.specs.Labels.{same_number},
+  meaning.specs.{Cell.{LabelValue, na, label_datum}, Fault.{FaultValue, no_key, limit, then_value}, Text.{Text}},
   row_keys.specs.Keys.{label_in},
   multi_index.specs.Axes.{AxisValue, taken_axis, tuples_at, without_level},
   pick_meaning.{specs.{Labels.{unless_none}, Rows.{rows_where}}, proofs.RowLaws.{rows_where-map}},
-  table_meaning.specs.{Settled.{IsSettled}, Table.{ColumnOf, NumberedTable, Table, column_at, table_value, heading_value, tuple_value, column_value}, Valid.{IsWhole}, Value.{Entry, table}},
+  table_meaning.specs.{Settled.{IsSettled}, Table.{NumberedTable, Table, column_at, table_value, tuple_value}, Valid.{IsWhole}, Value.{Entry}},
   form_meaning.specs.{Binding.{same_label}, Finish.{within_limits, limited}},
   form_parts.proofs.{LabelLaws.{same_by_number}, RowLaws.{tuples_settled}},
-  select_meaning.specs.{Keys.{found_pick}, Select.{rows_taken, column_rows}},
-  method_meaning.specs.{Levels.{of_several, level_dropped}, Section.{has_label, rows_with_label, section}},
+  select_meaning.specs.{Keys.{found_pick}, Select.{rows_taken}},
+  method_meaning.specs.{Levels.{level_dropped}, Section.{has_label, rows_with_label, section}},
   frame_store.{specs.{Parts.{HeadingList, axis_of, block_column, headings_of, table_with}, Shown.{labels_value, Makes}}, proofs.Settling.{settled_by, labels_part}},
   selections.{specs.Chosen.{chosen, cells_at, columns_at}, proofs.{HeadingLaws.{label_decides}, TakenLaws.{chosen_rows}}},
-  label_methods.{specs.Section.{has_number, section_of}, proofs.{LevelMoveLaws.{dropped_seen}, ReindexLaws.{limited_beyond}, TableLaws.{limited_within}}},
+  label_methods.{specs.Section.{has_number, section_of}, proofs.{LevelMoveLaws.{dropped_seen}, ReindexLaws.{limited_beyond}}},
 }
 
 module _ (texts : List Text) where
@@ -26,12 +25,12 @@ module _ (texts : List Text) where
 module _ (texts : List Text) (distinct : AreDistinct texts) (l : Label) (given : IsSettled label_datum texts l) (level : ℕ) where
   label_given : (tuple : List Label) → IsSettled tuple_value texts tuple → IsSettled label_datum texts (label_in level tuple)
   label_given tuple settled = λ more.
-      sym (label_there (texts ++ more) tuple level) ∙ ap (λ (t : List LabelValue). slice_index_or t level na) (settled more) ∙ label_there texts tuple level
+      sym (label_there (texts ++ more) tuple level) ∙ ap (λ t. slice_index_or t level na) (settled more) ∙ label_there texts tuple level
 
   has_seen : (tuple : List Label) → IsSettled tuple_value texts tuple → has_label level (label_datum texts l) (tuple_value texts tuple) ≡ has_number level l tuple
   has_seen tuple settled =
       ap (same_label (label_datum texts l)) (label_there texts tuple level)
-      ∙ sym (same_by_number texts l (label_in level tuple) (same_number l (label_in level tuple)) distinct given (label_given tuple settled) (label_decides l (label_in level tuple)))
+      ∙ sym (search (same_by_number, label_given, label_decides))
 
   -- the rows that have a label are those that have its number
   pub rows_by_number : (tuples : List (List Label)) → IsSettled labels_value texts tuples → rows_where (has_label level (label_datum texts l)) 0 (labels_value texts tuples) ≡ rows_where (has_number level l) 0 tuples
@@ -42,55 +41,33 @@ module _ (texts : List Text) (distinct : AreDistinct texts) (l : Label) (given :
 section_seen : (texts : List Text) (t : NumberedTable) (rows : List ℕ) (level : ℕ) → table_value texts (section_of t rows level) ≡ level_dropped (rows_taken (table_value texts t) rows) level
 section_seen texts t rows level =
     let all = range_with_len 0 (length t.columns) in
-    dropped_seen texts (chosen t.shape (headings_of t) rows all t) (without_level (taken_axis (axis_of t) rows) level) level refl
-    ∙ ap (λ (v : Table). level_dropped v level) (chosen_rows texts (headings_of t) rows all t refl refl)
-
-section_settled : (texts : List Text) (t : NumberedTable) (rows : List ℕ) (level : ℕ) → IsSettled table_value texts t → IsSettled table_value texts (section_of t rows level)
-section_settled texts t rows level settled =
-    settled_by table_value table_value (λ v. level_dropped (rows_taken v rows) level) texts t (section_of t rows level) (λ ts. sym (section_seen ts t rows level)) settled
+    cc (dropped_seen texts (chosen t.shape (headings_of t) rows all t) (without_level (taken_axis (axis_of t) rows) level) level refl, chosen_rows texts (headings_of t) rows all t refl refl)
 
 pub section_made : (t : NumberedTable) (rows columns : List ℕ) (level count : ℕ) (shape : Shape) (own taken axis : AxisValue) (headings : HeadingList) (blocks : List CellBlock) → shape ≡ t.shape → own ≡ axis_of t → taken ≡ taken_axis own rows → axis ≡ without_level taken level
     → headings ≡ headings_of t → columns ≡ range_with_len 0 count → count ≡ length t.columns → map block_column blocks ≡ columns_at rows columns t → table_with shape axis headings (map block_column blocks) ≡ section_of t rows level
-section_made t rows columns level count shape own taken axis headings blocks shaped at took under headed all same made =
-    let places : columns ≡ range_with_len 0 (length t.columns) = all ∙ ap (range_with_len 0) same in
-    let left : axis ≡ without_level (taken_axis (axis_of t) rows) level = under ∙ ap (λ (a : AxisValue). without_level a level) (took ∙ ap (λ (a : AxisValue). taken_axis a rows) at) in
-    λ j. table_with (shaped j) (left j) (headed j) ((made ∙ ap (λ (l : List ℕ). columns_at rows l t) places) j)
+section_made t rows columns level count shape own taken axis headings blocks shaped at took under headed all same made = search
 
 pub section_whole : (t : NumberedTable) (rows : List ℕ) (level : ℕ) → IsWhole t → IsWhole (section_of t rows level)
 section_whole t rows level whole =
     let all = range_with_len 0 (length t.columns) in
     let tuples = tuples_at t.labels rows in
-    let count : length (map (λ (tuple : List Label). remove tuple level) tuples) ≡ length rows = length-map tuples _ ∙ length-map rows _ in
+    let count : length (map (λ tuple. remove tuple level) tuples) ≡ length rows = search length-map in
     record {
-      headed = whole.headed ∙ sym (length-map all _ ∙ length-range_with_len 0 (length t.columns));
-      filled = All-map (λ (c : ColumnOf Cell). length c.cells ≡ length (map (λ (tuple : List Label). remove tuple level) tuples)) (λ place. cells_at rows (column_at t.columns place)) all (λ k d lt. length-map rows _ ∙ sym count);
+      headed = search (length-map, length-range_with_len);
+      filled = All-map (λ c. length c.cells ≡ length (map (λ tuple. remove tuple level) tuples)) (λ place. cells_at rows (column_at t.columns place)) all (λ k d lt. length-map rows _ ∙ sym count);
       headings = whole.headings;
     }
 
 -- another level stays, or none does
 levels_counted : (texts : List Text) (t : NumberedTable) → length (table_value texts t).level_names ≡ length t.level_names
-levels_counted texts t = length-map t.level_names (heading_value texts)
-
-pub one_of_several : (texts : List Text) (t : NumberedTable) (rest : Result Entry FaultValue) → 2 ≤ length t.level_names → of_several (table_value texts t) rest ≡ rest
-one_of_several texts t rest several = ap (λ b. if b then rest else Err (bad_value levels)) (yes (length (table_value texts t).level_names) (subst (λ n. 2 ≤ n) (sym (levels_counted texts t)) several))
-  where
-    yes : (n : ℕ) → 2 ≤ n → nat_le 2 n ≡ true
-    yes n h = grind (arith, nat_tests)
-
-pub only_one : (texts : List Text) (t : NumberedTable) (rest : Result Entry FaultValue) → length t.level_names < 2 → of_several (table_value texts t) rest ≡ Err (bad_value levels)
-only_one texts t rest one = ap (λ b. if b then rest else Err (bad_value levels)) (no (length (table_value texts t).level_names) (subst (λ n. n < 2) (sym (levels_counted texts t)) one))
-  where
-    no : (n : ℕ) → n < 2 → nat_le 2 n ≡ false
-    no n h = grind (arith, nat_tests)
+levels_counted texts t = search length-map
 
 -- what is meant, by the rows that are found
 some_there : (key : List LabelValue) (rows : List ℕ) → length rows ≢ 0 → found_pick (unless_none key rows) ≡ Ok rows
-some_there key [] some = absurd (some refl)
-some_there key (row ∷ rows) some = refl
+some_there key x some = grind arith
 
 none_there : (key : List LabelValue) (rows : List ℕ) → length rows ≡ 0 → found_pick (unless_none key rows) ≡ Err (no_key key)
-none_there key [] none = refl
-none_there key (row ∷ rows) none = absurd (omega (arith, none))
+none_there key x none = grind arith
 
 module _ (texts : List Text) (distinct : AreDistinct texts) (t : NumberedTable) (l : Label) (level : ℕ) (rows : List ℕ) (given : IsSettled label_datum texts l) (settled : IsSettled table_value texts t) (is : rows ≡ rows_where (has_number level l) 0 t.labels) where
   abbrev V : Table
@@ -100,28 +77,25 @@ module _ (texts : List Text) (distinct : AreDistinct texts) (t : NumberedTable) 
   key = label_datum texts l
 
   found : rows_with_label V key level ≡ found_pick (unless_none (key ∷ []) rows)
-  found = ap (λ (r : List ℕ). found_pick (unless_none (key ∷ []) r)) (rows_by_number texts distinct l given level t.labels (labels_part texts t settled) ∙ sym is)
+  found = grind (arith, rows_by_number, labels_part)
 
   abbrev go : Result (List ℕ) FaultValue → Result Entry FaultValue
   go r = then_value r (λ rows. limited (level_dropped (rows_taken V rows) level))
 
   pub section_missing : length rows ≡ 0 → section V key level ≡ Err (no_key (key ∷ []))
-  section_missing none = ap go (found ∙ none_there (key ∷ []) rows none)
+  section_missing none = search (found, none_there)
 
   meant : length rows ≢ 0 → section V key level ≡ limited (level_dropped (rows_taken V rows) level)
-  meant some = ap go (found ∙ some_there (key ∷ []) rows some)
+  meant some = search (found, some_there)
 
   tall : length (level_dropped (rows_taken V rows) level).labels ≡ length rows
-  tall = length-map (rows_taken V rows).labels _ ∙ length-map rows _
+  tall = search length-map
 
   broad : length (rows_taken V rows).columns ≡ length t.columns
-  broad = length-map V.columns (column_rows rows) ∙ length-map t.columns (column_value texts)
+  broad = search length-map
 
   pub section_beyond : length rows ≢ 0 → within_limits (length rows) (length t.columns) ≡ false → section V key level ≡ Err limit
-  section_beyond some beyond = meant some ∙ limited_beyond (level_dropped (rows_taken V rows) level) (length rows) (length t.columns) tall broad beyond
+  section_beyond some beyond = grind (arith, meant, limited_beyond, tall, broad)
 
   pub section_answer : (made : NumberedTable) → length rows ≢ 0 → within_limits (length rows) (length t.columns) ≡ true → made ≡ section_of t rows level → Makes texts (Ok made) (section V key level)
-  section_answer made some within same = (
-    meant some ∙ limited_within (level_dropped (rows_taken V rows) level) (length rows) (length t.columns) tall broad within ∙ ap (λ v. Ok (table v)) (sym (section_seen texts t rows level) ∙ ap (table_value texts) (sym same)),
-    subst (IsSettled table_value texts) (sym same) (section_settled texts t rows level settled),
-  )
+  section_answer made some within same = grind (arith, meant, tall, broad, section_seen, settled_by)

@@ -1,6 +1,6 @@
 -- Tables within the limits.
 use Rattle.{
-  std.proofs.Common.{◌≡◌, ◌∙◌, ap, Bool, true, length, Result, Ok, Err, if◌then◌else◌},
+  std.proofs.Common.{◌≡◌, Bool, true, length, Result, Ok, Err, if◌then◌else◌},
   meaning.specs.Fault.{FaultValue, limit, then_value},
   table_meaning.specs.{Table.{Table}, Value.{Entry, table}},
   form_meaning.specs.Finish.{within_limits, limited},
@@ -11,4 +11,4 @@ unless_beyond t within = then_value (if within then Ok t else Err limit) (λ t. 
 
 -- a table within the limits
 pub limited_within : (t : Table) (rows columns : Rattle.std.specs.Prelude.ℕ) → length t.labels ≡ rows → length t.columns ≡ columns → within_limits rows columns ≡ true → limited t ≡ Ok (table t)
-limited_within t rows columns r c within = ap (unless_beyond t) ((λ j. within_limits (r j) (c j)) ∙ within)
+limited_within t rows columns r c within = search

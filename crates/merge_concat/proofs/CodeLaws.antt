@@ -1,39 +1,37 @@
 -- Rows meet by their keys as they meet by the numbers of the keys.
 use Rattle.{
-  std.{proofs.{Common.{◌≡◌, ◌∙◌, ◌<◌, ◌+◌, ◌==◌, ◌++◌, ap, refl, sym, arith, ℕ, zero, suc, Bool, true, false, not, cond, List, [], ◌∷◌, map, filter, length, All, slice_index_or, slice_index, take, set, min, length-append, nat_eq, nat_lt, Option, Some, inl, inr}, lemmas.{Bool.{false≢true, eqb-true, eqb-false, cases_lt, lt-ltb, le-ltb}, List.{map-append, length-set, get_or-set_same, get_or-set_other, FromFn.{fill_by_all, length-map-range_with_len, get_or-map-range_with_len}, Elements.{All-head, All-tail}}, Simd.{map-map}}}, specs.{Prelude.{option_map}, List.{list_any, position_or_len, flat_map, range_with_len}, Cmp.{IsEquivalence}}},
-  align_meaning.specs.{Joins.{Entry, or_gap, entry, entries_with, entries_of}, Targets.{first_where, first_repeated}},
+  std.{proofs.{Common.{◌≡◌, ◌∙◌, ◌<◌, ◌+◌, ◌==◌, ◌++◌, ap, refl, sym, arith, ℕ, zero, suc, Bool, true, false, not, cond, List, [], ◌∷◌, map, filter, length, All, slice_index_or, slice_index, take, set, min, length-append, nat_eq, nat_lt, Option}, lemmas.{Bool.{false≢true, eqb-true, eqb-false, cases_lt, lt-ltb, le-ltb}, List.{map-append, length-set, get_or-set_same, get_or-set_other, FromFn.{fill_by_all, length-map-range_with_len, get_or-map-range_with_len}, Elements.{All-head, All-tail}}, Simd.{map-map}}}, specs.{Prelude.{option_map}, List.{list_any, position_or_len, flat_map, range_with_len}, Cmp.{IsEquivalence}}},
+  align_meaning.specs.{Joins.{Entry, entries_with, entries_of}, Targets.{first_where, first_repeated}},
   pick_meaning.{specs.Rows.{rows_where}, proofs.RowLaws.{rows_where-map}},
-  join_meaning.specs.Pairs.{pair, partners, pairs_from, pair_of_entry},
+  join_meaning.specs.Pairs.{pairs_from, pair_of_entry},
   row_keys.{specs.{Keys.{place_among}, Buckets.{rows_of_code, buckets_of}}, proofs.{KeyLaws.{place_tells}, FillLaws.{rows_more}}},
   label_align.proofs.OrderLaws.{below_range},
-  merge_concat.specs.Codes.{pairs_with, pairs_of, pairs_at, outer_pairs, repeated_from, AreCounts},
+  merge_concat.specs.Codes.{pairs_with, pairs_at, outer_pairs, repeated_from, AreCounts},
 }
 
 -- a list in which one element passes
 module _ {X : Type 0} (p : X → Bool) where
   none_passes : (xs : List X) (g : ℕ) (d : X) → filter p xs ≡ [] → g < length xs → p (slice_index_or xs g d) ≡ true → ⊥
   none_passes [] g d h lt e = omega (arith, lt)
-  none_passes (y ∷ ys) zero d h lt e = elim (p y) as (λ b. b ≡ true → cond b (y ∷ filter p ys) (filter p ys) ≡ [] → ⊥) [ true ↦ λ t n. cc | false ↦ λ t n. false≢true t ] e h
+  none_passes (y ∷ ys) zero d h lt e = grind (arith, false≢true)
   none_passes (y ∷ ys) (suc g) d h lt e = elim (p y) as (λ b. cond b (y ∷ filter p ys) (filter p ys) ≡ [] → ⊥) [ true ↦ λ n. cc | false ↦ λ n. none_passes ys g d n (omega (arith, lt)) e ] h
 
   tail_empty : (y x : X) (ys : List X) → y ∷ ys ≡ x ∷ [] → ys ≡ []
   tail_empty y x ys e = cc
 
   pub only_place : (xs : List X) (x : X) (g : ℕ) (d : X) → filter p xs ≡ x ∷ [] → g < length xs → p (slice_index_or xs g d) ≡ true → position_or_len p xs ≡ g
-  only_place [] x g d h lt e = absurd (omega (arith, lt))
-  only_place (y ∷ ys) x zero d h lt e = ap (λ b. cond (not b) (1 + position_or_len p ys) 0) e
+  only_place [] x g d h lt e = search
+  only_place (y ∷ ys) x zero d h lt e = cc
   only_place (y ∷ ys) x (suc g) d h lt e =
       elim (p y) as (λ b. cond b (y ∷ filter p ys) (filter p ys) ≡ x ∷ [] → cond (not b) (1 + position_or_len p ys) 0 ≡ suc g) [
-        | true ↦ λ n. absurd (none_passes ys g d (tail_empty y x (filter p ys) n) (omega (arith, lt)) e)
+        | true ↦ grind (arith, none_passes, tail_empty)
         | false ↦ λ n. let here = only_place ys x g d n (omega (arith, lt)) e in omega (arith, here)
       ] h
 
 -- the entries of a key as pairs
 pub with_seen : {K : Type 0} (key : K) (rights : List ℕ) (lefts : List (Option ℕ)) → map pair_of_entry (flat_map (entries_with key rights) lefts) ≡ flat_map (pairs_with rights) lefts
 with_seen key rights [] = refl
-with_seen key rights (l ∷ ls) =
-    map-append pair_of_entry (entries_with key rights l) (flat_map (entries_with key rights) ls)
-    ∙ (λ i. map-map pair_of_entry (entry key l) (or_gap rights) i ++ with_seen key rights ls i)
+with_seen key rights (l ∷ ls) = search (map-append, map-map, with_seen key rights ls)
 
 module _ {K : Type 0} (same : K → K → Bool) (laws : IsEquivalence same) (keys : List K) where
   abbrev pub rank : K → ℕ
@@ -48,7 +46,7 @@ module _ {K : Type 0} (same : K → K → Bool) (laws : IsEquivalence same) (key
   -- a row with the rows that it meets
   pub pairs_coded : (stays : Bool) (row : ℕ) (left right : List K) → All IsKnown right → pairs_from same stays row left right ≡ pairs_from nat_eq stays row (map rank left) (map rank right)
   pairs_coded stays row [] right known = refl
-  pairs_coded stays row (k ∷ ks) right known = λ i. map (pair (Some row)) (partners stays (rows_coded k right known i)) ++ pairs_coded stays (row + 1) ks right known i
+  pairs_coded stays row (k ∷ ks) right known = search (rows_coded, pairs_coded stays (row + 1) ks right known)
 
   -- the first key that stands twice
   module _ (rows : List K) (known : All IsKnown rows) (d : K) where
@@ -60,16 +58,10 @@ module _ {K : Type 0} (same : K → K → Bool) (laws : IsEquivalence same) (key
     repeats row [] at = refl
     repeats row (x ∷ xs) at =
         let start : row ≡ row + 0 = omega arith in
-        let here : x ≡ slice_index_or rows row d = sym (ap (λ n. slice_index_or rows n d) start ∙ at 0) in
-        ap (λ l. cond (nat_lt 1 (length l)) (Some x) (first_where twice xs)) (rows_coded x rows known)
-        ∙ (elim (nat_lt 1 (length (rows_of_code (rank x) (map rank rows)))) as (λ b. cond b (Some x) (first_where twice xs)
-        ≡ option_map (λ r. slice_index_or rows r d) (cond b (Some row) (repeated_from (map rank rows) (row + 1) (map rank xs)))) [
-          | true ↦ ap Some here
-          | false ↦ repeats (row + 1) xs (λ j. let next : row + 1 + j ≡ row + suc j = omega arith in ap (λ n. slice_index_or rows n d) next ∙ at (suc j))
-        ])
+        grind (arith, rows_coded, repeats (row + 1) xs (λ j. let next : row + 1 + j ≡ row + suc j = omega arith in ap (λ n. slice_index_or rows n d) next ∙ at (suc j)))
 
     pub repeated_coded : first_repeated same rows ≡ option_map (λ r. slice_index_or rows r d) (repeated_from (map rank rows) 0 (map rank rows))
-    repeated_coded = repeats 0 rows (λ j. let same' : 0 + j ≡ j = omega arith in ap (λ n. slice_index_or rows n d) same')
+    repeated_coded = grind (arith, repeats)
 
   -- key after key, where no two keys are the same
   module _ (d : K) (apart : (g : ℕ) → g < length keys → rank (slice_index_or keys g d) ≡ g) (left right : List K) (left_known : All IsKnown left) (right_known : All IsKnown right) where
@@ -80,12 +72,10 @@ module _ {K : Type 0} (same : K → K → Bool) (laws : IsEquivalence same) (key
     part key = entries_of key (rows_where (same key) 0 left) (rows_where (same key) 0 right)
 
     rows_here : (n : ℕ) (xs : List K) → n < length keys → All IsKnown xs → rows_where (same (key_at n)) 0 xs ≡ rows_of_code n (map rank xs)
-    rows_here n xs lt known = rows_coded (key_at n) xs known ∙ ap (λ m. rows_of_code m (map rank xs)) (apart n lt)
+    rows_here n xs lt known = cc (rows_coded (key_at n) xs known, apart n lt)
 
     here : (n : ℕ) → n < length keys → map pair_of_entry (part (key_at n)) ≡ pairs_at (map rank left) (map rank right) n
-    here n lt =
-        with_seen (key_at n) (rows_where (same (key_at n)) 0 right) (or_gap (rows_where (same (key_at n)) 0 left))
-        ∙ (λ i. pairs_of (rows_here n left lt left_known i) (rows_here n right lt right_known i))
+    here n lt = search (with_seen, rows_here)
 
     outer_on : (ns : List ℕ) → All (λ n. n < length keys) ns → map pair_of_entry (flat_map part (map key_at ns)) ≡ flat_map (pairs_at (map rank left) (map rank right)) ns
     outer_on [] all = refl
@@ -94,9 +84,7 @@ module _ {K : Type 0} (same : K → K → Bool) (laws : IsEquivalence same) (key
         ∙ (λ i. here n (All-head (λ m. m < length keys) n ns all) i ++ outer_on ns (All-tail (λ m. m < length keys) n ns all) i)
 
     pub outer_coded : map pair_of_entry (flat_map part keys) ≡ outer_pairs (length keys) (map rank left) (map rank right)
-    outer_coded =
-        ap (λ ks. map pair_of_entry (flat_map part ks)) (fill_by_all key_at keys (length keys) d refl (λ k lt. refl))
-        ∙ outer_on (range_with_len 0 (length keys)) (below_range (length keys))
+    outer_coded = cc (fill_by_all key_at keys (length keys) d refl (λ k lt. refl), outer_on (range_with_len 0 (length keys)) (below_range (length keys)))
 
 -- the rows of a number
 module _ (count code : ℕ) (codes : List ℕ) (rows : List (List ℕ)) (made : rows ≡ buckets_of count codes) (lt : code < count) where
@@ -104,33 +92,22 @@ module _ (count code : ℕ) (codes : List ℕ) (rows : List (List ℕ)) (made : 
   bucket_there = omega (arith, ap length made, length-map-range_with_len (λ c. rows_of_code c codes) 0 count, lt)
 
   pub bucket_is : slice_index_or rows code [] ≡ rows_of_code code codes
-  bucket_is = ap (λ (l : List (List ℕ)). slice_index_or l code []) made ∙ get_or-map-range_with_len (λ c. rows_of_code c codes) 0 count code code [] lt (omega arith)
+  bucket_is = grind (arith, get_or-map-range_with_len)
 
 -- one row more is counted, as far as a byte counts
 pub counts_more : (codes counts : List ℕ) (count i code n : ℕ) → i < length codes → code ≡ slice_index codes i → code < count → n ≡ min (slice_index counts code + 1) 255
     → AreCounts (take i codes) count counts → AreCounts (take (i + 1) codes) count (set counts code n)
 counts_more codes counts count i code n lt at below is so_far = (
-  length-set counts code n ∙ so_far.0,
+  search length-set,
   λ c inside.
       let more = rows_more c codes i code lt (sym at) in
-      let long : length (rows_of_code c (take i codes) ++ cond (c == code) (i ∷ []) []) ≡ length (rows_of_code c (take i codes)) + length (cond (c == code) (i ∷ []) []) = length-append (rows_of_code c (take i codes)) (cond (c == code) (i ∷ []) []) in
+      let long : length (rows_of_code c (take i codes) ++ cond (c == code) (i ∷ []) []) ≡ length (rows_of_code c (take i codes)) + length (cond (c == code) (i ∷ []) []) = search length-append in
       let were = so_far.1 c inside in
       elim (c == code) as (λ b. (c == code) ≡ b → slice_index (set counts code n) c ≡ min (length (rows_of_code c (take (i + 1) codes))) 255) [
-        | true ↦ λ e.
-            let same : c ≡ code = eqb-true c code e in
-            let one : length (cond (c == code) (i ∷ []) []) ≡ 1 = ap (λ b. length (cond b (i ∷ []) [])) e in
-            let here : slice_index (set counts code n) c ≡ n = ap (slice_index (set counts code n)) same ∙ get_or-set_same counts code n 0 (omega (arith, below, so_far.0)) in
-            let was : slice_index counts code ≡ slice_index counts c = ap (slice_index counts) (sym same) in
-            omega (arith, here, is, was, were, long, one, ap length more)
-        | false ↦ λ e.
-            let none : length (cond (c == code) (i ∷ []) []) ≡ 0 = ap (λ b. length (cond b (i ∷ []) [])) e in
-            let here : slice_index (set counts code n) c ≡ slice_index counts c = get_or-set_other counts code c n 0 (eqb-false c code e) in
-            omega (arith, here, were, long, none, ap length more)
+        | true ↦ grind (arith, eqb-true, slice_index, get_or-set_same)
+        | false ↦ grind (arith, slice_index, get_or-set_other, eqb-false)
       ] refl,
 )
 
 pub told_twice : (counted n : ℕ) → counted ≡ min n 255 → nat_lt 1 counted ≡ nat_lt 1 n
-told_twice counted n is = elim (cases_lt 1 n) as (λ w. nat_lt 1 counted ≡ nat_lt 1 n) [
-  | inl lt ↦ lt-ltb 1 counted (omega (arith, is, lt)) ∙ sym (lt-ltb 1 n lt)
-  | inr le ↦ le-ltb 1 counted (omega (arith, is, le)) ∙ sym (le-ltb 1 n le)
-]
+told_twice counted n is = grind (arith, cases_lt, lt-ltb, le-ltb)

@@ -1,6 +1,6 @@
 -- Axes that all have the labels of the first.
 use Rattle.{
-  std.{proofs.{Common.{◌≡◌, ◌∙◌, ◌-◌, ◌≤◌, Bool, List, [], ◌∷◌, length, take, drop, slice_index_or, ap, sym, arith}, lemmas.{Bool.Decides.{same_from_decides}, List.{take_rest, Folds.{list_all-map}}}}, specs.{Borrow.{Bor}, Bool.{Decides}, Cmp.Lexicographic.{pointwise}, List.{list_all}}},
+  std.{proofs.{Common.{◌≡◌, ◌-◌, ◌≤◌, Bool, List, [], ◌∷◌, length, take, drop, slice_index_or, arith}, lemmas.{Bool.Decides.{same_from_decides}, List.{take_rest, Folds.{list_all-map}}}}, specs.{Borrow.{Bor}, Bool.{Decides}, Cmp.Lexicographic.{pointwise}, List.{list_all}}},
   cell_core.specs.declared.cell.Label.{Label},
   join_meaning.specs.Concat.{are_equal},
   multi_index.specs.Axes.{AxisValue},
@@ -14,13 +14,9 @@ abbrev pub has_labels_of : Bor AxisValue → Bor AxisValue → Bool
 has_labels_of first other = pointwise same_tuple first.now.tuples other.now.tuples
 
 pub labels_told : (a b : List (List Label)) (told : Bool) → Decides told (a ≡ b) → pointwise same_tuple a b ≡ told
-labels_told a b told is = same_from_decides (pointwise same_tuple a b) told (tuples_decide a b) is
+labels_told a b told is = search (same_from_decides, tuples_decide)
 
 pub equal_told : (axes : List (Bor AxisValue)) (first : Bor AxisValue) (told : Bool) → 1 ≤ length axes → first ≡ slice_index_or axes 0 first → list_all (has_labels_of first) (take (length axes - 1) (drop 1 axes)) ≡ told
     → are_equal same_tuple (tuples_of_each axes) ≡ told
-equal_told [] first told some is all = absurd (omega arith)
-equal_told (axis ∷ axes) first told some is all =
-    list_all-map (pointwise same_tuple axis.now.tuples) (λ (a : Bor AxisValue). a.now.tuples) axes
-    ∙ ap (λ (a : Bor AxisValue). list_all (has_labels_of a) axes) (sym is)
-    ∙ ap (list_all (has_labels_of first)) (sym (take_rest (axis ∷ axes) 1))
-    ∙ all
+equal_told [] first told some is all = search
+equal_told (axis ∷ axes) first told some is all = grind (arith, list_all-map (pointwise same_tuple axis.now.tuples) (λ a. a.now.tuples) axes, take_rest (axis ∷ axes) 1)

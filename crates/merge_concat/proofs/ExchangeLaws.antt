@@ -2,7 +2,7 @@
 use Rattle.{
   std.{proofs.{Common.{◌≡◌, ◌∙◌, ◌<◌, ◌≤◌, ◌&&◌, ap, refl, sym, subst, arith, ℕ, Bool, true, false, not, cond, List, [], ◌∷◌, map, filter, length, All, slice_index_or, Option, Some, None, inl, inr}, lemmas.{Bool.{false≢true, eqb-true, cases_lt}, List.Elements.{All-head, All-tail, All-map}}}, specs.List.{list_any}},
   column_core.specs.Moves.{IsPlaceOf},
-  join_meaning.specs.{declared.How.{How, TheVariants.{Inner, Left, Right, Outer}}, Pairs.{Pair, pair, exchanged}},
+  join_meaning.specs.{declared.How.{How}, Pairs.{Pair, pair, exchanged}},
   cell_core.specs.declared.cell.Label.{Label},
   row_keys.{specs.Keys.{same_tuple}, proofs.PartnerLaws.{tuple_laws}},
   merge_concat.{specs.{declared.pairs.Pairs.{Pairs}, Joining.{keeps_left, keeps_right, same_row, same_pair, how_often, once_if, turned, AreAlike, IsJoin, IsJoinOf, JoinsAreAlike, SidesExchange, ExchangeChangesOrder}}, proofs.OftenLaws.{often_exchanged}},
@@ -10,16 +10,10 @@ use Rattle.{
 
 -- a row of the one side that stays is one of the other
 keeps_turned : (how : How) → keeps_right how ≡ keeps_left (turned how)
-keeps_turned Inner = refl
-keeps_turned Left = refl
-keeps_turned Right = refl
-keeps_turned Outer = refl
+keeps_turned x = grind arith
 
 turned_keeps : (how : How) → keeps_left how ≡ keeps_right (turned how)
-turned_keeps Inner = refl
-turned_keeps Left = refl
-turned_keeps Right = refl
-turned_keeps Outer = refl
+turned_keeps x = grind arith
 
 pub sides_exchange : {K : Type 0} (same : K → K → Bool) → ((a b : K) → same a b ≡ same b a) → SidesExchange same
 sides_exchange same symmetric how left right pairs join = record {
@@ -37,16 +31,10 @@ sides_exchange same symmetric how left right pairs join = record {
 
 -- what has not a property of all pairs isn't among them
 same_row_is : (a b : Option ℕ) → same_row a b ≡ true → a ≡ b
-same_row_is None None e = refl
-same_row_is None (Some j) e = absurd (false≢true e)
-same_row_is (Some i) None e = absurd (false≢true e)
-same_row_is (Some i) (Some j) e = ap Some (eqb-true i j e)
+same_row_is x x1 e = grind (arith, false≢true, eqb-true)
 
 same_pair_is : (p q : Pair) → same_pair p q ≡ true → p ≡ q
-same_pair_is p q = elim (same_row p.left q.left) as (λ b. same_row p.left q.left ≡ b → (b && same_row p.right q.right) ≡ true → p ≡ q) [
-  | true ↦ λ l r i. pair (same_row_is p.left q.left l i) (same_row_is p.right q.right r i)
-  | false ↦ λ l r. absurd (false≢true r)
-] refl
+same_pair_is p q = grind (arith, same_row_is, false≢true)
 
 never : (P : Pair → Type 0) (p : Pair) → (P p → ⊥) → (ps : List Pair) → All P ps → how_often p ps ≡ 0
 never P p none [] all = refl
@@ -56,7 +44,7 @@ never P p none (q ∷ ps) all = elim (same_pair p q) as (λ b. same_pair p q ≡
 ] refl
 
 element : {K : Type 0} (xs : List K) (i : ℕ) → i < length xs → K
-element [] i lt = absurd (omega (arith, lt))
+element [] i lt = grind arith
 element (x ∷ xs) i lt = x
 
 module _ {K : Type 0} (same : K → K → Bool) (how : How) (left right : List K) (ps qs : List Pair) (one : IsJoin same how left right ps) (other : IsJoin same how left right qs) where
@@ -65,13 +53,13 @@ module _ {K : Type 0} (same : K → K → Bool) (how : How) (left right : List K
 
   behind_left : (i : ℕ) (b : Option ℕ) → length left ≤ i → IsAlike (Some i) b
   behind_left i b le =
-      let outside : i < length left → ⊥ = λ lt. omega (arith, lt, le) in
-      never (λ p. IsPlaceOf (length left) p.left) (pair (Some i) b) outside ps one.left_rows ∙ sym (never (λ p. IsPlaceOf (length left) p.left) (pair (Some i) b) outside qs other.left_rows)
+      let outside : i < length left → ⊥ = grind arith in
+      never (λ p. IsPlaceOf (length left) p.left) (pair (Some i) b) outside ps one.left_rows ∙ sym (search never)
 
   behind_right : (a : Option ℕ) (j : ℕ) → length right ≤ j → IsAlike a (Some j)
   behind_right a j le =
-      let outside : j < length right → ⊥ = λ lt. omega (arith, lt, le) in
-      never (λ p. IsPlaceOf (length right) p.right) (pair a (Some j)) outside ps one.right_rows ∙ sym (never (λ p. IsPlaceOf (length right) p.right) (pair a (Some j)) outside qs other.right_rows)
+      let outside : j < length right → ⊥ = grind arith in
+      never (λ p. IsPlaceOf (length right) p.right) (pair a (Some j)) outside ps one.right_rows ∙ sym (search never)
 
   with_left : (i : ℕ) → i < length left → (b : Option ℕ) → IsAlike (Some i) b
   with_left i lt None = let k = element left i lt in one.left_alone i k lt ∙ sym (other.left_alone i k lt)
@@ -81,23 +69,19 @@ module _ {K : Type 0} (same : K → K → Bool) (how : How) (left right : List K
   ]
 
   alike : (a b : Option ℕ) → IsAlike a b
-  alike None None = one.no_gaps ∙ sym other.no_gaps
+  alike None None = search
   alike None (Some j) = elim (cases_lt j (length right)) as (λ w. IsAlike None (Some j)) [
     | inl lt ↦ let k = element right j lt in one.right_alone j k lt ∙ sym (other.right_alone j k lt)
     | inr le ↦ behind_right None j le
   ]
-  alike (Some i) b = elim (cases_lt i (length left)) as (λ w. IsAlike (Some i) b) [
-    | inl lt ↦ with_left i lt b
-    | inr le ↦ behind_left i b le
-  ]
+  alike (Some i) b = grind (arith, cases_lt, with_left, behind_left)
 
 pub joins_alike : {K : Type 0} (same : K → K → Bool) → JoinsAreAlike same
 joins_alike same how left right ps qs one other p = alike same how left right ps qs one other p.left p.right
 
 pub exchange_changes_order : {K : Type 0} (same : K → K → Bool) → ((a b : K) → same a b ≡ same b a) → ExchangeChangesOrder same
-exchange_changes_order same symmetric how left right ps qs one other =
-    joins_alike same (turned how) right left (map exchanged ps) qs (sides_exchange same symmetric how left right ps one) other
+exchange_changes_order same symmetric how left right ps qs one other = search (joins_alike, sides_exchange)
 
 -- what is made of the keys of two tables and of the same tables exchanged has the same pairs
 pub made_alike : (how : How) (left right : List (List Label)) (one other : Pairs) (a : IsJoinOf same_tuple how left right one) (b : IsJoinOf same_tuple (turned how) right left other) → AreAlike (map exchanged a.pairs) b.pairs
-made_alike how left right one other a b = exchange_changes_order same_tuple (λ x y. tuple_laws.symm x y) how left right a.pairs b.pairs a.join b.join
+made_alike how left right one other a b = search (exchange_changes_order, tuple_laws.symm)

@@ -1,6 +1,6 @@
 -- What is meant, by the numbers of the keys.
 use Rattle.{
-  std.{proofs.Common.{◌≡◌, ◌∙◌, ◌<◌, ◌≤◌, ◌++◌, ap, sym, arith, ℕ, Bool, true, false, cond, List, [], ◌∷◌, map, length, take, drop, All, Option, Some, None, Ok, Err, Result}, specs.Prelude.{option_map, IfOk}},
+  std.{proofs.Common.{◌≡◌, ◌∙◌, ◌<◌, ◌≤◌, ◌++◌, sym, arith, ℕ, Bool, cond, List, [], ◌∷◌, map, length, take, drop, All, Option, Some, None, Ok, Err, Result}, specs.Prelude.{option_map, IfOk}},
   cell_core.specs.declared.cell.Label.{Label, TheVariants.{Na}},
   meaning.specs.{Fault.{Side}, Text.{Text}},
   multi_index.specs.Axes.{HaveLevels},
@@ -28,29 +28,28 @@ module _ (texts : List Text) (how : How) (once : Validate) (left right : List (L
   repeated s key = record { side = s; key = key }
 
   on_side : (s : Side) (b : Bool) (rows : List (List Label)) (found : Option (List Label)) → found ≡ cond b (first_repeated same_tuple rows) None → repeated_on s same_tuple b rows ≡ option_map (repeated s) found
-  on_side s true rows found e = ap (option_map (repeated s)) (sym e)
-  on_side s false rows found e = ap (option_map (repeated s)) (sym e)
+  on_side s x rows found e = grind arith
 
   -- the numbers of the keys, cut behind those of the left side
   module _ (b : Bool) (is : b ≡ sorted) (count : ℕ) (counted : count ≡ length (keys_of texts b left right)) (codes : List ℕ) (coded : codes ≡ map (rank texts b left right) (left ++ right))
       (n : ℕ) (size : n ≡ length left) (of_left of_right : List ℕ) (front : of_left ≡ take n codes) (back : of_right ≡ drop n codes) where
     keys_counted : count ≡ length (keys_of texts sorted left right)
-    keys_counted = counted ∙ ap (λ s. length (keys_of texts s left right)) is
+    keys_counted = search
 
     numbered : codes ≡ map number (left ++ right)
-    numbered = coded ∙ ap (λ s. map (rank texts s left right) (left ++ right)) is
+    numbered = search rank
 
     left_is : of_left ≡ map number left
-    left_is = known.left_is texts sorted left right codes of_left n numbered size front
+    left_is = search (known.left_is, numbered)
 
     right_is : of_right ≡ map number right
-    right_is = known.right_is texts sorted left right codes of_right n numbered size back
+    right_is = search (known.right_is, numbered)
 
     pub left_below : All (λ c. c < count) of_left
-    left_below = below texts sorted left right of_left count left (left_known texts sorted left right) left_is keys_counted
+    left_below = search (below, left_known, left_is, keys_counted)
 
     pub right_below : All (λ c. c < count) of_right
-    right_below = below texts sorted left right of_right count right (right_known texts sorted left right) right_is keys_counted
+    right_below = search (below, right_known, right_is, keys_counted)
 
     abbrev pub found_left : Option (List Label)
     found_left = repeated_in once.left left of_left
@@ -60,23 +59,21 @@ module _ (texts : List Text) (how : How) (once : Validate) (left right : List (L
 
     meant_is : meant ≡ unless_repeated (or_else (option_map (repeated side.left) found_left) (option_map (repeated side.right) found_right)) (within_limit (key_pairs same_tuple (tuple_less texts) how left right))
     meant_is = λ i. unless_repeated
-        (or_else (on_side side.left once.left left found_left (repeats_are texts sorted left right once.left left of_left (left_known texts sorted left right) left_is) i)
-        (on_side side.right once.right right found_right (repeats_are texts sorted left right once.right right of_right (right_known texts sorted left right) right_is) i))
+        (or_else (on_side side.left once.left left found_left (search (repeats_are, left_known, left_is)) i)
+        (on_side side.right once.right right found_right (search (repeats_are, right_known, right_is)) i))
         (within_limit (key_pairs same_tuple (tuple_less texts) how left right))
 
     abbrev with : Option (List Label) → Option (List Label) → Result (List Pair) (JoinRefusal (List Label))
     with l r = unless_repeated (or_else (option_map (repeated side.left) l) (option_map (repeated side.right) r)) (within_limit (key_pairs same_tuple (tuple_less texts) how left right))
 
     pub refused_left : (key : List Label) → found_left ≡ Some key → meant ≡ Err (not_one_to_one (repeated side.left key))
-    refused_left key e = meant_is ∙ ap (λ l. with l found_right) e
+    refused_left key e = cc meant_is
 
     pub refused_right : (key : List Label) → found_left ≡ None → found_right ≡ Some key → meant ≡ Err (not_one_to_one (repeated side.right key))
-    refused_right key none e = meant_is ∙ (λ i. with (none i) (e i))
+    refused_right key none e = search meant_is
 
     pub allowed : found_left ≡ None → found_right ≡ None → meant ≡ within_limit (code_pairs how count of_left of_right)
-    allowed l r =
-        meant_is ∙ (λ i. with (l i) (r i)) ∙ ap within_limit (pairs_are texts how left right)
-        ∙ sym (λ i. within_limit (code_pairs how (keys_counted i) (left_is i) (right_is i)))
+    allowed l r = grind (arith, meant_is, pairs_are, keys_counted, left_is, right_is)
 
 -- keys of both sides have four labels at most
 module _ (left right : List (List Label)) (alike : HaveLevels (levels_of (left ++ right)) (left ++ right)) where
@@ -95,9 +92,5 @@ module _ (left right : List (List Label)) (alike : HaveLevels (levels_of (left +
 -- what is answered is a join
 pub law_of : (texts : List Text) (how : How) (once : Validate) (left right : List (List Label)) (result : Result Pairs MergeFault)
     → JoinsBy result (joined same_tuple (tuple_less texts) how once left right) → IfOk result (IsJoinOf same_tuple how left right)
-law_of texts how once left right (Ok made) answer = record {
-  pairs = answer.pairs;
-  seen = answer.seen;
-  join = answer_is_join same_tuple (tuple_less texts) tuple_laws tuple_decides (tuple_weak texts) left right how once answer.pairs answer.are;
-}
+law_of texts how once left right (Ok made) answer = search (answer_is_join, tuple_laws, tuple_decides, tuple_weak)
 law_of texts how once left right (Err fault) answer = tt

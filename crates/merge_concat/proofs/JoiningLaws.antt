@@ -1,11 +1,11 @@
 -- What is meant by a join is one.
 use Rattle.{
-  std.{proofs.{Common.{◌≡◌, ◌∙◌, ◌<◌, ◌+◌, ◌*◌, ◌&&◌, ◌||◌, ◌++◌, ap, refl, sym, subst, arith, ℕ, Bool, true, false, not, cond, List, [], ◌∷◌, map, filter, length, slice_index_or, Option, Some, None, Result, Ok, Err, nat_lt, All}, lemmas.{Bool.{false≢true}, List.{map-append, Elements.{All-nil, All-cons, All-head, All-tail, All-map}, Sums.{sum_by-cons}}}}, specs.{List.{list_any, flat_map, sum_by}, Bool.{Decides}, Cmp.{IsEquivalence, IsStrictWeakOrder}}},
+  std.{proofs.{Common.{◌≡◌, ◌∙◌, ◌<◌, ◌+◌, ◌*◌, ◌&&◌, ◌||◌, ◌++◌, ap, refl, sym, arith, ℕ, Bool, true, false, not, cond, List, [], ◌∷◌, map, filter, length, slice_index_or, Option, Some, None, Result, Ok, Err, All}, lemmas.{Bool.{false≢true}, List.{map-append, Elements.{All-cons, All-head, All-tail, All-map}, Sums.{sum_by-cons}}}}, specs.{List.{list_any, flat_map, sum_by}, Bool.{Decides}, Cmp.{IsEquivalence, IsStrictWeakOrder}}},
   column_core.specs.Moves.{IsPlaceOf},
   meaning.specs.Reduce.{distinct},
-  align_meaning.{specs.Joins.{or_gap, keys_in_order, entries_of, most_rows}, proofs.OrderLaws.{all_append, all_flat, all_in_order}},
+  align_meaning.{specs.Joins.{or_gap, keys_in_order, entries_of}, proofs.OrderLaws.{all_append, all_flat, all_in_order}},
   pick_meaning.{specs.Rows.{rows_where}, proofs.InsideLaws.{rows_inside}},
-  join_meaning.specs.{declared.{How.{How, TheVariants.{Inner, Left, Right, Outer}}, Validate.{Validate}}, Pairs.{Pair, pair, exchanged, partners, pairs_from, key_pairs, pair_of_entry, RepeatedKey, JoinRefusal, repeated_key, unless_repeated, within_limit, too_large, joined}},
+  join_meaning.specs.{declared.{How.{How, TheVariants.{Inner, Left, Right, Outer}}, Validate.{Validate}}, Pairs.{Pair, pair, exchanged, partners, pairs_from, key_pairs, pair_of_entry, RepeatedKey, JoinRefusal, repeated_key, unless_repeated, within_limit, joined}},
   row_keys.proofs.{KeyLaws.{any_at}, RecodeLaws.{All-distinct}},
   label_align.proofs.OuterJoinLaws.{in_order_keeps, once},
   merge_concat.{specs.{Codes.{pairs_with, pairs_of}, Joining.{how_often, once_if, IsJoin}}, proofs.{CodeLaws.{with_seen}, OftenLaws.{row_often, or_gap_there, gap_there, partner_there, partner_gap, never, met_there, often_exchanged, often_product, often_parts}}},
@@ -15,22 +15,21 @@ abbrev AreInside : ℕ → ℕ → Pair → Type 0
 AreInside n m p = IsPlaceOf n p.left × IsPlaceOf m p.right
 
 gaps_inside : (n : ℕ) (rows : List ℕ) → All (λ row. row < n) rows → All (IsPlaceOf n) (or_gap rows)
-gaps_inside n [] inside = All-cons (IsPlaceOf n) None [] tt (All-nil (IsPlaceOf n))
+gaps_inside n [] inside = grind arith
 gaps_inside n (r ∷ rows) inside =
     All-cons (IsPlaceOf n) (Some r) (map Some rows) (All-head (λ row. row < n) r rows inside)
     (All-map (IsPlaceOf n) Some rows (All-tail (λ row. row < n) r rows inside))
 
 partners_inside : (stays : Bool) (n : ℕ) (rows : List ℕ) → All (λ row. row < n) rows → All (IsPlaceOf n) (partners stays rows)
-partners_inside true n rows inside = gaps_inside n rows inside
-partners_inside false n rows inside = All-map (IsPlaceOf n) Some rows inside
+partners_inside x n rows inside = grind (arith, gaps_inside)
 
 module _ {K : Type 0} (same : K → K → Bool) (stays : Bool) (right : List K) where
   from_inside : (n at : ℕ) (keys : List K) → at + length keys ≡ n → All (AreInside n (length right)) (pairs_from same stays at keys right)
-  from_inside n at [] size = All-nil (AreInside n (length right))
+  from_inside n at [] size = grind arith
   from_inside n at (key ∷ keys) size =
       all_append (AreInside n (length right)) (map (pair (Some at)) (partners stays (rows_where (same key) 0 right))) (pairs_from same stays (at + 1) keys right)
       (All-map (AreInside n (length right)) (pair (Some at)) (partners stays (rows_where (same key) 0 right))
-      (λ k d lt. (omega (arith, size), partners_inside stays (length right) (rows_where (same key) 0 right) (rows_inside (same key) right) k d lt)))
+      (λ k d lt. (omega (arith, size), search (partners_inside, rows_inside))))
       (from_inside n (at + 1) keys (omega (arith, size)))
 
   -- each row of a side with the rows that it meets
@@ -39,7 +38,7 @@ module _ {K : Type 0} (same : K → K → Bool) (stays : Bool) (right : List K) 
     pairs = pairs_from same stays 0 left right
 
     met : (b : Option ℕ) (i : ℕ) (d : K) → i < length left → how_often (pair (Some i) b) pairs ≡ row_often b (partners stays (rows_where (same (slice_index_or left i d)) 0 right))
-    met b i d lt = let at : i ≡ 0 + i = omega arith in ap (λ n. how_often (pair (Some n) b) pairs) at ∙ met_there same stays right b 0 i d left lt
+    met b i d lt = let at : i ≡ 0 + i = omega arith in grind (arith, met_there)
 
     pub together : (i j : ℕ) (d : K) → i < length left → j < length right → how_often (pair (Some i) (Some j)) pairs ≡ once_if (same (slice_index_or left i d) (slice_index_or right j d))
     together i j d lt inside = met (Some j) i d lt ∙ partner_there (same (slice_index_or left i d)) stays j d right inside
@@ -48,7 +47,7 @@ module _ {K : Type 0} (same : K → K → Bool) (stays : Bool) (right : List K) 
     alone i d lt = met None i d lt ∙ partner_gap (same (slice_index_or left i d)) stays right
 
     pub nothing : (b : Option ℕ) → how_often (pair None b) pairs ≡ 0
-    nothing b = never same stays right b 0 left
+    nothing b = search never
 
     pub inside : All (AreInside (length left) (length right)) pairs
     inside = from_inside (length left) 0 left (omega arith)
@@ -75,26 +74,21 @@ module _ {K : Type 0} (same less : K → K → Bool) (laws : IsEquivalence same)
     where
       sums : (f g : K → ℕ) → ((key : K) → f key ≡ g key) → (ks : List K) → sum_by f ks ≡ sum_by g ks
       sums f g e [] = refl
-      sums f g e (k ∷ ks) = sum_by-cons f k ks ∙ (λ i. e k i + sums f g e ks i) ∙ sym (sum_by-cons g k ks)
+      sums f g e (k ∷ ks) = grind (arith, sum_by-cons, sums f g e ks)
 
   abbrev IsThere : K → Type 0
   IsThere key = list_any (same key) (left ++ right) ≡ true
 
   stands_once : (key : K) → IsThere key → filter (same key) keys ≡ key ∷ []
-  stands_once key there = in_order_keeps same less decides weak key (distinct same (left ++ right)) ∙ once same less decides weak key (left ++ right) there
+  stands_once key there = grind (arith, in_order_keeps, once)
 
   -- what is counted at one key alone
   at_one : (key : K) (f g : K → ℕ) → ((k : K) → f k ≡ cond (same key k) (g k) 0) → (ks : List K) → sum_by f ks ≡ sum_by g (filter (same key) ks)
   at_one key f g e [] = refl
-  at_one key f g e (k ∷ ks) =
-      sum_by-cons f k ks ∙ ap (λ n. n + sum_by f ks) (e k)
-      ∙ (elim (same key k) as (λ b. cond b (g k) 0 + sum_by f ks ≡ sum_by g (cond b (k ∷ filter (same key) ks) (filter (same key) ks))) [
-        | true ↦ ap (λ n. g k + n) (at_one key f g e ks) ∙ sym (sum_by-cons g k (filter (same key) ks))
-        | false ↦ let rest = at_one key f g e ks in omega (arith, rest)
-      ])
+  at_one key f g e (k ∷ ks) = grind (arith, sum_by-cons, at_one key f g e ks)
 
   at_key : (key : K) (f g : K → ℕ) → IsThere key → ((k : K) → f k ≡ cond (same key k) (g k) 0) → sum_by f keys ≡ g key
-  at_key key f g there e = let one : sum_by g (key ∷ []) ≡ g key = sum_by-cons g key [] ∙ omega arith in at_one key f g e keys ∙ ap (sum_by g) (stands_once key there) ∙ one
+  at_key key f g there e = let one : sum_by g (key ∷ []) ≡ g key = sum_by-cons g key [] ∙ omega arith in cc (at_one key f g e keys, stands_once key there)
 
   turned : (a b : K) → same a b ≡ same b a
   turned a b = laws.symm a b
@@ -115,7 +109,7 @@ module _ {K : Type 0} (same less : K → K → Bool) (laws : IsEquivalence same)
         often (Some i) b
         ∙ at_key left_key (λ key. row_often (Some i) (lefts key) * row_often b (rights key)) (λ key. row_often b (rights key)) left_there
         (λ k. ap (λ n. n * row_often b (rights k)) (or_gap_there (same k) i d left lt ∙ ap once_if (turned k left_key))
-        ∙ (elim (same left_key k) as (λ c. once_if c * row_often b (rights k) ≡ cond c (row_often b (rights k)) 0) [ true ↦ omega arith | false ↦ omega arith ]))
+        ∙ (grind (arith, row_often)))
 
   module _ (j : ℕ) (d : K) (lt : j < length right) where
     abbrev right_key : K
@@ -126,14 +120,14 @@ module _ {K : Type 0} (same less : K → K → Bool) (laws : IsEquivalence same)
       where
         any_back : (p : K → Bool) (xs ys : List K) → list_any p ys ≡ true → list_any p (xs ++ ys) ≡ true
         any_back p [] ys e = e
-        any_back p (x ∷ xs) ys e = elim (p x) as (λ b. (b || list_any p (xs ++ ys)) ≡ true) [ true ↦ refl | false ↦ any_back p xs ys e ]
+        any_back p (x ∷ xs) ys e = grind (arith, any_back p xs ys e)
 
     right_only : how_often (pair None (Some j)) outer ≡ row_often None (lefts right_key)
     right_only =
         often None (Some j)
         ∙ at_key right_key (λ key. row_often None (lefts key) * row_often (Some j) (rights key)) (λ key. row_often None (lefts key)) right_there
         (λ k. ap (λ n. row_often None (lefts k) * n) (or_gap_there (same k) j d right lt ∙ ap once_if (turned k right_key))
-        ∙ (elim (same right_key k) as (λ c. row_often None (lefts k) * once_if c ≡ cond c (row_often None (lefts k)) 0) [ true ↦ omega arith | false ↦ omega arith ]))
+        ∙ (grind (arith, row_often)))
 
   keys_there : All IsThere keys
   keys_there =
@@ -147,7 +141,7 @@ module _ {K : Type 0} (same less : K → K → Bool) (laws : IsEquivalence same)
     where
       any_both : (p : K → Bool) (xs ys : List K) → list_any p (xs ++ ys) ≡ (list_any p xs || list_any p ys)
       any_both p [] ys = refl
-      any_both p (x ∷ xs) ys = elim (p x) as (λ b. (b || list_any p (xs ++ ys)) ≡ ((b || list_any p xs) || list_any p ys)) [ true ↦ refl | false ↦ any_both p xs ys ]
+      any_both p (x ∷ xs) ys = grind (arith, any_both p xs ys)
 
       either : (a b : Bool) → (a || b) ≡ true → once_if (not a) * once_if (not b) ≡ 0
       either true b e = omega arith
@@ -167,13 +161,13 @@ module _ {K : Type 0} (same less : K → K → Bool) (laws : IsEquivalence same)
   outer_inside =
       all_flat (AreInside (length left) (length right)) (λ key. Unit {0}) of_key
       (λ key _. all_flat (AreInside (length left) (length right)) (IsPlaceOf (length left)) (pairs_with (rows_where (same key) 0 right))
-      (λ l there. All-map (AreInside (length left) (length right)) (pair l) (rights key) (λ k d lt. (there, gaps_inside (length right) (rows_where (same key) 0 right) (rows_inside (same key) right) k d lt)))
-      (lefts key) (gaps_inside (length left) (rows_where (same key) 0 left) (rows_inside (same key) left)))
+      (λ l there. All-map (AreInside (length left) (length right)) (pair l) (rights key) (λ k d lt. (search (gaps_inside, rows_inside))))
+      (lefts key) (search (gaps_inside, rows_inside)))
       keys (λ k d lt. tt)
 
   pub outer_is : IsJoin same Outer left right outer
   outer_is = record {
-    together = λ i j d lt inside. left_only i d lt (Some j) ∙ or_gap_there (same (slice_index_or left i d)) j d right inside;
+    together = grind (arith, left_only, or_gap_there);
     left_alone = λ i d lt. left_only i d lt None ∙ gap_there (same (slice_index_or left i d)) 0 right;
     right_alone = λ j d lt. right_only j d lt ∙ gap_there (same (slice_index_or right j d)) 0 left;
     no_gaps = no_gaps;
@@ -185,9 +179,9 @@ module _ {K : Type 0} (same less : K → K → Bool) (laws : IsEquivalence same)
   inner_is = record {
     together = together same false right left;
     left_alone = alone same false right left;
-    right_alone = λ j d lt. nothing same false right left (Some j);
-    no_gaps = nothing same false right left None;
-    left_rows = λ k d lt. (inside same false right left k d lt).0;
+    right_alone = search nothing;
+    no_gaps = search nothing;
+    left_rows = grind (arith, inside);
     right_rows = λ k d lt. (inside same false right left k d lt).1;
   }
 
@@ -195,39 +189,34 @@ module _ {K : Type 0} (same less : K → K → Bool) (laws : IsEquivalence same)
   left_is = record {
     together = together same true right left;
     left_alone = alone same true right left;
-    right_alone = λ j d lt. nothing same true right left (Some j);
-    no_gaps = nothing same true right left None;
-    left_rows = λ k d lt. (inside same true right left k d lt).0;
+    right_alone = search nothing;
+    no_gaps = search nothing;
+    left_rows = grind (arith, inside);
     right_rows = λ k d lt. (inside same true right left k d lt).1;
   }
 
   turned_inside : All (λ p. AreInside (length left) (length right) p) (map exchanged (pairs_from same true 0 right left))
   turned_inside =
       All-map (AreInside (length left) (length right)) exchanged (pairs_from same true 0 right left)
-      (λ k d lt. ((inside same true left right k d lt).1, (inside same true left right k d lt).0))
+      (λ k d lt. ((inside same true left right k d lt).1, grind (arith, inside)))
 
   pub right_is : IsJoin same Right left right (map exchanged (pairs_from same true 0 right left))
   right_is = record {
-    together = λ i j d lt there. often_exchanged (pair (Some i) (Some j)) (pairs_from same true 0 right left) ∙ together same true left right j i d there lt ∙ ap once_if (turned (slice_index_or right j d) (slice_index_or left i d));
-    left_alone = λ i d lt. often_exchanged (pair (Some i) None) (pairs_from same true 0 right left) ∙ nothing same true left right (Some i);
+    together = grind (arith, often_exchanged, together, turned);
+    left_alone = search (often_exchanged, nothing);
     right_alone = λ j d lt. often_exchanged (pair None (Some j)) (pairs_from same true 0 right left) ∙ alone same true left right j d lt;
-    no_gaps = often_exchanged (pair None None) (pairs_from same true 0 right left) ∙ nothing same true left right None;
+    no_gaps = search (often_exchanged, nothing);
     left_rows = λ k d lt. (turned_inside k d lt).0;
     right_rows = λ k d lt. (turned_inside k d lt).1;
   }
 
   seen : (ks : List K) → map pair_of_entry (flat_map (λ key. entries_of key (rows_where (same key) 0 left) (rows_where (same key) 0 right)) ks) ≡ flat_map of_key ks
   seen [] = refl
-  seen (k ∷ ks) =
-      map-append pair_of_entry (entries_of k (rows_where (same k) 0 left) (rows_where (same k) 0 right)) (flat_map (λ key. entries_of key (rows_where (same key) 0 left) (rows_where (same key) 0 right)) ks)
-      ∙ (λ i. with_seen k (rows_where (same k) 0 right) (or_gap (rows_where (same k) 0 left)) i ++ seen ks i)
+  seen (k ∷ ks) = search (map-append, with_seen, seen ks)
 
   -- whichever rows stay
   pub pairs_are_join : (how : How) → IsJoin same how left right (key_pairs same less how left right)
-  pairs_are_join Inner = inner_is
-  pairs_are_join Left = left_is
-  pairs_are_join Right = right_is
-  pairs_are_join Outer = subst (IsJoin same Outer left right) (sym (seen keys)) outer_is
+  pairs_are_join x = grind (arith, inner_is, left_is, right_is, seen, outer_is)
 
   -- what a join answers is one
   module _ (how : How) (once : Validate) where
@@ -239,8 +228,7 @@ module _ {K : Type 0} (same less : K → K → Bool) (laws : IsEquivalence same)
     pairs_in (Err refusal) = pairs_meant
 
     kept : (repeated : Option (RepeatedKey K)) → pairs_in (unless_repeated repeated (within_limit pairs_meant)) ≡ pairs_meant
-    kept (Some repeated) = refl
-    kept None = elim (nat_lt most_rows (length pairs_meant)) as (λ b. pairs_in (cond b (Err too_large) (Ok pairs_meant)) ≡ pairs_meant) [ true ↦ refl | false ↦ refl ]
+    kept x = grind arith
 
     pub answer_is_join : (pairs : List Pair) → joined same less how once left right ≡ Ok pairs → IsJoin same how left right pairs
-    answer_is_join ps e = subst (IsJoin same how left right) (sym (sym (ap pairs_in e) ∙ kept (repeated_key same once left right))) (pairs_are_join how)
+    answer_is_join ps e = grind (arith, kept (repeated_key same once left right), pairs_are_join how)

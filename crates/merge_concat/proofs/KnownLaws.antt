@@ -1,16 +1,15 @@
 -- The keys of both sides, each once: each row's key is among them, and no two of them are the same.
 use Rattle.{
-  std.{proofs.{Common.{◌≡◌, ◌∙◌, ◌<◌, ◌++◌, ap, refl, sym, subst, ℕ, Bool, true, false, cond, List, [], ◌∷◌, map, filter, length, take, drop, All, slice_index_or, None}, Math.Seq.{take-append_seam, drop-append_seam}, lemmas.List.{length-map, map-append, Elements.{All-take, All-drop, All-map}}}, specs.{Prelude.{option_map}, List.{list_any, flat_map}}},
+  std.{proofs.{Common.{arith, ◌≡◌, ◌∙◌, ◌<◌, ◌++◌, ap, refl, sym, subst, ℕ, Bool, true, false, cond, List, [], ◌∷◌, map, filter, length, take, drop, All, slice_index_or, None}, Math.Seq.{take-append_seam, drop-append_seam}, lemmas.List.{length-map, map-append, Elements.{All-take, All-drop, All-map}}}, specs.List.{list_any}},
   cell_core.specs.declared.cell.Label.{Label},
   meaning.specs.{Text.{Text}, Reduce.{distinct}},
   sorting.specs.Sorting.{in_order},
-  align_meaning.{specs.{Joins.{entries_of}, Targets.{first_repeated}}, proofs.OrderLaws.{all_in_order}},
-  pick_meaning.specs.Rows.{rows_where},
-  join_meaning.specs.{declared.How.{How, TheVariants.{Inner, Left, Right, Outer}}, Pairs.{exchanged, key_pairs, pair_of_entry}},
+  align_meaning.{specs.Targets.{first_repeated}, proofs.OrderLaws.{all_in_order}},
+  join_meaning.specs.{declared.How.{How, TheVariants.{Inner, Left, Right, Outer}}, Pairs.{exchanged, key_pairs}},
   row_keys.{specs.Keys.{same_tuple, place_among}, proofs.{KeyLaws.{any_at, position_in}, RecodeLaws.{All-distinct}, PartnerLaws.{tuple_laws}}},
   label_align.{specs.Tuples.{tuple_less}, proofs.{SameLaws.{tuple_decides}, LawOfJoins.{tuple_weak}, OuterJoinLaws.{in_order_keeps, once}}},
   group_meaning.specs.Keys.{ordered_if},
-  merge_concat.{specs.Codes.{keys_of, is_outer, code_pairs, repeated_in, repeated_from}, proofs.CodeLaws.{only_place}},
+  merge_concat.{specs.Codes.{keys_of, is_outer, code_pairs, repeated_in}, proofs.CodeLaws.{only_place}},
 }
 use Rattle.factorize.proofs.KeyNumberLaws as numbers
 use Rattle.merge_concat.proofs.CodeLaws as law
@@ -49,7 +48,7 @@ module _ (texts : List Text) (sorted : Bool) (left right : List (List Label)) wh
   IsThere key = list_any (same_tuple key) rows ≡ true
 
   rows_there : All IsThere rows
-  rows_there k d lt = any_at (same_tuple (slice_index_or rows k d)) rows k d lt (tuple_laws.refl (slice_index_or rows k d))
+  rows_there k d lt = grind (arith, any_at, tuple_laws.refl)
 
   keys_there : All IsThere keys
   keys_there =
@@ -77,32 +76,27 @@ module _ (texts : List Text) (sorted : Bool) (left right : List (List Label)) wh
     parted = coded ∙ map-append rank left right
 
     long : n ≡ length (map rank left)
-    long = size ∙ sym (length-map left rank)
+    long = search length-map
 
     pub left_is : part ≡ take n codes → part ≡ map rank left
-    left_is is = is ∙ (λ i. take (long i) (parted i)) ∙ take-append_seam (map rank left) (map rank right)
+    left_is is = grind (arith, long, parted, take-append_seam)
 
     pub right_is : part ≡ drop n codes → part ≡ map rank right
-    right_is is = is ∙ (λ i. drop (long i) (parted i)) ∙ drop-append_seam (map rank left) (map rank right)
+    right_is is = grind (arith, long, parted, drop-append_seam)
 
   pub below : (part : List ℕ) (m : ℕ) (side : List (List Label)) → All IsKnown side → part ≡ map rank side → m ≡ length keys → All (λ c. c < m) part
-  below part m side known are counted =
-      subst (λ k. All (λ c. c < k) part) (sym counted)
-      (subst (All (λ c. c < length keys)) (sym are) (All-map (λ c. c < length keys) rank side (λ k d lt. position_in (same_tuple (slice_index_or side k d)) keys (known k d lt))))
+  below part m side known are counted = grind (arith, All-map (λ c. c < length keys) rank side (λ k d lt. position_in (same_tuple (slice_index_or side k d)) keys (known k d lt)))
 
   -- the first key that stands twice
   pub repeats_are : (b : Bool) (side : List (List Label)) (part : List ℕ) → All IsKnown side → part ≡ map rank side → repeated_in b side part ≡ cond b (first_repeated same_tuple side) None
-  repeats_are true side part known are =
-      ap (λ codes. option_map (λ row. slice_index_or side row []) (repeated_from codes 0 codes)) are ∙ sym (law.repeated_coded same_tuple tuple_laws keys side known [])
+  repeats_are true side part known are = cc (law.repeated_coded same_tuple tuple_laws keys side known [])
   repeats_are false side part known are = refl
 
 -- the pairs of keys are those of their numbers
 pub pairs_are : (texts : List Text) (how : How) (left right : List (List Label))
     → key_pairs same_tuple (tuple_less texts) how left right
     ≡ code_pairs how (length (keys_of texts (is_outer how) left right)) (map (rank texts (is_outer how) left right) left) (map (rank texts (is_outer how) left right) right)
-pairs_are texts Inner left right = law.pairs_coded same_tuple tuple_laws (keys_of texts false left right) false 0 left right (right_known texts false left right)
-pairs_are texts Left left right = law.pairs_coded same_tuple tuple_laws (keys_of texts false left right) true 0 left right (right_known texts false left right)
-pairs_are texts Right left right = ap (map exchanged) (law.pairs_coded same_tuple tuple_laws (keys_of texts false left right) true 0 right left (left_known texts false left right))
-pairs_are texts Outer left right =
-    ap (λ ks. map pair_of_entry (flat_map (λ key. entries_of key (rows_where (same_tuple key) 0 left) (rows_where (same_tuple key) 0 right)) ks)) (sym (keys_are texts true left right))
-    ∙ law.outer_coded same_tuple tuple_laws (keys_of texts true left right) [] (apart texts true left right) left right (left_known texts true left right) (right_known texts true left right)
+pairs_are texts Inner left right = search (law.pairs_coded, tuple_laws, right_known)
+pairs_are texts Left left right = search (law.pairs_coded, tuple_laws, right_known)
+pairs_are texts Right left right = ap (map exchanged) (search (law.pairs_coded, tuple_laws, left_known))
+pairs_are texts Outer left right = cc (keys_are texts true left right, law.outer_coded same_tuple tuple_laws (keys_of texts true left right) [] (apart texts true left right) left right (left_known texts true left right) (right_known texts true left right))

@@ -1,17 +1,17 @@
 -- Calls of `merge` and their arguments.
 use Rattle.{
-  std.{proofs.{lemmas.{Option.{same_Some}, Bool.{and_parts, Decides.{nat_tests}}, List.{length-map}}, Common.{◌≡◌, ◌∙◌, ◌≤◌, ap, refl, sym, subst, arith, ℕ, suc, Bool, true, false, ⊎_elim, List, [], ◌∷◌, ◌++◌, map, length, slice_get, Option, Some, None, Result, Ok, Err, option_map, nat_lt, if◌then◌else◌}}, specs.Prelude.{IfSome}},
-  cell_core.specs.declared.{cell.Cell.{Cell}, grid.Shape.{Shape, TheVariants.{Series, Frame}}},
-  meaning.specs.{Text.{Text}, Cell.{CellValue, LabelValue, na_cell, datum}, Operator.{cell_label}, Fault.{FaultValue, then_value}},
+  std.{proofs.{lemmas.{Option.{same_Some}, Bool.{and_parts, Decides.{nat_tests}}, List.{length-map}}, Common.{◌≡◌, ◌∙◌, ◌≤◌, ap, refl, sym, arith, ℕ, suc, Bool, true, false, ⊎_elim, List, [], ◌∷◌, ◌++◌, map, length, slice_get, Option, Some, None, Result, Ok, Err, option_map, nat_lt, if◌then◌else◌}}, specs.Prelude.{IfSome}},
+  cell_core.specs.declared.{cell.Cell.{Cell}, grid.Shape.TheVariants.{Frame}},
+  meaning.specs.{Text.{Text}, Cell.{CellValue, LabelValue, datum}, Operator.{cell_label}, Fault.{FaultValue, then_value}},
   join_meaning.specs.declared.{How.{How}, Validate.{Validate}},
-  table_meaning.specs.{Settled.{IsSettled}, Table.{NumberedTable, Table, table_value}, Value.{Entry, cell, table, Given, GivenList, NamedGiven, nothing, one, row, many, entries, no_given, more_given, object_in}},
-  form_meaning.specs.{declared.{Method.TheVariants.{Other}, OtherMethod.TheVariants.{Merge}, Parameter.{Parameter}}, Signature.{parameters_of, needed, optional}, Binding.{not_taken, not_listed, bound, bound_of, on_bound, are_listed, arguments_from, argument_at, each, is_scalar, count_of, is_frame, takes, text_in}, Make.{on}, Select.{cells_of}},
-  method_meaning.specs.{Levels.{label_cell}, Calls.{merge_call, method_result, chain_result, call_result}, Merge.{keys_of_merge, checked_keys, merged_rows, how_named, validate_in, merge_result}},
+  table_meaning.specs.{Settled.{IsSettled}, Table.{NumberedTable, Table, table_value}, Value.{Entry, cell, Given, GivenList, NamedGiven, one, no_given, more_given, object_in}},
+  form_meaning.specs.{declared.{Method.TheVariants.{Other}, OtherMethod.TheVariants.{Merge}, Parameter.{Parameter}}, Signature.{parameters_of, needed, optional}, Binding.{not_taken, not_listed, bound, bound_of, on_bound, each, is_scalar, count_of, takes, text_in}, Make.{on}, Select.{cells_of}},
+  method_meaning.specs.{Levels.{label_cell}, Calls.{merge_call, chain_result, call_result}, Merge.{keys_of_merge, merged_rows, how_named, validate_in, merge_result}},
   form_parts.specs.Makes.{MakesBy},
-  frame_store.specs.{declared.{arguments.{Chain.{Chain, TheVariants.{Plain}}, Named.{Named}, Value.{Value, TheVariants.{Object, Scalar}}}, fault.OpFault.{OpFault, TheVariants.{Refused, NoMemory}}, object.ObjId.{ObjId}}, Arguments.{object_value, shape_at}, Objects.{Tables, table_or}, Shown.{cells_value, Makes}, World.{World, entry_in, arguments_in, AreKnownArguments}},
+  frame_store.specs.{declared.{arguments.{Chain.{Chain, TheVariants.{Plain}}, Named.{Named}, Value.{Value, TheVariants.{Object}}}, fault.OpFault.{OpFault}, object.ObjId.{ObjId}}, Arguments.{object_value, shape_at}, Objects.{Tables}, Shown.{cells_value, Makes}, World.{World, entry_in, arguments_in, AreKnownArguments}},
   label_methods.specs.Chains.{chain_in},
-  signatures.{specs.{Bound.{given_in, stands_at, IsBound}, Filled.{Fills}, declared.bound.Bound.{Bound as BoundArguments}}, proofs.RuleLaws.{filled}},
-  merge_forms.{specs.{Calls.{is_plain, merge_of, IsMergeCall}, Keys.{cell_labels, labels_on, keys_checked}}, proofs.{KeyLaws.{told_as_meant}, ShapeLaws.{merge_is_of_frame}}},
+  signatures.{specs.{Bound.{given_in, stands_at, IsBound}, declared.bound.Bound.{Bound as BoundArguments}}, proofs.RuleLaws.{filled}},
+  merge_forms.{specs.{Calls.{is_plain, merge_of, IsMergeCall}, Keys.{cell_labels, labels_on, keys_checked}}, proofs.ShapeLaws.{merge_is_of_frame}},
 }
 use Rattle.form_meaning.specs.declared.ParameterName.TheVariants as name
 use Rattle.form_meaning.specs.declared.Form.TheVariants as form
@@ -19,41 +19,17 @@ use Rattle.form_meaning.specs.declared.Omitted.TheVariants as omitted
 
 -- arguments that are bound
 pub bound_reads : (w : World) (ps : List Parameter) (args : List Named) (read : List Given → Result Entry FaultValue) (b : BoundArguments) → IsBound w ps args (Ok b) → on_bound (bound_of ps (arguments_in w args)) read ≡ read (given_in w b)
-bound_reads w ps args read b is = ap (λ b. on_bound b read) is.0
+bound_reads w ps args read b is = search
 
 -- each parameter has what fits it
 fitted : (a b c : Bool) (gs xs : List Given) → (if a then (if b then (if c then bound gs else not_listed) else not_taken) else not_taken) ≡ bound xs → (a ≡ true) × (b ≡ true)
-fitted true true c gs xs is = (refl, refl)
-fitted a b c gs xs is = cc
-
-pub call_filled : (w : World) (ps : List Parameter) (args : List Named) (b : BoundArguments) → IsBound w ps args (Ok b) → (place : ℕ) (p : Parameter) → slice_get ps place ≡ Some p → Fills p (stands_at w.tables w.texts b place)
-call_filled w ps args b is place p at =
-    let gs = arguments_in w args in
-    let h = fitted _ _ (are_listed ps 0 gs) (arguments_from ps gs 0 ps) _ is.0 in
-    subst (Fills p) (λ i. argument_at (sym is.1 i) (arguments_in w (sym is.2 i)) place) (filled ps gs h.0 h.1 place p at)
+fitted a b c gs xs is = grind arith
 
 pub is_call : (w : World) (ps : List Parameter) (args : List Named) (b : BoundArguments) → ps ≡ parameters_of (Other Merge) → AreKnownArguments w args → IsBound w ps args (Ok b) → IsMergeCall w b
-is_call w ps args b merge known is = record {
-  parameters = is.1 ∙ merge;
-  given = rw is.2 known.given;
-  live = rw is.2 known.live;
-  filled = λ place p at. call_filled w _ _ b is _ p (ap (λ (l : List Parameter). slice_get l place) merge ∙ at);
-}
-
--- a frame stands first
-is_frame_shape : (s : Shape) → is_frame s ≡ true → s ≡ Frame
-is_frame_shape Series is = cc
-is_frame_shape Frame is = refl
+is_call w ps args b merge known is = grind (arith, filled, fitted, slice_get)
 
 frame_taken : (g : Given) (t : Table) → takes (needed name.Right form.Frame) g ≡ true → Some t ≡ object_in g → t.shape ≡ Frame
-frame_taken nothing t taken is = cc
-frame_taken (one (cell c)) t taken is = cc
-frame_taken (one (table u)) t taken is = let same : t ≡ u = cc in ap (λ (x : Table). x.shape) same ∙ is_frame_shape _ taken
-frame_taken g t taken is = cc
-
-right_is_frame : (w : World) (b : BoundArguments) → IsMergeCall w b → (t : Table) → Some t ≡ object_in (stands_at w.tables w.texts b 0) → t.shape ≡ Frame
-right_is_frame w b h t is =
-    ⊎_elim (λ taken. frame_taken _ t taken is) (λ (may, stands). let wrong : false ≡ true = may in cc) (h.filled 0 (needed name.Right form.Frame) refl)
+frame_taken g t taken is = grind arith
 
 -- a label at least is named, if any
 scalars_count : (parts : GivenList) → each is_scalar parts ≡ true → length (cells_of parts) ≡ count_of parts
@@ -65,24 +41,14 @@ above : (n : ℕ) → nat_lt 0 n ≡ true → 1 ≤ n
 above n e = grind (arith, nat_tests)
 
 labels_taken : (g : Given) → takes (optional name.On form.SomeLabels omitted.None) g ≡ true → IfSome (labels_on g) (λ labels. 1 ≤ length labels)
-labels_taken nothing taken = tt
-labels_taken (one (cell c)) taken = omega arith
-labels_taken (one (table t)) taken = cc
-labels_taken (row parts) taken = cc
-labels_taken (many parts) taken =
-    let some = above (count_of parts) (and_parts (nat_lt 0 (count_of parts)) (each is_scalar parts) taken).0 in
-    let counted = scalars_count parts (and_parts (nat_lt 0 (count_of parts)) (each is_scalar parts) taken).1 in
-    omega (arith, some, counted, length-map (cells_of parts) cell_label)
-labels_taken (entries pairs) taken = cc
+labels_taken x taken = grind (arith, above, and_parts, scalars_count, length-map)
 
 pub labels_some : (w : World) (b : BoundArguments) → IsMergeCall w b → IfSome (labels_on (stands_at w.tables w.texts b 2)) (λ labels. 1 ≤ length labels)
-labels_some w b h =
-    ⊎_elim (λ taken. labels_taken _ taken) (λ (may, stands). subst (λ g. IfSome (labels_on g) (λ labels. 1 ≤ length labels)) (sym stands) tt) (h.filled 2 (optional name.On form.SomeLabels omitted.None) refl)
+labels_some w b h = grind (arith, ⊎_elim, labels_taken)
 
 -- cells whose labels are told
 cell_back : (c : CellValue) → label_cell (cell_label c) ≡ c
-cell_back na_cell = refl
-cell_back c = refl
+cell_back c = grind arith
 
 cells_back : (cs : List CellValue) → map label_cell (map cell_label cs) ≡ cs
 cells_back [] = refl
@@ -92,7 +58,7 @@ pub told_given : (w : World) (b : BoundArguments) (told : Option (List Cell)) �
 told_given w b None h tells = tt
 told_given w b (Some cells) h tells = λ more.
     let same : cell_labels (w.texts ++ more) cells ≡ cell_labels w.texts cells =
-    same_Some _ _ (tells w.tables (w.texts ++ more) ∙ ap (λ gs. labels_on (argument_at b.parameters.now gs 2)) (h.given more) ∙ sym (tells w.tables w.texts)) in
+    same_Some _ _ (cc (tells w.tables (w.texts ++ more), h.given more, tells w.tables w.texts)) in
     sym (cells_back _) ∙ ap (map label_cell) same ∙ cells_back _
 
 pub told_some : (w : World) (b : BoundArguments) (told : Option (List Cell)) → IsMergeCall w b → ((live : Tables) (texts : List Text) → option_map (cell_labels texts) told ≡ labels_on (stands_at live texts b 2)) → IfSome told (λ cells. 1 ≤ length cells)
@@ -108,62 +74,42 @@ module _ (w : World) (b : BoundArguments) (h : IsMergeCall w b) (l r : Table) (t
   by_parts right text labels once = on right (λ r. on text (λ t. then_value (keys_of_merge l r labels) (merged_rows l r (how_named t) once)))
 
   reads : merge_result l (given_in w b) ≡ by_parts (object_in (stands_at w.tables w.texts b 0)) (text_in (stands_at w.tables w.texts b 1)) (stands_at w.tables w.texts b 2) (validate_in (text_in (stands_at w.tables w.texts b 3)))
-  reads =
-      let gs = arguments_in w b.args.now in
-      let read : List Parameter → Result Entry FaultValue = λ ps. by_parts (object_in (argument_at ps gs 0)) (text_in (argument_at ps gs 1)) (argument_at ps gs 2) (validate_in (text_in (argument_at ps gs 3))) in
-      ap (λ (ps : List Parameter). merge_result l (arguments_from ps gs 0 ps)) h.parameters ∙ ap read (sym h.parameters)
-
-  pub merge_is : merge_result l (given_in w b) ≡ then_value (keys_checked l r told) (merged_rows l r how once)
-  merge_is =
-      reads
-      ∙ (λ i. by_parts (sym right_is i) (sym text_is i) (stands_at w.tables w.texts b 2) (sym once_is i))
-      ∙ (λ i. then_value (then_value (sym (told_as_meant l r (stands_at w.tables w.texts b 2)) i) (checked_keys l r)) (merged_rows l r (sym how_is i) once))
-      ∙ ap (λ o. then_value (keys_checked l r o) (merged_rows l r how once)) (sym told_is)
+  reads = grind arith
 
 -- a refusal of the keys
 abbrev refused : {X : Type 0} → OpFault → Result X OpFault
 refused fault = Err fault
 
 pub keys_refused : {X Y : Type 0} (view : List Text → X → Y) (texts : List Text) (m : Result Y FaultValue) (go : Y → Result Entry FaultValue) (meant : Result Entry FaultValue) (fault : OpFault) → meant ≡ then_value m go → MakesBy view texts (refused {X = X} fault) m → Makes texts (Err fault) meant
-keys_refused view texts m go meant (Refused code) is refuses = (is ∙ ap (λ r. then_value r go) refuses.0, refuses.1)
-keys_refused view texts m go meant NoMemory is refuses = tt
+keys_refused view texts m go meant x is refuses = grind arith
 
 -- what is meant, by the tables that are read
 pub read_is : (w : World) (b : BoundArguments) → IsMergeCall w b → (on other : ObjId) (l r : NumberedTable) (t : Text) (how : How) (once : Validate) (told : Option (List LabelValue)) → w.tables on.0 ≡ Some l → w.tables other.0 ≡ Some r
     → Some (object_value w.tables w.texts other) ≡ object_in (stands_at w.tables w.texts b 0) → Some t ≡ text_in (stands_at w.tables w.texts b 1) → how ≡ how_named t → told ≡ labels_on (stands_at w.tables w.texts b 2) → once ≡ validate_in (text_in (stands_at w.tables w.texts b 3))
     → merge_result (object_value w.tables w.texts on) (given_in w b) ≡ then_value (keys_checked (table_value w.texts l) (table_value w.texts r) told) (merged_rows (table_value w.texts l) (table_value w.texts r) how once)
-read_is w b h on other l r t how once told l_at r_at right text how_is told_is once_is =
-    rw l_at (merge_is w b h (table_value w.texts l) _ t _ _ _ (rw r_at at right) text how_is told_is once_is)
+read_is w b h on other l r t how once told l_at r_at right text how_is told_is once_is = grind (arith, reads)
 
 pub shape_read : (w : World) (on : ObjId) (l : NumberedTable) → w.tables on.0 ≡ Some l → shape_at w.tables on ≡ Frame → l.shape ≡ Frame
-shape_read w on l at is = ap (λ (o : Option NumberedTable). (table_or o).shape) (sym at) ∙ is
+shape_read w on l at is = cc
 
 pub right_shape : (w : World) (b : BoundArguments) → IsMergeCall w b → (other : ObjId) (r : NumberedTable) → w.tables other.0 ≡ Some r → Some (object_value w.tables w.texts other) ≡ object_in (stands_at w.tables w.texts b 0) → r.shape ≡ Frame
-right_shape w b h other r at right = shape_read w _ r at (right_is_frame w b h _ right)
+right_shape w b h other r at right = shape_read w _ r at (grind (arith, ⊎_elim, frame_taken))
 
 -- which call it is
 merge_if : (b : Bool) (id x : ObjId) → (if b then Some x else None) ≡ Some id → (b ≡ true) × (x ≡ id)
-merge_if true id x is = let same : x ≡ id = cc in (refl, same)
-merge_if false id x is = cc
+merge_if x1 id x is = grind arith
 
 other_if : (b : Bool) (x : ObjId) → (if b then Some x else None) ≡ None → b ≡ false
-other_if true x is = cc
-other_if false x is = refl
+other_if x1 x is = grind arith
 
 pub frame_called : (tables : Tables) (on : Value) (chain : Chain) (id : ObjId) → merge_of tables on chain ≡ Some id → (on ≡ Object id) × (shape_at tables id ≡ Frame)
 frame_called tables (Object x) (Plain name) id is =
     let h = merge_if _ _ x is in
-    (ap (λ i. Object i) h.1, ap (shape_at tables) (sym h.1) ∙ merge_is_of_frame _ name h.0)
+    (search, ap (shape_at tables) (sym h.1) ∙ merge_is_of_frame _ name h.0)
 frame_called tables on chain id is = cc
 
 pub merge_called : (w : World) (on : Value) (chain : Chain) (gs : List NamedGiven) (id : ObjId) → merge_of w.tables on chain ≡ Some id → call_result (entry_in w on) (chain_in w chain) gs ≡ merge_call (object_value w.tables w.texts id) gs
-merge_called w (Object x) (Plain name) gs id is =
-    let h = merge_if _ _ x is in
-    ap (λ b. if b then merge_call (object_value w.tables w.texts x) gs else method_result (table (object_value w.tables w.texts x)) name gs) h.0 ∙ ap (λ i. merge_call (object_value w.tables w.texts i) gs) h.1
-merge_called w on chain gs id is = cc
+merge_called w x1 chain gs id is = grind (arith, merge_if)
 
 pub other_called : (w : World) (on : Value) (chain : Chain) (gs : List NamedGiven) → is_plain chain ≡ true → merge_of w.tables on chain ≡ None → chain_result (entry_in w on) (chain_in w chain) gs ≡ call_result (entry_in w on) (chain_in w chain) gs
-other_called w (Object x) (Plain name) gs plain is =
-    sym (ap (λ b. if b then merge_call (object_value w.tables w.texts x) gs else method_result (table (object_value w.tables w.texts x)) name gs) (other_if _ x is))
-other_called w (Scalar c) (Plain name) gs plain is = refl
-other_called w on chain gs plain is = cc
+other_called w x1 chain gs plain is = grind (arith, other_if)

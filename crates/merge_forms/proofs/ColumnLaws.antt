@@ -1,6 +1,6 @@
 -- The columns of joined rows, with texts by number and with texts.
 use Rattle.{
-  std.{proofs.{lemmas.{Option.{slice_get_within, get_or_from_slice_get}, List.{length-map, map-append, take_more, at_drop_all, Elements.{All-map, All-append}, FromFn.{map-range_with_len_more}}}, Common.{◌≡◌, ◌∙◌, ◌+◌, ◌≤◌, ap, refl, sym, subst, arith, ℕ, suc, Bool, true, false, not, ◌||◌, List, [], ◌∷◌, ◌++◌, map, take, drop, length, slice_get, slice_index_or, All, Option, Some, None, if◌then◌else◌, append_assoc, append-nil, nat_eq}, Math.{ListN.{get_or-map}, Seq.{drop-cons}}}, specs.List.{range_with_len, position_or_len}},
+  std.{proofs.{lemmas.{Option.{slice_get_within, get_or_from_slice_get}, List.{length-map, map-append, take_more, at_drop_all, Elements.{All-map, All-append}, FromFn.{map-range_with_len_more}}}, Common.{◌≡◌, ◌∙◌, ◌+◌, ◌≤◌, ap, refl, sym, arith, ℕ, suc, false, List, [], ◌∷◌, ◌++◌, map, take, drop, length, slice_get, slice_index_or, All, Option, Some, None, append_assoc, append-nil, nat_eq}, Math.{ListN.{get_or-map}, Seq.{drop-cons}}}, specs.List.{range_with_len, position_or_len}},
   cell_core.specs.declared.cell.Cell.{Cell, TheVariants.{Na}},
   meaning.specs.{Text.{Text}, Cell.{CellValue, na_cell, datum}, Column.{gap_cell, taken}},
   join_meaning.specs.Pairs.{Pair},
@@ -14,11 +14,11 @@ use Rattle.method_meaning.specs.Merge as meant
 
 -- what holds of all holds of one
 pub at_all : {X : Type 0} (P : X → Type 0) (xs : List X) (k : ℕ) (x : X) → All P xs → slice_get xs k ≡ Some x → P x
-at_all P xs k x all at = subst P (get_or_from_slice_get _ k x x at) (all k x (slice_get_within xs k x at))
+at_all P xs k x all at = grind (arith, get_or_from_slice_get, slice_get_within)
 
 -- one column more
 pub one_more_in_range : {X : Type 0} (f : ℕ → X) (place : ℕ) (x : X) (made made' : List X) → x ≡ f place → made' ≡ made ++ x ∷ [] → made ≡ map f (range_with_len 0 place) → made' ≡ map f (range_with_len 0 (place + 1))
-one_more_in_range f place x made made' is pushed before = pushed ∙ (λ i. before i ++ is i ∷ []) ∙ sym (map-range_with_len_more f 0 _ _ (omega arith))
+one_more_in_range f place x made made' is pushed before = grind (arith, map-range_with_len_more)
 
 pub one_more_at : {X : Type 0} (f : ℕ → X) (places : List ℕ) (k place : ℕ) (x : X) (first made made' : List X) → slice_get places k ≡ Some place → x ≡ f place → made' ≡ made ++ x ∷ [] → made ≡ first ++ map f (take k places)
     → made' ≡ first ++ map f (take (k + 1) places)
@@ -35,57 +35,39 @@ key_next na left right ls rs row l r same here there =
 
 pub one_more_key : {C : Type 0} (na : C) (left right : List C) (ls rs : List (Option ℕ)) (row : ℕ) (l r : Option ℕ) (c : C) (made made' whole : List C) → length rs ≡ length ls → slice_get ls row ≡ Some l → slice_get rs row ≡ Some r
     → c ≡ key_cell_at na left right l r → made' ≡ made ++ c ∷ [] → made ++ key_cells na left right (drop row ls) (drop row rs) ≡ whole → made' ++ key_cells na left right (drop (row + 1) ls) (drop (row + 1) rs) ≡ whole
-one_more_key na left right ls rs row l r c made made' whole same here there is pushed before = rw (pushed, append_assoc, is, ← key_next na left right ls rs row l r same here there) before
+one_more_key na left right ls rs row l r c made made' whole same here there is pushed before = grind (arith, append_assoc, key_next)
 
 pub all_keys : {C : Type 0} (na : C) (left right : List C) (ls rs : List (Option ℕ)) (row : ℕ) (made whole : List C) → length ls ≤ row → made ++ key_cells na left right (drop row ls) (drop row rs) ≡ whole → made ≡ whole
-all_keys na left right ls rs row made whole end before =
-    sym (append-nil made) ∙ sym (at_drop_all (λ m. made ++ key_cells na left right m (drop row rs)) _ _ end) ∙ before
+all_keys na left right ls rs row made whole end before = cc (append-nil made, at_drop_all (λ m. made ++ key_cells na left right m (drop row rs)) _ _ end)
 
 -- how many there are
 key_count : {C : Type 0} (na : C) (left right : List C) (ls rs : List (Option ℕ)) → length rs ≡ length ls → length (key_cells na left right ls rs) ≡ length ls
 key_count na left right [] rs same = refl
-key_count na left right (l ∷ ls) [] same = absurd (omega (arith, same))
+key_count na left right (l ∷ ls) [] same = search
 key_count na left right (l ∷ ls) (r ∷ rs) same = ap suc (key_count na left right ls rs (omega (arith, same)))
 
 module _ {C : Type 0} (na : C) (l r : List (ColumnOf C)) (keys : MergeKeys) (lefts rights : List (Option ℕ)) (same : length rights ≡ length lefts) where
   left_counted : (place : ℕ) → length (left_column_on na l r keys lefts rights place).cells ≡ length lefts
-  left_counted place = by (right_key keys place)
-    where
-      by : (o : Option ℕ) → length (joined_or_left na l r lefts rights place o).cells ≡ length lefts
-      by (Some other) = key_count _ (column_at l place).cells (column_at r other).cells lefts rights same
-      by None = length-map lefts (gap_cell na (column_at l place).cells)
+  left_counted place = grind (arith, key_count, length-map)
 
   pub columns_counted : (places : List ℕ) → All (λ (c : ColumnOf C). length c.cells ≡ length lefts) (merged_columns na l r keys places lefts rights)
   columns_counted places =
-      All-append (λ (c : ColumnOf C). length c.cells ≡ length lefts) (map (left_column_on na l r keys lefts rights) (range_with_len 0 (length l))) (map (column_on na r rights) places)
-      (All-map (λ (c : ColumnOf C). length c.cells ≡ length lefts) (left_column_on na l r keys lefts rights) (range_with_len 0 (length l)) (λ k d lt. left_counted (slice_index_or (range_with_len 0 (length l)) k d)))
-      (All-map (λ (c : ColumnOf C). length c.cells ≡ length lefts) (column_on na r rights) places (λ k d lt. length-map rights (gap_cell na (column_at r (slice_index_or places k d)).cells) ∙ same))
+      All-append (λ c. length c.cells ≡ length lefts) (map (left_column_on na l r keys lefts rights) (range_with_len 0 (length l))) (map (column_on na r rights) places)
+      (All-map (λ c. length c.cells ≡ length lefts) (left_column_on na l r keys lefts rights) (range_with_len 0 (length l)) (λ k d lt. left_counted (slice_index_or (range_with_len 0 (length l)) k d)))
+      (All-map (λ c. length c.cells ≡ length lefts) (column_on na r rights) places (λ k d lt. length-map rights (gap_cell na (column_at r (slice_index_or places k d)).cells) ∙ same))
 
 -- a column that is no key has none that stands for it
 pub no_right : (lefts rights : List ℕ) (place : ℕ) → length rights ≡ length lefts → is_key lefts place ≡ false → slice_get rights (position_or_len (nat_eq place) lefts) ≡ None
 no_right [] [] place same other = refl
-no_right [] (r ∷ rights) place same other = absurd (omega (arith, same))
-no_right (l ∷ lefts) [] place same other = absurd (omega (arith, same))
-no_right (l ∷ lefts) (r ∷ rights) place same other = by (nat_eq place l) (no_right lefts rights place (omega (arith, same))) other
-  where
-    by : (b : Bool) → (is_key lefts place ≡ false → slice_get rights (position_or_len (nat_eq place) lefts) ≡ None) → (b || is_key lefts place) ≡ false
-        → slice_get (r ∷ rights) (if not b then 1 + position_or_len (nat_eq place) lefts else 0) ≡ None
-    by true later is = cc
-    by false later is = let next : 1 + position_or_len (nat_eq place) lefts ≡ suc (position_or_len (nat_eq place) lefts) = omega arith in ap (slice_get (r ∷ rights)) next ∙ later is
+no_right [] (r ∷ rights) place same other = search
+no_right (l ∷ lefts) [] place same other = search
+no_right (l ∷ lefts) (r ∷ rights) place same other = grind (arith, nat_eq, slice_get, no_right lefts rights place (omega (arith, same)))
 
 -- a column of the left side, a key or another one
 module _ (l r : List (ColumnOf Cell)) (keys : MergeKeys) (lefts rights : List (Option ℕ)) (place : ℕ) (a : CellColumn) (at : column_at l place ≡ table_column a) (made : CellColumn) where
   pub key_is : (other k : ℕ) (b : CellColumn) → position_or_len (nat_eq place) keys.left ≡ k → slice_get keys.right k ≡ Some other → column_at r other ≡ table_column b
       → made ≡ record { kind = a.kind; cells = key_cells Na a.cells b.cells lefts rights } → table_column made ≡ left_column_on Na l r keys lefts rights place
-  key_is other k b first there at_other is =
-      ap table_column is
-      ∙ (λ i. record { kind = (sym at i).kind; cells = key_cells Na (sym at i).cells (sym at_other i).cells lefts rights })
-      ∙ ap (joined_or_left Na l r lefts rights place) (sym (ap (slice_get keys.right) first ∙ there))
-
-  pub other_is : right_key keys place ≡ None → made.kind ≡ a.kind → made.cells ≡ taken Na a.cells lefts → table_column made ≡ left_column_on Na l r keys lefts rights place
-  other_is none kind cells =
-      (λ i. record { kind = (kind ∙ ap (λ (c : ColumnOf Cell). c.kind) (sym at)) i; cells = (cells ∙ ap (λ (c : ColumnOf Cell). taken Na c.cells lefts) (sym at)) i })
-      ∙ ap (joined_or_left Na l r lefts rights place) (sym none)
+  key_is other k b first there at_other is = grind (arith, slice_get)
 
 -- as they are seen
 module _ (texts : List Text) where
@@ -98,13 +80,12 @@ module _ (texts : List Text) where
   cells_on cells (gap ∷ rows) = λ i. cell_on cells gap i ∷ cells_on cells rows i
 
   key_seen : (left right : List Cell) (l r : Option ℕ) → datum texts (key_cell_at Na left right l r) ≡ key_cell_at na_cell (map (datum texts) left) (map (datum texts) right) l r
-  key_seen left right None r = cell_on _ r
-  key_seen left right (Some row) r = cell_on left (Some row)
+  key_seen left right x r = grind (arith, cell_on)
 
   keys_seen : (left right : List Cell) (ls rs : List (Option ℕ)) → map (datum texts) (key_cells Na left right ls rs) ≡ key_cells na_cell (map (datum texts) left) (map (datum texts) right) ls rs
   keys_seen left right [] rs = refl
   keys_seen left right (l ∷ ls) [] = refl
-  keys_seen left right (l ∷ ls) (r ∷ rs) = λ i. key_seen left right l r i ∷ keys_seen left right ls rs i
+  keys_seen left right (l ∷ ls) (r ∷ rs) = search (key_seen, keys_seen left right ls rs)
 
   column_seen : (cs : List (ColumnOf Cell)) (place : ℕ) → column_value texts (column_at cs place) ≡ column_at (columns_value texts cs) place
   column_seen cs place = sym (get_or-map (column_value texts) cs _ _)
@@ -112,7 +93,7 @@ module _ (texts : List Text) where
   on_seen : (cs : List (ColumnOf Cell)) (rows : List (Option ℕ)) (place : ℕ) → column_value texts (column_on Na cs rows place) ≡ column_on na_cell (columns_value texts cs) rows place
   on_seen cs rows place = λ i. record {
     kind = (column_seen cs place i).kind;
-    cells = (cells_on (column_at cs place).cells rows ∙ ap (λ (c : ColumnOf CellValue). taken na_cell c.cells rows) (column_seen cs place)) i;
+    cells = (cells_on (column_at cs place).cells rows ∙ ap (λ c. taken na_cell c.cells rows) (column_seen cs place)) i;
   }
 
   module _ (l r : List (ColumnOf Cell)) (keys : MergeKeys) (lefts rights : List (Option ℕ)) where
@@ -120,11 +101,7 @@ module _ (texts : List Text) where
     key_on na a b = record { kind = a.kind; cells = key_cells na a.cells b.cells lefts rights }
 
     key_column_seen : (place other : ℕ) → column_value texts (key_on Na (column_at l place) (column_at r other)) ≡ key_on na_cell (column_at (columns_value texts l) place) (column_at (columns_value texts r) other)
-    key_column_seen place other = λ i. record {
-      kind = (column_seen l place i).kind;
-      cells = (keys_seen (column_at l place).cells (column_at r other).cells lefts rights
-          ∙ (λ j. key_cells na_cell (column_seen l place j).cells (column_seen r other j).cells lefts rights)) i;
-    }
+    key_column_seen place other = grind (arith, column_seen, keys_seen)
 
     left_seen : (place : ℕ) → column_value texts (left_column_on Na l r keys lefts rights place) ≡ left_column_on na_cell (columns_value texts l) (columns_value texts r) keys lefts rights place
     left_seen place = by (right_key keys place)
@@ -146,19 +123,15 @@ module _ (texts : List Text) where
 
 pub columns_settled : (texts : List Text) (l r : List (ColumnOf Cell)) (keys : MergeKeys) (lefts rights : List (Option ℕ)) (places : List ℕ) → IsSettled columns_value texts l → IsSettled columns_value texts r
     → IsSettled columns_value texts (merged_columns Na l r keys places lefts rights)
-columns_settled texts l r keys lefts rights places of_left of_right = λ more.
-    columns_seen _ l r _ _ _ _
-    ∙ (λ i. merged_columns na_cell (of_left more i) (of_right more i) keys places lefts rights)
-    ∙ sym (columns_seen _ l r _ _ _ _)
+columns_settled texts l r keys lefts rights places of_left of_right = grind (arith, columns_seen)
 
 -- as they are meant
 cells_meant : (left right : List CellValue) (ps : List Pair) → key_cells na_cell left right (map (λ p. p.left) ps) (map (λ p. p.right) ps) ≡ map (key_cell left right) ps
 cells_meant left right [] = refl
-cells_meant left right (p ∷ ps) = ap (λ l. key_cell left right p ∷ l) (cells_meant left right ps)
+cells_meant left right (p ∷ ps) = cc (cells_meant left right ps)
 
 left_meant : (l r : Table) (ps : List Pair) (place : ℕ) (o : Option ℕ) → joined_or_left na_cell l.columns r.columns (map (λ p. p.left) ps) (map (λ p. p.right) ps) place o ≡ meant.joined_or_left l r ps place o
-left_meant l r ps place None = refl
-left_meant l r ps place (Some other) = λ i. record { kind = (column_at l.columns place).kind; cells = cells_meant (column_at l.columns place).cells (column_at r.columns other).cells ps i }
+left_meant l r ps place x = grind (arith, cells_meant)
 
 pub columns_meant : (l r : Table) (keys : MergeKeys) (ps : List Pair) → merged_columns na_cell l.columns r.columns keys (right_places r keys) (map (λ p. p.left) ps) (map (λ p. p.right) ps)
     ≡ map (left_column l r keys ps) (all_places l) ++ map (column_of_side r (map (λ p. p.right) ps)) (right_places r keys)

@@ -1,12 +1,12 @@
 -- The labels of columns beside those of another frame.
 use Rattle.{
-  std.{proofs.{lemmas.{Option.{slice_get_within, get_or_from_slice_get}, List.{map-append, take_more, Folds.{list_any-append}}}, Common.{◌≡◌, ◌∙◌, ◌+◌, ap, refl, sym, ℕ, Bool, true, false, cond, ◌||◌, List, [], ◌∷◌, ◌++◌, map, take, slice_get, slice_index_or, Option, Some, None, if◌then◌else◌}}, specs.{Prelude.{codes}, List.{list_any}}},
+  std.{proofs.{lemmas.{Option.{slice_get_within, get_or_from_slice_get}, List.{map-append, take_more, Folds.{list_any-append}}}, Common.{rules, arith, ◌≡◌, ◌+◌, refl, ℕ, Bool, true, false, ◌||◌, List, [], ◌∷◌, ◌++◌, map, take, slice_get, slice_index_or, Option, Some, if◌then◌else◌}}, specs.{Prelude.{codes}, List.{list_any}}},
   indexmap.specs.IndexSet.{insert_key},
   cell_core.specs.{declared.cell.{Label.{Label}, TextId.{TextId}}, Texts.{AreDistinct, IsLonger}},
-  meaning.specs.{Text.{Text}, Cell.{LabelValue, text, label_datum}},
+  meaning.specs.{Text.{Text}, Cell.{LabelValue, label_datum}},
   table_meaning.specs.{Settled.{IsSettled}, Table.{NumberedTable, Table, table_value, heading_value}},
   form_meaning.specs.Select.{heading_at},
-  method_meaning.specs.{Levels.{label_cell}, Texts.{cell_text}, Rows.{all_places, places_besides}, Merge.{MergeKeys, with_suffix, is_key, suffixed_heading, right_places}},
+  method_meaning.specs.{Levels.{label_cell}, Texts.{cell_text}, Rows.{all_places, places_besides}, Merge.{MergeKeys, is_key, suffixed_heading, right_places}},
   frame_store.{specs.Shown.{headings_value}, proofs.Settling.{settled_later, seen_later, headings_part}},
   selections.{specs.{Headings.{same_heading}, Selected.{heading_of, headings_at}}, proofs.{HeadingLaws.{heading_decides, same_seen, head_settled, rest_settled}, PlaceLaws.{heading_seen, heading_settled}}},
   label_methods.proofs.{IndexingLaws.{headings_seen, headings_settled}, ResetLaws.{text_seen, text_settled}},
@@ -17,24 +17,18 @@ use Rattle.form_meaning.specs.Finish as finish
 
 -- one heading more in a set
 among : (q h : Option Label) (keys : List (Option Label)) → list_any (same_heading h) keys ≡ true → same_heading q h ≡ true → list_any (same_heading q) keys ≡ true
-among q h keys there same = ap (λ x. list_any (same_heading x) keys) ((heading_decides q h).0 same) ∙ there
+among q h keys there same = grind (arith, heading_decides)
 
 or_there : (a k : Bool) → (a ≡ true → k ≡ true) → k ≡ (k || (a || false))
-or_there true k there = there refl ∙ ap (λ b. b || true) (sym (there refl))
-or_there false true there = refl
-or_there false false there = refl
+or_there x k there = grind arith
 
 set_more : (q h : Option Label) (keys : List (Option Label)) → list_any (same_heading q) (insert_key same_heading keys h) ≡ (list_any (same_heading q) keys || (same_heading q h || false))
-set_more q h keys = go (list_any (same_heading h) keys) refl
-  where
-    go : (b : Bool) → list_any (same_heading h) keys ≡ b → list_any (same_heading q) (cond b keys (keys ++ h ∷ [])) ≡ (list_any (same_heading q) keys || (same_heading q h || false))
-    go true there = or_there _ _ (among q h _ there)
-    go false there = list_any-append _ keys _
+set_more q h keys = search (rules, or_there, among, list_any-append)
 
 pub one_more_among : (t : NumberedTable) (places : List ℕ) (k place : ℕ) (h : Option Label) (keys keys' : List (Option Label)) → slice_get places k ≡ Some place → h ≡ heading_of t place → keys' ≡ insert_key same_heading keys h
     → AreAmong keys (headings_at t (take k places)) → AreAmong keys' (headings_at t (take (k + 1) places))
 one_more_among t places k place h keys keys' at is put before = λ q.
-    let here : h ≡ heading_of t (slice_index_or places k 0) = is ∙ ap (heading_of t) (sym (get_or_from_slice_get places k place 0 at)) in
+    let here : h ≡ heading_of t (slice_index_or places k 0) = grind (arith, get_or_from_slice_get) in
     rw (put, set_more q h keys, before q, here, take_more places k 0 (slice_get_within places k place at), map-append, list_any-append)
 
 -- whether one of some headings is equal, by numbers and by texts
@@ -52,47 +46,35 @@ module _ (texts : List Text) (distinct : AreDistinct texts) (t other : NumberedT
   others = map (heading_at (table_value texts other)) places
 
   pub is_among : (h : Option Label) → IsSettled heading_value texts h → list_any (same_heading h) set ≡ list_any (finish.same_heading (heading_value texts h)) others
-  is_among h settled =
-      set_is h
-      ∙ any_seen _ h _ distinct settled (headings_settled _ other _ (headings_part _ _ there))
-      ∙ ap (list_any (finish.same_heading (heading_value texts h))) (headings_seen _ other _)
+  is_among h settled = cc (set_is h, any_seen _ h _ distinct settled (headings_settled _ other _ (headings_part _ _ there)), headings_seen _ other _)
 
   among_at : (place : ℕ) → list_any (same_heading (heading_of t place)) set ≡ list_any (finish.same_heading (heading_at T place)) others
-  among_at place =
-      is_among _ (heading_settled _ _ _ _ refl (headings_part _ t here))
-      ∙ ap (λ h. list_any (finish.same_heading h) others) (sym (heading_seen texts t.headings place))
+  among_at place = cc (is_among _ (heading_settled _ _ _ _ refl (headings_part _ t here)), heading_seen texts t.headings place)
 
   pub labels_are : (keys : List ℕ) (suffix : Text) (xs : List ℕ) → map (label_beside T t keys suffix set) xs ≡ map (λ place. if is_key keys place then heading_at T place else suffixed_heading suffix others (heading_at T place)) xs
-  labels_are keys suffix xs = λ i. map (λ place. if is_key keys place then heading_at T place else suffixed_if (among_at place i) suffix (heading_at T place)) xs
+  labels_are keys suffix xs = grind (arith, among_at)
 
 -- the label of a column that is a key, and of another
 module _ (texts : List Text) (t : NumberedTable) (keys : List ℕ) (suffix : Text) (others : List (Option Label)) (place : ℕ) (h : Option Label) (is : h ≡ heading_of t place) where
   seen_at : heading_value texts h ≡ heading_at (table_value texts t) place
-  seen_at = ap (heading_value texts) is ∙ sym (heading_seen texts t.headings place)
+  seen_at = grind (arith, heading_seen)
 
   abbrev label_by : Bool → Option LabelValue
   label_by b = if b then heading_at (table_value texts t) place else suffixed_if (list_any (same_heading (heading_of t place)) others) suffix (heading_at (table_value texts t) place)
 
   pub key_label : is_key keys place ≡ true → heading_value texts h ≡ label_beside (table_value texts t) t keys suffix others place
-  key_label key = seen_at ∙ ap label_by (sym key)
+  key_label key = cc seen_at
 
   pub other_label : is_key keys place ≡ false → suffixed_if (list_any (same_heading h) others) suffix (heading_value texts h) ≡ label_beside (table_value texts t) t keys suffix others place
-  other_label key = (λ i. suffixed_if (list_any (same_heading (is i)) others) suffix (seen_at i)) ∙ ap label_by (sym key)
+  other_label key = search seen_at
 
 -- a label with a suffix
 pub suffix_put : (old new : List Text) (heading : Option Label) (l : Label) (suffix words : Text) (id : TextId) (b : Bool) → b ≡ true → heading ≡ Some l → words ≡ cell_text (label_cell (label_datum old l)) ++ suffix → slice_get new id.0 ≡ Some words
     → heading_value new (Some (label.Text id)) ≡ suffixed_if b suffix (heading_value old heading)
-suffix_put old new heading l suffix words id b is headed same given =
-    ap Some (text_seen new id _ given)
-    ∙ ap (λ w. Some (text w)) same
-    ∙ ap (λ h. with_suffix suffix (heading_value old h)) (sym headed)
-    ∙ ap (λ t. suffixed_if t suffix (heading_value old heading)) (sym is)
-
-pub none_put : (old new : List Text) (heading : Option Label) (suffix : Text) (b : Bool) → b ≡ true → heading ≡ None → heading_value new None ≡ suffixed_if b suffix (heading_value old heading)
-none_put old new heading suffix b is headed = ap (λ h. with_suffix suffix (heading_value old h)) (sym headed) ∙ ap (λ t. suffixed_if t suffix (heading_value old heading)) (sym is)
+suffix_put old new heading l suffix words id b is headed same given = grind (arith, text_seen)
 
 pub text_given : (texts : List Text) (id : TextId) (words : Text) → slice_get texts id.0 ≡ Some words → IsSettled heading_value texts (Some (label.Text id))
-text_given texts id words given = λ more j. Some (text_settled texts id words given more j)
+text_given texts id words given = search text_settled
 
 -- the labels of some columns, one more of them
 module _ (first old new : List Text) (f : Table → ℕ → Option LabelValue) (t : NumberedTable) (places : List ℕ) (k place : ℕ) (h : Option Label) (labels labels' : List (Option Label)) (longer : IsLonger old new) (given : IsSettled headings_value old labels) (pushed : labels' ≡ labels ++ h ∷ []) where
@@ -101,8 +83,7 @@ module _ (first old new : List Text) (f : Table → ℕ → Option LabelValue) (
 
   pub one_more_label : slice_get places k ≡ Some place → IsLonger first old → IsSettled table_value first t → heading_value new h ≡ f (table_value old t) place
       → headings_value old labels ≡ map (f (table_value first t)) (take k places) → headings_value new labels' ≡ map (f (table_value first t)) (take (k + 1) places)
-  one_more_label at before settled is so_far =
-      rw (pushed, map-append, seen_later headings_value old new labels longer given, so_far, is, seen_later table_value first old t before settled, take_more places k 0 (slice_get_within places k place at), map-append, get_or_from_slice_get places k place 0 at)
+  one_more_label at before settled is so_far = grind (arith, pushed, map-append, seen_later headings_value old new labels longer given, seen_later table_value first old t before settled, take_more places k 0 (slice_get_within places k place at), get_or_from_slice_get places k place 0 at)
 
 -- the labels of both frames
 module _ (texts mid new : List Text) (l r : NumberedTable) (keys : MergeKeys) (distinct : AreDistinct texts) (of_left : IsSettled table_value texts l) (of_right : IsSettled table_value texts r) where

@@ -1,6 +1,6 @@
 -- The rows of two frames that have equal keys, with texts by number and with texts.
 use Rattle.{
-  std.{proofs.{Common.{◌≡◌, ◌∙◌, ◌<◌, ◌≤◌, ◌^◌, ap, refl, sym, subst, arith, ℕ, Bool, true, false, cond, List, [], ◌∷◌, ◌++◌, length, All, Option, Some, None, Result, Ok, Err, option_map, nat_lt}, lemmas.{Bool.Decides.{nat_tests}, List.{length-map, Elements.{All-nil, All-map}, FromFn.{length-range_with_len}}}}, specs.Prelude.{IfOk, IfSome}},
+  std.{proofs.{Common.{rules, ◌≡◌, ◌∙◌, ◌≤◌, ◌^◌, ap, refl, sym, subst, arith, ℕ, Bool, cond, List, [], ◌∷◌, ◌++◌, length, All, Option, Some, None, Result, Ok, Err, option_map}, lemmas.{Bool.Decides.{nat_tests}, List.{length-map, Elements.{All-map}, FromFn.{length-range_with_len}}}}, specs.Prelude.{IfOk, IfSome}},
   cell_core.specs.{declared.{cell.{Side.{Side}, Label.{Label}}, code.Code.TheVariants.{BadMerge}}, Texts.{AreDistinct}},
   meaning.specs.{Text.{Text}, Fault.{bad_merge}, FaultOf.{side_of}},
   column_core.specs.{Columns.{CellColumn}, Moves.{IsPlaceOf}},
@@ -10,27 +10,26 @@ use Rattle.{
   factorize.{specs.Keys.{column_keys, levels_of}, proofs.LabelLaws.{columns_alike}},
   align_meaning.proofs.OrderLaws.{all_append},
   join_meaning.specs.{declared.{How.{How}, Validate.{Validate}}, Pairs.{Pair, RepeatedKey, repeated_key, key_pairs, JoinRefusal, not_one_to_one, too_large, within_limit, joined}},
-  merge_concat.specs.{declared.{fault.MergeFault.{MergeFault}, pairs.Pairs.{Pairs}}, Pairs.{ArePairs, JoinsBy}, Joining.{IsJoinOf}},
+  merge_concat.specs.{declared.{fault.MergeFault.{MergeFault}, pairs.Pairs.{Pairs}}, Pairs.{JoinsBy}, Joining.{IsJoinOf}},
   table_meaning.specs.{Settled.{IsSettled}, Table.{NumberedTable, Table, table_value, tuple_value}, Value.{Entry}},
   form_meaning.specs.Infix.{same_tuple, tuple_before},
   form_parts.proofs.RowLaws.{tuple_by_number, tuples_settled},
   method_meaning.specs.{Groups.{row_keys}, Merge.{unless_twice}},
   frame_store.{specs.Shown.{labels_value, Refuses}, proofs.Settling.{settled_by}},
-  label_methods.{specs.Levels.{row_labels}, proofs.IndexingLaws.{all_rows, tuples_seen}},
+  label_methods.proofs.IndexingLaws.{all_rows, tuples_seen},
   key_columns.proofs.KeyLaws.{numbered_keys},
-  merge_forms.{specs.{declared.keys.MergeKeys.{MergeKeys}, Keys.{keys_value}, Rows.{repeated_in, pairs_in, met_result, AreRowsMet, MeetsBy, IsJoinFault}}, proofs.PairLaws.{pairs_seen, again_seen, again_keeps, repeated_seen}},
+  merge_forms.{specs.{declared.keys.MergeKeys.{MergeKeys}, Keys.{keys_value}, Rows.{repeated_in, pairs_in, met_result, AreRowsMet, MeetsBy}}, proofs.PairLaws.{pairs_seen, again_seen, again_keeps, repeated_seen}},
 }
 use Rattle.join_meaning.specs.Pairs as join
 use Rattle.merge_concat.specs.declared.fault.MergeFault.TheVariants as fault
 
 -- a label for each level
 alike : (levels : ℕ) (keys : List (List Label)) → HaveLevels levels keys → HaveLevels (levels_of keys) keys
-alike levels [] have = All-nil (λ tuple. length tuple ≡ 1)
-alike levels (key ∷ keys) have = rw (have 0 key (omega arith)) have
+alike levels x have = grind arith
 
 few_levels : (levels : ℕ) (keys : List (List Label)) → HaveLevels levels keys → levels ≤ 4 → levels_of keys ≤ 4
 few_levels levels [] have few = omega arith
-few_levels levels (key ∷ keys) have few = let same : length key ≡ levels = have 0 key (omega arith) in omega (arith, same, few)
+few_levels levels (key ∷ keys) have few = search rules
 
 module _ (of_left of_right : List CellColumn) (m n : ℕ) where
   abbrev both : List (List Label)
@@ -38,18 +37,8 @@ module _ (of_left of_right : List CellColumn) (m n : ℕ) where
 
   pub both_fit : (levels : ℕ) → length of_left ≡ levels → length of_right ≡ levels → levels ≤ 4 → HaveLevels (levels_of both) both × (levels_of both ≤ 4)
   both_fit levels lefts rights few =
-      let have : HaveLevels levels both =
-      all_append (λ tuple. length tuple ≡ levels) _ _
-      (subst (λ l. HaveLevels l (column_keys of_left m)) lefts (columns_alike _ m))
-      (subst (λ l. HaveLevels l (column_keys of_right n)) rights (columns_alike _ n)) in
-      (alike _ _ have, few_levels _ _ have few)
-
--- what is joined, and why nothing is
-few_of : (n : ℕ) → nat_lt (2 ^ 26) n ≡ false → n ≤ 2 ^ 26
-few_of n e = grind (arith, nat_tests)
-
-many_of : (n : ℕ) → nat_lt (2 ^ 26) n ≡ true → 2 ^ 26 < n
-many_of n e = grind (arith, nat_tests)
+      let have : HaveLevels levels both = search (all_append, columns_alike) in
+      search (alike, few_levels)
 
 module _ {K : Type 0} where
   abbrev limited : Bool → List Pair → Result (List Pair) (JoinRefusal K)
@@ -62,28 +51,10 @@ module _ {K : Type 0} where
   no_key = None
 
   joined_ok : (again : Option (RepeatedKey K)) (ps pairs : List Pair) → unless again (within_limit ps) ≡ Ok pairs → (again ≡ None) × (pairs ≡ ps) × (length ps ≤ 2 ^ 26)
-  joined_ok None ps pairs is = go (nat_lt (2 ^ 26) (length ps)) refl is
-    where
-      go : (b : Bool) → nat_lt (2 ^ 26) (length ps) ≡ b → limited b ps ≡ Ok pairs → (no_key ≡ None) × (pairs ≡ ps) × (length ps ≤ 2 ^ 26)
-      go true e made = cc
-      go false e made = let same : ps ≡ pairs = cc in (refl, sym same, few_of _ e)
-  joined_ok (Some k) ps pairs is = cc
-
-  joined_large : (again : Option (RepeatedKey K)) (ps : List Pair) → unless again (within_limit ps) ≡ Err too_large → (again ≡ None) × (2 ^ 26 < length ps)
-  joined_large None ps is = go (nat_lt (2 ^ 26) (length ps)) refl is
-    where
-      go : (b : Bool) → nat_lt (2 ^ 26) (length ps) ≡ b → limited b ps ≡ Err too_large → (no_key ≡ None) × (2 ^ 26 < length ps)
-      go true e made = (refl, many_of _ e)
-      go false e made = cc
-  joined_large (Some k) ps is = cc
+  joined_ok x ps pairs is = grind (arith, nat_tests)
 
   joined_twice : (again : Option (RepeatedKey K)) (ps : List Pair) (k : RepeatedKey K) → unless again (within_limit ps) ≡ Err (not_one_to_one k) → again ≡ Some k
-  joined_twice None ps k is = go (nat_lt (2 ^ 26) (length ps)) is
-    where
-      go : (b : Bool) → limited b ps ≡ Err (not_one_to_one k) → None ≡ Some k
-      go true made = cc
-      go false made = cc
-  joined_twice (Some x) ps k is = cc
+  joined_twice x1 ps k is = grind arith
 
 -- the join by numbers is the join by texts
 module _ (texts : List Text) (distinct : AreDistinct texts) (l r : NumberedTable) (of_left : IsSettled table_value texts l) (of_right : IsSettled table_value texts r) (keys : MergeKeys) (how : How) (once : Validate) where
@@ -106,7 +77,7 @@ module _ (texts : List Text) (distinct : AreDistinct texts) (l r : NumberedTable
   kr_settled = tuples_settled _ _ (settled_by table_value labels_value (λ v. row_keys v keys.right) texts r kr (λ ts. sym (tuples_seen _ r _)) of_right)
 
   equal : (x y : List Label) → IsSettled tuple_value texts x → IsSettled tuple_value texts y → same_tuple (tuple_value texts x) (tuple_value texts y) ≡ same_numbers x y
-  equal x y f g = tuple_by_number _ x y distinct f g
+  equal x y f g = search tuple_by_number
 
   abbrev again : Option (RepeatedKey (List Label))
   again = repeated_key same_numbers once kl kr
@@ -125,11 +96,11 @@ module _ (texts : List Text) (distinct : AreDistinct texts) (l r : NumberedTable
       ∙ again_seen _ _ _ _ equal _ _ _ kl_settled kr_settled
 
   none_again : again ≡ None → repeated_in once L R (keys_value keys) ≡ None
-  none_again is = again_is ∙ ap (option_map (repeated_seen (tuple_value texts))) is
+  none_again is = cc again_is
 
   twice : (side : Side) (key : List Label) → again ≡ Some record { side = side_of side; key = key } → (rest : Result Entry _) → Refuses texts (BadMerge side key) (unless_twice (repeated_in once L R (keys_value keys)) rest)
   twice side key is rest = (
-    ap (λ o. unless_twice o rest) (again_is ∙ ap (option_map (repeated_seen (tuple_value texts))) is),
+    grind (arith, again_is),
     λ more. ap (bad_merge (side_of side)) (subst (λ (o : Option (RepeatedKey (List Label))). IfSome o (λ k. IsSettled tuple_value texts k.key)) is (again_keeps _ _ _ _ _ kl_settled kr_settled) more),
   )
 
@@ -138,46 +109,33 @@ module _ (texts : List Text) (distinct : AreDistinct texts) (l r : NumberedTable
     by_numbers = joined same_numbers (tuple_less texts) how once lks rks
 
     by_rows : by_numbers ≡ joined same_numbers (tuple_less texts) how once kl kr
-    by_rows = λ i. joined same_numbers (tuple_less texts) how once (lks_are i) (rks_are i)
+    by_rows = search
 
     pub joins_meet : (made : Result Pairs MergeFault) → JoinsBy made by_numbers → MeetsBy texts (met_result made) (repeated_in once L R (keys_value keys)) (pairs_in how L R (keys_value keys))
     joins_meet (Ok made) is =
         let h = joined_ok _ _ _ (sym by_rows ∙ is.are) in
-        (none_again h.0, (subst (ArePairs made) (h.1 ∙ sym pairs_are) is.seen, subst (λ (ps : List Pair). length ps ≤ 2 ^ 26) (sym pairs_are) h.2))
+        (none_again h.0, search pairs_are)
     joins_meet (Err (fault.NotOneToOne side key)) is = twice _ _ (joined_twice _ _ _ (sym by_rows ∙ is))
     joins_meet (Err (fault.DuplicateLabels key)) is = absurd is
     joins_meet (Err fault.MixedKinds) is = absurd is
-    joins_meet (Err fault.TooLarge) is =
-        let h = joined_large _ _ (sym by_rows ∙ is) in
-        (none_again h.0, subst (λ (ps : List Pair). 2 ^ 26 < length ps) (sym pairs_are) h.1)
+    joins_meet (Err fault.TooLarge) is = grind (arith, nat_tests, by_rows, none_again, pairs_are)
     joins_meet (Err fault.NoMemory) is = tt
 
 -- the rows that are joined are those of their sides
 module _ (l r : NumberedTable) (keys : MergeKeys) (how : How) where
   rows_of : (t : NumberedTable) (places : List ℕ) → length (numbered_keys t places) ≡ length t.labels
-  rows_of t places = length-map (all_rows t) (row_labels t places) ∙ length-range_with_len 0 _
+  rows_of t places = search (length-map, all_rows, length-range_with_len)
 
   rows_met : (made : Pairs) → IsJoinOf same_numbers how (numbered_keys l keys.left) (numbered_keys r keys.right) made → AreRowsMet l r made
   rows_met made is =
-      let lefts = subst (λ n. All (λ (p : Pair). IsPlaceOf n p.left) is.pairs) (rows_of l _) is.join.left_rows in
-      let rights = subst (λ n. All (λ (p : Pair). IsPlaceOf n p.right) is.pairs) (rows_of r _) is.join.right_rows in
+      let lefts = subst (λ n. All (λ p. IsPlaceOf n p.left) is.pairs) (rows_of l _) is.join.left_rows in
+      let rights = subst (λ n. All (λ p. IsPlaceOf n p.right) is.pairs) (rows_of r _) is.join.right_rows in
       record {
-        left = rw is.seen.left (All-map (IsPlaceOf (length l.labels)) (λ (p : Pair). p.left) _ lefts);
-        right = rw is.seen.right (All-map (IsPlaceOf (length r.labels)) (λ (p : Pair). p.right) _ rights);
-        same = ap length is.seen.right ∙ length-map is.pairs _ ∙ sym (length-map is.pairs _) ∙ sym (ap length is.seen.left);
+        left = rw is.seen.left (All-map (IsPlaceOf (length l.labels)) (λ p. p.left) _ lefts);
+        right = rw is.seen.right (All-map (IsPlaceOf (length r.labels)) (λ p. p.right) _ rights);
+        same = grind (arith, length-map);
       }
 
   pub joins_inside : (lks rks : List (List Label)) → lks ≡ numbered_keys l keys.left → rks ≡ numbered_keys r keys.right → (made : Result Pairs MergeFault)
       → IfOk made (IsJoinOf same_numbers how lks rks) → IfOk (met_result made) (λ met. IfSome met (AreRowsMet l r))
-  joins_inside lks rks lks_are rks_are (Ok made) is =
-      rows_met _ (subst (λ ks. IsJoinOf same_numbers how (numbered_keys l keys.left) ks made) rks_are (subst (λ ks. IsJoinOf same_numbers how ks rks made) lks_are is))
-  joins_inside lks rks lks_are rks_are (Err (fault.NotOneToOne side key)) is = tt
-  joins_inside lks rks lks_are rks_are (Err why) is = tt
-
--- a join has no other fault
-pub join_faults : (made : Result Pairs MergeFault) (meant : Result (List Pair) (JoinRefusal (List Label))) → JoinsBy made meant → IsJoinFault made
-join_faults (Ok made) meant is = tt
-join_faults (Err (fault.NotOneToOne side key)) meant is = tt
-join_faults (Err (fault.DuplicateLabels key)) meant is = is
-join_faults (Err fault.MixedKinds) meant is = is
-join_faults made meant is = tt
+  joins_inside lks rks lks_are rks_are x is = grind (arith, rows_met)

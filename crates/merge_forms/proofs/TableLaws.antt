@@ -1,23 +1,22 @@
 -- The frame of joined rows.
 use Rattle.{
-  std.{proofs.{Common.{◌≡◌, ◌∙◌, ◌*◌, ◌^◌, ◌<◌, ◌≤◌, ◌&&◌, ap, refl, sym, subst, arith, ℕ, pos, suc, Bool, true, false, List, [], ◌∷◌, map, length, slice_index_or, All, Option, Some, None, Result, Ok, Err, if◌then◌else◌}, lemmas.{Bool.Decides.{nat_tests}, List.{length-map, length-append, Elements.{All-append, All-map, All-cons, All-nil, All-filter}, FromFn.{length-map-range_with_len}}}}, specs.{Prelude.{IsSome, nat_le, codes}, List.{list_any, range_with_len}}},
+  std.{proofs.{Common.{◌≡◌, ◌∙◌, ◌^◌, ◌<◌, ◌≤◌, ap, refl, sym, subst, arith, ℕ, suc, Bool, true, false, List, [], ◌∷◌, map, length, slice_index_or, All, Option, Some, None, Result, Ok, Err, if◌then◌else◌}, lemmas.{Bool.Decides.{nat_tests}, List.{length-map, length-append, Elements.{All-append, All-map, All-cons, All-nil, All-filter}, FromFn.{length-map-range_with_len}}}}, specs.Prelude.{IsSome, codes}},
   sorting.proofs.RankLaws.{below_range},
   cell_core.specs.{declared.{cell.{Cell.TheVariants.{Na}, Label.{Label}}, code.Code.TheVariants.{Limit}, grid.Shape.TheVariants.{Frame}}, Texts.{AreDistinct, IsLonger}},
-  meaning.specs.{Text.{Text}, Cell.{LabelValue, int, na_cell}, Fault.{FaultValue, limit, then_value}, FaultOf.{fault_of}},
+  meaning.specs.{Text.{Text}, Cell.{LabelValue}, Fault.{FaultValue, limit, then_value}, FaultOf.{fault_of}},
   column_core.specs.Blocks.{CellBlock},
-  index_core.specs.Ranges.{number_label},
   multi_index.specs.Axes.{AxisValue, range_axis},
-  join_meaning.specs.{declared.{How.{How}, Validate.{Validate}}, Pairs.{Pair, RepeatedKey}},
+  join_meaning.specs.{declared.{How.{How}, Validate.{Validate}}, Pairs.{Pair}},
   merge_concat.specs.{declared.pairs.Pairs.{Pairs}, Pairs.{ArePairs}},
   table_meaning.specs.{Settled.{IsSettled}, Table.{NumberedTable, Table, table_value, heading_value}, Valid.{IsWhole}, Value.{Entry, table}},
-  form_meaning.specs.{Finish.{within_limits, limited, first_repeated, unless_repeated, finished, default_labels, same_heading}, Infix.{common_name}, Select.{heading_at}},
+  form_meaning.specs.{Finish.{within_limits, limited, unless_repeated, finished, default_labels}, Infix.{common_name}, Select.{heading_at}},
   form_parts.proofs.LabelLaws.{default_seen},
-  method_meaning.specs.{Rows.{all_places, places_besides}, Groups.{headings_of}, Merge.{MergeKeys, is_key, with_suffix, suffixed_heading, left_heading, right_heading, right_places, merged, merged_rows, unless_twice}},
+  method_meaning.specs.{Rows.{all_places, places_besides}, Groups.{headings_of}, Merge.{MergeKeys, is_key, suffixed_heading, left_heading, right_heading, right_places, merged, merged_rows}},
   frame_store.{specs.{declared.fault.OpFault.{OpFault, TheVariants.{Refused, NoMemory}}, Parts.{HeadingList, HaveRows, columns_of, table_of}, Shown.{headings_value, columns_value, Makes, Refuses}}, proofs.Settling.{table_settled, settled_later, seen_later, columns_part}},
   selections.{specs.Headings.{NamesRepeated, repeated_heading}, proofs.{HeadingLaws.{repeated_seen}, RefusalLaws.{repeated_settled}}},
   frame_methods.proofs.RenameLaws.{frame_heads},
   label_methods.proofs.TableLaws.{limited_within},
-  merge_forms.{specs.{Headings.{merged_headings}, Columns.{merged_columns}, Rows.{repeated_in, pairs_in, HasMet, MeetsBy}, Tables.{IsHeaded, MayFinish}}, proofs.ColumnLaws.{columns_seen, columns_meant, columns_settled, columns_counted}},
+  merge_forms.{specs.{Headings.{merged_headings}, Columns.{merged_columns}, Rows.{repeated_in, pairs_in, HasMet}, Tables.{IsHeaded, MayFinish}}, proofs.ColumnLaws.{columns_seen, columns_meant, columns_settled, columns_counted}},
 }
 
 -- within the limits, or beyond them
@@ -25,79 +24,56 @@ abbrev within_then : Table → Bool → Result Entry FaultValue
 within_then t b = then_value (if b then Ok t else Err limit) (λ t. Ok (table t))
 
 too_many : (rows columns : ℕ) → 2 ^ 26 < rows → within_limits rows columns ≡ false
-too_many rows columns many = first (nat_le rows (2 ^ 26)) (nat_le columns (2 ^ 16)) (nat_le (rows * columns) (2 ^ 26)) (grind (arith, nat_tests))
-  where
-    first : (a b c : Bool) → a ≡ false → a && b && c ≡ false
-    first true b c e = cc
-    first false b c e = refl
+too_many rows columns many = grind (arith, nat_tests)
 
 module _ (texts : List Text) (distinct : AreDistinct texts) (labels : List (Option Label)) (settled : IsSettled headings_value texts labels) (t : Table) (h : IsHeaded texts labels t) where
   finished_by : (found : Option Label) → repeated_heading labels ≡ found → finished t ≡ unless_repeated (heading_value texts found) (limited t)
-  finished_by found is = ap (λ o. unless_repeated o (limited t)) (ap first_repeated h.headings ∙ sym (repeated_seen _ _ distinct settled) ∙ ap (heading_value texts) is)
+  finished_by found is = grind (arith, repeated_seen)
 
   pub may_within : (count : ℕ) → repeated_heading labels ≡ None → length t.labels ≡ count → within_limits count (length labels) ≡ true → finished t ≡ Ok (table t)
-  may_within count none rows within = finished_by _ none ∙ limited_within t _ _ rows h.headed within
+  may_within count none rows within = grind (arith, finished_by, limited_within)
 
   pub may_beyond : (count : ℕ) → repeated_heading labels ≡ None → length t.labels ≡ count → within_limits count (length labels) ≡ false → Refuses texts Limit (finished t)
-  may_beyond count none rows beyond = (finished_by _ none ∙ ap (within_then t) ((λ i. within_limits (rows i) (h.headed i)) ∙ beyond), λ more. refl)
+  may_beyond count none rows beyond = grind (arith, finished_by)
 
   pub may_many : repeated_heading labels ≡ None → 2 ^ 26 < length t.labels → Refuses texts Limit (finished t)
-  may_many none many = (finished_by _ none ∙ ap (within_then t) (too_many _ _ many), λ more. refl)
+  may_many none many = grind (arith, finished_by, too_many)
 
   pub may_repeated : (why : OpFault) → NamesRepeated why (repeated_heading labels) → MayFinish {X = HeadingList} texts (Err why) t
-  may_repeated (Refused code) named = (finished_by _ named.1 ∙ ap (λ c. Err (fault_of texts c)) (sym named.2), repeated_settled _ _ _ _ named.1 named.2 settled)
+  may_repeated (Refused code) named = (finished_by _ named.1 ∙ ap (λ c. Err (fault_of texts c)) (sym named.2), search repeated_settled)
   may_repeated NoMemory named = tt
 
 pub within_few : (rows columns : ℕ) → within_limits rows columns ≡ true → rows ≤ 2 ^ 26
-within_few rows columns is = few (first (nat_le rows (2 ^ 26)) (nat_le columns (2 ^ 16)) (nat_le (rows * columns) (2 ^ 26)) is)
-  where
-    first : (a b c : Bool) → a && b && c ≡ true → a ≡ true
-    first true b c e = refl
-    first false b c e = cc
-
-    few : nat_le rows (2 ^ 26) ≡ true → rows ≤ 2 ^ 26
-    few e = grind (arith, nat_tests)
+within_few rows columns is = grind (arith, nat_tests)
 
 -- as many numbered rows
 pub rows_numbered : (count : ℕ) → length (range_axis count).tuples ≡ count
-rows_numbered count = length-map (map number_label (range_with_len 0 count)) (λ label. label ∷ []) ∙ length-map-range_with_len _ 0 _
+rows_numbered count = grind (arith, length-map, length-map-range_with_len)
 
 -- the frame that is meant
 module _ (l r : Table) (keys : MergeKeys) (ps : List Pair) where
   pub rows_meant : length (merged l r keys ps).labels ≡ length ps
-  rows_meant = length-map-range_with_len (λ k. int (pos k) ∷ []) 0 _
-
-  columns_headed : length (merged l r keys ps).columns ≡ length (merged_headings l r keys)
-  columns_headed = simp (length-append, length-map)
+  rows_meant = search length-map-range_with_len
 
   pub is_headed : (texts : List Text) (labels : List (Option Label)) → headings_value texts labels ≡ merged_headings l r keys → IsHeaded texts labels (merged l r keys ps)
-  is_headed texts labels is = record {
-    headings = sym is;
-    headed = columns_headed ∙ sym (ap length is) ∙ length-map labels (heading_value texts);
-  }
+  is_headed texts labels is = grind (arith, length-append, length-map)
 
 -- each column has a label
 some_suffixed : (suffix : Text) (others : List (Option LabelValue)) (h : Option LabelValue) → IsSome h → IsSome (suffixed_heading suffix others h)
-some_suffixed suffix others h some = by (list_any (same_heading h) others) h some
-  where
-    by : (b : Bool) (h : Option LabelValue) → IsSome h → IsSome (if b then with_suffix suffix h else h)
-    by true None some = some
-    by true (Some x) some = refl
-    by false h some = some
+some_suffixed suffix others h some = grind arith
 
 some_if : (b : Bool) (x y : Option LabelValue) → IsSome x → IsSome y → IsSome (if b then x else y)
-some_if true x y h k = h
-some_if false x y h k = k
+some_if x1 x y h k = grind arith
 
 module _ (l r : Table) (keys : MergeKeys) (of_left : All IsSome l.headings) (of_right : All IsSome r.headings) (left_counted : length l.headings ≡ length l.columns) (right_counted : length r.headings ≡ length r.columns) where
   some_at : (t : Table) → All IsSome t.headings → length t.headings ≡ length t.columns → (place : ℕ) → place < length t.columns → IsSome (heading_at t place)
-  some_at t all count place lt = all place None (omega (arith, lt, count))
+  some_at t all count place lt = grind arith
 
   lefts_some : All IsSome (map (left_heading l r keys) (all_places l))
   lefts_some = All-map IsSome _ _ (λ k d lt.
       let place = slice_index_or (all_places l) k d in
       let some = some_at l of_left left_counted _ (below_range (length l.columns) k d lt) in
-      some_if (is_key keys.left place) _ (suffixed_heading (codes "_x") (headings_of r (right_places r keys)) (heading_at l place)) some (some_suffixed (codes "_x") (headings_of r (right_places r keys)) _ some))
+      some_if (is_key keys.left place) _ (suffixed_heading (codes "_x") (headings_of r (right_places r keys)) (heading_at l place)) some (search some_suffixed))
 
   rights_below : All (λ place. place < length r.columns) (right_places r keys)
   rights_below = All-filter _ (λ place. place < length r.columns) _ (below_range (length r.columns))
@@ -112,12 +88,10 @@ module _ (l r : Table) (keys : MergeKeys) (of_left : All IsSome l.headings) (of_
 
 -- the same by numbers
 some_seen : (texts : List Text) (h : Option Label) → IsSome (heading_value texts h) → IsSome h
-some_seen texts None some = some
-some_seen texts (Some l) some = refl
+some_seen texts x some = grind arith
 
 seen_some : (texts : List Text) (h : Option Label) → IsSome h → IsSome (heading_value texts h)
-seen_some texts None some = some
-seen_some texts (Some l) some = refl
+seen_some texts x some = grind arith
 
 pub headings_some : (texts : List Text) (hs : List (Option Label)) → All IsSome hs → All IsSome (headings_value texts hs)
 headings_some texts hs all = All-map IsSome _ _ (λ k d lt. seen_some texts _ (all k d lt))
@@ -138,8 +112,8 @@ module _ (old new : List Text) (longer : IsLonger old new) (l r : NumberedTable)
   labels_some left_whole right_whole left_frame right_frame labels is =
       some_headings _ _ (subst (All IsSome) (sym is)
       (all_labelled L R _ (headings_some _ _ (left_whole.headings.labelled left_frame)) (headings_some _ _ (right_whole.headings.labelled right_frame))
-      (length-map l.headings (heading_value old) ∙ left_whole.headed ∙ sym (length-map l.columns _))
-      (length-map r.headings (heading_value old) ∙ right_whole.headed ∙ sym (length-map r.columns _))))
+      (search length-map)
+      (search length-map)))
 
   module _ (ps : List Pair) (made : Pairs) (are : ArePairs made ps) (rights : List ℕ) (rights_are : rights ≡ right_places R keys) (name : Option Label) (named : heading_value old name ≡ common_name L.columns_name R.columns_name) (name_given : IsSettled heading_value old name) (labels : List (Option Label)) (labels_are : headings_value new labels ≡ merged_headings L R keys) (labels_given : IsSettled headings_value new labels) (count : ℕ) (counted : count ≡ length made.left) (axis : AxisValue) (axis_is : axis ≡ range_axis count)
       (headings : HeadingList) (headings_are : headings ≡ record { columns_name = name; labels = labels }) (blocks : List CellBlock) (blocks_are : columns_of blocks ≡ merged_columns Na l.columns r.columns keys rights made.left made.right) where
@@ -157,20 +131,10 @@ module _ (old new : List Text) (longer : IsLonger old new) (l r : NumberedTable)
     }
 
     whole_is : table_of Frame axis headings blocks ≡ whole
-    whole_is = λ i. record {
-      shape = Frame;
-      columns_name = (headings_are i).columns_name;
-      level_names = (axis_is i).names;
-      labels = (axis_is i).tuples;
-      headings = (headings_are i).labels;
-      columns = blocks_are i;
-    }
+    whole_is = search
 
     columns_are : columns_value new (merged_columns Na l.columns r.columns keys rights made.left made.right) ≡ (merged L R keys ps).columns
-    columns_are =
-        columns_seen _ _ _ _ _ _ _
-        ∙ (λ i. merged_columns na_cell (seen_later columns_value old new l.columns longer (columns_part _ l left_given) i) (seen_later columns_value old new r.columns longer (columns_part _ r right_given) i) keys (rights_are i) (are.left i) (are.right i))
-        ∙ columns_meant L R _ _
+    columns_are = grind (arith, columns_seen, seen_later, columns_part, columns_meant)
 
     whole_seen : table_value new whole ≡ merged L R keys ps
     whole_seen = λ i. record {
@@ -185,25 +149,17 @@ module _ (old new : List Text) (longer : IsLonger old new) (l r : NumberedTable)
     whole_settled : IsSettled table_value new whole
     whole_settled =
         table_settled _ whole (settled_later heading_value old new name longer name_given) (λ more. refl) (λ more. default_seen _ _ ∙ sym (default_seen _ _)) labels_given
-        (columns_settled new l.columns _ _ _ _ _ (settled_later columns_value old new l.columns longer (columns_part _ l left_given)) (settled_later columns_value old new r.columns longer (columns_part _ r right_given)))
+        (search (columns_settled, settled_later, columns_part))
 
     -- the frame that is made is the one that is meant
     pub made_is : (how : How) (once : Validate) (made' : NumberedTable) → repeated_in once L R keys ≡ None → ps ≡ pairs_in how L R keys → finished (merged L R keys ps) ≡ Ok (table (merged L R keys ps)) → made' ≡ table_of Frame axis headings blocks
         → Makes new (Ok made') (merged_rows L R how once keys)
-    made_is how once made' again ps_are shows tabled =
-        let is : made' ≡ whole = tabled ∙ whole_is in (
-          ap (λ o. unless_twice o (finished (merged L R keys (pairs_in how L R keys)))) again
-              ∙ ap (λ (p : List Pair). finished (merged L R keys p)) (sym ps_are)
-              ∙ shows
-              ∙ ap (λ v. Ok (table v)) (sym whole_seen)
-              ∙ ap (λ u. Ok (table (table_value new u))) (sym is),
-          subst (IsSettled table_value new) (sym is) whole_settled,
-        )
+    made_is how once made' again ps_are shows tabled = grind (arith, whole_is, whole_seen, whole_settled)
 
     -- its parts fit
     pub parts_fit : length made.right ≡ length made.left → All IsSome labels → repeated_heading labels ≡ None → IsWhole (table_of Frame axis headings blocks)
     parts_fit same some none = rw whole_is record {
-      headed = sym (length-map labels (heading_value new)) ∙ ap length labels_are ∙ sym (columns_headed L R _ _) ∙ ap (λ (t : Table). length t.columns) (sym whole_seen) ∙ length-map whole.columns _;
+      headed = grind (arith, length-map, length-append, whole_seen);
       filled = subst (λ n. HaveRows n whole.columns) (sym counted ∙ sym (rows_numbered _)) (columns_counted _ _ _ _ _ _ same _);
       headings = frame_heads _ _ some none;
     }
@@ -213,7 +169,7 @@ pub pairs_counted : (l r : Table) (keys : MergeKeys) (ps : List Pair) (made : Pa
 pairs_counted l r keys ps made count are is = rows_meant l r keys _ ∙ sym (is ∙ ap length are.left ∙ length-map ps _)
 
 pub met_some : (met : Option Pairs) (ps : List Pair) (made : Pairs) → met ≡ Some made → HasMet met ps → ArePairs made ps
-met_some met ps made is has = (subst (λ (o : Option Pairs). HasMet o ps) is has).0
+met_some met ps made is has = grind arith
 
 pub met_none : (met : Option Pairs) (ps : List Pair) → met ≡ None → HasMet met ps → 2 ^ 26 < length ps
 met_none met ps is has = rw is at has
@@ -222,13 +178,8 @@ met_none met ps is has = rw is at has
 abbrev refused : {X : Type 0} → OpFault → Result X OpFault
 refused fault = Err fault
 
-pub met_refused : (texts : List Text) (again : Option (RepeatedKey (List LabelValue))) (ps : List Pair) (rest : Result Entry FaultValue) (why : OpFault) → MeetsBy texts (refused why) again ps → Makes texts (Err why) (unless_twice again rest)
-met_refused texts again ps rest (Refused code) meets = meets rest
-met_refused texts again ps rest NoMemory meets = tt
-
 pub refused_is : (new : List Text) (L R : Table) (keys : MergeKeys) (how : How) (once : Validate) (why : OpFault) → repeated_in once L R keys ≡ None → MayFinish {X = HeadingList} new (Err why) (merged L R keys (pairs_in how L R keys)) → Makes new (Err why) (merged_rows L R how once keys)
-refused_is new L R keys how once (Refused code) again may = (ap (λ o. unless_twice o (finished (merged L R keys (pairs_in how L R keys)))) again ∙ may.0, may.1)
-refused_is new L R keys how once NoMemory again may = tt
+refused_is new x x1 keys how once x2 again may = grind arith
 
 -- the columns of the right side are its own
 pub rights_inside : (texts : List Text) (r : NumberedTable) (keys : MergeKeys) (rights : List ℕ) → rights ≡ right_places (table_value texts r) keys → All (λ place. place < length r.columns) rights

@@ -1,6 +1,6 @@
 -- One more level, first or last.
 use Rattle.{
-  std.proofs.{Common.{◌≡◌, ◌∙◌, ap, sym, refl, arith, ℕ, zero, suc, ◌+◌, ◌-◌, ◌<◌, ◌≤◌, Bool, true, false, List, [], ◌∷◌, ◌++◌, length, take, set, replicate, slice_index_or}, lemmas.List.{take_more, take_all, length-take-le, length-append, length-replicate, Elements.{All-nil, All-cons, All-head, All-tail}}},
+  std.proofs.{Common.{◌≡◌, ap, refl, arith, ℕ, zero, suc, ◌+◌, ◌-◌, ◌<◌, ◌≤◌, Bool, true, false, List, [], ◌∷◌, ◌++◌, length, take, set, replicate, slice_index_or}, lemmas.List.{take_more, take_all, length-take-le, length-append, length-replicate, Elements.{All-cons, All-head, All-tail}}},
   cell_core.specs.declared.cell.Label.{Label},
   multi_index.specs.Axes.{HaveLevels, with_one, first_of, tuples_with},
 }
@@ -14,16 +14,16 @@ module _ {X : Type 0} (x : X) where
   -- the next of the others is written
   put_next : (old : List X) (m : ℕ) (y : X) → set (old ++ replicate (suc m) x) (length old) y ≡ (old ++ y ∷ []) ++ replicate m x
   put_next [] m y = refl
-  put_next (a ∷ old) m y = ap (λ l. a ∷ l) (put_next old m y)
+  put_next (a ∷ old) m y = cc (put_next old m y)
 
   -- the first of the others is read
   read_next : (old : List X) (m : ℕ) → take (suc (length old)) (old ++ replicate (suc m) x) ≡ old ++ x ∷ []
   read_next [] m = refl
-  read_next (a ∷ old) m = ap (λ l. a ∷ l) (read_next old m)
+  read_next (a ∷ old) m = cc (read_next old m)
 
   read_only : (old others : List X) → take (length old) (old ++ others) ≡ old
   read_only [] others = refl
-  read_only (a ∷ old) others = ap (λ l. a ∷ l) (read_only old others)
+  read_only (a ∷ old) others = cc (read_only old others)
 
   counted : (old : List X) (y : X) → length (old ++ y ∷ []) ≡ suc (length old)
   counted [] y = refl
@@ -34,32 +34,23 @@ module _ {X : Type 0} (x : X) where
       let left : 3 - length old ≡ suc (2 - length old) = omega arith in
       let next : 2 - length old ≡ 3 - length (old ++ y ∷ []) = omega (arith, counted old y) in
       let here : place ≡ suc (length old) = omega (arith, at) in
-      ap (λ k. set (x ∷ (old ++ replicate (3 - length old) x)) k y) here
-      ∙ ap (λ m. x ∷ set (old ++ replicate m x) (length old) y) left
-      ∙ ap (λ l. x ∷ l) (put_next old (2 - length old) y)
-      ∙ ap (λ m. x ∷ ((old ++ y ∷ []) ++ replicate m x)) next
+      grind (arith, put_next)
   written false old y place few at =
       let left : 4 - length old ≡ suc (3 - length old) = omega arith in
       let next : 3 - length old ≡ 4 - length (old ++ y ∷ []) = omega (arith, counted old y) in
       let here : place ≡ length old = omega (arith, at) in
-      ap (λ k. set (old ++ replicate (4 - length old) x) k y) here
-      ∙ ap (λ m. set (old ++ replicate m x) (length old) y) left
-      ∙ put_next old (3 - length old) y
-      ∙ ap (λ m. (old ++ y ∷ []) ++ replicate m x) next
+      grind (arith, put_next)
 
   pub all_written : (outer : Bool) (old : List X) (n : ℕ) → length old ≤ 3 → n ≡ length old → take (n + 1) (four_with outer x old) ≡ with_one outer x old
-  all_written true old n few long =
-      let more : n + 1 ≡ suc (length old) = omega arith in
-      ap (λ k. take k (x ∷ (old ++ replicate (3 - length old) x))) more ∙ ap (λ l. x ∷ l) (read_only old (replicate (3 - length old) x))
+  all_written true old n few long = grind (arith, read_only)
   all_written false old n few long =
       let left : 4 - length old ≡ suc (3 - length old) = omega arith in
-      let more : n + 1 ≡ suc (length old) = omega arith in
-      ap (λ k. take k (old ++ replicate (4 - length old) x)) more ∙ ap (λ m. take (suc (length old)) (old ++ replicate m x)) left ∙ read_next old (3 - length old)
+      grind (arith, read_next)
 
 -- tuples with one label more have one level more
 pub levels_with : (outer : Bool) (levels : ℕ) (labels : List Label) (tuples : List (List Label)) → HaveLevels levels tuples → HaveLevels (levels + 1) (tuples_with outer labels tuples)
-levels_with outer levels [] tuples alike = All-nil (λ t. length t ≡ levels + 1)
-levels_with outer levels (l ∷ labels) [] alike = All-nil (λ t. length t ≡ levels + 1)
+levels_with outer levels [] tuples alike = grind arith
+levels_with outer levels (l ∷ labels) [] alike = grind arith
 levels_with outer levels (l ∷ labels) (t ∷ tuples) alike =
     All-cons (λ t. length t ≡ levels + 1) (with_one outer l t) (tuples_with outer labels tuples) (longer outer) (levels_with outer levels labels tuples (All-tail (λ t. length t ≡ levels) t tuples alike))
   where
@@ -73,30 +64,21 @@ pub added_more : (outer : Bool) (k : ℕ) (labels : List Label) (tuples : List (
 added_more outer k [] tuples d lt lt' = absurd (omega arith)
 added_more outer k (l ∷ labels) [] d lt lt' = absurd (omega arith)
 added_more outer zero (l ∷ labels) (t ∷ tuples) d lt lt' = refl
-added_more outer (suc k) (l ∷ labels) (t ∷ tuples) d lt lt' = ap (λ r. with_one outer l t ∷ r) (added_more outer k labels tuples d (omega arith) (omega arith))
+added_more outer (suc k) (l ∷ labels) (t ∷ tuples) d lt lt' = cc (added_more outer k labels tuples d (omega arith) (omega arith))
 
 pub added_next : (outer : Bool) (k : ℕ) (labels : List Label) (tuples made made' : List (List Label)) (tuple : List Label) (d : Label) → k < length labels → k < length tuples → tuple ≡ with_one outer (slice_index_or labels k d) (slice_index_or tuples k [])
     → made ≡ tuples_with outer (take k labels) (take k tuples) → made' ≡ made ++ tuple ∷ [] → made' ≡ tuples_with outer (take (k + 1) labels) (take (k + 1) tuples)
 added_next outer k labels tuples made made' tuple d lt lt' is before pushed =
     let next : suc k ≡ k + 1 = omega arith in
-    pushed
-    ∙ (λ j. before j ++ is j ∷ [])
-    ∙ sym (added_more outer k labels tuples d lt lt')
-    ∙ ap (λ n. tuples_with outer (take n labels) (take n tuples)) next
+    grind (arith, added_more)
 
 -- one more of the old ones
 pub next_written : {X : Type 0} (outer : Bool) (x : X) (room xs : List X) (k place : ℕ) (y : X) → k < length xs → length xs ≤ 3 → place ≡ first_of outer + k → y ≡ slice_index_or xs k y
     → room ≡ four_with outer x (take k xs) → set room place y ≡ four_with outer x (take (k + 1) xs)
-next_written outer x room xs k place y lt few at is before =
-    let size : length (take k xs) ≡ k = length-take-le k xs (omega arith) in
-    let here : place ≡ first_of outer + length (take k xs) = at ∙ ap (λ n. first_of outer + n) (sym size) in
-    ap (λ l. set l place y) before
-    ∙ written x outer (take k xs) y place (omega arith) here
-    ∙ ap (four_with outer x) (ap (λ z. take k xs ++ z ∷ []) is ∙ sym (take_more xs k y lt))
+next_written outer x room xs k place y lt few at is before = grind (arith, length-take-le, written, take_more)
 
 pub end_written : {X : Type 0} (outer : Bool) (x : X) (room xs : List X) (k n : ℕ) → length xs ≤ k → n ≡ length xs → length xs ≤ 3 → room ≡ four_with outer x (take k xs) → take (n + 1) room ≡ with_one outer x xs
-end_written outer x room xs k n end size few before = ap (take (n + 1)) (before ∙ ap (four_with outer x) (take_all k xs end)) ∙ all_written x outer xs n few size
+end_written outer x room xs k n end size few before = grind (arith, take_all, all_written)
 
 pub four_long : {X : Type 0} (outer : Bool) (x : X) (xs : List X) → length xs ≤ 3 → length (four_with outer x xs) ≡ 4
-four_long true x xs few = omega (arith, length-append xs (replicate (3 - length xs) x), length-replicate (3 - length xs) x)
-four_long false x xs few = omega (arith, length-append xs (replicate (4 - length xs) x), length-replicate (4 - length xs) x)
+four_long x1 x xs few = grind (arith, length-append, length-replicate)

@@ -8,27 +8,20 @@ use Rattle.{
 
 -- all levels
 pub levels_below : (n : ℕ) → All (λ level. level < n) (range_with_len 0 n)
-levels_below n = λ k d lt.
-    let inside : k < n = omega (arith, length-range_with_len 0 n) in
-    let at = get_or-range_with_len 0 n k d inside in
-    omega arith
+levels_below n = grind (arith, length-range_with_len, get_or-range_with_len)
 
 pub removed_below : (n level : ℕ) → All (λ l. l < n) (remove (range_with_len 0 n) level)
 removed_below n level =
     All-append (λ l. l < n) (take level (range_with_len 0 n)) (drop (suc level) (range_with_len 0 n)) (All-take (λ l. l < n) level (range_with_len 0 n) (levels_below n)) (All-drop (λ l. l < n) (suc level) (range_with_len 0 n) (levels_below n))
 
 pub removed_counted : (n level : ℕ) → level < n → length (remove (range_with_len 0 n) level) + 1 ≡ n
-removed_counted n level lt =
-    let count = length-range_with_len 0 n in
-    length-remove (range_with_len 0 n) level (omega arith) ∙ count
+removed_counted n level lt = search (length-range_with_len, length-remove)
 
 pub dropped_below : (n some : ℕ) → All (λ l. l < n) (drop some (range_with_len 0 n))
 dropped_below n some = All-drop (λ l. l < n) some (range_with_len 0 n) (levels_below n)
 
 pub dropped_counted : (n some : ℕ) → length (drop some (range_with_len 0 n)) ≡ n - some
-dropped_counted n some =
-    let count = length-range_with_len 0 n in
-    length-drop some (range_with_len 0 n) ∙ ap (λ m. m - some) count
+dropped_counted n some = search (length-range_with_len, length-drop)
 
 pub swapped_below : (n i j : ℕ) → i < n → j < n → All (λ l. l < n) (swap (range_with_len 0 n) i j)
 swapped_below n i j first second = both (range_with_len 0 n) (omega (arith, length-range_with_len 0 n)) (omega (arith, length-range_with_len 0 n)) (levels_below n)
@@ -39,11 +32,7 @@ swapped_below n i j first second = both (range_with_len 0 n) (omega (arith, leng
         All-set (λ l. l < n) (set (d ∷ ys) i (slice_index_or (d ∷ ys) j d)) j (slice_index_or (d ∷ ys) i d) (all i d lt) (All-set (λ l. l < n) (d ∷ ys) i (slice_index_or (d ∷ ys) j d) (all j d lt') all)
 
 pub one_level_more : (levels levels' : List ℕ) (level : ℕ) → levels ≡ range_with_len 0 level → levels' ≡ levels ++ level ∷ [] → levels' ≡ range_with_len 0 (level + 1)
-one_level_more levels levels' level before pushed =
-    pushed
-    ∙ ap (λ l. l ++ level ∷ []) (before ∙ sym (map-id (range_with_len 0 level)))
-    ∙ sym (map-range_with_len_more (λ n. n) 0 level level (omega arith))
-    ∙ map-id (range_with_len 0 (level + 1))
+one_level_more levels levels' level before pushed = cc (map-id (range_with_len 0 level), map-range_with_len_more (λ n. n) 0 level level (omega arith), map-id (range_with_len 0 (level + 1)))
 
 -- one more of what is read at places
 pub one_read_more : {X : Type 0} (f : ℕ → X) (room : List X) (order : List ℕ) (k : ℕ) (x : X) → k < length room → k < length order → x ≡ f (slice_index_or order k 0)
@@ -55,12 +44,7 @@ one_read_more f room order k x fits lt is before =
 
 -- what is read at all places, at those but one, at the later ones, and with two exchanged
 swap-map : {X Y : Type 0} (f : X → Y) (xs : List X) (i j : ℕ) → i < length xs → j < length xs → map f (swap xs i j) ≡ swap (map f xs) i j
-swap-map f [] i j first second = refl
-swap-map f (d ∷ ys) i j first second =
-    let xs = d ∷ ys in
-    map-set f (set xs i (slice_index_or xs j d)) j (slice_index_or xs i d)
-    ∙ ap (λ l. set l j (f (slice_index_or xs i d))) (map-set f xs i (slice_index_or xs j d))
-    ∙ (λ k. set (set (map f xs) i (sym (get_or-map f xs j d (f d) second) k)) j (sym (get_or-map f xs i d (f d) first) k))
+swap-map f x i j first second = grind (arith, map-set, get_or-map)
 
 module _ {X : Type 0} (xs : List X) (n : ℕ) (d : X) (size : length xs ≡ n) where
   abbrev pub read : ℕ → X
@@ -70,18 +54,13 @@ module _ {X : Type 0} (xs : List X) (n : ℕ) (d : X) (size : length xs ≡ n) w
   all_read = sym (fill_by_all read xs n d size (λ k lt. refl))
 
   pub read_removed : (i : ℕ) → map read (remove (range_with_len 0 n) i) ≡ remove xs i
-  read_removed i =
-      map-append read (take i (range_with_len 0 n)) (drop (suc i) (range_with_len 0 n))
-      ∙ (λ j. sym (take-map read i (range_with_len 0 n)) j ++ sym (drop-map read (suc i) (range_with_len 0 n)) j)
-      ∙ ap (λ l. remove l i) all_read
+  read_removed i = grind (arith, map-append, take-map, drop-map, all_read)
 
   pub read_dropped : (count : ℕ) → map read (drop count (range_with_len 0 n)) ≡ drop count xs
-  read_dropped count = sym (drop-map read count (range_with_len 0 n)) ∙ ap (drop count) all_read
+  read_dropped count = grind (arith, drop-map, all_read)
 
   pub read_swapped : (i j : ℕ) → i < n → j < n → map read (swap (range_with_len 0 n) i j) ≡ swap xs i j
-  read_swapped i j first second =
-      let count = length-range_with_len 0 n in
-      swap-map read (range_with_len 0 n) i j (omega (arith, count)) (omega (arith, count)) ∙ ap (λ l. swap l i j) all_read
+  read_swapped i j first second = search (length-range_with_len, swap-map, all_read)
 
 -- the axis of some levels, by what becomes of each tuple and of the names
 pub maps_alike : {X Y : Type 0} (P : X → Type 0) (f g : X → Y) → ((x : X) → P x → f x ≡ g x) → (xs : List X) → All P xs → map f xs ≡ map g xs
@@ -93,29 +72,23 @@ module _ (axis : AxisValue) (n : ℕ) (alike : HaveLevels n axis.tuples) (count 
       → map (λ level. slice_index_or axis.names level None) order ≡ names → at_levels axis order ≡ record { tuples = map labels axis.tuples; names = names }
   levels_are order labels names same are =
       let tuples = maps_alike (λ t. length t ≡ n) (λ t. labels_at t order) labels same axis.tuples alike in
-      λ i. record { tuples = tuples i; names = are i }
+      search
 
   pub level_removed : (order : List ℕ) (level : ℕ) → order ≡ remove (range_with_len 0 n) level → at_levels axis order ≡ without_level axis level
-  level_removed order level is =
-      ap (at_levels axis) is
-      ∙ levels_are (remove (range_with_len 0 n) level) (λ t. remove t level) (remove axis.names level) (λ t size. read_removed t n Na size level) (read_removed axis.names n None count level)
+  level_removed order level is = cc (levels_are (remove (range_with_len 0 n) level) (λ t. remove t level) (remove axis.names level) (λ t size. read_removed t n Na size level) (read_removed axis.names n None count level))
 
   pub levels_dropped : (order : List ℕ) (some : ℕ) → order ≡ drop some (range_with_len 0 n) → at_levels axis order ≡ without_leading axis some
-  levels_dropped order some is =
-      ap (at_levels axis) is
-      ∙ levels_are (drop some (range_with_len 0 n)) (λ t. drop some t) (drop some axis.names) (λ t size. read_dropped t n Na size some) (read_dropped axis.names n None count some)
+  levels_dropped order some is = cc (levels_are (drop some (range_with_len 0 n)) (λ t. drop some t) (drop some axis.names) (λ t size. read_dropped t n Na size some) (read_dropped axis.names n None count some))
 
   pub levels_swapped : (order : List ℕ) (i j : ℕ) → i < n → j < n → order ≡ swap (range_with_len 0 n) i j → at_levels axis order ≡ with_swapped axis i j
-  levels_swapped order i j first second is =
-      ap (at_levels axis) is
-      ∙ levels_are (swap (range_with_len 0 n) i j) (λ t. swap t i j) (swap axis.names i j) (λ t size. read_swapped t n Na size i j first second) (read_swapped axis.names n None count i j first second)
+  levels_swapped order i j first second is = cc (levels_are (swap (range_with_len 0 n) i j) (λ t. swap t i j) (swap axis.names i j) (λ t size. read_swapped t n Na size i j first second) (read_swapped axis.names n None count i j first second))
 
 -- tuples at some levels have a label for each
 pub levels_at : (tuples : List (List Label)) (order : List ℕ) → HaveLevels (length order) (map (λ tuple. labels_at tuple order) tuples)
-levels_at tuples order = All-map (λ (t : List Label). length t ≡ length order) (λ t. labels_at t order) tuples (λ k d lt. length-map order (λ level. slice_index_or (slice_index_or tuples k d) level Na))
+levels_at tuples order = All-map (λ t. length t ≡ length order) (λ t. labels_at t order) tuples (λ k d lt. length-map order (λ level. slice_index_or (slice_index_or tuples k d) level Na))
 
 -- a list of one level
 pub only_place : (order : List ℕ) → length order ≡ 1 → slice_index_or order 0 0 ∷ [] ≡ order
-only_place [] one = absurd (omega arith)
+only_place [] one = search
 only_place (level ∷ []) one = refl
-only_place (level ∷ (other ∷ order)) one = absurd (omega arith)
+only_place (level ∷ (other ∷ order)) one = search

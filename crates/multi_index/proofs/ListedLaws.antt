@@ -1,9 +1,9 @@
 -- Leading labels in a list of tuples, and slices of tuples in order.
 use Rattle.{
-  std.{proofs.{Common.{◌≡◌, ◌∙◌, ap, sym, refl, arith, ℕ, zero, suc, ◌+◌, ◌<◌, ◌≤◌, ◌==◌, Bool, true, false, not, ◌&&◌, List, [], ◌∷◌, length, drop, slice_index_or, Option, Some, Ok}, lemmas.{Bool.Decides.{nat_tests}, List.{drop_more, drop_all}}}, specs.{Ordering.{is_lt, is_gt, ordering_then}, declared.cmp.Ordering.{Ordering, TheVariants.{Less, Equal, Greater}}}},
+  std.{proofs.{Common.{◌≡◌, ◌∙◌, ap, sym, refl, arith, ℕ, zero, suc, ◌+◌, ◌<◌, ◌≤◌, Bool, true, false, not, ◌&&◌, List, [], ◌∷◌, length, drop, slice_index_or, Option, Some, Ok}, lemmas.{Bool.Decides.{nat_tests}, List.{drop_more, drop_all}}}, specs.{Ordering.{is_lt, is_gt, ordering_then}, declared.cmp.Ordering.{Ordering, TheVariants.{Less, Equal, Greater}}}},
   cell_core.specs.declared.{cell.Label.{Label}, grid.Rows.{Rows}},
   meaning.specs.Text.{Text},
-  pick_meaning.{specs.{Leading.{leads, leading_cmp}, Rows.{rows_of, rows_between}, Slices.{is_in_order, reaches, stays_within, sorted_slice, label_slice, unfound_slice, leading_slice, slice_on}}, proofs.{OrderLaws.{sorted_in_order}, LeadingLaws.{leading_below, leading_within}, RowLaws.{when_so, when_not}}},
+  pick_meaning.{specs.{Leading.{leads, leading_cmp}, Rows.{rows_of, rows_between}, Slices.{is_in_order, reaches, stays_within, label_slice, leading_slice, slice_on}}, proofs.{OrderLaws.{sorted_in_order}, LeadingLaws.{leading_below, leading_within}, RowLaws.{when_so, when_not}}},
   index_core.{specs.{Labels.{order_in}, Splits.{IsSplitAt}}, proofs.SplitLaws.{order_total, rows_of_splits, split_at_first}},
 }
 
@@ -11,40 +11,33 @@ use Rattle.{
 module _ {L : Type 0} (same : L → L → Bool) where
   leads_both : (key tuple : List L) (level : ℕ) (d : L) → level < length key → level < length tuple
       → leads same (drop level key) (drop level tuple) ≡ (same (slice_index_or key level d) (slice_index_or tuple level d) && leads same (drop (level + 1) key) (drop (level + 1) tuple))
-  leads_both key tuple level d lt inside = λ j. leads same (drop_more key level d lt j) (drop_more tuple level d inside j)
+  leads_both key tuple level d lt inside = grind (arith, drop_more)
 
   pub leads_more : (key tuple : List L) (level : ℕ) (d : L) (whole : Bool) → level < length key → level < length tuple → same (slice_index_or key level d) (slice_index_or tuple level d) ≡ true
       → leads same (drop level key) (drop level tuple) ≡ whole → leads same (drop (level + 1) key) (drop (level + 1) tuple) ≡ whole
-  leads_more key tuple level d whole lt inside is before =
-      ap (λ b. b && leads same (drop (level + 1) key) (drop (level + 1) tuple)) (sym is) ∙ sym (leads_both key tuple level d lt inside) ∙ before
+  leads_more key tuple level d whole lt inside is before = cc (leads_both key tuple level d lt inside)
 
   pub leads_not : (key tuple : List L) (level : ℕ) (d : L) (whole : Bool) → level < length key → level < length tuple → same (slice_index_or key level d) (slice_index_or tuple level d) ≡ false
       → leads same (drop level key) (drop level tuple) ≡ whole → false ≡ whole
-  leads_not key tuple level d whole lt inside is before =
-      ap (λ b. b && leads same (drop (level + 1) key) (drop (level + 1) tuple)) (sym is) ∙ sym (leads_both key tuple level d lt inside) ∙ before
+  leads_not key tuple level d whole lt inside is before = cc (leads_both key tuple level d lt inside)
 
   pub leads_all : (key tuple : List L) (level : ℕ) (whole : Bool) → length key ≤ level → leads same (drop level key) (drop level tuple) ≡ whole → true ≡ whole
-  leads_all key tuple level whole all before = ap (λ l. leads same l (drop level tuple)) (sym (drop_all level key all)) ∙ before
+  leads_all key tuple level whole all before = grind (arith, drop_all)
 
   pub leads_short : (key tuple : List L) → length tuple < length key → false ≡ leads same key tuple
   leads_short [] tuple lt = absurd (omega arith)
   leads_short (k ∷ key) [] lt = refl
-  leads_short (k ∷ key) (l ∷ tuple) lt = both_not (same k l) (leads same key tuple) (leads_short key tuple (omega arith))
-    where
-      both_not : (a b : Bool) → false ≡ b → false ≡ (a && b)
-      both_not true b e = e
-      both_not false b e = refl
+  leads_short (k ∷ key) (l ∷ tuple) lt = grind (arith, leads_short key tuple (omega arith))
 
 -- a bound, one label more at a time
 module _ {L : Type 0} (cmp : L → L → Ordering) where
   stands_both : (tuple bound : List L) (level : ℕ) (d : L) → level < length tuple → level < length bound
       → leading_cmp cmp (drop level tuple) (drop level bound) ≡ ordering_then (cmp (slice_index_or tuple level d) (slice_index_or bound level d)) (leading_cmp cmp (drop (level + 1) tuple) (drop (level + 1) bound))
-  stands_both tuple bound level d inside lt = λ j. leading_cmp cmp (drop_more tuple level d inside j) (drop_more bound level d lt j)
+  stands_both tuple bound level d inside lt = grind (arith, drop_more)
 
   pub stands_on : (tuple bound : List L) (level : ℕ) (d : L) (whole : Ordering) → level < length tuple → level < length bound → cmp (slice_index_or tuple level d) (slice_index_or bound level d) ≡ Equal
       → leading_cmp cmp (drop level tuple) (drop level bound) ≡ whole → leading_cmp cmp (drop (level + 1) tuple) (drop (level + 1) bound) ≡ whole
-  stands_on tuple bound level d whole inside lt is before =
-      ap (λ o. ordering_then o (leading_cmp cmp (drop (level + 1) tuple) (drop (level + 1) bound))) (sym is) ∙ sym (stands_both tuple bound level d inside lt) ∙ before
+  stands_on tuple bound level d whole inside lt is before = cc (stands_both tuple bound level d inside lt)
 
   pub stands_apart : (tuple bound : List L) (level : ℕ) (d : L) (order whole : Ordering) → level < length tuple → level < length bound → order ≡ cmp (slice_index_or tuple level d) (slice_index_or bound level d) → (order ≡ Equal → ⊥)
       → leading_cmp cmp (drop level tuple) (drop level bound) ≡ whole → order ≡ whole
@@ -72,22 +65,14 @@ module _ {L : Type 0} (cmp : L → L → Ordering) where
       left (b ∷ bs) (suc k) lt = left bs k (omega arith)
 
   pub stands_equal : (tuple bound : List L) (level : ℕ) (whole : Ordering) → length bound ≤ level → leading_cmp cmp (drop level tuple) (drop level bound) ≡ whole → Equal ≡ whole
-  stands_equal tuple bound level whole all before = sym (no_bound (drop level tuple)) ∙ ap (leading_cmp cmp (drop level tuple)) (sym (drop_all level bound all)) ∙ before
-    where
-      no_bound : (t : List L) → leading_cmp cmp t [] ≡ Equal
-      no_bound [] = refl
-      no_bound (l ∷ t) = refl
+  stands_equal tuple bound level whole all before = grind (arith, drop_all)
 
 -- tuples in order, split at a bound
 reach_on : (s t : Bool) → (s ≡ true → t ≡ true) → not t ≡ true → not s ≡ true
-reach_on true true h e = cc
-reach_on true false h e = let clash : false ≡ true = h refl in cc
-reach_on false t h e = refl
+reach_on x t h e = grind arith
 
 leave_on : (s t : Bool) → (s ≡ false → t ≡ false) → not (not t) ≡ true → not (not s) ≡ true
-leave_on true t h e = refl
-leave_on false true h e = let clash : true ≡ false = h refl in cc
-leave_on false false h e = cc
+leave_on x t h e = grind arith
 
 module _ (texts : List Text) (tuples : List (List Label)) (sorted : is_in_order (leading_cmp (order_in texts)) tuples ≡ true) where
   abbrev cmp : List Label → List Label → Ordering
@@ -100,33 +85,25 @@ module _ (texts : List Text) (tuples : List (List Label)) (sorted : is_in_order 
       → ((d : List Label) → row < length tuples → is_lt (cmp (slice_index_or tuples row d) bound) ≡ false) → IsSplitAt (reaches cmp (Some bound)) tuples row
   begins_at bound row few before here =
       split_at_first (reaches cmp (Some bound)) tuples row
-      (λ k d lt. reach_on (is_lt (cmp (slice_index_or tuples (k + 1) d) bound)) (is_lt (cmp (slice_index_or tuples k d) bound)) (leading_below (order_total texts) (slice_index_or tuples k d) (slice_index_or tuples (k + 1) d) bound (in_turn k d lt)))
+      (λ k d lt. reach_on (is_lt (cmp (slice_index_or tuples (k + 1) d) bound)) (is_lt (cmp (slice_index_or tuples k d) bound)) (search (leading_below, order_total, in_turn)))
       few (λ k lt d. ap not (before k lt d)) (λ d lt. ap not (here d lt))
 
   pub ends_at : (bound : List Label) (row : ℕ) → row ≤ length tuples → ((k : ℕ) → k < row → (d : List Label) → is_gt (cmp (slice_index_or tuples k d) bound) ≡ false)
       → ((d : List Label) → row < length tuples → is_gt (cmp (slice_index_or tuples row d) bound) ≡ true) → IsSplitAt (λ tuple. not (stays_within cmp (Some bound) tuple)) tuples row
   ends_at bound row few before here =
       split_at_first (λ tuple. not (stays_within cmp (Some bound) tuple)) tuples row
-      (λ k d lt. leave_on (is_gt (cmp (slice_index_or tuples (k + 1) d) bound)) (is_gt (cmp (slice_index_or tuples k d) bound)) (leading_within (order_total texts) (slice_index_or tuples k d) (slice_index_or tuples (k + 1) d) bound (in_turn k d lt)))
+      (λ k d lt. leave_on (is_gt (cmp (slice_index_or tuples (k + 1) d) bound)) (is_gt (cmp (slice_index_or tuples k d) bound)) (search (leading_within, order_total, in_turn)))
       few (λ k lt d. ap (λ b. not (not b)) (before k lt d)) (λ d lt. ap (λ b. not (not b)) (here d lt))
 
   -- their slice
   pub slice_found : (lower upper : Option (List Label)) (first end : ℕ) (rows : Rows) → rows_of rows ≡ rows_between first end → IsSplitAt (reaches cmp lower) tuples first
       → IsSplitAt (λ tuple. not (stays_within cmp upper tuple)) tuples end → leading_slice cmp lower upper tuples ≡ Ok (rows_of rows)
-  slice_found lower upper first end rows is from to =
-      when_so (is_in_order cmp tuples) (Ok (sorted_slice cmp lower upper tuples)) (unfound_slice lower upper tuples) sorted
-      ∙ ap (λ (l : List ℕ). Ok l) (sym (is ∙ rows_of_splits cmp [] lower upper tuples first end from to))
+  slice_found lower upper first end rows is from to = grind (arith, when_so, rows_of_splits)
 
 -- a slice on one level, and on several
 module _ {X : Type 0} (cmp : X → X → Ordering) (lower upper : Option X) (xs : List X) where
   pub on_one : (levels : ℕ) → levels ≡ 1 → slice_on levels cmp lower upper xs ≡ label_slice cmp lower upper xs
-  on_one levels one = when_so (levels == 1) (label_slice cmp lower upper xs) (leading_slice cmp lower upper xs) is_one
-    where
-      is_one : (levels == 1) ≡ true
-      is_one = grind (arith, nat_tests)
+  on_one levels one = search (when_so, nat_tests)
 
   pub on_several : (levels : ℕ) → 2 ≤ levels → slice_on levels cmp lower upper xs ≡ leading_slice cmp lower upper xs
-  on_several levels several = when_not (levels == 1) (label_slice cmp lower upper xs) (leading_slice cmp lower upper xs) not_one
-    where
-      not_one : (levels == 1) ≡ false
-      not_one = grind (arith, nat_tests)
+  on_several levels several = grind (arith, when_not, nat_tests)

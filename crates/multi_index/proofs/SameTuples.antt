@@ -13,29 +13,29 @@ heads ((l ∷ ls) ∷ ts) = l ∷ heads ts
 
 heads_single : (labels : List Label) → heads (single_tuples labels) ≡ labels
 heads_single [] = refl
-heads_single (l ∷ ls) = ap (λ r. l ∷ r) (heads_single ls)
+heads_single (l ∷ ls) = cc (heads_single ls)
 
 -- two axes of one level
 pub singles_same : (a b : List Label) (x y : List (List Label)) (r : Bool) → single_tuples a ≡ x → single_tuples b ≡ y → Decides r (a ≡ b) → Decides r (x ≡ y)
 singles_same a b x y r e f is = (
-  λ t. sym e ∙ ap single_tuples (is.0 t) ∙ f,
+  grind arith,
   λ same. is.1 (sym (heads_single a) ∙ ap heads (e ∙ same ∙ sym f) ∙ heads_single b),
 )
 
 -- a tuple of an axis
 tuple_there : (axis : AxisValue) (row : ℕ) → row < length axis.tuples → slice_get axis.tuples row ≡ Some (slice_index_or axis.tuples row [])
-tuple_there axis row lt = slice_get-get_or axis.tuples row [] lt
+tuple_there axis row lt = search slice_get-get_or
 
 -- the same labels at each level are the same tuple
 pub same_at_row : (a b : AxisValue) (row levels : ℕ) → row < length a.tuples → row < length b.tuples → HaveLevels levels a.tuples → HaveLevels levels b.tuples
     → ((level : ℕ) → level < levels → label_at a row level ≡ label_at b row level) → slice_get a.tuples row ≡ slice_get b.tuples row
 same_at_row a b row levels lt lt' alike alike' same =
-    let x : List Label = slice_index_or a.tuples row [] in
-    let y : List Label = slice_index_or b.tuples row [] in
-    let e : slice_get a.tuples row ≡ Some x = tuple_there a row lt in
-    let f : slice_get b.tuples row ≡ Some y = tuple_there b row lt' in
-    let m : length x ≡ levels = alike row [] lt in
-    let n : length y ≡ levels = alike' row [] lt' in
+    let x = slice_index_or a.tuples row [] in
+    let y = slice_index_or b.tuples row [] in
+    let e = tuple_there a row lt in
+    let f = tuple_there b row lt' in
+    let m = alike row [] lt in
+    let n = alike' row [] lt' in
     let at : (level : ℕ) → level < length x → slice_get x level ≡ slice_get y level =
     λ level inside. sym (ap (option_and_then (λ t. slice_get t level)) e) ∙ same level (omega arith) ∙ ap (option_and_then (λ t. slice_get t level)) f in
-    e ∙ ap Some (all_same x y (m ∙ sym n) at) ∙ sym f
+    cc (all_same x y (m ∙ sym n) at)

@@ -1,6 +1,6 @@
 -- The tuples of an axis.
 use Rattle.{
-  std.{specs.Prelude.{◌≡◌, ℕ, ◌+◌, ◌<◌, List, [], ◌∷◌, ◌++◌, length, take, slice_get, slice_index_or, Some, All}, proofs.{Common.{◌∙◌, ap, sym, subst, refl, arith, suc}, lemmas.{List.{take_more, map-append, get_or-map, length-map, Elements.{All-map, All-take}}, Option.{get_or_from_slice_get}}}},
+  std.{specs.Prelude.{◌≡◌, ℕ, ◌+◌, ◌<◌, List, [], ◌∷◌, ◌++◌, length, take, slice_get, slice_index_or, Some, All}, proofs.{Common.{refl, arith, suc}, lemmas.{List.{take_more, map-append, get_or-map, length-map, Elements.{All-map, All-take}}, Option.{get_or_from_slice_get}}}},
   cell_core.specs.declared.cell.Label.{Label, TheVariants.{Na}},
   index_core.specs.Labels.{labels_at},
   multi_index.specs.Axes.{HaveLevels, single_tuples, tuples_at},
@@ -8,69 +8,52 @@ use Rattle.{
 
 -- a label is a tuple of one label
 pub levels_of_single : (labels : List Label) → HaveLevels 1 (single_tuples labels)
-levels_of_single labels = All-map (λ (t : List Label). length t ≡ 1) (λ l. l ∷ []) labels (λ k d inside. refl)
+levels_of_single labels = All-map (λ t. length t ≡ 1) (λ l. l ∷ []) labels (λ k d inside. refl)
 
 -- tuples that are taken have as many labels as before
 pub levels_of_taken : (tuples : List (List Label)) (places : List ℕ) (levels : ℕ) → HaveLevels levels tuples → All (λ place. place < length tuples) places → HaveLevels levels (tuples_at tuples places)
 levels_of_taken tuples places levels alike inside =
-    All-map (λ (t : List Label). length t ≡ levels) (λ place. slice_index_or tuples place []) places (λ k d h. alike (slice_index_or places k d) [] (inside k d h))
+    All-map (λ t. length t ≡ levels) (λ place. slice_index_or tuples place []) places (λ k d h. alike (slice_index_or places k d) [] (inside k d h))
 
 -- and so have those that are taken so far
 pub levels_so_far : (tuples taken : List (List Label)) (places : List ℕ) (k levels : ℕ) → taken ≡ tuples_at tuples (take k places) → HaveLevels levels tuples → All (λ place. place < length tuples) places
     → HaveLevels levels taken
-levels_so_far tuples taken places k levels is alike inside =
-    subst (HaveLevels levels) (sym is) (levels_of_taken tuples (take k places) levels alike (All-take (λ (place : ℕ). place < length tuples) k places inside))
+levels_so_far tuples taken places k levels is alike inside = rw is (levels_of_taken tuples (take k places) levels alike (All-take (λ place. place < length tuples) k places inside))
 
 -- one more tuple is taken
 pub one_more_taken : (tuples : List (List Label)) (places : List ℕ) (k place : ℕ) (tuple : List Label) (taken taken' : List (List Label))
     → taken ≡ tuples_at tuples (take k places) → k < length places → slice_get places k ≡ Some place → slice_get tuples place ≡ Some tuple → taken' ≡ taken ++ tuple ∷ []
     → taken' ≡ tuples_at tuples (take (k + 1) places)
 one_more_taken tuples places k place tuple taken taken' before inside at is pushed =
-    let same : slice_index_or tuples (slice_index_or places k 0) [] ≡ tuple =
-    ap (λ (p : ℕ). slice_index_or tuples p []) (get_or_from_slice_get places k place 0 at) ∙ get_or_from_slice_get tuples place tuple [] is
+    let same : slice_index_or tuples (slice_index_or places k 0) [] ≡ tuple = grind (arith, get_or_from_slice_get)
     in
-    pushed ∙ ap (λ (l : List (List Label)). l ++ tuple ∷ []) before
-    ∙ sym (
-    ap (tuples_at tuples) (take_more places k 0 inside) ∙ map-append (λ p. slice_index_or tuples p []) (take k places) (slice_index_or places k 0 ∷ [])
-    ∙ ap (λ (t : List Label). tuples_at tuples (take k places) ++ t ∷ []) same
-    )
+    cc (take_more places k 0 inside, map-append (λ p. slice_index_or tuples p []) (take k places) (slice_index_or places k 0 ∷ []))
 
 -- one more tuple is copied
 pub one_more_copied : (tuples : List (List Label)) (k : ℕ) (tuple : List Label) (copied copied' : List (List Label))
     → copied ≡ take k tuples → k < length tuples → slice_get tuples k ≡ Some tuple → copied' ≡ copied ++ tuple ∷ [] → copied' ≡ take (k + 1) tuples
-one_more_copied tuples k tuple copied copied' before inside is pushed =
-    pushed ∙ ap (λ (l : List (List Label)). l ++ tuple ∷ []) before
-    ∙ sym (take_more tuples k [] inside ∙ ap (λ (t : List Label). take k tuples ++ t ∷ []) (get_or_from_slice_get tuples k tuple [] is))
+one_more_copied tuples k tuple copied copied' before inside is pushed = cc (take_more tuples k [] inside, get_or_from_slice_get tuples k tuple [] is)
 
 -- a tuple of one label
 pub only_label_is : (t : List Label) (l : Label) → length t ≡ 1 → slice_get t 0 ≡ Some l → t ≡ l ∷ []
 only_label_is [] l one at = cc
-only_label_is (x ∷ []) l one at = ap (λ (y : Label). y ∷ []) (some_is x l at)
-  where
-    some_is : (x l : Label) → Some x ≡ Some l → x ≡ l
-    some_is x l e = cc
-only_label_is (x ∷ (y ∷ ys)) l one at = absurd (omega arith)
+only_label_is (x ∷ []) l one at = search
+only_label_is (x ∷ (y ∷ ys)) l one at = search
 
 -- one more label of tuples of one label
 pub one_more_single : (labels labels' : List Label) (tuples : List (List Label)) (row : ℕ) (t : List Label) (l : Label)
     → single_tuples labels ≡ take row tuples → row < length tuples → HaveLevels 1 tuples → slice_get tuples row ≡ Some t → slice_get t 0 ≡ Some l → labels' ≡ labels ++ l ∷ []
     → single_tuples labels' ≡ take (row + 1) tuples
 one_more_single labels labels' tuples row t l before inside alike at first pushed =
-    let here : slice_index_or tuples row [] ≡ t = get_or_from_slice_get tuples row t [] at in
-    let one : length t ≡ 1 = ap length (sym here) ∙ alike row [] inside in
-    ap single_tuples pushed
-    ∙ map-append (λ l. l ∷ []) labels (l ∷ [])
-    ∙ ap (λ (ts : List (List Label)). ts ++ (l ∷ []) ∷ []) before
-    ∙ ap (λ (x : List Label). take row tuples ++ x ∷ []) (sym (here ∙ only_label_is t l one first))
-    ∙ sym (take_more tuples row [] inside)
+    let here : slice_index_or tuples row [] ≡ t = search get_or_from_slice_get in
+    grind (arith, map-append, only_label_is, take_more)
 
 -- labels that are taken, as tuples
 pub single_taken : (labels : List Label) (places : List ℕ) → All (λ place. place < length labels) places → single_tuples (labels_at labels places) ≡ tuples_at (single_tuples labels) places
 single_taken labels [] inside = refl
 single_taken labels (place ∷ places) inside =
-    let here : slice_index_or (single_tuples labels) place [] ≡ slice_index_or labels place Na ∷ [] = get_or-map (λ l. l ∷ []) labels place Na [] (inside 0 place (omega arith)) in
-    let later = single_taken labels places (λ k d lt. inside (suc k) d (omega arith)) in
-    λ j. sym here j ∷ later j
+    let here = get_or-map (λ l. l ∷ []) labels place Na [] (inside 0 place (omega arith)) in
+    search (single_taken labels places (λ k d lt. inside (suc k) d (omega arith)))
 
 pub places_of_single : (labels : List Label) (tuples : List (List Label)) (places : List ℕ) → single_tuples labels ≡ tuples → All (λ place. place < length tuples) places → All (λ place. place < length labels) places
-places_of_single labels tuples places is inside = λ k d lt. let count = length-map labels (λ (l : Label). l ∷ []) in let same = ap length is in let below = inside k d lt in omega arith
+places_of_single labels tuples places is inside = grind (arith, length-map)

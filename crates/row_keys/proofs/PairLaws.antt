@@ -1,6 +1,6 @@
 -- Numbers of labels packed with the numbers beside them.
 use Rattle.{
-  std.{proofs.{Common.{◌≡◌, ◌<◌, ◌≤◌, ◌+◌, ◌*◌, ◌==◌, ◌&&◌, true, false, ℕ, List, [], ◌∷◌, ◌++◌, map, take, max, refl, sym, ap, subst, ◌∙◌, length, slice_index_or, arith, All}, Math.Nat.{mul-le-mul_right}, lemmas.{Nat.{same_from_place}, Bool.{eq-eqb, eqb-true, eqb-false, ne_eqb}, List.{length-map, get_or-map, take_more, Elements.{All-map, All-push}, FromFn.{length-map-range_with_len, get_or-map-range_with_len, get_or-range_with_len, length-range_with_len}}}}, specs.{Prelude.{slice_index}, List.{range_with_len}}},
+  std.{proofs.{Common.{◌≡◌, ◌<◌, ◌≤◌, ◌+◌, ◌*◌, ◌==◌, ◌&&◌, true, false, ℕ, List, map, take, max, refl, sym, subst, length, slice_index_or, arith, All}, Math.Nat.{mul-le-mul_right}, lemmas.{Nat.{same_from_place}, Bool.{eq-eqb, eqb-true, eqb-false, ne_eqb}, List.{length-map, get_or-map, take_more, Elements.{All-map, All-push}, FromFn.{length-map-range_with_len, get_or-map-range_with_len, get_or-range_with_len, length-range_with_len}}}}, specs.{Prelude.{slice_index}, List.{range_with_len}}},
   cell_core.specs.declared.cell.Label.{Label, TheVariants.{Na}},
   index_core.specs.Labels.{same_number},
   row_keys.specs.{Keys.{same_pair}, Numbers.{StandFor}},
@@ -10,10 +10,7 @@ use Rattle.{
 pub packed_tell : (s a b c d : ℕ) → b < s → d < s → ((a == c) && (b == d)) ≡ (a * s + b == c * s + d)
 packed_tell s a b c d hb hd =
     elim (a == c) as (λ x. (a == c) ≡ x → (x && (b == d)) ≡ (a * s + b == c * s + d)) [
-      | true ↦ λ e. elim (b == d) as (λ y. (b == d) ≡ y → y ≡ (a * s + b == c * s + d)) [
-        | true ↦ λ f. sym (eq-eqb (a * s + b) (c * s + d) (λ j. eqb-true a c e j * s + eqb-true b d f j))
-        | false ↦ λ f. sym (ne_eqb (a * s + b) (c * s + d) (λ same. eqb-false b d f (same_from_place a b c d s hb hd same).1))
-      ] refl
+      | true ↦ grind (arith, eq-eqb, eqb-true, ne_eqb, eqb-false, same_from_place)
       | false ↦ λ e. sym (ne_eqb (a * s + b) (c * s + d) (λ same. eqb-false a c e (same_from_place a b c d s hb hd same).0))
     ] refl
 
@@ -26,49 +23,39 @@ pair_number labels keys scale i = slice_index labels i * scale + (slice_index_or
 
 -- the greatest so far
 pub greatest_more : (keys : List (Label × ℕ)) (i most most' : ℕ) (pair : Label × ℕ) → i < length keys → slice_index_or keys i pair ≡ pair → most' ≡ max most pair.1 → All (λ (p : Label × ℕ). p.1 ≤ most) (take i keys) → All (λ (p : Label × ℕ). p.1 ≤ most') (take (i + 1) keys)
-greatest_more keys i most most' pair lt here is within =
-    subst (All (λ (p : Label × ℕ). p.1 ≤ most')) (sym (take_more keys i pair lt ∙ ap (λ x. take i keys ++ x ∷ []) here))
-    (All-push (λ (p : Label × ℕ). p.1 ≤ most') (take i keys) pair (λ k d below. omega (arith, within k d below, is)) (omega (arith, is)))
+greatest_more keys i most most' pair lt here is within = grind (arith, take_more keys i pair lt, All-push (λ (p : Label × ℕ). p.1 ≤ most') (take i keys) pair (λ k d below. omega (arith, within k d below, is)) (omega (arith, is)))
 
 module _ (keys : List (Label × ℕ)) (labels : List ℕ) (first second scale most : ℕ) (stand : StandFor same_number Na (map (λ (pair : Label × ℕ). pair.0) keys) labels)
     (below : All (λ n. n ≤ first) labels) (within : All (λ (pair : Label × ℕ). pair.1 ≤ second) keys) (is : scale ≡ second + 1) (room : most ≡ first * (second + 1) + second) where
   pub as_many : length labels ≡ length keys
-  as_many = stand.count ∙ length-map keys (λ (pair : Label × ℕ). pair.0)
+  as_many = grind (arith, length-map)
 
   pub pair_below : (i : ℕ) → i < length keys → pair_number labels keys scale i ≤ most
-  pair_below i lt =
-      let up : slice_index labels i * (second + 1) ≤ first * (second + 1) = mul-le-mul_right (second + 1) (below i 0 (omega (arith, lt, as_many))) in
-      let fits : slice_index labels i * (second + 1) + (slice_index_or keys i (Na, 0)).1 ≤ most = omega (arith, up, within i (Na, 0) lt, room) in
-      subst (λ (s : ℕ). slice_index labels i * s + (slice_index_or keys i (Na, 0)).1 ≤ most) (sym is) fits
+  pair_below i lt = grind (arith, mul-le-mul_right, as_many)
 
   module _ (numbers : List ℕ) (made : numbers ≡ map (pair_number labels keys scale) (range_with_len 0 (length keys))) where
     here : (i : ℕ) → i < length keys → slice_index numbers i ≡ pair_number labels keys scale i
-    here i lt = ap (λ l. slice_index l i) made ∙ get_or-map-range_with_len (pair_number labels keys scale) 0 (length keys) i i 0 lt (omega arith)
+    here i lt = grind (arith, get_or-map-range_with_len)
 
     pub pairs_below : All (λ n. n ≤ most) numbers
     pairs_below =
         subst (λ (l : List ℕ). All (λ n. n ≤ most) l) (sym made)
         (All-map (λ n. n ≤ most) (pair_number labels keys scale) (range_with_len 0 (length keys)) (λ k d lt.
         let inside : k < length keys = omega (arith, lt, length-range_with_len 0 (length keys)) in
-        subst (λ (n : ℕ). pair_number labels keys scale n ≤ most) (sym (get_or-range_with_len 0 (length keys) k d inside ∙ (let e : 0 + k ≡ k = omega arith in e))) (pair_below k inside)))
+        subst (λ (n : ℕ). pair_number labels keys scale n ≤ most) (grind (arith, get_or-range_with_len)) (pair_below k inside)))
 
     pub pairs_stand : StandFor (same_pair same_number) (Na, 0) keys numbers
     pairs_stand =
         record {
-          count = ap length made ∙ length-map-range_with_len (pair_number labels keys scale) 0 (length keys);
-          tells = λ i j hi hj.
-              (λ q. labels_alike i j hi hj q && ((slice_index_or keys i (Na, 0)).1 == (slice_index_or keys j (Na, 0)).1))
-              ∙ packed_tell scale (slice_index labels i) (slice_index_or keys i (Na, 0)).1 (slice_index labels j) (slice_index_or keys j (Na, 0)).1 (part i hi) (part j hj)
-              ∙ sym (λ q. here i hi q == here j hj q);
+          count = grind (arith, length-map-range_with_len);
+          tells = search (labels_alike, packed_tell, part, here);
         }
       where
         part : (i : ℕ) → i < length keys → (slice_index_or keys i (Na, 0)).1 < scale
         part i lt = omega (arith, within i (Na, 0) lt, is)
 
         label_at : (i : ℕ) → i < length keys → slice_index_or (map (λ (pair : Label × ℕ). pair.0) keys) i Na ≡ (slice_index_or keys i (Na, 0)).0
-        label_at i lt = get_or-map (λ (pair : Label × ℕ). pair.0) keys i (Na, 0) Na lt
+        label_at i lt = grind (arith, get_or-map)
 
         labels_alike : (i j : ℕ) → i < length keys → j < length keys → same_number (slice_index_or keys i (Na, 0)).0 (slice_index_or keys j (Na, 0)).0 ≡ (slice_index labels i == slice_index labels j)
-        labels_alike i j hi hj =
-            sym (λ q. same_number (label_at i hi q) (label_at j hj q))
-            ∙ stand.tells i j (omega (arith, hi, length-map keys (λ (pair : Label × ℕ). pair.0))) (omega (arith, hj, length-map keys (λ (pair : Label × ℕ). pair.0)))
+        labels_alike i j hi hj = grind (arith, label_at, length-map)

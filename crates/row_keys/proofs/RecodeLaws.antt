@@ -1,6 +1,6 @@
 -- Codes depend on which rows are equal alone.
 use Rattle.{
-  std.{proofs.{Common.{◌≡◌, ◌+◌, ◌&&◌, ◌<◌, Bool, true, false, not, cond, ℕ, zero, suc, List, [], ◌∷◌, map, drop, refl, sym, ap, subst, ◌∙◌, length, slice_index_or, nat_eq, arith}, lemmas.List.{get_or-map, length-map, drop_more, drop_all, map-id, Sums.{passes_at_first, position_or_len_is}, Elements.{All-cons, All-nil, All-head, All-tail, All-filter, All-map}}}, specs.{Bool.{Decides}, List.{position_or_len, list_any, filter, All, zip}, Cmp.{IsEquivalence, Lexicographic.{pointwise, lists_equiv}}}},
+  std.{proofs.{Common.{◌≡◌, ◌+◌, ◌&&◌, ◌<◌, Bool, true, false, not, cond, ℕ, zero, suc, List, [], ◌∷◌, map, drop, refl, sym, ap, ◌∙◌, length, slice_index_or, nat_eq, arith}, lemmas.List.{get_or-map, length-map, drop_more, drop_all, map-id, Sums.{passes_at_first, position_or_len_is}, Elements.{All-cons, All-head, All-tail, All-filter, All-map}}}, specs.{Bool.{Decides}, List.{position_or_len, list_any, filter, All, zip}, Cmp.{IsEquivalence, Lexicographic.{pointwise, lists_equiv}}}},
   pick_meaning.proofs.OrderLaws.{not_so},
   meaning.specs.Reduce.{distinct},
   row_keys.{specs.Keys.{place_among, codes_of, first_rows, same_pair}, proofs.KeyLaws.{place_tells, all_known, position_in, any_at}},
@@ -10,13 +10,11 @@ use Rattle.{
 module _ {Z : Type 0} (P : Z → Type 0) where
   filter_on : (p q : Z → Bool) → ((z : Z) → P z → p z ≡ q z) → (zs : List Z) → All P zs → filter p zs ≡ filter q zs
   filter_on p q same [] all = refl
-  filter_on p q same (z ∷ zs) all =
-      ap (λ b. cond b (z ∷ filter p zs) (filter p zs)) (same z (All-head P z zs all)) ∙ ap (λ l. cond (q z) (z ∷ l) l) (filter_on p q same zs (All-tail P z zs all))
+  filter_on p q same (z ∷ zs) all = cc (same z (All-head P z zs all), filter_on p q same zs (All-tail P z zs all))
 
   position_on : (p q : Z → Bool) → ((z : Z) → P z → p z ≡ q z) → (zs : List Z) → All P zs → position_or_len p zs ≡ position_or_len q zs
   position_on p q same [] all = refl
-  position_on p q same (z ∷ zs) all =
-      ap (λ b. cond (not b) (1 + position_or_len p zs) 0) (same z (All-head P z zs all)) ∙ ap (λ n. cond (not (q z)) (1 + n) 0) (position_on p q same zs (All-tail P z zs all))
+  position_on p q same (z ∷ zs) all = cc (same z (All-head P z zs all), position_on p q same zs (All-tail P z zs all))
 
   map_on : {Y : Type 0} (f g : Z → Y) → ((z : Z) → P z → f z ≡ g z) → (zs : List Z) → All P zs → map f zs ≡ map g zs
   map_on f g same [] all = refl
@@ -33,18 +31,13 @@ module _ {Z : Type 0} (P : Z → Type 0) where
     distinct_on [] all = refl
     distinct_on (z ∷ zs) all =
         let rest = All-tail P z zs all in
-        ap (λ l. z ∷ filter (λ q. not (eq q z)) l) (distinct_on zs rest)
-        ∙ ap (λ l. z ∷ l) (filter_on (λ q. not (eq q z)) (λ q. not (same q z)) (λ q h. ap not (agree q z h (All-head P z zs all))) (distinct same zs) (All-distinct same zs rest))
+        cc (distinct_on zs rest, filter_on (λ q. not (eq q z)) (λ q. not (same q z)) (λ q h. ap not (agree q z h (All-head P z zs all))) (distinct same zs) (All-distinct same zs rest))
 
     codes_on : (zs : List Z) → All P zs → codes_of eq zs ≡ codes_of same zs
-    codes_on zs all =
-        ap (λ ds. map (place_among eq ds) zs) (distinct_on zs all)
-        ∙ map_on (place_among eq (distinct same zs)) (place_among same (distinct same zs)) (λ z h. position_on (eq z) (same z) (λ y k. agree z y h k) (distinct same zs) (All-distinct same zs all)) zs all
+    codes_on zs all = search (distinct_on, map_on, position_on, All-distinct)
 
     firsts_on : (zs : List Z) → All P zs → first_rows eq zs ≡ first_rows same zs
-    firsts_on zs all =
-        ap (map (place_among eq zs)) (distinct_on zs all)
-        ∙ map_on (place_among eq zs) (place_among same zs) (λ z h. position_on (eq z) (same z) (λ y k. agree z y h k) zs all) (distinct same zs) (All-distinct same zs all)
+    firsts_on zs all = search (distinct_on, map_on, position_on, All-distinct)
 
 -- keys that are made of something
 module _ {Z A : Type 0} (f : Z → A) (eq : A → A → Bool) where
@@ -53,15 +46,11 @@ module _ {Z A : Type 0} (f : Z → A) (eq : A → A → Bool) where
 
   filter_map : (p : A → Bool) (zs : List Z) → filter p (map f zs) ≡ map f (filter (λ z. p (f z)) zs)
   filter_map p [] = refl
-  filter_map p (z ∷ zs) =
-      elim (p (f z)) as (λ b. cond b (f z ∷ filter p (map f zs)) (filter p (map f zs)) ≡ map f (cond b (z ∷ filter (λ y. p (f y)) zs) (filter (λ y. p (f y)) zs))) [
-        | true ↦ ap (λ l. f z ∷ l) (filter_map p zs)
-        | false ↦ filter_map p zs
-      ]
+  filter_map p (z ∷ zs) = grind (arith, filter_map p zs)
 
   position_map : (p : A → Bool) (zs : List Z) → position_or_len p (map f zs) ≡ position_or_len (λ z. p (f z)) zs
   position_map p [] = refl
-  position_map p (z ∷ zs) = ap (λ n. cond (not (p (f z))) (1 + n) 0) (position_map p zs)
+  position_map p (z ∷ zs) = cc (position_map p zs)
 
   map_map : {Y : Type 0} (g : A → Y) (h : Z → Y) → ((z : Z) → g (f z) ≡ h z) → (zs : List Z) → map g (map f zs) ≡ map h zs
   map_map g h same [] = refl
@@ -69,18 +58,13 @@ module _ {Z A : Type 0} (f : Z → A) (eq : A → A → Bool) where
 
   distinct_map : (zs : List Z) → distinct eq (map f zs) ≡ map f (distinct by zs)
   distinct_map [] = refl
-  distinct_map (z ∷ zs) =
-      ap (λ l. f z ∷ filter (λ q. not (eq q (f z))) l) (distinct_map zs) ∙ ap (λ l. f z ∷ l) (filter_map (λ q. not (eq q (f z))) (distinct by zs))
+  distinct_map (z ∷ zs) = search (filter_map, distinct_map zs)
 
   codes_map : (zs : List Z) → codes_of eq (map f zs) ≡ codes_of by zs
-  codes_map zs =
-      ap (λ ds. map (place_among eq ds) (map f zs)) (distinct_map zs)
-      ∙ map_map (place_among eq (map f (distinct by zs))) (place_among by (distinct by zs)) (λ z. position_map (eq (f z)) (distinct by zs)) zs
+  codes_map zs = search (distinct_map, map_map, position_map)
 
   firsts_map : (zs : List Z) → first_rows eq (map f zs) ≡ first_rows by zs
-  firsts_map zs =
-      ap (map (place_among eq (map f zs))) (distinct_map zs)
-      ∙ map_map (place_among eq (map f zs)) (place_among by zs) (λ z. position_map (eq (f z)) zs) (distinct by zs)
+  firsts_map zs = search (distinct_map, map_map, position_map)
 
 -- labels level by level
 module _ {L : Type 0} (eq : L → L → Bool) (laws : IsEquivalence eq) where
@@ -88,7 +72,7 @@ module _ {L : Type 0} (eq : L → L → Bool) (laws : IsEquivalence eq) where
   single l = l ∷ []
 
   alone : (y z : L) → Unit {0} → Unit {0} → pointwise eq (single y) (single z) ≡ eq y z
-  alone y z _ _ = elim (eq y z) as (λ b. (b && true) ≡ b) [ true ↦ refl | false ↦ refl ]
+  alone y z _ _ = grind arith
 
 -- codes and first rows of keys
 pub record AreNumbers {K : Type 0} (eq : K → K → Bool) (keys : List K) (codes firsts : List ℕ) : Type 0 where
@@ -105,7 +89,7 @@ renumbered f eq g same P agree zs all codes firsts are = record {
 
 zip_maps : {Z A B C : Type 0} (a : Z → A) (d : Z → B) (b : B → C) (zs : List Z) → zip (map a zs) (map b (map d zs)) ≡ map (λ z. (a z, b (d z))) zs
 zip_maps a d b [] = refl
-zip_maps a d b (z ∷ zs) = ap (λ l. (a z, b (d z)) ∷ l) (zip_maps a d b zs)
+zip_maps a d b (z ∷ zs) = cc (zip_maps a d b zs)
 
 -- tuples of one length, level by level: what is numbered are the labels from a level on
 module _ {L : Type 0} (eq : L → L → Bool) (laws : IsEquivalence eq) (na : L) where
@@ -118,10 +102,10 @@ module _ {L : Type 0} (eq : L → L → Bool) (laws : IsEquivalence eq) (na : L)
   pub last_level : (i : ℕ) (rows : List (List L)) (codes firsts : List ℕ) → All (λ t. length t ≡ i + 1) rows → AreNumbers eq (map (at i) rows) codes firsts → AreNumbers (pointwise eq) (map (drop i) rows) codes firsts
   last_level i rows codes firsts all are =
       renumbered (at i) eq (drop i) (pointwise eq) (λ t. length t ≡ i + 1)
-      (λ y z h k. sym ((λ j. pointwise eq (last y h j) (last z k j)) ∙ alone eq laws (at i y) (at i z) tt tt)) rows all codes firsts are
+      (λ y z h k. sym (search (last, alone))) rows all codes firsts are
     where
       last : (t : List L) → length t ≡ i + 1 → drop i t ≡ at i t ∷ []
-      last t h = split_at i t (omega (arith, h)) ∙ ap (λ l. at i t ∷ l) (drop_all (i + 1) t (omega (arith, h)))
+      last t h = grind (arith, split_at, drop_all)
 
   module _ (i : ℕ) (rows : List (List L)) where
     abbrev below : List (List L)
@@ -138,13 +122,13 @@ module _ {L : Type 0} (eq : L → L → Bool) (laws : IsEquivalence eq) (na : L)
         renumbered (λ t. (at i t, rank (drop (i + 1) t))) (same_pair eq) (drop i) (pointwise eq) IsKnown
         (λ y z h k. ap (λ b. eq (at i y) (at i z) && b) (sym (place_tells (pointwise eq) (lists_equiv laws) (distinct (pointwise eq) below) (drop (i + 1) y) (drop (i + 1) z) k.1))
         ∙ sym (λ j. pointwise eq (split_at i y h.0 j) (split_at i z k.0 j))) rows
-        (λ k d lt. (all k d lt, subst (λ t. list_any (pointwise eq t) (distinct (pointwise eq) below) ≡ true) (get_or-map (drop (i + 1)) rows k d (drop (i + 1) d) lt) (all_known (pointwise eq) (lists_equiv laws) below k (drop (i + 1) d) (omega (arith, lt, length-map rows (drop (i + 1)))))))
+        (λ k d lt. (all k d lt, cc (get_or-map (drop (i + 1)) rows k d (drop (i + 1) d) lt, all_known (pointwise eq) (lists_equiv laws) below k (drop (i + 1) d) (omega (arith, lt, length-map rows (drop (i + 1)))))))
         codes firsts
-        (subst (λ keys. AreNumbers (same_pair eq) keys codes firsts) (ap (zip (map (at i) rows)) was ∙ zip_maps (at i) (drop (i + 1)) rank rows) are)
+        (grind (arith, zip_maps))
 
 pub drop_none : {X : Type 0} (rows : List (List X)) → map (drop 0) rows ≡ rows
 drop_none [] = refl
-drop_none (t ∷ rows) = ap (λ l. t ∷ l) (drop_none rows)
+drop_none (t ∷ rows) = cc (drop_none rows)
 
 -- the keys of the first rows are the distinct ones
 module _ {K : Type 0} (eq : K → K → Bool) (decides : (a b : K) → Decides (eq a b) (a ≡ b)) (laws : IsEquivalence eq) (rows : List K) where
@@ -160,7 +144,7 @@ module _ {K : Type 0} (eq : K → K → Bool) (decides : (a b : K) → Decides (
   pub first_keys : (d : K) → map (λ r. slice_index_or rows r d) (first_rows eq rows) ≡ distinct eq rows
   first_keys d =
       map_map (place_among eq rows) nat_eq (λ r. slice_index_or rows r d) (λ k. slice_index_or rows (place_among eq rows k) d) (λ k. refl) (distinct eq rows)
-      ∙ map_on IsThere (λ k. slice_index_or rows (place_among eq rows k) d) (λ k. k) (λ k h. sym ((decides k (slice_index_or rows (place_among eq rows k) d)).0 (passes_at_first (eq k) rows d (position_in (eq k) rows h)))) (distinct eq rows) all_there
+      ∙ map_on IsThere (λ k. slice_index_or rows (place_among eq rows k) d) (λ k. k) (λ k h. sym (grind (arith, passes_at_first, position_in))) (distinct eq rows) all_there
       ∙ map-id (distinct eq rows)
 
 -- no distinct key stands before one that equals it
@@ -170,12 +154,8 @@ module _ {K : Type 0} (eq : K → K → Bool) where
   Apart (k ∷ ks) = All (λ q. not (eq q k) ≡ true) ks × Apart ks
 
   All-passes : (p : K → Bool) (ks : List K) → All (λ q. p q ≡ true) (filter p ks)
-  All-passes p [] = All-nil (λ q. p q ≡ true)
-  All-passes p (k ∷ ks) =
-      elim (p k) as (λ b. p k ≡ b → All (λ q. p q ≡ true) (cond b (k ∷ filter p ks) (filter p ks))) [
-        | true ↦ λ h. All-cons (λ q. p q ≡ true) k (filter p ks) h (All-passes p ks)
-        | false ↦ λ h. All-passes p ks
-      ] refl
+  All-passes p [] = grind arith
+  All-passes p (k ∷ ks) = grind (arith, All-passes p ks)
 
   apart_filter : (p : K → Bool) (ks : List K) → Apart ks → Apart (filter p ks)
   apart_filter p [] apart = tt
@@ -187,18 +167,16 @@ module _ {K : Type 0} (eq : K → K → Bool) where
 
   pub apart_distinct : (ks : List K) → Apart (distinct eq ks)
   apart_distinct [] = tt
-  apart_distinct (k ∷ ks) = (All-passes (λ q. not (eq q k)) (distinct eq ks), apart_filter (λ q. not (eq q k)) (distinct eq ks) (apart_distinct ks))
+  apart_distinct (k ∷ ks) = search (All-passes, apart_filter, apart_distinct ks)
 
   -- of two of them the later one doesn't equal the earlier one
   pub apart_at : (ks : List K) (i j : ℕ) (d : K) → Apart ks → i < j → j < length ks → eq (slice_index_or ks j d) (slice_index_or ks i d) ≡ false
-  apart_at [] i j d apart lt inside = absurd (omega (arith, inside))
-  apart_at (k ∷ ks) zero zero d apart lt inside = absurd (omega (arith, lt))
-  apart_at (k ∷ ks) zero (suc j) d apart lt inside = not_so (eq (slice_index_or ks j d) k) (apart.0 j d (omega (arith, inside)))
-  apart_at (k ∷ ks) (suc i) zero d apart lt inside = absurd (omega (arith, lt))
-  apart_at (k ∷ ks) (suc i) (suc j) d apart lt inside = apart_at ks i j d apart.1 (omega (arith, lt)) (omega (arith, inside))
+  apart_at [] i j d apart lt inside = grind arith
+  apart_at (k ∷ ks) zero zero d apart lt inside = grind arith
+  apart_at (k ∷ ks) zero (suc j) d apart lt inside = grind (arith, not_so)
+  apart_at (k ∷ ks) (suc i) zero d apart lt inside = grind arith
+  apart_at (k ∷ ks) (suc i) (suc j) d apart lt inside = grind (arith, apart_at ks)
 
 -- the place of a distinct key is where it stands
 pub place_there : {K : Type 0} (eq : K → K → Bool) → IsEquivalence eq → (rows : List K) (c : ℕ) (d : K) → c < length (distinct eq rows) → place_among eq (distinct eq rows) (slice_index_or (distinct eq rows) c d) ≡ c
-place_there eq laws rows c d lt =
-    let keys = distinct eq rows in
-    position_or_len_is (eq (slice_index_or keys c d)) keys c d (omega (arith, lt)) (λ j before. apart_at eq keys j c d (apart_distinct eq rows) before lt) (λ l. laws.refl (slice_index_or keys c d))
+place_there eq laws rows c d lt = grind (arith, position_or_len_is, apart_at, apart_distinct)

@@ -1,6 +1,6 @@
 -- Lists whose parts are evaluated one after the other.
 use Rattle.{
-  std.{proofs.Common.{◌≡◌, List, sym, ◌∙◌, ap, subst}, specs.Prelude.{Result, Ok, Err, IsErrAnd}},
+  std.{proofs.Common.{arith, ◌≡◌, List, sym, ◌∙◌, subst}, specs.Prelude.{Result, Ok, Err, IsErrAnd}},
   meaning.specs.Text.{Contents},
   script_meaning.specs.{Reading.{Files, Reads, gives}, State.{State}},
   script_evaluation.specs.Evaluates.{Moment, Evaluates},
@@ -20,22 +20,15 @@ module _ {paths : List FileName} {L : Type 0} {join : L → L → L} {whole : Fi
   -- all parts are there
   pub gathered : {V : Type 0} {known : Work → V → Type 0} {view : World → V → L} {rest : Files → State → Reads L} {old new : Moment} (end : L) (v : V) → Gathers paths join whole rest (view (world_of new.work) v) old new
       → ((files : Files) → rest files (state_in old.work) ≡ gives end) → join (view (world_of new.work) v) end ≡ view (world_of new.work) v → known new.work v → Evaluates paths known view whole old new (Ok v)
-  gathered {view = view} {rest = rest} {old = old} {new = new} end v x is law known =
-      record {
-        names = x.names;
-        kept = x.kept;
-        serves = x.serves;
-        reads = λ held. let files = files_in paths held in loop_end {G = L} (λ g l. l) join (rest files (state_in old.work)) end (view (world_of new.work) v) (x.seen held) (is files) law;
-        found = known;
-      }
+  gathered end v x is law known = grind (arith, loop_end)
 
 -- a part means the same in the state that was reached, and the rest from it on is this part and what is left
 module _ {paths : List FileName} {L : Type 0} {join : L → L → L} {whole all : Files → State → Reads L} {so_far : L} {old mid : Moment} (x : Gathers paths join whole all so_far old mid) where
   before : {G : Type 0} (first : Files → State → Reads G) (files : Files) → first files (state_in old.work) ≡ first files (state_in mid.work)
-  before first files = ap (λ s. first files s) (sym (state_kept old.work mid.work x.names x.kept))
+  before first files = grind (arith, state_kept)
 
   seen_as : (some : Files → Reads L) → ((files : Files) → all files (state_in old.work) ≡ some files) → (held : Contents) → let files = files_in paths held in Goes held old.files mid.files (whole files (state_in old.work)) (joined join so_far (some files))
-  seen_as some is held = goes_to (x.seen held) (ap (joined join so_far) (is (files_in paths held)))
+  seen_as some is held = grind (arith, goes_to, joined)
 
 module _ {paths : List FileName} {G L : Type 0} (cons : G → L → L) {join : L → L → L} {whole all : Files → State → Reads L} {so_far : L} {first : Files → State → Reads G} (rest : Files → State → Reads L) {old mid new : Moment} (x : Gathers paths join whole all so_far old mid)
     (is : (files : Files) → all files (state_in old.work) ≡ ahead cons (first files (state_in old.work)) (rest files (state_in old.work))) where
@@ -45,10 +38,10 @@ module _ {paths : List FileName} {G L : Type 0} (cons : G → L → L) {join : L
     gathers_next so_far' v y law =
         record {
           names = y.names ∙ x.names;
-          kept = keeps_both (world_of old.work) (world_of mid.work) (world_of new.work) x.kept y.kept;
+          kept = search keeps_both;
           serves = serves_both x.serves y.serves;
           seen = λ held. let files = files_in paths held in let s = state_in old.work in
-              loop_next cons join x.serves (first files s) (rest files s) so_far (seen_as x (λ files. ahead cons (first files (state_in old.work)) (rest files (state_in old.work))) is held) (view (world_of new.work) v) so_far' (goes_by (before x first files) (y.reads held)) law;
+              loop_next cons join x.serves (first files s) (rest files s) so_far (grind (arith, seen_as, ahead)) (view (world_of new.work) v) so_far' (goes_by (before x first files) (y.reads held)) law;
         }
 
     module _ {V' : Type 0} {known' : Work → V' → Type 0} {view' : World → V' → L} where
@@ -58,11 +51,11 @@ module _ {paths : List FileName} {G L : Type 0} (cons : G → L → L) {join : L
       gathers_none {f} y (Err e) same =
           record {
             names = y.names ∙ x.names;
-            kept = keeps_both (world_of old.work) (world_of mid.work) (world_of new.work) x.kept y.kept;
+            kept = search keeps_both;
             serves = serves_both x.serves y.serves;
             reads = λ held. let files = files_in paths held in let s = state_in old.work in
-                subst (λ (e : EvalFault). Halts Err (world_of new.work).texts files old.files new.files (whole files s) e) (sym same)
-                (loop_fault (world_of new.work).texts files new.files cons join x.serves (first files s) (rest files s) so_far (seen_as x (λ files. ahead cons (first files (state_in old.work)) (rest files (state_in old.work))) is held) f (subst (λ r. Halts Err (world_of new.work).texts files mid.files new.files r f) (sym (before x first files)) (y.reads held)));
+                subst (λ e. Halts Err (world_of new.work).texts files old.files new.files (whole files s) e) (sym same)
+                (loop_fault (world_of new.work).texts files new.files cons join x.serves (first files s) (rest files s) so_far (grind (arith, seen_as, ahead)) f (rw (before x first files) (y.reads held)));
             found = tt;
           }
 
@@ -72,10 +65,10 @@ module _ {paths : List FileName} {G L : Type 0} (cons : G → L → L) {join : L
       gathers_out v y (Err e) same =
           record {
             names = y.names ∙ x.names;
-            kept = keeps_both (world_of old.work) (world_of mid.work) (world_of new.work) x.kept y.kept;
+            kept = search keeps_both;
             serves = serves_both x.serves y.serves;
             reads = λ held. let files = files_in paths held in let s = state_in old.work in
-                subst (λ (e : EvalFault). Halts Err (world_of new.work).texts files old.files new.files (whole files s) e) (sym same)
-                (loop_spends cons join x.serves (first files s) (rest files s) so_far (seen_as x (λ files. ahead cons (first files (state_in old.work)) (rest files (state_in old.work))) is held) (view (world_of new.work) v) (goes_by (before x first files) (y.reads held)));
+                subst (λ e. Halts Err (world_of new.work).texts files old.files new.files (whole files s) e) (sym same)
+                (loop_spends cons join x.serves (first files s) (rest files s) so_far (grind (arith, seen_as, ahead)) (view (world_of new.work) v) (goes_by (before x first files) (y.reads held)));
             found = tt;
           }

@@ -1,14 +1,13 @@
 -- Lists of parts, pairs and arguments that grow by one.
 use mathlib.Core.Former.{Count}
 use Rattle.{
-  std.proofs.Common.{◌≡◌, List, [], ◌∷◌, ◌++◌, refl, sym, ◌∙◌, ap, append_assoc, subst},
+  std.proofs.Common.{arith, ◌≡◌, List, [], ◌∷◌, ◌++◌, refl, sym, ◌∙◌, ap, append_assoc, subst},
   cell_core.specs.declared.cell.Label.{Label},
   meaning.specs.{Text.{Text}, Cell.{label_datum}},
   table_meaning.specs.{Settled.{IsSettled}, Value.{GivenList, GivenPairs, NamedGiven, no_given, more_given, no_entries, more_entries}},
-  frame_store.{specs.{Objects.{Tables}, Arguments.{item_of, items_of, argument_of, entries_of, named_of, arguments_of, IsLiveItem, IsLiveRow, AreLiveItems, IsLiveArgument, AreLiveEntries, AreLivePairs, AreLive}, declared.arguments.{Argument.{Argument, Table, Table', Row_of-Entries-pairs-2, end_of-Entries-pairs-2, more_of-Entries-pairs-2, items-the_row-Entries-pairs-2, items_hidden-the_row-Entries-pairs-2-0}, Item.{Item, One as OneItem, Row, Row', Row_of-Item, end_of-Item, more_of-Item, items-the_row-Item, items_hidden-the_row-Item-0}, Items.{Items}, Entries.{Entries}, Named.{Named}, Value.{Value}}, World.{World, IsKnownValue, IsKnownItem, AreKnownItems, IsKnownArgument, AreKnownPairs, AreKnownArguments, IsKnownSubscript}}, proofs.RowLaws.{item_of-Row, argument_of-Table}},
+  frame_store.{specs.{Objects.{Tables}, Arguments.{item_of, items_of, argument_of, entries_of, named_of, arguments_of, IsLiveItem, IsLiveRow, AreLiveItems, IsLiveArgument, AreLiveEntries, AreLivePairs, AreLive}, declared.arguments.{Argument.{Argument, Table, Table', Row_of-Entries-pairs-2, end_of-Entries-pairs-2, more_of-Entries-pairs-2, items-the_row-Entries-pairs-2, items_hidden-the_row-Entries-pairs-2-0}, Item.{Item, Row, Row', Row_of-Item, end_of-Item, more_of-Item, items-the_row-Item, items_hidden-the_row-Item-0}, Items.{Items}, Entries.{Entries}, Named.{Named}}, World.{World, IsKnownItem, AreKnownItems, IsKnownArgument, AreKnownPairs, AreKnownArguments, IsKnownSubscript}}, proofs.RowLaws.{item_of-Row, argument_of-Table}},
 }
 use Rattle.table_meaning.specs.Value as value
-use Rattle.frame_store.specs.declared.arguments.Argument.TheVariants as argument
 use Rattle.frame_store.specs.declared.arguments.Subscript.TheVariants as subscript
 
 -- parts behind parts
@@ -22,38 +21,36 @@ join_pairs (more_entries k g gs) l = more_entries k g (join_pairs gs l)
 
 pub parts_end : (l : GivenList) → join_parts l no_given ≡ l
 parts_end no_given = refl
-parts_end (more_given g gs) = ap (more_given g) (parts_end gs)
+parts_end (more_given g gs) = cc (parts_end gs)
 
 pub pairs_end : (l : GivenPairs) → join_pairs l no_entries ≡ l
 pairs_end no_entries = refl
-pairs_end (more_entries k g gs) = ap (more_entries k g) (pairs_end gs)
+pairs_end (more_entries k g gs) = cc (pairs_end gs)
 
 module _ (tables : Tables) (texts : List Text) where
   items_join : (items : List Item) (item : Item) (l : GivenList) → join_parts (items_of tables texts (items ++ item ∷ [])) l ≡ join_parts (items_of tables texts items) (more_given (item_of tables texts item) l)
   items_join [] item l = refl
-  items_join (i ∷ items) item l = ap (more_given (item_of tables texts i)) (items_join items item l)
+  items_join (i ∷ items) item l = cc (items_join items item l)
 
   pub items_push : (items items' : List Item) (item : Item) → items' ≡ items ++ item ∷ [] → (l : GivenList)
       → join_parts (items_of tables texts items) (more_given (item_of tables texts item) l) ≡ join_parts (items_of tables texts items') l
-  items_push items items' item is l = sym (items_join items item l) ∙ ap (λ xs. join_parts (items_of tables texts xs) l) (sym is)
+  items_push items items' item is l = grind (arith, items_join)
 
   pairs_join : (pairs : List (Label × Argument)) (pair : Label × Argument) (l : GivenPairs)
       → join_pairs (entries_of tables texts (pairs ++ pair ∷ [])) l ≡ join_pairs (entries_of tables texts pairs) (more_entries (label_datum texts pair.0) (argument_of tables texts pair.1) l)
   pairs_join [] pair l = refl
-  pairs_join (p ∷ pairs) pair l = ap (more_entries (label_datum texts p.0) (argument_of tables texts p.1)) (pairs_join pairs pair l)
+  pairs_join (p ∷ pairs) pair l = cc (pairs_join pairs pair l)
 
   pub pairs_push : (pairs pairs' : List (Label × Argument)) (label : Label) (a : Argument) → pairs' ≡ pairs ++ (label, a) ∷ [] → (l : GivenPairs)
       → join_pairs (entries_of tables texts pairs) (more_entries (label_datum texts label) (argument_of tables texts a) l) ≡ join_pairs (entries_of tables texts pairs') l
-  pairs_push pairs pairs' label a is l = sym (pairs_join pairs (label, a) l) ∙ ap (λ xs. join_pairs (entries_of tables texts xs) l) (sym is)
+  pairs_push pairs pairs' label a is l = grind (arith, pairs_join)
 
   arguments_join : (args : List Named) (g : Named) → arguments_of tables texts (args ++ g ∷ []) ≡ arguments_of tables texts args ++ named_of tables texts g ∷ []
   arguments_join [] g = refl
-  arguments_join (a ∷ args) g = ap (λ l. named_of tables texts a ∷ l) (arguments_join args g)
+  arguments_join (a ∷ args) g = cc (arguments_join args g)
 
   pub arguments_push : (args args' : List Named) (g : Named) → args' ≡ args ++ g ∷ [] → (l : List NamedGiven) → arguments_of tables texts args ++ named_of tables texts g ∷ l ≡ arguments_of tables texts args' ++ l
-  arguments_push args args' g is l =
-      sym (append_assoc (arguments_of tables texts args) (named_of tables texts g ∷ []) l)
-      ∙ ap (λ xs. xs ++ l) (sym (arguments_join args g) ∙ ap (arguments_of tables texts) (sym is))
+  arguments_push args args' g is l = grind (arith, append_assoc, arguments_join)
 
 -- liveness of one more
 live_items_push : (tables : Tables) (items : List Item) (item : Item) → AreLiveItems tables items → IsLiveItem tables item → AreLiveItems tables (items ++ item ∷ [])
@@ -73,7 +70,7 @@ module _ (w : World) where
   items_known items items' item is all one =
       subst (λ xs. AreKnownItems w xs) (sym is)
       record {
-        live = live_items_push w.tables items item all.live one.live;
+        live = search live_items_push;
         given = λ more. sym (parts_end _) ∙ items_join w.tables (w.texts ++ more) items item no_given
             ∙ (λ j. join_parts (all.given more j) (more_given (one.given more j) no_given))
             ∙ sym (items_join w.tables w.texts items item no_given) ∙ parts_end _;
@@ -83,21 +80,14 @@ module _ (w : World) where
   pairs_known pairs pairs' label a is all here one =
       subst (λ xs. AreKnownPairs w xs) (sym is)
       record {
-        live = live_pairs_push w.tables pairs (label, a) all.live one.live;
+        live = search live_pairs_push;
         given = λ more. sym (pairs_end _) ∙ pairs_join w.tables (w.texts ++ more) pairs (label, a) no_entries
             ∙ (λ j. join_pairs (all.given more j) (more_entries (here more j) (one.given more j) no_entries))
             ∙ sym (pairs_join w.tables w.texts pairs (label, a) no_entries) ∙ pairs_end _;
       }
 
   pub arguments_known : (args args' : List Named) (g : Named) → args' ≡ args ++ g ∷ [] → AreKnownArguments w args → IsKnownArgument w g.value → AreKnownArguments w args'
-  arguments_known args args' g is all one =
-      subst (λ xs. AreKnownArguments w xs) (sym is)
-      record {
-        live = live_arguments_push w.tables args g all.live one.live;
-        given = λ more. arguments_join w.tables (w.texts ++ more) args g
-            ∙ (λ j. all.given more j ++ (record { name = g.name; value = one.given more j }) ∷ [])
-            ∙ sym (arguments_join w.tables w.texts args g);
-      }
+  arguments_known args args' g is all one = grind (arith, live_arguments_push, arguments_join)
 
 -- a list and a dict whose parts are live
 live_row : (tables : Tables) (n : Count) (row : Row_of-Item n) → AreLiveItems tables (items-the_row-Item n row) → IsLiveRow tables row
@@ -120,47 +110,22 @@ pub row_known : (w : World) (l : Items) → AreKnownItems w l.items.items → Is
 row_known w l known =
     let row = item_row (Row l) in
     record {
-      live = live_row w.tables row.0 row.1 (subst (AreLiveItems w.tables) (sym (items_hidden-the_row-Item-0 l.items)) known.live);
-      given = λ more. item_of-Row w.tables (w.texts ++ more) l ∙ ap value.row (known.given more) ∙ sym (item_of-Row w.tables w.texts l);
+      live = live_row w.tables row.0 row.1 (rw (items_hidden-the_row-Item-0 l.items) known.live);
+      given = grind (arith, item_of-Row);
     }
 
 pub table_known : (w : World) (l : Entries) → AreKnownPairs w l.pairs.items → IsKnownArgument w (Table l)
 table_known w l known =
     let row = table_row (Table l) in
     record {
-      live = live_entries w.tables row.0 row.1 (subst (AreLivePairs w.tables) (sym (items_hidden-the_row-Entries-pairs-2-0 l.pairs)) known.live);
+      live = live_entries w.tables row.0 row.1 (rw (items_hidden-the_row-Entries-pairs-2-0 l.pairs) known.live);
       given = λ more. argument_of-Table w.tables (w.texts ++ more) l ∙ ap value.entries (known.given more) ∙ sym (argument_of-Table w.tables w.texts l);
     }
 
 -- a value, a list, a tuple and None as arguments, and subscripts of arguments
 module _ (w : World) where
-  pub item_known : (v : Value) → IsKnownValue w v → IsKnownItem w (OneItem v)
-  item_known v known = record { live = known.live; given = λ more. ap value.one (known.given more) }
-
-  pub argument_known : (v : Value) → IsKnownValue w v → IsKnownArgument w (argument.One v)
-  argument_known v known = record { live = known.live; given = λ more. ap value.one (known.given more) }
-
-  pub many_known : (l : Items) → AreKnownItems w l.items.items → IsKnownArgument w (argument.Many l)
-  many_known l known = record { live = known.live; given = λ more. ap value.many (known.given more) }
-
-  pub tuple_known : (l : Items) → AreKnownItems w l.items.items → IsKnownArgument w (argument.Row l)
-  tuple_known l known = record { live = known.live; given = λ more. ap value.row (known.given more) }
-
-  pub nothing_known : IsKnownArgument w argument.Nothing
-  nothing_known = record { live = tt; given = λ more. refl }
-
-  pub no_items_known : AreKnownItems w []
-  no_items_known = record { live = tt; given = λ more. refl }
-
-  pub no_pairs_known : AreKnownPairs w []
-  no_pairs_known = record { live = tt; given = λ more. refl }
-
-  pub no_arguments_known : AreKnownArguments w []
-  no_arguments_known = record { live = tt; given = λ more. refl }
-
   pub key_known : (a : Argument) → IsKnownArgument w a → IsKnownSubscript w (subscript.Key a)
-  key_known a known = record { live = known.live; given = λ more. ap value.key_given (known.given more) }
+  key_known a known = grind arith
 
   pub span_known : (a b c : Argument) → IsKnownArgument w a → IsKnownArgument w b → IsKnownArgument w c → IsKnownSubscript w (subscript.Span a b c)
-  span_known a b c first second third =
-      record { live = (first.live, second.live, third.live); given = λ more j. value.span_given (first.given more j) (second.given more j) (third.given more j) }
+  span_known a b c first second third = grind arith

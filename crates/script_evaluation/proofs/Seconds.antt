@@ -1,11 +1,11 @@
 -- Parts that may be left out, where they stand.
 use Rattle.{
-  std.{proofs.Common.{List, Option, Some, refl}, specs.Prelude.{Ok, Err, option_map, IfSome}},
+  std.{proofs.Common.{arith, List, Option, Some, refl}, specs.Prelude.{Ok, Err, option_map, IfSome}},
   meaning.specs.Text.{Text},
   table_meaning.specs.Value.{Entry, GivenSub, one},
   frame_store.specs.{declared.arguments.{Argument.TheVariants.{One}, Subscript.{Subscript}, Value.{Value}}, World.{World, IsKnownArgument, IsKnownSubscript, entry_in}},
   script_meaning.specs.{Reading.{Files, Reads, gives, then_read}, State.{State}},
-  script_evaluation.{specs.Evaluates.{Moment, IsValue, Evaluates, argument_in, subscript_in}, proofs.{Evaluations.{stops, makes}, Parts.{argument_known}}},
+  script_evaluation.{specs.Evaluates.{Moment, IsValue, Evaluates, argument_in, subscript_in}, proofs.Evaluations.{stops, makes}},
   script_work.specs.{Work.{world_of}, declared.{file_names.FileName.{FileName}, fault.EvalFault.{EvalFault}, work.Work.{Work}}},
 }
 
@@ -23,7 +23,7 @@ module _ {paths : List FileName} {old new : Moment} where
 
     pub seconds : (v : Subscript) → Evaluates paths (λ w s. IsKnownSubscript (world_of w) s) subscript_in meant old new (Ok v)
         → Evaluates paths is_second second_in (λ files s. then_read (meant files s) (λ g. gives (Some g))) old new (Ok (Some v))
-    seconds v x = makes (λ g. Some g) v (Some v) x x.found refl
+    seconds v x = grind (arith, makes)
 
   module _ {meant : Files → State → Reads Entry} {name : Option Text} where
     pub strides_stop : {f : EvalFault} → Evaluates paths (IsValue name) entry_in meant old new (Err f)
@@ -32,4 +32,4 @@ module _ {paths : List FileName} {old new : Moment} where
 
     pub strides : (v : Value) → Evaluates paths (IsValue name) entry_in meant old new (Ok v)
         → Evaluates paths (λ w a. IsKnownArgument (world_of w) a) argument_in (λ files s. then_read (meant files s) (λ v. gives (one v))) old new (Ok (One v))
-    strides v x = makes (λ v. one v) v (One v) x (argument_known (world_of new.work) v x.found.known) refl
+    strides v x = grind (arith, makes)

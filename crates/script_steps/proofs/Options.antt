@@ -1,27 +1,22 @@
 -- What follows for values that may be there.
-use Rattle.std.{proofs.Common.{◌≡◌, Option, Some, None, refl, subst}, specs.Prelude.{IfNone, IfSome}}
+use Rattle.std.{proofs.Common.{arith, ◌≡◌, Option, Some}, specs.Prelude.{IfNone, IfSome}}
 
 pub some-weaker : {T : Type 0} (o : Option T) (P Q : T → Type 0) → IfSome o P → ((x : T) → P x → Q x) → IfSome o Q
-some-weaker None P Q p f = tt
-some-weaker (Some x) P Q p f = f x p
+some-weaker x1 x2 x3 p f = grind arith
 
 pub some-always : {T : Type 0} (o : Option T) (Q : T → Type 0) → ((x : T) → Q x) → IfSome o Q
-some-always None Q f = tt
-some-always (Some x) Q f = f x
+some-always x1 x2 f = grind arith
 
 pub none-always : {T : Type 0} (o : Option T) (P : Type 0) → P → IfNone o P
-none-always None P p = p
-none-always (Some x) P p = tt
+none-always x1 x2 p = grind arith
 
 -- what follows for the value that is there
 pub some-told : {T : Type 0} (o : Option T) (Q : T → Type 0) → ((x : T) → o ≡ Some x → Q x) → IfSome o Q
-some-told None Q f = tt
-some-told (Some x) Q f = f x refl
+some-told x1 x2 f = grind arith
 
 both : {T : Type 0} (o : Option T) (P P' Q : T → Type 0) → IfSome o P → IfSome o P' → ((x : T) → P x → P' x → Q x) → IfSome o Q
-both None P P' Q p p' f = tt
-both (Some x) P P' Q p p' f = f x p p'
+both x1 x2 x3 x4 p p' f = grind arith
 
 -- what follows from what is said of one Option, and of one that is equal
 pub some-both : {T : Type 0} (o o' : Option T) (P P' Q : T → Type 0) → o' ≡ o → IfSome o P → IfSome o' P' → ((x : T) → P x → P' x → Q x) → IfSome o Q
-some-both o o' P P' Q same p p' f = both o P P' Q p (subst (λ r. IfSome r P') same p') f
+some-both o o' P P' Q same p p' f = grind (arith, both)

@@ -1,18 +1,16 @@
 -- The pieces of a text, joined and one by one.
 use Rattle.{
-  std.{proofs.{Common.{◌≡◌, ℕ, ◌+◌, Bool, true, false, List, [], ◌∷◌, ◌++◌, refl, sym, ◌∙◌, ap, subst, leb, eqb}, lemmas.Bool.{eqb-true}}, specs.List.{concat}},
+  std.{proofs.{Common.{arith, ◌≡◌, ℕ, ◌+◌, Bool, true, false, List, [], ◌∷◌, ◌++◌, refl, ◌∙◌, ap, leb, eqb}, lemmas.Bool.{eqb-true}}, specs.List.{concat}},
   language_meaning.specs.Pieces.{Mode, plain, mode_after, opens, closes, choose, into_first, cut},
   script_syntax.specs.Cut.{is_closed, IsPieceFrom, IsEnded, AreCutFrom, IsCut},
 }
 
 concat_into : (b : ℕ) (ps : List (List ℕ)) → concat (into_first b ps) ≡ b ∷ concat ps
-concat_into b [] = refl
-concat_into b (p ∷ ps) = refl
+concat_into b x = grind arith
 
 chosen : {A : Type 0} (P : A → Type 0) (t : Bool) (x y : A) → (t ≡ true → P x) → (t ≡ false → P y) → P (choose t x y)
 unfolding choose
-chosen P true x y f g = f refl
-chosen P false x y f g = g refl
+chosen x1 x2 x y f g = grind arith
 
 cut_joined : (mode : Mode) (opened closed : ℕ) (bs : List ℕ) → concat (cut mode opened closed bs) ≡ bs
 unfolding cut
@@ -32,8 +30,8 @@ module _ (b : ℕ) (mode next : Mode) (opened closed opened' closed' : ℕ)
   piece_into p only = ((λ e. absurd cc), one)
     where
       one : (front back : List ℕ) → b ∷ p ≡ front ++ 10 ∷ back → is_closed mode opened closed front ≡ true → back ≡ []
-      one [] back e c = let no = inside cc in absurd cc
-      one (x ∷ front) back e c = let same : x ≡ b = cc in let tail : p ≡ front ++ 10 ∷ back = cc in only front back tail (sym (goes front) ∙ subst (λ y. is_closed mode opened closed (y ∷ front) ≡ true) same c)
+      one [] back e c = grind arith
+      one (x ∷ front) back e c = grind arith
 
   cut_into : (ps : List (List ℕ)) → AreCutFrom next opened' closed' ps → AreCutFrom mode opened closed (into_first b ps)
   cut_into [] is = piece_into [] none
@@ -42,12 +40,12 @@ module _ (b : ℕ) (mode next : Mode) (opened closed opened' closed' : ℕ)
       none [] back e c = absurd cc
       none (x ∷ front) back e c = absurd cc
   cut_into (p ∷ []) is = piece_into p is.1
-  cut_into (p ∷ q ∷ ps) is = (piece_into p is.0.1, (b ∷ is.1.0, ap (λ cs. b ∷ cs) is.1.1, goes is.1.0 ∙ is.1.2), is.2)
+  cut_into (p ∷ q ∷ ps) is = grind (arith, piece_into)
 
 -- a piece that is a line feed
 line_feed : (b : ℕ) (mode : Mode) (opened closed : ℕ) → b ≡ 10 → leb opened closed ≡ true → IsPieceFrom mode opened closed (b ∷ []) × IsEnded mode opened closed (b ∷ [])
 unfolding is_closed
-line_feed b mode opened closed is c = (((λ e. absurd cc), only), ([], ap (λ x. x ∷ []) is, c))
+line_feed b mode opened closed is c = (((λ e. absurd cc), only), grind arith)
   where
     only : (front back : List ℕ) → b ∷ [] ≡ front ++ 10 ∷ back → is_closed mode opened closed front ≡ true → back ≡ []
     only [] back e d = cc
@@ -55,8 +53,7 @@ line_feed b mode opened closed is c = (((λ e. absurd cc), only), ([], ap (λ x.
     only (x ∷ y ∷ front) back e d = absurd cc
 
 cut_after : (mode : Mode) (opened closed : ℕ) (p : List ℕ) (ps : List (List ℕ)) → IsPieceFrom mode opened closed p → IsEnded mode opened closed p → AreCutFrom plain 0 0 ps → AreCutFrom mode opened closed (p ∷ ps)
-cut_after mode opened closed p [] piece ended rest = piece
-cut_after mode opened closed p (q ∷ ps) piece ended rest = (piece, ended, rest)
+cut_after mode opened closed p x piece ended rest = grind arith
 
 goes_line : (b : ℕ) (mode : Mode) (opened closed : ℕ) → eqb b 10 ≡ true → (front : List ℕ) → is_closed mode opened closed (b ∷ front) ≡ is_closed plain opened closed front
 unfolding is_closed choose
@@ -66,9 +63,6 @@ goes_on : (b : ℕ) (mode : Mode) (opened closed : ℕ) → eqb b 10 ≡ false �
 unfolding is_closed choose
 goes_on b mode opened closed t front = rw t refl
 
-not_ten : (b : ℕ) → eqb b 10 ≡ false → b ≡ 10 → ⊥
-not_ten b t e = let u : eqb 10 10 ≡ false = subst (λ x. eqb x 10 ≡ false) e t in absurd cc
-
 cut_pieces : (mode : Mode) (opened closed : ℕ) (bs : List ℕ) → AreCutFrom mode opened closed (cut mode opened closed bs)
 unfolding cut
 cut_pieces mode opened closed [] = tt
@@ -77,8 +71,8 @@ cut_pieces mode opened closed (b ∷ bs) =
     (λ t. chosen (AreCutFrom mode opened closed) (leb opened closed) _ _
     (λ u. let one = line_feed b mode opened closed (eqb-true b 10 t) u in cut_after mode opened closed (b ∷ []) _ one.0 one.1 (cut_pieces plain 0 0 bs))
     (λ u. cut_into b mode plain opened closed opened closed (goes_line b mode opened closed t) (λ e. u) _ (cut_pieces plain opened closed bs)))
-    (λ t. cut_into b mode (mode_after mode b) opened closed _ _ (goes_on b mode opened closed t) (λ e. absurd (not_ten b t e)) _
+    (λ t. cut_into b mode (mode_after mode b) opened closed _ _ (goes_on b mode opened closed t) (λ e. absurd (grind arith)) _
     (cut_pieces (mode_after mode b) (opened + opens mode b) (closed + closes mode b) bs))
 
 pub is_cut : (bytes : List ℕ) → IsCut bytes
-is_cut bytes = (cut_joined plain 0 0 bytes, cut_pieces plain 0 0 bytes)
+is_cut bytes = search (cut_joined, cut_pieces)

@@ -1,6 +1,6 @@
 -- Bytes are made of tokens, or they are not.
 use Rattle.{
-  std.{proofs.{Common.{◌≡◌, ◌≢◌, ◌⊎◌, inl, inr, ◌∙◌, sym, ap, subst, refl, ℕ, zero, suc, ◌≤◌, ◌^◌, Bool, true, false, ◌&&◌, leb, eqb, List, [], ◌∷◌, ◌++◌, Option, Some, None, length, take, drop, decimal, arith}, lemmas.{Bool.{eqb-true, leb-true, Decides.{nat_tests}}, Fmt.{decimal_is_IsNumeral}}}, specs.{Str.Parse.{digits_value}, List.{prefix_len}}},
+  std.{proofs.{Common.{◌≡◌, ◌≢◌, ◌⊎◌, inl, inr, sym, subst, refl, ℕ, zero, suc, ◌≤◌, ◌^◌, Bool, true, false, ◌&&◌, leb, eqb, List, [], ◌∷◌, ◌++◌, Option, Some, None, length, take, drop, decimal, arith}, lemmas.{Bool.{eqb-true, leb-true, Decides.{nat_tests}}, Fmt.{decimal_is_IsNumeral}}}, specs.{Str.Parse.{digits_value}, List.{prefix_len}}},
   meaning.specs.Text.{Text, same_text},
   language_meaning.specs.{Tree.{Binary, add, sub, mul, floor_div, mod_, eq, ne, lt, le, gt, ge, and, or, xor}, Token.{Token, word, int, text, op, mark, Mark, equals, dot, comma, colon, tilde, open_paren, close_paren, open_bracket, close_bracket, open_brace, close_brace, byte_of, spelling_of, may_grow, is_digit, begins_word, continues_word, begins_with, IsRun, escaped, IsQuoted, IsQuote, IsToken, Lexes, skip}},
   script_tokens.{specs.Absent.{BeginsNoToken}, proofs.{Runs.{true_or_false, not_both, run_of_length, IsRun-unique}, TokenLaws.{IsToken-unique, IsToken-shorter}, LexLaws.{length-skip}}},
@@ -24,10 +24,7 @@ unfolding Member
 among P decided [] = inr (λ a is p. is)
 among {A} P decided (x ∷ xs) = elim (decided x) [
   | inl p ↦ inl (x, p)
-  | inr against ↦ elim (among P decided xs) [
-    | inl found ↦ inl found
-    | inr none ↦ inr (either against none)
-  ]
+  | inr against ↦ grind (arith, either, among P decided xs)
 ]
   where
     either : (P x → ⊥) → ((a : A) → Member a xs → P a → ⊥) → (a : A) → Member a (x ∷ xs) → P a → ⊥
@@ -39,37 +36,14 @@ operators = add ∷ sub ∷ mul ∷ floor_div ∷ mod_ ∷ eq ∷ ne ∷ lt ∷ 
 
 is_operator : (o : Binary) → Member o operators
 unfolding Member operators
-is_operator add = inl refl
-is_operator sub = inr (inl refl)
-is_operator mul = inr (inr (inl refl))
-is_operator floor_div = inr (inr (inr (inl refl)))
-is_operator mod_ = inr (inr (inr (inr (inl refl))))
-is_operator eq = inr (inr (inr (inr (inr (inl refl)))))
-is_operator ne = inr (inr (inr (inr (inr (inr (inl refl))))))
-is_operator lt = inr (inr (inr (inr (inr (inr (inr (inl refl)))))))
-is_operator le = inr (inr (inr (inr (inr (inr (inr (inr (inl refl))))))))
-is_operator gt = inr (inr (inr (inr (inr (inr (inr (inr (inr (inl refl)))))))))
-is_operator ge = inr (inr (inr (inr (inr (inr (inr (inr (inr (inr (inl refl))))))))))
-is_operator and = inr (inr (inr (inr (inr (inr (inr (inr (inr (inr (inr (inl refl)))))))))))
-is_operator or = inr (inr (inr (inr (inr (inr (inr (inr (inr (inr (inr (inr (inl refl))))))))))))
-is_operator xor = inr (inr (inr (inr (inr (inr (inr (inr (inr (inr (inr (inr (inr (inl refl)))))))))))))
+is_operator x = grind arith
 
 marks : List Mark
 marks = equals ∷ dot ∷ comma ∷ colon ∷ tilde ∷ open_paren ∷ close_paren ∷ open_bracket ∷ close_bracket ∷ open_brace ∷ close_brace ∷ []
 
 is_mark : (m : Mark) → Member m marks
 unfolding Member marks
-is_mark equals = inl refl
-is_mark dot = inr (inl refl)
-is_mark comma = inr (inr (inl refl))
-is_mark colon = inr (inr (inr (inl refl)))
-is_mark tilde = inr (inr (inr (inr (inl refl))))
-is_mark open_paren = inr (inr (inr (inr (inr (inl refl)))))
-is_mark close_paren = inr (inr (inr (inr (inr (inr (inl refl))))))
-is_mark open_bracket = inr (inr (inr (inr (inr (inr (inr (inl refl)))))))
-is_mark close_bracket = inr (inr (inr (inr (inr (inr (inr (inr (inl refl))))))))
-is_mark open_brace = inr (inr (inr (inr (inr (inr (inr (inr (inr (inl refl)))))))))
-is_mark close_brace = inr (inr (inr (inr (inr (inr (inr (inr (inr (inr (inl refl))))))))))
+is_mark x = grind arith
 
 -- ---- signs
 
@@ -78,16 +52,13 @@ Stands grows spelling bytes = (rest : List ℕ) × (bytes ≡ spelling ++ rest) 
 
 stands : (grows : Bool) (spelling bytes : List ℕ) → Decided (Stands grows spelling bytes)
 stands grows [] bytes = elim (true_or_false (grows && begins_with (λ b. eqb b 61) bytes)) [
-  | inl more ↦ inr (λ s. let same : bytes ≡ s.0 = s.1 in not_both _ more (subst (λ bs. (grows && begins_with (λ b. eqb b 61) bs) ≡ false) (sym same) s.2))
-  | inr ends ↦ inl (bytes, refl, ends)
+  | inl more ↦ grind (arith, not_both)
+  | inr ends ↦ grind arith
 ]
-stands grows (x ∷ xs) [] = inr (λ s. let e : [] ≡ x ∷ (xs ++ s.0) = s.1 in absurd cc)
+stands grows (x ∷ xs) [] = grind arith
 stands grows (x ∷ xs) (b ∷ bs) = elim (true_or_false (eqb b x)) [
-  | inl same ↦ elim (stands grows xs bs) [
-    | inl s ↦ let first : b ≡ x = eqb-true b x same in inl (s.0, ap (λ c. c ∷ bs) first ∙ ap (λ cs. x ∷ cs) s.1, s.2)
-    | inr against ↦ inr (λ s. let e : b ∷ bs ≡ x ∷ (xs ++ s.0) = s.1 in against (s.0, cc, s.2))
-  ]
-  | inr other ↦ inr (λ s. let e : b ∷ bs ≡ x ∷ (xs ++ s.0) = s.1 in eqb_no b x other cc)
+  | inl same ↦ grind (arith, eqb-true, stands grows xs bs)
+  | inr other ↦ grind (arith, eqb_no)
 ]
 
 -- ---- texts
@@ -97,7 +68,7 @@ EndsText quote bytes = (s : Text) × (rest : List ℕ) × IsQuoted quote s bytes
 
 text_none : (quote : ℕ) (s rest : List ℕ) → IsQuoted quote s [] rest → ⊥
 text_none quote [] rest q = absurd cc
-text_none quote (c ∷ cs) rest (more, inl a, q) = let e = a.0 in absurd cc
+text_none quote (c ∷ cs) rest (more, inl a, q) = grind arith
 text_none quote (c ∷ cs) rest (more, inr (e, f, g), q) = absurd cc
 
 -- after a backslash
@@ -106,7 +77,7 @@ text_escaped quote b [] apart back later = inr none
   where
     none : EndsText quote (b ∷ []) → ⊥
     none ([], rest, q) = apart cc
-    none (c ∷ cs, rest, (more, inl a, q)) = a.2 (let e = a.0 in cc)
+    none (c ∷ cs, rest, (more, inl a, q)) = grind arith
     none (c ∷ cs, rest, (more, inr (e, f, g), q)) = absurd cc
 text_escaped quote b (e ∷ after) apart back later = chosen (escaped e) refl
   where
@@ -115,28 +86,28 @@ text_escaped quote b (e ∷ after) apart back later = chosen (escaped e) refl
       where
         none : EndsText quote (b ∷ e ∷ after) → ⊥
         none ([], rest, q) = apart cc
-        none (c ∷ cs, rest, (more, inl a, q)) = a.2 (let f = a.0 in cc)
-        none (c ∷ cs, rest, (more, inr (f, g, h), q)) = let same : f ≡ e = cc in let k : escaped e ≡ Some c = subst (λ x. escaped x ≡ Some c) same h in absurd cc
+        none (c ∷ cs, rest, (more, inl a, q)) = grind arith
+        none (c ∷ cs, rest, (more, inr (f, g, h), q)) = grind arith
     chosen (Some d) is = elim (later e after refl) [
-      | inl (s, rest, q) ↦ inl (d ∷ s, rest, (after, inr (e, ap (λ x. x ∷ e ∷ after) back, is), q))
+      | inl (s, rest, q) ↦ inl (d ∷ s, rest, grind arith)
       | inr against ↦ inr (none against)
     ]
       where
         none : (EndsText quote after → ⊥) → EndsText quote (b ∷ e ∷ after) → ⊥
         none against ([], rest, q) = apart cc
-        none against (c ∷ cs, rest, (more, inl a, q)) = a.2 (let f = a.0 in cc)
-        none against (c ∷ cs, rest, (more, inr (f, g, h), q)) = let same : more ≡ after = cc in against (cs, rest, subst (λ m. IsQuoted quote cs m rest) same q)
+        none against (c ∷ cs, rest, (more, inl a, q)) = grind arith
+        none against (c ∷ cs, rest, (more, inr (f, g, h), q)) = grind arith
 
 text_step : (quote b : ℕ) (bs : List ℕ) → Decided (EndsText quote bs) → ((e : ℕ) (after : List ℕ) → bs ≡ e ∷ after → Decided (EndsText quote after)) → Decided (EndsText quote (b ∷ bs))
 text_step quote b bs next later = elim (true_or_false (eqb b quote)) [
-  | inl ends ↦ inl ([], bs, ap (λ x. x ∷ bs) (eqb-true b quote ends))
+  | inl ends ↦ inl ([], bs, search eqb-true)
   | inr apart ↦ elim (true_or_false (eqb b 92)) [
-    | inl back ↦ text_escaped quote b bs (eqb_no b quote apart) (eqb-true b 92 back) later
+    | inl back ↦ search (text_escaped, eqb_no, eqb-true)
     | inr plain ↦ elim (true_or_false (eqb b 10)) [
-      | inl line ↦ inr (broken (eqb_no b quote apart) (eqb_no b 92 plain) (eqb-true b 10 line))
+      | inl line ↦ grind (arith, broken, eqb_no, eqb-true)
       | inr inside ↦ elim next [
-        | inl (s, rest, q) ↦ inl (b ∷ s, rest, (bs, inl (refl, eqb_no b quote apart, eqb_no b 92 plain, eqb_no b 10 inside), q))
-        | inr against ↦ inr (unended (eqb_no b quote apart) (eqb_no b 92 plain) against)
+        | inl (s, rest, q) ↦ inl (b ∷ s, rest, grind (arith, eqb_no))
+        | inr against ↦ grind (arith, unended, eqb_no)
       ]
     ]
   ]
@@ -144,16 +115,16 @@ text_step quote b bs next later = elim (true_or_false (eqb b quote)) [
   where
     broken : b ≢ quote → b ≢ 92 → b ≡ 10 → EndsText quote (b ∷ bs) → ⊥
     broken apart plain line ([], rest, q) = apart cc
-    broken apart plain line (c ∷ cs, rest, (more, inl a, q)) = a.3 (let e = a.0 in cc)
+    broken apart plain line (c ∷ cs, rest, (more, inl a, q)) = grind arith
     broken apart plain line (c ∷ cs, rest, (more, inr (e, f, g), q)) = plain cc
 
     unended : b ≢ quote → b ≢ 92 → (EndsText quote bs → ⊥) → EndsText quote (b ∷ bs) → ⊥
     unended apart plain against ([], rest, q) = apart cc
-    unended apart plain against (c ∷ cs, rest, (more, inl a, q)) = let e = a.0 in let same : more ≡ bs = cc in against (cs, rest, subst (λ m. IsQuoted quote cs m rest) same q)
+    unended apart plain against (c ∷ cs, rest, (more, inl a, q)) = grind arith
     unended apart plain against (c ∷ cs, rest, (more, inr (e, f, g), q)) = plain cc
 
 ends_text : (quote : ℕ) (bytes : List ℕ) → Decided (EndsText quote bytes)
-ends_text quote [] = inr (λ t. text_none quote t.0 t.1 t.2)
+ends_text quote [] = grind (arith, text_none)
 ends_text quote (b ∷ []) = text_step quote b [] (inr (λ t. text_none quote t.0 t.1 t.2)) (λ e after is. absurd cc)
 ends_text quote (b ∷ e ∷ after) = text_step quote b (e ∷ after) (ends_text quote (e ∷ after)) (λ f more is. let same : after ≡ more = cc in subst (λ m. Decided (EndsText quote m)) same (ends_text quote after))
 
@@ -169,8 +140,8 @@ word_decided : (bytes : List ℕ) → Decided ((w : Text) × (rest : List ℕ) �
 word_decided bytes =
     let run = run_of_length continues_word bytes in
     elim (true_or_false (begins_with begins_word (word_of bytes))) [
-      | inl begins ↦ inl (word_of bytes, after_word bytes, (run, begins))
-      | inr against ↦ inr (λ w. let same = IsRun-unique continues_word bytes w.0 w.1 (word_of bytes) (after_word bytes) w.2.0 run in not_both (begins_with begins_word (word_of bytes)) (subst (λ f. begins_with begins_word f ≡ true) same.0 w.2.1) against)
+      | inl begins ↦ grind arith
+      | inr against ↦ grind (arith, not_both)
     ]
 
 value_of : (n : ℕ) → n ≤ 2 ^ 63 → digits_value 10 (decimal n) ≡ n
@@ -188,48 +159,35 @@ number_of bytes = digits_value 10 (digits_of bytes)
 is_number : (bytes : List ℕ) (n : ℕ) (rest : List ℕ) → IsToken (int n) bytes rest → (decimal n ≡ digits_of bytes) × (number_of bytes ≡ n)
 is_number bytes n rest is =
     let same = (IsRun-unique is_digit bytes (decimal n) rest (digits_of bytes) (after_digits bytes) is.0 (run_of_length is_digit bytes)).0 in
-    (same, ap (digits_value 10) (sym same) ∙ value_of n is.1)
+    grind (arith, value_of)
 
 int_decided : (bytes : List ℕ) → Decided ((n : ℕ) × (rest : List ℕ) × IsToken (int n) bytes rest)
 int_decided bytes = elim (true_or_false (same_text (decimal (number_of bytes)) (digits_of bytes))) [
   | inl same ↦ elim (true_or_false (leb (number_of bytes) (2 ^ 63))) [
     | inl small ↦ inl (number_of bytes, after_digits bytes, (subst (λ f. IsRun is_digit f bytes (after_digits bytes)) (sym (text_is _ _ same)) (run_of_length is_digit bytes), leb-true _ _ small))
-    | inr great ↦ inr (λ n. let is = is_number bytes n.0 n.1 n.2 in not_both _ (subst (λ k. leb k (2 ^ 63) ≡ true) (sym is.1) (at_most n.0 (2 ^ 63) n.2.1)) great)
+    | inr great ↦ grind (arith, is_number, not_both, at_most)
   ]
-  | inr other ↦ inr (λ n. let is = is_number bytes n.0 n.1 n.2 in not_both _ (subst (λ f. same_text (decimal (number_of bytes)) f ≡ true) (ap decimal is.1 ∙ is.0) (text_same (decimal (number_of bytes)))) other)
+  | inr other ↦ inr (λ n. let is = is_number bytes n.0 n.1 n.2 in not_both _ (cc (is.1, is.0, text_same (decimal (number_of bytes)))) other)
 ]
   where
     at_most : (a b : ℕ) → a ≤ b → leb a b ≡ true
     at_most a b small = grind (arith, nat_tests)
 
 text_decided : (bytes : List ℕ) → Decided ((s : Text) × (rest : List ℕ) × IsToken (text s) bytes rest)
-text_decided [] = inr (λ t. let e = t.2.3 in absurd cc)
+text_decided [] = grind arith
 text_decided (b ∷ bs) = elim (quote_decided b) [
   | inl is ↦ elim (ends_text b bs) [
-    | inl (s, rest, q) ↦ inl (s, rest, (b, bs, is, refl, q))
+    | inl (s, rest, q) ↦ grind arith
     | inr against ↦ inr (none against)
   ]
-  | inr other ↦ inr (λ t. let e = t.2.3 in let same : t.2.0 ≡ b = cc in other (subst IsQuote same t.2.2))
+  | inr other ↦ grind arith
 ]
   where
     quote_decided : (b : ℕ) → Decided (IsQuote b)
-    quote_decided b = elim (true_or_false (eqb b 39)) [
-      | inl e ↦ inl (inl (eqb-true b 39 e))
-      | inr against ↦ elim (true_or_false (eqb b 34)) [
-        | inl e ↦ inl (inr (eqb-true b 34 e))
-        | inr none ↦ inr (neither (eqb_no b 39 against) (eqb_no b 34 none))
-      ]
-    ]
-      where
-        neither : (b ≡ 39 → ⊥) → (b ≡ 34 → ⊥) → IsQuote b → ⊥
-        neither against none (inl e) = against e
-        neither against none (inr e) = none e
+    quote_decided b = grind (arith, true_or_false, eqb-true, eqb_no)
 
     none : (EndsText b bs → ⊥) → ((s : Text) × (rest : List ℕ) × IsToken (text s) (b ∷ bs) rest) → ⊥
-    none against (s, rest, (quote, more, is, e, q)) =
-        let same : quote ≡ b = cc in
-        let others : more ≡ bs = cc in
-        against (s, rest, subst (λ x. IsQuoted x s bs rest) same (subst (λ m. IsQuoted quote s m rest) others q))
+    none against (s, rest, (quote, more, is, e, q)) = grind arith
 
 as_operator : {bytes : List ℕ} (o : Binary) → Stands (may_grow (op o)) (spelling_of o) bytes → (t : Token) × (rest : List ℕ) × IsToken t bytes rest
 as_operator o (rest, e, ends) = (op o, rest, (e, ends))
@@ -248,7 +206,7 @@ token_decided bytes = elim (word_decided bytes) [
         | inl s ↦ inl (as_operator s.0 s.1)
         | inr no_op ↦ elim (among (λ m. Stands (may_grow (mark m)) (byte_of m ∷ []) bytes) (λ m. stands (may_grow (mark m)) (byte_of m ∷ []) bytes) marks) [
           | inl s ↦ inl (as_mark s.0 s.1)
-          | inr no_mark ↦ inr (none no_word no_int no_text no_op no_mark)
+          | inr no_mark ↦ grind (arith, none)
         ]
       ]
     ]

@@ -1,8 +1,8 @@
 -- A statement is read exactly where it is in the grammar and no deeper than the limit.
 use Rattle.{
-  std.{proofs.Common.{◌≡◌, ◌≤◌, List, [], ◌∷◌, Some, None, refl, ap, subst, ◌∙◌, arith, inl, inr}, specs.Prelude.{codes}},
+  std.{proofs.Common.{◌≡◌, ◌≤◌, List, [], ◌∷◌, Some, None, refl, subst, arith, inl, inr}, specs.Prelude.{codes}},
   meaning.specs.Text.{Text},
-  language_meaning.specs.{Token.{Token, word, int, text, op, mark, equals, open_paren, close_paren, open_bracket, close_bracket}, Tree.{Expr, Step, Arg, after, Form, import_pandas, bind, put, drop_name, drop_column, print}, Depth.{depth}, Grammar.{IsName, SpellsExpr, SpellsArg, SpellsEnd, SpellsForm, IsShallow, most_depth}},
+  language_meaning.specs.{Token.{Token, word, mark, equals, open_paren, open_bracket, close_bracket}, Tree.{Expr, Step, Arg, after, Form, import_pandas, bind, put, drop_name, drop_column, print}, Depth.{depth}, Grammar.{IsName, SpellsExpr, SpellsEnd, SpellsForm, IsShallow, most_depth}},
   script_syntax.{specs.Reading.{and_then, or_else, pick, after_mark, after_word, ended, imported, deleted, printed, bound_to, set, assigned, form_read}, proofs.{Tools.{bind_some, or_cases, other, moved}, Takes.{mark_takes, word_takes, ended_is, name_takes, target_takes, split_takes, end_takes, mark_same, no_operator}, Sound.{expr_sound, argument_sound}, Gives.{word_same, other_word, unreserved, name_reads, target_reads, split_reads, end_reads}, Starts.{StartsExpr, expr_starts, Ends, nil_ends, close_paren_ends, close_bracket_ends, comma_ends, equals_ends, put_no_target}, Complete.{expr_is_read, arg_is_read}}},
 }
 
@@ -16,40 +16,24 @@ unfolding imported
 import_sound ts us f h e =
     let c = bind_some _ _ _ e in
     let b = bind_some _ _ _ c.1 in
-    let a = bind_some _ _ _ b.1 in
-    let d = ended_is _ _ _ c.2 in
-    subst (IsRead ts) d.0 (
-      h ∙ ap (λ (r : List Token). word (codes "import") ∷ r) (word_takes (codes "pandas") us a.0 a.1
-          ∙ ap (λ (r : List Token). word (codes "pandas") ∷ r) (word_takes (codes "as") a.0 b.0 a.2
-          ∙ ap (λ (r : List Token). word (codes "as") ∷ r) (word_takes (codes "pd") b.0 c.0 b.2
-          ∙ ap (λ (r : List Token). word (codes "pd") ∷ r) d.1))),
-      tt,
-    )
+    grind (arith, bind_some, ended_is, word_takes)
 
 delete_sound : (ts us : List Token) (f : Form) → ts ≡ word (codes "del") ∷ us → deleted us ≡ Some f → IsRead ts f
 unfolding deleted
 delete_sound ts us f h e =
     let n = bind_some _ _ _ e in
     let t = name_takes us n.0 n.1 in
-    let front : ts ≡ word (codes "del") ∷ word n.0.0 ∷ n.0.1 = h ∙ ap (λ (r : List Token). word (codes "del") ∷ r) t.0 in
+    let front : ts ≡ word (codes "del") ∷ word n.0.0 ∷ n.0.1 = search in
     elim (or_cases _ _ _ _ n.2) [
       | inl (i, k) ↦
           let d = ended_is _ _ _ k in
-          subst (IsRead ts) d.0 ((front ∙ ap (λ (r : List Token). word (codes "del") ∷ word n.0.0 ∷ r) d.1, t.1), tt)
+          subst (IsRead ts) d.0 (search)
       | inr (vs, i, k) ↦
           let x = bind_some _ _ _ k in
           let c = bind_some _ _ _ x.2 in
           let d = ended_is _ _ _ c.2 in
           let s = expr_sound most_depth 0 vs x.0 (omega arith) x.1 in
-          subst (IsRead ts) d.0 (
-            (
-              vs,
-              front ∙ ap (λ (r : List Token). word (codes "del") ∷ word n.0.0 ∷ r) (mark_takes open_bracket n.0.1 vs i),
-              t.1,
-              subst (λ (r : List Token). SpellsExpr x.0.0 0 vs r) (mark_takes close_bracket x.0.1 c.0 c.1 ∙ ap (λ (r : List Token). mark close_bracket ∷ r) d.1) s.0.0,
-            ),
-            s.0.1,
-          )
+          subst (IsRead ts) d.0 (grind (arith, mark_takes))
     ]
 
 print_sound : (ts us : List Token) (f : Form) → ts ≡ word (codes "print") ∷ us → printed us ≡ Some f → IsRead ts f
@@ -59,7 +43,7 @@ print_sound ts us f h e =
     let x = bind_some _ _ _ v.2 in
     let t = bind_some _ _ _ x.2 in
     let s = expr_sound most_depth 0 v.0 x.0 (omega arith) x.1 in
-    moved (IsRead ts) t.2 ((v.0, x.0.1, h ∙ ap (λ (r : List Token). word (codes "print") ∷ r) (mark_takes open_paren us v.0 v.1), s.0.0, end_takes x.0.1 t.0 t.1), s.0.1)
+    grind (arith, moved, mark_takes, end_takes)
 
 bind_sound : (ts us : List Token) (n : Text) (f : Form) → ts ≡ word n ∷ mark equals ∷ us → IsName n → bound_to n us ≡ Some f → IsRead ts f
 unfolding bound_to
@@ -67,7 +51,7 @@ bind_sound ts us n f h i e =
     let x = bind_some _ _ _ e in
     let d = ended_is _ _ _ x.2 in
     let s = expr_sound most_depth 0 us x.0 (omega arith) x.1 in
-    subst (IsRead ts) d.0 ((us, h, i, subst (λ (r : List Token). SpellsExpr x.0.0 0 us r) d.1 s.0.0), s.0.1)
+    grind arith
 
 set_sound : (ts : List Token) (f : Form) → set ts ≡ Some f → IsRead ts f
 unfolding set
@@ -81,10 +65,8 @@ set_sound ts f e =
     let s = (expr_sound most_depth 6 ts x.0 (omega arith) x.1).0 in
     let t = split_takes x.0.0 p.0 p.1 in
     let r = argument_sound most_depth v.0 a.0 a.1 in
-    let whole : SpellsExpr (after p.0.0 p.0.1) 6 ts (mark equals ∷ v.0) =
-    subst (λ (y : Expr). SpellsExpr y 6 ts (mark equals ∷ v.0)) t.0 (subst (λ (r : List Token). SpellsExpr x.0.0 6 ts r) (mark_takes equals x.0.1 v.0 v.1) s.0) in
-    let shallow : depth (after p.0.0 p.0.1) ≤ most_depth = subst (λ (y : Expr). depth y ≤ most_depth) t.0 s.1 in
-    subst (IsRead ts) d.0 ((v.0, m.0, t.1, whole, subst (λ (r : List Token). SpellsArg a.0.0 v.0 r) d.1 r.0), (shallow, r.1))
+    let whole : SpellsExpr (after p.0.0 p.0.1) 6 ts (mark equals ∷ v.0) = grind (arith, t.0, mark_takes equals x.0.1 v.0 v.1, s.0) in
+    grind arith
 
 assign_sound : (ts : List Token) (f : Form) → assigned ts ≡ Some f → IsRead ts f
 unfolding assigned
@@ -116,44 +98,27 @@ record NoKeyword (ts : List Token) : Type 0 where
 
 expr_no_keyword : (ts : List Token) → StartsExpr ts → NoKeyword ts
 unfolding after_word pick
-expr_no_keyword (word w ∷ ts) s = record { no_import = rw s.not_import refl; no_del = rw s.not_del refl; no_print = rw s.not_print refl }
-expr_no_keyword [] s = record { no_import = refl; no_del = refl; no_print = refl }
-expr_no_keyword (int n ∷ ts) s = record { no_import = refl; no_del = refl; no_print = refl }
-expr_no_keyword (text w ∷ ts) s = record { no_import = refl; no_del = refl; no_print = refl }
-expr_no_keyword (op o ∷ ts) s = record { no_import = refl; no_del = refl; no_print = refl }
-expr_no_keyword (mark m ∷ ts) s = record { no_import = refl; no_del = refl; no_print = refl }
-
-name_no_keyword : (n : Text) (us : List Token) → IsName n → NoKeyword (word n ∷ us)
-name_no_keyword n us h =
-    let u = unreserved n h in
-    record { no_import = other_word n (codes "import") us u.not_import; no_del = other_word n (codes "del") us u.not_del; no_print = other_word n (codes "print") us u.not_print }
+expr_no_keyword x s = grind arith
 
 read_assigned : (ts : List Token) → NoKeyword ts → form_read ts ≡ assigned ts
 unfolding form_read or_else
-read_assigned ts k = rw (k.no_import, k.no_del, k.no_print) refl
+read_assigned ts k = grind arith
 
 import_complete : (ts : List Token) → SpellsForm import_pandas ts → form_read ts ≡ Some import_pandas
 unfolding form_read imported or_else and_then ended
-import_complete ts s =
-    rw (
-      s,
-      word_same (codes "import") (word (codes "pandas") ∷ word (codes "as") ∷ word (codes "pd") ∷ []),
-      word_same (codes "pandas") (word (codes "as") ∷ word (codes "pd") ∷ []),
-      word_same (codes "as") (word (codes "pd") ∷ []),
-      word_same (codes "pd") [],
-    ) refl
+import_complete ts s = grind (arith, word_same)
 
 bind_complete : (n : Text) (x : Expr) (ts : List Token) → SpellsForm (bind n x) ts → depth x ≤ most_depth → form_read ts ≡ Some (bind n x)
 unfolding assigned bound_to or_else and_then ended
 bind_complete n x ts (vs, e, h, s) d =
-    rw (e, read_assigned (word n ∷ mark equals ∷ vs) (name_no_keyword n (mark equals ∷ vs) h), target_reads n vs h, (expr_is_read x).whole most_depth 0 vs [] (omega arith) s nil_ends d) refl
+    rw (e, read_assigned (word n ∷ mark equals ∷ vs) (grind (arith, unreserved, other_word)), target_reads n vs h, (expr_is_read x).whole most_depth 0 vs [] (omega arith) s nil_ends d) refl
 
 put_complete : (x : Expr) (p : Step) (a : Arg) (ts : List Token) → SpellsForm (put x p a) ts → IsShallow (put x p a) → form_read ts ≡ Some (put x p a)
 unfolding assigned set or_else and_then ended pick
 put_complete x p a ts (vs, m, t, s, u) (d, c) =
-    let ends : Ends 6 (mark equals ∷ vs) = record { no_step = (equals_ends vs).no_step; no_operator = no_operator 6 (mark equals ∷ vs) (omega arith) } in
+    let ends : Ends 6 (mark equals ∷ vs) = grind (arith, equals_ends, no_operator) in
     rw (
-      read_assigned ts (expr_no_keyword ts (expr_starts (after x p) 7 ts (mark equals ∷ vs) s)),
+      read_assigned ts (search (expr_no_keyword, expr_starts)),
       put_no_target x p ts (mark equals ∷ vs) s,
       m,
       (expr_is_read (after x p)).whole most_depth 6 ts (mark equals ∷ vs) (omega arith) s ends d,
@@ -164,11 +129,11 @@ put_complete x p a ts (vs, m, t, s, u) (d, c) =
 
 del_reads : (us : List Token) → form_read (word (codes "del") ∷ us) ≡ deleted us
 unfolding form_read or_else
-del_reads us = rw (other_word (codes "del") (codes "import") us refl, word_same (codes "del") us) refl
+del_reads us = search (other_word, word_same)
 
 print_reads : (us : List Token) → form_read (word (codes "print") ∷ us) ≡ printed us
 unfolding form_read or_else
-print_reads us = rw (other_word (codes "print") (codes "import") us refl, other_word (codes "print") (codes "del") us refl, word_same (codes "print") us) refl
+print_reads us = search (other_word, word_same)
 
 no_bracket : after_mark open_bracket [] ≡ None
 unfolding after_mark
@@ -176,7 +141,7 @@ no_bracket = refl
 
 drop_name_complete : (n : Text) (ts : List Token) → SpellsForm (drop_name n) ts → form_read ts ≡ Some (drop_name n)
 unfolding deleted or_else and_then ended
-drop_name_complete n ts (e, h) = rw (e, del_reads (word n ∷ []), name_reads n [] h, no_bracket) refl
+drop_name_complete n ts (e, h) = grind (arith, del_reads, name_reads, no_bracket)
 
 drop_column_complete : (n : Text) (x : Expr) (ts : List Token) → SpellsForm (drop_column n x) ts → depth x ≤ most_depth → form_read ts ≡ Some (drop_column n x)
 unfolding deleted or_else and_then ended
@@ -192,7 +157,7 @@ drop_column_complete n x ts (vs, e, h, s) d =
 
 end_ends : (end : Text) (ts : List Token) → SpellsEnd end ts → Ends 0 ts
 end_ends end ts (inl (s, e)) = rw s (close_paren_ends [])
-end_ends end ts (inr s) = rw s (comma_ends (word (codes "end") ∷ mark equals ∷ text end ∷ mark close_paren ∷ []))
+end_ends end ts (inr s) = rw s (search comma_ends)
 
 print_complete : (x : Expr) (end : Text) (ts : List Token) → SpellsForm (print x end) ts → depth x ≤ most_depth → form_read ts ≡ Some (print x end)
 unfolding printed and_then

@@ -3,7 +3,7 @@ use Rattle.{
   std.{proofs.{Common.{◌≡◌, ◌⊎◌, inl, inr, ℕ, zero, suc, ◌-◌, ◌+◌, List, [], ◌∷◌, Option, Some, None, refl, arith}, lemmas.Str.{IsUtf8-from_is_utf8, is_utf8-from_IsUtf8}}, specs.Str.{IsUtf8, is_utf8}},
   language_meaning.specs.{Token.{Token, Lexes, skip}, Tree.{Form, Statement}, Pieces.{pieces, cut}, Script.{IsBlank, IsStatement, IsRight, most_statements, line_ends}},
   script_tokens.proofs.Runs.{true_or_false, not_both},
-  script_syntax.{specs.{Reading.{form_read}, PieceRead.{Reads, IsOneStatement}, OneReading.{HasOneReading}}, proofs.{Decided.{lexed}, PieceLaws.{blank_is_none, no_statement, one_statement}, ScriptLaws.{reads_nothing, reads_blank, reads_statement, reads_wrong, reads_all}}},
+  script_syntax.{specs.{Reading.{form_read}, PieceRead.{Reads, IsOneStatement}, OneReading.{HasOneReading}}, proofs.{Decided.{lexed}, PieceLaws.{blank_is_none, no_statement, one_statement}, ScriptLaws.{reads_blank, reads_statement, reads_wrong, reads_all}}},
 }
 
 pub data PieceKind (piece : List ℕ) : Type 0 where
@@ -16,12 +16,12 @@ is_blank piece = chosen (skip piece) refl
   where
     chosen : (rest : List ℕ) → skip piece ≡ rest → IsBlank piece ⊎ (IsBlank piece → ⊥)
     chosen [] is = inl is
-    chosen (b ∷ bs) is = inr (λ none. absurd cc)
+    chosen (b ∷ bs) is = grind arith
 
 filled : (piece : List ℕ) → IsUtf8 piece → (IsBlank piece → ⊥) → PieceKind piece
 filled piece text full = elim (lexed piece) [
   | inl (ts, l) ↦ read ts l (form_read ts) refl
-  | inr none ↦ wrong (λ t. full) (λ t form is. none (is.0, is.1))
+  | inr none ↦ grind arith
 ]
   where
     read : (ts : List Token) → Lexes ts piece → (found : Option Form) → form_read ts ≡ found → PieceKind piece
@@ -40,14 +40,14 @@ kind_of piece = elim (true_or_false (is_utf8 piece)) [
 module _ (bytes piece : List ℕ) (rest : List (List ℕ)) (line : ℕ) (made : List Statement)
     (goes_on : (left line : ℕ) (made : List Statement) → Reads made left line rest (pieces bytes) → HasOneReading bytes) where
   by_kind : PieceKind piece → (left : ℕ) → Reads made left line (piece ∷ rest) (pieces bytes) → HasOneReading bytes
-  by_kind (blank text is) left r = goes_on left (line + line_ends piece) made (reads_blank piece rest left line made (pieces bytes) r text is (blank_is_none piece is))
-  by_kind (statement form one) zero r = inr (line, reads_wrong piece rest zero line made (pieces bytes) r bytes refl not_right)
+  by_kind (blank text is) left r = goes_on left (line + line_ends piece) made (search (reads_blank, blank_is_none))
+  by_kind (statement form one) zero r = inr (line, search (reads_wrong, not_right))
     where
       not_right : IsRight zero piece → ⊥
       not_right (text, inl is) = one.3 is
       not_right (text, inr (some, is)) = some refl
   by_kind (statement form one) (suc fewer) r = goes_on (suc fewer - 1) (line + line_ends piece) _ (reads_statement piece rest (suc fewer) line made (pieces bytes) r form one (omega arith))
-  by_kind (wrong full none) left r = inr (line, reads_wrong piece rest left line made (pieces bytes) r bytes refl not_right)
+  by_kind (wrong full none) left r = inr (line, search (reads_wrong, not_right))
     where
       not_right : IsRight left piece → ⊥
       not_right (text, inl is) = full text is
@@ -59,4 +59,4 @@ read_from bytes [] left line made r = inl (made, reads_all made left line bytes 
 read_from bytes (piece ∷ rest) left line made r = by_kind bytes piece rest line made (λ n l m s. read_from bytes rest n l m s) (kind_of piece) left r
 
 pub one_reading : (bytes : List ℕ) → HasOneReading bytes
-one_reading bytes = read_from bytes (pieces bytes) most_statements 1 [] (reads_nothing (pieces bytes))
+one_reading bytes = read_from bytes (pieces bytes) most_statements 1 [] (search)

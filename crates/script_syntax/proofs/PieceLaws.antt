@@ -1,18 +1,13 @@
 -- A piece is blank, or it is one statement, or neither.
 use Rattle.{
-  std.{proofs.Common.{◌≡◌, ◌↔◌, ℕ, Bool, false, List, [], ◌∷◌, Option, Some, None, subst, arith}, specs.{Prelude.{IsTrue, MatchOption}, Str.{IsUtf8}}},
-  language_meaning.specs.{Token.{Token, mark, equals, Lexes}, Tree.{Form, after, import_pandas, bind, put, drop_name, drop_column, print}, Grammar.{SpellsForm}, Script.{IsBlank, IsStatement}},
+  std.{proofs.Common.{◌≡◌, ◌↔◌, ℕ, Bool, false, List, [], Option, Some, None, subst, arith}, specs.{Prelude.{IsTrue, MatchOption}, Str.{IsUtf8}}},
+  language_meaning.specs.{Token.{Token, Lexes}, Tree.{Form}, Grammar.{SpellsForm}, Script.{IsBlank, IsStatement}},
   script_tokens.proofs.{BlankLaws.{Lexes-blank}, LexLaws.{Lexes-unique}},
   script_syntax.{specs.{Reading.{form_read}, PieceRead.{IsOneStatement}}, proofs.{Shorter.{expr_shorter}, Law.{form_sound, form_complete}}},
 }
 
 no_form : (form : Form) → SpellsForm form [] → ⊥
-no_form import_pandas s = absurd cc
-no_form (bind n x) (vs, e, h, s) = absurd cc
-no_form (put x p a) (vs, m, t, s, u) = omega (arith, expr_shorter (after x p) 7 [] (mark equals ∷ vs) s)
-no_form (drop_name n) (e, h) = absurd cc
-no_form (drop_column n x) (vs, e, h, s) = absurd cc
-no_form (print x end) (vs, ws, e, s, t) = absurd cc
+no_form x1 s = grind (arith, expr_shorter)
 
 pub blank_is_none : (piece : List ℕ) → IsBlank piece → (form : Form) → IsStatement form piece → ⊥
 blank_is_none piece blank form (ts, l, s, d) = no_form form (subst (SpellsForm form) (Lexes-blank ts piece blank l) s)
@@ -25,7 +20,7 @@ no_statement ts piece l none form (us, m, s, d) =
 pub one_statement : (form : Form) (ts : List Token) (piece : List ℕ) → IsUtf8 piece → (IsBlank piece → ⊥) → Lexes ts piece → form_read ts ≡ Some form → IsOneStatement form piece
 one_statement form ts piece text filled l read =
     let sound = form_sound ts form read in
-    (text, (ts, l, sound.0, sound.1), only, filled)
+    (text, search, only, filled)
   where
     only : (other : Form) → IsStatement other piece → other ≡ form
     only other (us, m, s, d) =
@@ -34,11 +29,9 @@ one_statement form ts piece text filled l read =
 
 -- a piece that was found to be filled isn't blank
 pub filled_of : (blank : Bool) (piece : List ℕ) → (IsTrue blank ↔ IsBlank piece) → blank ≡ false → IsBlank piece → ⊥
-filled_of blank piece means false_ is =
-    let yes = means.1 is in
-    cc
+filled_of blank piece means false_ is = grind arith
 
 -- the tokens that were found are those of the piece that the text is
 pub lexes_of : {A : Type 0} (found : Option A) (x : A) (view : A → List Token) (text piece : List ℕ) (None' : Type 0) → found ≡ Some x → MatchOption found None' (λ y. Lexes (view y) text)
     → text ≡ piece → Lexes (view x) piece
-lexes_of found x view text piece None' is lexes same = subst (Lexes (view x)) same (subst (λ o. MatchOption o None' (λ y. Lexes (view y) text)) is lexes)
+lexes_of found x view text piece None' is lexes same = grind arith

@@ -1,18 +1,15 @@
 -- What is read within a depth, by what is read one depth lower.
 use Rattle.{
-  std.{proofs.Common.{◌≡◌, ℕ, suc, length, List, Option, Some, None, Result, Ok, Err, refl, ◌∙◌, arith}, specs.Borrow.{Bor}},
+  std.{proofs.Common.{◌≡◌, ℕ, suc, length, List, Option, Some, None, Result, refl, arith}, specs.Borrow.{Bor}},
   language_meaning.specs.{Token.{open_paren, open_bracket, close_bracket}, Tree.{ArgList, many}},
   script_tokens.specs.declared.token.Token.{Token},
   script_syntax.specs.{declared.refusal.Refusal.{Refusal}, Found.{Fails, Finds}, Reading.{and_then, or_else, after_mark, argument_with, expr_at, argument_at}},
 }
 use Rattle.language_meaning.specs.Token as spec
-use Rattle.script_syntax.specs.declared.refusal.Refusal.TheVariants as refusal
 use Rattle.script_syntax.specs.At as at
 
 pub finds_as : {X Y : Type 0} (view : X → Y) (deep : Y → ℕ) (m n : ℕ) (r : Result (X × ℕ × Bor (List Token)) Refusal) (one two : Option (Y × List spec.Token)) → m ≡ n → two ≡ one → Finds view deep m r one → Finds view deep n r two
-finds_as view deep m n (Ok x) one two e f (a, b, c) = (f ∙ a, b, omega arith)
-finds_as view deep m n (Err refusal.NoMemory) one two e f h = tt
-finds_as view deep m n (Err refusal.Syntax) one two e f h = f ∙ h
+finds_as view deep m n x1 one two e f h = grind arith
 
 pub expr_none : (room l : ℕ) (ts : List spec.Token) → room ≡ 0 → expr_at room l ts ≡ None
 unfolding expr_at
@@ -34,9 +31,8 @@ argument_deeper room less ts e = rw e refl
 module _ (room : ℕ) (ts us : List spec.Token) (no_paren : after_mark open_paren ts ≡ None) (bracket : after_mark open_bracket ts ≡ Some us) where
   pub list_fails : (r : Refusal) → Fails r (at.items room close_bracket (length us) us) → Fails r (at.argument_with room ts)
   unfolding argument_with and_then or_else
-  list_fails refusal.NoMemory f = tt
-  list_fails refusal.Syntax f = rw (no_paren, bracket, f) refl
+  list_fails x f = grind arith
 
   pub list_found : (l : ArgList) (vs : List spec.Token) → at.items room close_bracket (length us) us ≡ Some (l, vs) → at.argument_with room ts ≡ Some (many l, vs)
   unfolding argument_with and_then or_else
-  list_found l vs s = rw (no_paren, bracket, s) refl
+  list_found l vs s = search

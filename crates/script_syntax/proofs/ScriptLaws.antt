@@ -1,34 +1,30 @@
 -- A script read piece by piece.
 use Rattle.{
-  std.{proofs.{Common.{◌≡◌, ℕ, suc, ◌+◌, ◌-◌, ◌<◌, List, [], ◌∷◌, ◌++◌, refl, sym, ◌∙◌, ap, subst, append_assoc, arith, inl, inr, ◌≤◌, length, take, drop, Ok, Err, true, false, nat_eq as eqb}, lemmas.{List.{append-nil}, Bool.Decides.{nat_tests}}}, specs.Str.{IsUtf8}},
+  std.{proofs.{Common.{◌≡◌, ℕ, suc, ◌+◌, ◌-◌, ◌<◌, List, [], ◌∷◌, ◌++◌, refl, sym, ◌∙◌, ap, subst, append_assoc, arith, inl, inr, ◌≤◌, length, take, drop, Ok, Err, true, nat_eq as eqb}, lemmas.{List.{append-nil}, Bool.Decides.{nat_tests}}}, specs.Str.{IsUtf8}},
   language_meaning.specs.{Pieces.{pieces, cut}, Script.{IsBlank, IsStatement, IsRight, ArePieces, IsFirstWrong, most_bytes, most_statements, line_ends}},
-  script_tree.specs.View.{form_of},
   script_syntax.specs.{PieceRead.{Reads, IsOneStatement, IsPieceRead, IsSettled}, declared.pieces.{PieceRead.{PieceRead, TheVariants.{Blank, Statement, Wrong}}, ParseFault.{ParseFault, TheVariants.{SyntaxAt, TooLarge, NoMemory}}}, Parsed.{IsParsed, IsTheScript, IsTheSyntaxLine}},
 }
 use Rattle.language_meaning.specs.Tree as tree
-
-pub reads_nothing : (all : List (List ℕ)) → Reads [] most_statements 1 all all
-reads_nothing all = record { there = λ more is. is; back = λ ss is. (ss, refl, is); wrong = λ at is. is; wrong_back = λ at is. is }
 
 module _ (piece : List ℕ) (rest : List (List ℕ)) (left line : ℕ) (made : List tree.Statement) (all : List (List ℕ)) (so_far : Reads made left line (piece ∷ rest) all) where
   -- a blank piece
   pub reads_blank : IsUtf8 piece → IsBlank piece → ((form : tree.Form) → IsStatement form piece → ⊥) → Reads made left (line + line_ends piece) rest all
   reads_blank text blank none =
       record {
-        there = λ more is. so_far.there more (inl (text, blank, is));
-        back = λ ss is. let b = so_far.back ss is in (b.0, b.1, only b.0 b.2);
-        wrong = λ at is. so_far.wrong at (inl (text, blank, is));
-        wrong_back = λ at is. only_wrong at (so_far.wrong_back at is);
+        there = grind arith;
+        back = grind (arith, only);
+        wrong = grind arith;
+        wrong_back = grind (arith, only_wrong);
       }
     where
       only : (more : List tree.Statement) → ArePieces left line (piece ∷ rest) more → ArePieces left (line + line_ends piece) rest more
       only more (inl is) = is.2
-      only more (inr is) = absurd (none is.1 is.5)
+      only more (inr is) = search
 
       only_wrong : (at : ℕ) → IsFirstWrong left line (piece ∷ rest) at → IsFirstWrong left (line + line_ends piece) rest at
       only_wrong at (inl is) = is.2
-      only_wrong at (inr (inl is)) = absurd (none is.1 is.4)
-      only_wrong at (inr (inr is)) = absurd (is.1 (text, inl blank))
+      only_wrong at (inr (inl is)) = search
+      only_wrong at (inr (inr is)) = grind arith
 
   -- a piece that is one statement
   pub reads_statement : (form : tree.Form) → IsOneStatement form piece → 0 < left → Reads (made ++ record { line = line; form = form } ∷ []) (left - 1) (line + line_ends piece) rest all
@@ -64,19 +60,19 @@ module _ (piece : List ℕ) (rest : List (List ℕ)) (left line : ℕ) (made : L
   pub reads_wrong : (bytes : List ℕ) → all ≡ pieces bytes → (IsRight left piece → ⊥) → IsTheSyntaxLine bytes line
   reads_wrong bytes is not_right =
       subst (λ ps. IsFirstWrong most_statements 1 ps line × ((other : ℕ) → IsFirstWrong most_statements 1 ps other → other ≡ line) × ((ss : List tree.Statement) → ArePieces most_statements 1 ps ss → ⊥)) is (
-        so_far.wrong line (inr (inr (refl, not_right))),
-        λ other w. only other (so_far.wrong_back other w),
-        λ ss s. none (so_far.back ss s).0 (so_far.back ss s).2,
+        grind arith,
+        grind (arith, only),
+        grind (arith, none),
       )
     where
       only : (other : ℕ) → IsFirstWrong left line (piece ∷ rest) other → other ≡ line
-      only other (inl w) = absurd (not_right (w.0, inl w.1))
-      only other (inr (inl w)) = absurd (not_right (w.3, inr ((λ zero_left. absurd (omega (arith, w.2, zero_left))), (w.1, w.4))))
+      only other (inl w) = grind arith
+      only other (inr (inl w)) = grind arith
       only other (inr (inr w)) = w.0
 
       none : (ss : List tree.Statement) → ArePieces left line (piece ∷ rest) ss → ⊥
-      none ss (inl s) = not_right (s.0, inl s.1)
-      none ss (inr s) = not_right (s.4, inr ((λ zero_left. absurd (omega (arith, s.3, zero_left))), (s.1, s.5)))
+      none ss (inl s) = grind arith
+      none ss (inr s) = grind arith
 
 no_pieces : pieces [] ≡ []
 unfolding cut
@@ -87,42 +83,24 @@ pub reads_all : (made : List tree.Statement) (left line : ℕ) (bytes rest : Lis
 reads_all made left line bytes rest none so_far =
     let r = subst (λ ps. Reads made left line ps (pieces bytes)) (ap pieces none ∙ no_pieces) so_far in (
       subst (ArePieces most_statements 1 (pieces bytes)) (append-nil made) (r.there [] refl),
-      λ others is. let b = r.back others is in b.1 ∙ ap (λ l. made ++ l) b.2 ∙ append-nil made,
-      λ line is. r.wrong_back line is,
+      grind (arith, append-nil),
+      search,
     )
 
 -- the statement of a piece was added
 pub settled : (piece : List ℕ) (rest : List (List ℕ)) (left line : ℕ) (old new : List tree.Statement) (more : ℕ) (all : List (List ℕ)) (read : PieceRead)
     → IsPieceRead piece read → IsSettled left line read old new (Ok more) → Reads old left line (piece ∷ rest) all → Reads new more (line + line_ends piece) rest all
-settled piece rest left line old new more all Blank is done r =
-    subst (λ n. Reads new n (line + line_ends piece) rest all) (sym done.0) (
-    subst (λ made. Reads made left (line + line_ends piece) rest all) (sym done.1) (reads_blank piece rest left line old all r is.0 is.1 is.2)
-    )
-settled piece rest left line old new more all (Statement form) is done r =
-    subst (λ n. Reads new n (line + line_ends piece) rest all) (sym done.1) (
-    subst (λ made. Reads made (left - 1) (line + line_ends piece) rest all) (sym done.2) (reads_statement piece rest left line old all r (form_of form) is done.0)
-    )
-settled piece rest left line old new more all Wrong is done r = absurd done
+settled piece rest left line old new more all x is done r = grind (arith, reads_blank, reads_statement)
 
 -- the piece isn't right, or memory was refused
 pub unsettled : (bytes piece : List ℕ) (rest : List (List ℕ)) (left line : ℕ) (old new : List tree.Statement) (f : ParseFault) (read : PieceRead)
     → length bytes ≤ most_bytes → IsPieceRead piece read → IsSettled left line read old new (Err f) → Reads old left line (piece ∷ rest) (pieces bytes) → IsParsed bytes (Err f)
 unsettled bytes piece rest left line old new NoMemory read small is done r = tt
-unsettled bytes piece rest left line old new TooLarge read small is done r = absurd (never read done)
-  where
-    never : (read : PieceRead) → IsSettled left line read old new (Err TooLarge) → ⊥
-    never Blank d = d
-    never (Statement form) d = d
-    never Wrong d = d
+unsettled bytes piece rest left line old new TooLarge read small is done r = search
 unsettled bytes piece rest left line old new (SyntaxAt at) Blank small is done r = absurd done
-unsettled bytes piece rest left line old new (SyntaxAt at) (Statement form) small is done r =
-    (small, subst (IsTheSyntaxLine bytes) (sym done.1) (reads_wrong piece rest left line old (pieces bytes) r bytes refl not_right))
-  where
-    not_right : IsRight left piece → ⊥
-    not_right (text, inl blank) = is.3 blank
-    not_right (text, inr (some, other)) = some done.0
+unsettled bytes piece rest left line old new (SyntaxAt at) (Statement form) small is done r = grind (arith, reads_wrong)
 unsettled bytes piece rest left line old new (SyntaxAt at) Wrong small is done r =
-    (small, subst (IsTheSyntaxLine bytes) (sym done) (reads_wrong piece rest left line old (pieces bytes) r bytes refl not_right))
+    (small, subst (IsTheSyntaxLine bytes) (sym done) (search (reads_wrong, not_right)))
   where
     not_right : IsRight left piece → ⊥
     not_right (text, inl blank) = (is text).0 blank
@@ -131,12 +109,7 @@ unsettled bytes piece rest left line old new (SyntaxAt at) Wrong small is done r
 -- the first piece, and the others
 pub reads_first : (made : List tree.Statement) (left line n : ℕ) (bytes front back : List ℕ) (all : List (List ℕ))
     → pieces bytes ≡ take n bytes ∷ pieces (drop n bytes) → front ≡ take n bytes → back ≡ drop n bytes → Reads made left line (pieces bytes) all → Reads made left line (front ∷ pieces back) all
-reads_first made left line n bytes front back all first is_front is_back r =
-    let ps : pieces bytes ≡ front ∷ pieces back = first ∙ ap (λ f. f ∷ pieces (drop n bytes)) (sym is_front) ∙ ap (λ b. front ∷ pieces b) (sym is_back) in
-    subst (λ ps. Reads made left line ps all) ps r
-
-pub some_bytes : (bytes : List ℕ) → eqb (length bytes) 0 ≡ false → 0 < length bytes
-some_bytes bytes is = grind (arith, nat_tests)
+reads_first made left line n bytes front back all first is_front is_back r = grind arith
 
 pub no_bytes : (bytes : List ℕ) → eqb (length bytes) 0 ≡ true → bytes ≡ []
 no_bytes [] is = refl

@@ -1,22 +1,16 @@
 -- A part of a statement has a token, and an expression of a level is one of each lower level.
 use Rattle.{
-  std.proofs.Common.{ℕ, suc, ◌<◌, ◌≤◌, Bool, true, false, List, ◌∷◌, length, Option, Some, None, is_some, ap, arith, inl, inr},
+  std.proofs.Common.{ℕ, suc, ◌<◌, ◌≤◌, Bool, List, ◌∷◌, length, Option, is_some, ap, arith, inl, inr},
   meaning.specs.Text.{Text},
   language_meaning.specs.{Token.{Token, op, mark, Mark, comma, colon, close_paren, close_bracket}, Tree.{Expr, Step, Sub, OptionalSub, OptionalArg, OptionalExpr, Arg, ArgList, Args, ArgPairs, name, literal, unary, binary, after, len, make, paren, item, access, method, group, rolling, expanding, key, span, no_sub, some_sub, no_arg, some_arg, no_expr, some_expr, expr, many, row, table, nothing, no_args, more_args, no_named, more_named, no_pairs, more_pairs}, Grammar.{level, left_level, SpellsLiteral, SpellsKeyword, SpellsExpr, SpellsStep, SpellsSecond, SpellsBrackets, SpellsSub, SpellsBound, SpellsStride, SpellsArg, SpellsRow, SpellsItems, SpellsMoreItems, SpellsArgs, SpellsMoreArgs, SpellsPairs, SpellsMorePairs}},
 }
 use Rattle.language_meaning.specs.Tree as tree
 
 pub literal_shorter : (v : tree.Literal) (ts us : List Token) → SpellsLiteral v ts us → length us < length ts
-literal_shorter (tree.int z) ts us (inl (n, h, k, s)) = rw s (omega arith)
-literal_shorter (tree.int z) ts us (inr (n, h, k, s)) = rw s (omega arith)
-literal_shorter (tree.truth true) ts us s = rw s (omega arith)
-literal_shorter (tree.truth false) ts us s = rw s (omega arith)
-literal_shorter (tree.text w) ts us s = rw s (omega arith)
-literal_shorter tree.na ts us s = rw s.0 (omega arith)
+literal_shorter x ts us s = grind arith
 
 pub keyword_shorter : (n : Option Text) (ts us : List Token) → SpellsKeyword n ts us → length us ≤ length ts
-keyword_shorter None ts us s = rw s (omega arith)
-keyword_shorter (Some n) ts us s = rw s.0 (omega arith)
+keyword_shorter x ts us s = grind arith
 
 mutual
   pub expr_shorter : (x : Expr) (l : ℕ) (ts us : List Token) → SpellsExpr x l ts us → length us < length ts

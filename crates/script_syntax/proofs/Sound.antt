@@ -1,11 +1,10 @@
 -- What is read is in the grammar, and no deeper than was allowed.
 use Rattle.{
-  std.{proofs.{Common.{◌≡◌, ℕ, zero, suc, ◌<◌, ◌≤◌, Bool, false, List, [], ◌∷◌, length, Option, Some, None, is_some, refl, ap, subst, ◌∙◌, arith, inl, inr}, lemmas.Bool.{leb-false, eqb-true}}, specs.Prelude.{codes}},
+  std.proofs.{Common.{◌≡◌, ℕ, zero, suc, ◌<◌, ◌≤◌, Bool, false, List, [], ◌∷◌, length, Option, Some, None, is_some, refl, ap, subst, ◌∙◌, arith, inl, inr}, lemmas.Bool.{leb-false, eqb-true}},
   meaning.specs.Text.{Text},
-  language_meaning.specs.{Token.{Token, word, op, mark, Mark, dot, comma, colon, open_paren, close_paren, open_bracket, close_bracket, open_brace, close_brace}, Tree.{Unary, Binary, Accessor, Literal, Expr, Step, Sub, OptionalSub, OptionalArg, OptionalExpr, Arg, ArgList, Args, ArgPairs, unary, paren, no_arg, some_arg, expr, no_args, more_args, no_named, more_named, no_pairs, more_pairs}, Depth.{depth, step_depth, sub_depth, optional_sub_depth, optional_arg_depth, optional_expr_depth, arg_depth, list_depth, args_depth, pairs_depth}, Grammar.{level, left_level, accessor_word, IsItem, IsMethodName, MayFollow, SpellsLiteral, SpellsKeyword, SpellsExpr, SpellsStep, SpellsSecond, SpellsBrackets, SpellsSub, SpellsBound, SpellsStride, SpellsArg, SpellsItems, SpellsMoreItems, SpellsArgs, SpellsMoreArgs, SpellsPairs, SpellsMorePairs}},
-  script_syntax.{specs.Reading.{Reader, after_mark, operator_at, Call, plain, grouped, rolled, expanded, past_comma, item_at, bracketed, enclosed, items, named_at, arguments, entry_at, pairs, all_arguments, atom, bound, stride, span_after, sub_from, sub_at, second, subscripts, brackets, named_call, called, call, dotted, step_from, step, steps, postfix, signed, operators, expr_with, expr_from, unparted, opened, argument_with, expr_at, argument_at}, proofs.{Tools.{bind_some, or_cases, chosen, first, some_same, moved, guard_some}, Takes.{mark_takes, word_takes, name_takes, dotted_takes, call_takes, len_takes, maker_takes, operator_takes, SignIs, sign_takes, literal_takes, accessor_takes, CallIs, call_of_takes, item_is, as_item_takes, comma_takes, keyword_for_takes, key_takes, no_operator, level_small, left_within, mark_reads, above}, Shorter.{expr_shorter, lower}}},
+  language_meaning.specs.{Token.{Token, word, op, mark, Mark, dot, comma, colon, open_paren, close_paren, open_bracket, close_bracket, close_brace}, Tree.{Unary, Binary, Accessor, Literal, Expr, Step, Sub, OptionalSub, OptionalArg, OptionalExpr, Arg, ArgList, Args, ArgPairs, unary, paren, no_arg, some_arg, expr, no_args, more_args, no_named, more_named, no_pairs, more_pairs}, Depth.{depth, step_depth, sub_depth, optional_sub_depth, optional_arg_depth, optional_expr_depth, arg_depth, list_depth, args_depth, pairs_depth}, Grammar.{level, left_level, accessor_word, IsItem, IsMethodName, MayFollow, SpellsLiteral, SpellsKeyword, SpellsExpr, SpellsStep, SpellsSecond, SpellsBrackets, SpellsSub, SpellsBound, SpellsStride, SpellsArg, SpellsItems, SpellsMoreItems, SpellsArgs, SpellsMoreArgs, SpellsPairs, SpellsMorePairs}},
+  script_syntax.{specs.Reading.{Reader, after_mark, operator_at, Call, plain, grouped, rolled, expanded, past_comma, item_at, bracketed, enclosed, items, named_at, arguments, entry_at, pairs, all_arguments, atom, bound, stride, span_after, sub_from, sub_at, second, subscripts, brackets, named_call, called, call, dotted, step_from, step, steps, postfix, signed, operators, expr_with, expr_from, unparted, opened, argument_with, expr_at, argument_at}, proofs.{Tools.{bind_some, or_cases, chosen, first, some_same, moved, guard_some}, Takes.{mark_takes, word_takes, name_takes, dotted_takes, call_takes, len_takes, maker_takes, operator_takes, SignIs, sign_takes, literal_takes, accessor_takes, CallIs, call_of_takes, item_is, as_item_takes, comma_takes, keyword_for_takes, key_takes, no_operator, level_small, mark_reads, above}, Shorter.{expr_shorter, lower}}},
 }
-use Rattle.language_meaning.specs.Tree as tree
 
 -- what a reader found
 abbrev pub IsExpr : ℕ → ℕ → List Token → Expr × List Token → Type 0
@@ -45,7 +44,7 @@ module _ (room : ℕ) (inner : ℕ → Reader Expr) (argument : Reader Arg)
   item_sound ts y e =
       let a = bind_some _ _ _ e in
       let i = as_item_takes a.0.0 a.0.1 y a.2 in
-      subst (λ (p : Arg × List Token). IsArg room ts p × IsItem p.0) i.0 (argument_sound ts a.0 a.1, i.1)
+      rw (← i.0) (argument_sound ts a.0 a.1, i.1)
 
   bracketed_sound : (ts : List Token) (y : Arg × List Token) → bracketed room inner argument ts ≡ Some y → SpellsArg y.0 ts (mark close_bracket ∷ y.1) × (arg_depth y.0 ≤ room)
   unfolding bracketed
@@ -53,8 +52,7 @@ module _ (room : ℕ) (inner : ℕ → Reader Expr) (argument : Reader Arg)
       let a = bind_some _ _ _ e in
       let u = bind_some _ _ _ a.2 in
       let s = argument_sound ts a.0 a.1 in
-      moved (λ (p : Arg × List Token). SpellsArg p.0 ts (mark close_bracket ∷ p.1) × (arg_depth p.0 ≤ room)) u.2
-      (subst (λ (r : List Token). SpellsArg a.0.0 ts r) (mark_takes close_bracket a.0.1 u.0 u.1) s.0, s.1)
+      grind (arith, moved, mark_takes)
 
   enclosed_sound : (ts : List Token) (y : Expr × List Token) → enclosed room inner argument ts ≡ Some y → SpellsExpr y.0 0 ts (mark close_paren ∷ y.1) × (depth y.0 ≤ room)
   unfolding enclosed
@@ -62,25 +60,23 @@ module _ (room : ℕ) (inner : ℕ → Reader Expr) (argument : Reader Arg)
       let x = bind_some _ _ _ e in
       let u = bind_some _ _ _ x.2 in
       let s = inner_sound 0 ts x.0 (omega arith) x.1 in
-      moved (λ (p : Expr × List Token). SpellsExpr p.0 0 ts (mark close_paren ∷ p.1) × (depth p.0 ≤ room)) u.2
-      (subst (λ (r : List Token). SpellsExpr x.0.0 0 ts r) (mark_takes close_paren x.0.1 u.0 u.1) s.0.0, s.0.1)
+      grind (arith, moved, mark_takes)
 
   -- ---- lists
 
   items_closed : (close : Mark) (n : ℕ) (ts us : List Token) (y : ArgList × List Token) → after_mark close ts ≡ Some us → items room inner argument close n ts ≡ Some y → (no_args, us) ≡ y
   unfolding items
-  items_closed close zero ts us y h e = absurd cc
-  items_closed close (suc n) ts us y h e = elim (or_cases _ _ _ _ e) [ inl (h', k) ↦ absurd cc | inr (vs, h', k) ↦ let i : vs ≡ us = cc in let j : (no_args, vs) ≡ y = some_same k in cc ]
+  items_closed close x ts us y h e = grind (arith, or_cases, some_same)
 
   items_go_on : (close : Mark) (n : ℕ) (ts us : List Token) (y : ArgList × List Token) → past_comma close ts ≡ Some us → items room inner argument close n us ≡ Some y → SpellsItems y.0 close us y.1 → SpellsMoreItems y.0 close ts y.1
   items_go_on close n ts us y c e s = elim (comma_takes close ts us c) [
     | inl k ↦ after_comma y.0 y.1 k s
-    | inr (i, vs, k) ↦ subst (λ (p : ArgList × List Token). SpellsMoreItems p.0 close ts p.1) (items_closed close n us vs y (mark_reads close us vs k) e) (inl (i ∙ k))
+    | inr (i, vs, k) ↦ rw (← items_closed close n us vs y (mark_reads close us vs k) e) (inl (i ∙ k))
   ]
     where
       after_comma : (r : ArgList) (vs : List Token) → ts ≡ mark comma ∷ us → SpellsItems r close us vs → SpellsMoreItems r close ts vs
-      after_comma no_args vs k s = inr (k ∙ ap (λ (x : List Token). mark comma ∷ x) s)
-      after_comma (more_args a r) vs k s = (us, s.0, k, s.1, s.2, s.3)
+      after_comma no_args vs k s = grind arith
+      after_comma (more_args a r) vs k s = search
 
   items_sound : (close : Mark) (n : ℕ) (ts : List Token) (y : ArgList × List Token) → items room inner argument close n ts ≡ Some y → IsItems room close ts y
   unfolding items
@@ -93,7 +89,7 @@ module _ (room : ℕ) (inner : ℕ → Reader Expr) (argument : Reader Arg)
         let s = item_sound ts a.0 a.1 in
         let t = items_sound close n c.0 r.0 r.1 in
         moved (IsItems room close ts) r.2 ((a.0.1, s.1, s.0.0, items_go_on close n a.0.1 c.0 r.0 c.1 r.1 t.0), omega (arith, s.0.1, t.1))
-    | inr (us, h, k) ↦ moved (IsItems room close ts) k (mark_takes close ts us h, omega arith)
+    | inr (us, h, k) ↦ grind (arith, moved, mark_takes)
   ]
 
   named_sound : (after_name : Bool) (ts : List Token) (y : (Option Text × Arg) × List Token) → named_at room inner argument after_name ts ≡ Some y
@@ -104,24 +100,23 @@ module _ (room : ℕ) (inner : ℕ → Reader Expr) (argument : Reader Arg)
       let a = bind_some _ _ _ k.2 in
       let t = keyword_for_takes after_name ts k.0 k.1 in
       let s = argument_sound k.0.1 a.0 a.1 in
-      moved (λ (y : (Option Text × Arg) × List Token). (vs : List Token) × SpellsKeyword (y.0).0 ts vs × SpellsArg (y.0).1 vs y.1 × MayFollow after_name (y.0).0 × (arg_depth (y.0).1 ≤ room)) a.2
+      moved (λ y. (vs : List Token) × SpellsKeyword (y.0).0 ts vs × SpellsArg (y.0).1 vs y.1 × MayFollow after_name (y.0).0 × (arg_depth (y.0).1 ≤ room)) a.2
       (k.0.1, t.0, s.0, t.1, s.1)
 
   arguments_closed : (after_name : Bool) (n : ℕ) (ts us : List Token) (y : Args × List Token) → after_mark close_paren ts ≡ Some us → arguments room inner argument after_name n ts ≡ Some y → (no_named, us) ≡ y
   unfolding arguments
-  arguments_closed after_name zero ts us y h e = absurd cc
-  arguments_closed after_name (suc n) ts us y h e = elim (or_cases _ _ _ _ e) [ inl (h', k) ↦ absurd cc | inr (vs, h', k) ↦ let i : vs ≡ us = cc in let j : (no_named, vs) ≡ y = some_same k in cc ]
+  arguments_closed after_name x ts us y h e = grind (arith, or_cases, some_same)
 
   arguments_go_on : (after_name : Bool) (n : ℕ) (ts us : List Token) (y : Args × List Token) → past_comma close_paren ts ≡ Some us → arguments room inner argument after_name n us ≡ Some y
       → SpellsArgs y.0 us y.1 → FirstFollows after_name y.0 → SpellsMoreArgs y.0 after_name ts y.1
   arguments_go_on after_name n ts us y c e s f = elim (comma_takes close_paren ts us c) [
     | inl k ↦ after_comma y.0 y.1 k s f
-    | inr (i, vs, k) ↦ subst (λ (p : Args × List Token). SpellsMoreArgs p.0 after_name ts p.1) (arguments_closed after_name n us vs y (mark_reads close_paren us vs k) e) (inl (i ∙ k))
+    | inr (i, vs, k) ↦ rw (← arguments_closed after_name n us vs y (mark_reads close_paren us vs k) e) (inl (i ∙ k))
   ]
     where
       after_comma : (r : Args) (vs : List Token) → ts ≡ mark comma ∷ us → SpellsArgs r us vs → FirstFollows after_name r → SpellsMoreArgs r after_name ts vs
-      after_comma no_named vs k s f = inr (k ∙ ap (λ (x : List Token). mark comma ∷ x) s)
-      after_comma (more_named n a r) vs k s f = (us, s.0, s.1, k, f, s.2, s.3, s.4)
+      after_comma no_named vs k s f = grind arith
+      after_comma (more_named n a r) vs k s f = search
 
   arguments_sound : (after_name : Bool) (n : ℕ) (ts : List Token) (y : Args × List Token) → arguments room inner argument after_name n ts ≡ Some y → IsArgs room ts y × FirstFollows after_name y.0
   unfolding arguments
@@ -133,9 +128,9 @@ module _ (room : ℕ) (inner : ℕ → Reader Expr) (argument : Reader Arg)
         let r = bind_some _ _ _ c.2 in
         let s = named_sound after_name ts a.0 a.1 in
         let t = arguments_sound (is_some (a.0.0).0) n c.0 r.0 r.1 in
-        moved (λ (y : Args × List Token). IsArgs room ts y × FirstFollows after_name y.0) r.2
+        moved (λ y. IsArgs room ts y × FirstFollows after_name y.0) r.2
         (((s.0, a.0.1, s.1, s.2, arguments_go_on (is_some (a.0.0).0) n a.0.1 c.0 r.0 c.1 r.1 t.0.0 t.1), omega (arith, s.4, t.0.1)), s.3)
-    | inr (us, h, k) ↦ moved (λ (y : Args × List Token). IsArgs room ts y × FirstFollows after_name y.0) k ((mark_takes close_paren ts us h, omega arith), tt)
+    | inr (us, h, k) ↦ grind (arith, moved, mark_takes)
   ]
 
   all_sound : (ts : List Token) (y : Args × List Token) → all_arguments room inner argument ts ≡ Some y → IsArgs room ts y
@@ -149,23 +144,22 @@ module _ (room : ℕ) (inner : ℕ → Reader Expr) (argument : Reader Arg)
       let k = bind_some _ _ _ e in
       let a = bind_some _ _ _ k.2 in
       let s = argument_sound k.0.1 a.0 a.1 in
-      moved (λ (y : (Literal × Arg) × List Token). (vs : List Token) × SpellsLiteral (y.0).0 ts (mark colon ∷ vs) × SpellsArg (y.0).1 vs y.1 × (arg_depth (y.0).1 ≤ room)) a.2
+      moved (λ y. (vs : List Token) × SpellsLiteral (y.0).0 ts (mark colon ∷ vs) × SpellsArg (y.0).1 vs y.1 × (arg_depth (y.0).1 ≤ room)) a.2
       (k.0.1, key_takes ts k.0 k.1, s.0, s.1)
 
   pairs_closed : (n : ℕ) (ts us : List Token) (y : ArgPairs × List Token) → after_mark close_brace ts ≡ Some us → pairs room inner argument n ts ≡ Some y → (no_pairs, us) ≡ y
   unfolding pairs
-  pairs_closed zero ts us y h e = absurd cc
-  pairs_closed (suc n) ts us y h e = elim (or_cases _ _ _ _ e) [ inl (h', k) ↦ absurd cc | inr (vs, h', k) ↦ let i : vs ≡ us = cc in let j : (no_pairs, vs) ≡ y = some_same k in cc ]
+  pairs_closed x ts us y h e = grind (arith, or_cases, some_same)
 
   pairs_go_on : (n : ℕ) (ts us : List Token) (y : ArgPairs × List Token) → past_comma close_brace ts ≡ Some us → pairs room inner argument n us ≡ Some y → SpellsPairs y.0 us y.1 → SpellsMorePairs y.0 ts y.1
   pairs_go_on n ts us y c e s = elim (comma_takes close_brace ts us c) [
     | inl k ↦ after_comma y.0 y.1 k s
-    | inr (i, vs, k) ↦ subst (λ (p : ArgPairs × List Token). SpellsMorePairs p.0 ts p.1) (pairs_closed n us vs y (mark_reads close_brace us vs k) e) (inl (i ∙ k))
+    | inr (i, vs, k) ↦ rw (← pairs_closed n us vs y (mark_reads close_brace us vs k) e) (inl (i ∙ k))
   ]
     where
       after_comma : (r : ArgPairs) (vs : List Token) → ts ≡ mark comma ∷ us → SpellsPairs r us vs → SpellsMorePairs r ts vs
-      after_comma no_pairs vs k s = inr (k ∙ ap (λ (x : List Token). mark comma ∷ x) s)
-      after_comma (more_pairs v a r) vs k s = (us, s.0, s.1, k, s.2, s.3, s.4)
+      after_comma no_pairs vs k s = grind arith
+      after_comma (more_pairs v a r) vs k s = search
 
   pairs_sound : (n : ℕ) (ts : List Token) (y : ArgPairs × List Token) → pairs room inner argument n ts ≡ Some y → IsPairs room ts y
   unfolding pairs
@@ -178,7 +172,7 @@ module _ (room : ℕ) (inner : ℕ → Reader Expr) (argument : Reader Arg)
         let s = entry_sound ts a.0 a.1 in
         let t = pairs_sound n c.0 r.0 r.1 in
         moved (IsPairs room ts) r.2 ((s.0, a.0.1, s.1, s.2, pairs_go_on n a.0.1 c.0 r.0 c.1 r.1 t.0), omega (arith, s.3, t.1))
-    | inr (us, h, k) ↦ moved (IsPairs room ts) k (mark_takes close_brace ts us h, omega arith)
+    | inr (us, h, k) ↦ grind (arith, moved, mark_takes)
   ]
 
   -- ---- atoms
@@ -198,24 +192,24 @@ module _ (room : ℕ) (inner : ℕ → Reader Expr) (argument : Reader Arg)
   atom_sound : (ts : List Token) (y : Expr × List Token) → atom room inner argument ts ≡ Some y → IsExpr (suc room) 7 ts y
   unfolding atom
   atom_sound ts y e = elim (or_cases _ _ _ _ e) [
-    | inr (n, h, k) ↦ moved (IsExpr (suc room) 7 ts) k (name_takes ts n h, omega arith)
+    | inr (n, h, k) ↦ grind (arith, moved, name_takes)
     | inl (h, k) ↦ elim (or_cases _ _ _ _ k) [
       | inr (us, h', k') ↦
           let x = bind_some _ _ _ k' in
           let s = enclosed_sound us x.0 x.1 in
-          moved (IsExpr (suc room) 7 ts) x.2 ((us, mark_takes open_paren ts us h', s.0), omega (arith, s.1))
+          moved (IsExpr (suc room) 7 ts) x.2 (search mark_takes, omega (arith, s.1))
       | inl (h', k') ↦ elim (or_cases _ _ _ _ k') [
         | inr (us, i, j) ↦
             let x = bind_some _ _ _ j in
             let s = enclosed_sound us x.0 x.1 in
-            moved (IsExpr (suc room) 7 ts) x.2 ((us, len_takes ts us i, s.0), omega (arith, s.1))
+            moved (IsExpr (suc room) 7 ts) x.2 (search len_takes, omega (arith, s.1))
         | inl (i, j) ↦ elim (or_cases _ _ _ _ j) [
           | inr (n, i', j') ↦
               let r = bind_some _ _ _ j' in
               let t = maker_takes ts n i' in
               let s = all_sound n.1 r.0 r.1 in
-              moved (IsExpr (suc room) 7 ts) r.2 ((n.1, t.0, t.1, s.0), omega (arith, s.1))
-          | inl (i', j') ↦ let v = bind_some _ _ _ j' in moved (IsExpr (suc room) 7 ts) v.2 (literal_takes ts v.0 v.1, omega arith)
+              moved (IsExpr (suc room) 7 ts) r.2 (search, omega (arith, s.1))
+          | inl (i', j') ↦ grind (arith, bind_some, moved, literal_takes)
         ]
       ]
     ]
@@ -226,11 +220,11 @@ module _ (room : ℕ) (inner : ℕ → Reader Expr) (argument : Reader Arg)
   bound_sound : (ts : List Token) (y : OptionalArg × List Token) → bound room inner argument ts ≡ Some y → SpellsBound y.0 ts y.1 × (optional_arg_depth y.0 ≤ room)
   unfolding bound
   bound_sound ts y e = elim (chosen _ _ _ _ e) [
-    | inl (h, k) ↦ moved (λ (y : OptionalArg × List Token). SpellsBound y.0 ts y.1 × (optional_arg_depth y.0 ≤ room)) k (refl, omega arith)
+    | inl (h, k) ↦ grind (arith, moved)
     | inr (h, k) ↦
         let a = bind_some _ _ _ k in
         let s = item_sound ts a.0 a.1 in
-        moved (λ (y : OptionalArg × List Token). SpellsBound y.0 ts y.1 × (optional_arg_depth y.0 ≤ room)) a.2 ((s.1, s.0.0), s.0.1)
+        moved (λ y. SpellsBound y.0 ts y.1 × (optional_arg_depth y.0 ≤ room)) a.2 ((s.1, s.0.0), s.0.1)
   ]
 
   abbrev IsStride : List Token → OptionalExpr × List Token → Type 0
@@ -239,13 +233,13 @@ module _ (room : ℕ) (inner : ℕ → Reader Expr) (argument : Reader Arg)
   stride_sound : (ts : List Token) (y : OptionalExpr × List Token) → stride room inner argument ts ≡ Some y → IsStride ts y
   unfolding stride
   stride_sound ts y e = elim (or_cases _ _ _ _ e) [
-    | inl (h, k) ↦ moved (IsStride ts) k (inl refl, omega arith)
+    | inl (h, k) ↦ grind (arith, moved)
     | inr (us, h, k) ↦ elim (chosen _ _ _ _ k) [
-      | inl (h', k') ↦ moved (IsStride ts) k' (inr (mark_takes colon ts us h), omega arith)
+      | inl (h', k') ↦ grind (arith, moved, mark_takes)
       | inr (h', k') ↦
           let x = bind_some _ _ _ k' in
           let s = inner_sound 0 us x.0 (omega arith) x.1 in
-          moved (IsStride ts) x.2 ((us, mark_takes colon ts us h, s.0.0), s.0.1)
+          moved (IsStride ts) x.2 (search mark_takes, s.0.1)
     ]
   ]
 
@@ -256,7 +250,7 @@ module _ (room : ℕ) (inner : ℕ → Reader Expr) (argument : Reader Arg)
       let by = bind_some _ _ _ to.2 in
       let s = bound_sound us to.0 to.1 in
       let t = stride_sound to.0.1 by.0 by.1 in
-      moved (IsSub room ts) by.2 ((us, to.0.1, f, s.0, t.0), omega (arith, d, s.1, t.1))
+      grind (arith, moved)
 
   sub_from_sound : (ts : List Token) (a : Arg × List Token) (y : Sub × List Token) → IsArg room ts a → sub_from room inner argument a.0 a.1 ≡ Some y → IsSub room ts y
   unfolding sub_from
@@ -264,7 +258,7 @@ module _ (room : ℕ) (inner : ℕ → Reader Expr) (argument : Reader Arg)
     | inl (h, k) ↦ moved (IsSub room ts) k s
     | inr (us, h, k) ↦
         let c = first _ _ _ k in
-        span_sound (some_arg a.0) ts us y (item_is a.0 c.0, subst (λ (r : List Token). SpellsArg a.0 ts r) (mark_takes colon a.1 us h) s.0) s.1 c.1
+        span_sound (some_arg a.0) ts us y (grind (arith, item_is, mark_takes)) s.1 c.1
   ]
 
   sub_sound : (ts : List Token) (y : Sub × List Token) → sub_at room inner argument ts ≡ Some y → IsSub room ts y
@@ -280,12 +274,12 @@ module _ (room : ℕ) (inner : ℕ → Reader Expr) (argument : Reader Arg)
   second_sound : (ts : List Token) (y : OptionalSub × List Token) → second room inner argument ts ≡ Some y → IsSecond ts y
   unfolding second
   second_sound ts y e = elim (or_cases _ _ _ _ e) [
-    | inl (h, k) ↦ let u = bind_some _ _ _ k in moved (IsSecond ts) u.2 (mark_takes close_bracket ts u.0 u.1, omega arith)
+    | inl (h, k) ↦ grind (arith, bind_some, moved, mark_takes)
     | inr (us, h, k) ↦
         let s = bind_some _ _ _ k in
         let u = bind_some _ _ _ s.2 in
         let t = sub_sound us s.0 s.1 in
-        moved (IsSecond ts) u.2 ((us, mark_takes comma ts us h, subst (λ (r : List Token). SpellsSub s.0.0 us r) (mark_takes close_bracket s.0.1 u.0 u.1) t.0), t.1)
+        moved (IsSecond ts) u.2 (grind (arith, mark_takes))
   ]
 
   -- ---- steps
@@ -297,7 +291,7 @@ module _ (room : ℕ) (inner : ℕ → Reader Expr) (argument : Reader Arg)
       let t = bind_some _ _ _ s.2 in
       let i = sub_sound us s.0 s.1 in
       let j = second_sound s.0.1 t.0 t.1 in
-      moved (IsStep room ts) t.2 ((us, f, s.0.1, i.0, j.0), omega (arith, i.1, j.1))
+      grind (arith, moved)
 
   abbrev IsBrackets : List Token → OptionalArg × List Token → Type 0
   IsBrackets ts y = SpellsBrackets y.0 ts y.1 × (optional_arg_depth y.0 ≤ room)
@@ -305,38 +299,30 @@ module _ (room : ℕ) (inner : ℕ → Reader Expr) (argument : Reader Arg)
   brackets_sound : (ts : List Token) (y : OptionalArg × List Token) → brackets room inner argument ts ≡ Some y → IsBrackets ts y
   unfolding brackets
   brackets_sound ts y e = elim (or_cases _ _ _ _ e) [
-    | inl (h, k) ↦ moved (IsBrackets ts) k (refl, omega arith)
+    | inl (h, k) ↦ grind (arith, moved)
     | inr (us, h, k) ↦
         let a = bind_some _ _ _ k in
         let s = bracketed_sound us a.0 a.1 in
-        moved (IsBrackets ts) a.2 ((us, mark_takes open_bracket ts us h, s.0), s.1)
+        moved (IsBrackets ts) a.2 (search mark_takes, s.1)
   ]
 
   called_sound : (c : Call) (w : Text) (ts us : List Token) (r : Args × List Token) (y : Step × List Token) → CallIs c w → ts ≡ mark dot ∷ word w ∷ mark open_paren ∷ us → IsArgs room us r
       → called room inner argument c w r.0 r.1 ≡ Some y → IsStep room ts y
   unfolding called
-  called_sound plain w ts us r y c f s e = moved (IsStep room ts) e ((us, f, c, s.0), s.1)
+  called_sound plain w ts us r y c f s e = grind (arith, moved)
   called_sound grouped w ts us r y c f s e =
       let b = bind_some _ _ _ e in
       let t = brackets_sound r.1 b.0 b.1 in
-      let q = bind_some _ _ _ b.2 in
-      let n = named_call_sound b.0.1 q.0 q.1 in
-      moved (IsStep room ts) q.2 ((us, r.1, b.0.1, f ∙ ap (λ (v : Text). mark dot ∷ word v ∷ mark open_paren ∷ us) c, s.0, t.0, n.0, n.1, n.2, n.3), omega (arith, s.1, t.1, n.4))
-  called_sound rolled w ts us r y c f s e =
-      let q = bind_some _ _ _ e in
-      let n = named_call_sound r.1 q.0 q.1 in
-      moved (IsStep room ts) q.2 ((us, r.1, f ∙ ap (λ (v : Text). mark dot ∷ word v ∷ mark open_paren ∷ us) c, s.0, n.0, n.1, n.2, n.3), omega (arith, s.1, n.4))
-  called_sound expanded w ts us r y c f s e =
-      let q = bind_some _ _ _ e in
-      let n = named_call_sound r.1 q.0 q.1 in
-      moved (IsStep room ts) q.2 ((us, r.1, f ∙ ap (λ (v : Text). mark dot ∷ word v ∷ mark open_paren ∷ us) c, s.0, n.0, n.1, n.2, n.3), omega (arith, s.1, n.4))
+      grind (arith, bind_some, named_call_sound, moved)
+  called_sound rolled w ts us r y c f s e = grind (arith, bind_some, named_call_sound, moved)
+  called_sound expanded w ts us r y c f s e = grind (arith, bind_some, named_call_sound, moved)
 
   call_sound : (w : Text) (ts us : List Token) (y : Step × List Token) → ts ≡ mark dot ∷ word w ∷ mark open_paren ∷ us → call room inner argument w us ≡ Some y → IsStep room ts y
   unfolding call
   call_sound w ts us y f e =
       let c = bind_some _ _ _ e in
       let r = bind_some _ _ _ c.2 in
-      called_sound c.0 w ts us r.0 y (call_of_takes w c.0 c.1) f (all_sound us r.0 r.1) r.2
+      search (called_sound, call_of_takes, all_sound)
 
   dotted_sound : (w : Text) (ts us : List Token) (y : Step × List Token) → ts ≡ mark dot ∷ word w ∷ us → dotted room inner argument w us ≡ Some y → IsStep room ts y
   unfolding dotted
@@ -345,8 +331,8 @@ module _ (room : ℕ) (inner : ℕ → Reader Expr) (argument : Reader Arg)
         let v = bind_some _ _ _ k in
         let by = bind_some _ _ _ v.2 in
         subscripts_sound by.0 ts v.0 y
-        (f ∙ ap (λ (r : List Token). mark dot ∷ word w ∷ r) (mark_takes open_bracket us v.0 v.1) ∙ ap (λ (u : Text). mark dot ∷ word u ∷ mark open_bracket ∷ v.0) (accessor_takes w by.0 by.1)) by.2
-    | inr (vs, h, k) ↦ call_sound w ts vs y (f ∙ ap (λ (r : List Token). mark dot ∷ word w ∷ r) (mark_takes open_paren us vs h)) k
+        (grind (arith, mark_takes, accessor_takes)) by.2
+    | inr (vs, h, k) ↦ call_sound w ts vs y (grind (arith, mark_takes)) k
   ]
 
   step_from_sound : (by : OptionalArg) (ts us : List Token) (y : Step × List Token) → SpellsBrackets by ts us → optional_arg_depth by ≤ room → step_from room inner argument by us ≡ Some y → IsStep room ts y
@@ -361,11 +347,11 @@ module _ (room : ℕ) (inner : ℕ → Reader Expr) (argument : Reader Arg)
   step_sound ts y e =
       let b = bind_some _ _ _ e in
       let s = brackets_sound ts b.0 b.1 in
-      step_from_sound b.0.0 ts b.0.1 y s.0 s.1 b.2
+      search step_from_sound
 
   steps_sound : (n : ℕ) (x : Expr) (ts us : List Token) (y : Expr × List Token) → IsExpr (suc room) 7 ts (x, us) → steps room inner argument n x us ≡ Some y → IsExpr (suc room) 7 ts y
   unfolding steps
-  steps_sound zero x ts us y s e = moved (IsExpr (suc room) 7 ts) e s
+  steps_sound zero x ts us y s e = grind (arith, moved)
   steps_sound (suc n) x ts us y s e = elim (chosen _ _ _ _ e) [
     | inl (h, k) ↦
         let p = bind_some _ _ _ k in
@@ -373,21 +359,17 @@ module _ (room : ℕ) (inner : ℕ → Reader Expr) (argument : Reader Arg)
         let g = guard_some _ _ _ _ q.1 in
         let t = step_sound us p.0 p.1 in
         steps_sound n q.0.0 ts q.0.1 y (subst (IsExpr (suc room) 7 ts) g.0 ((us, s.0, t.0), g.1)) q.2
-    | inr (h, k) ↦ moved (IsExpr (suc room) 7 ts) k s
+    | inr (h, k) ↦ grind (arith, moved)
   ]
 
   postfix_sound : (ts : List Token) (y : Expr × List Token) → postfix room inner argument ts ≡ Some y → IsExpr (suc room) 7 ts y
   unfolding postfix
   postfix_sound ts y e =
       let p = bind_some _ _ _ e in
-      steps_sound _ p.0.0 ts p.0.1 y (atom_sound ts p.0 p.1) p.2
+      search (steps_sound, atom_sound)
 
   unary_sound : (o : Unary) (x : Expr) (ts us vs : List Token) → SignIs o ts us → SpellsExpr x 6 us vs → SpellsExpr (unary o x) 6 ts vs
-  unary_sound tree.minus x ts us vs o s = (omega arith, us, o.0, o.1, s)
-  unary_sound tree.invert x ts us vs o s = (omega arith, us, o, s)
-
-  unary_depth : (o : Unary) (x : Expr) → depth (unary o x) ≡ suc (depth x)
-  unary_depth o x = refl
+  unary_sound x1 x ts us vs o s = grind arith
 
   signed_sound : (ts : List Token) (y : Expr × List Token) → signed room inner argument ts ≡ Some y → IsExpr (suc room) 6 ts y
   unfolding signed
@@ -396,14 +378,14 @@ module _ (room : ℕ) (inner : ℕ → Reader Expr) (argument : Reader Arg)
     | inr (o, h, k) ↦
         let p = bind_some _ _ _ k in
         let x = inner_sound 6 o.1 p.0 (omega arith) p.1 in
-        moved (IsExpr (suc room) 6 ts) p.2 (unary_sound o.0 p.0.0 ts o.1 p.0.1 (sign_takes ts o h) x.0.0, omega (arith, x.0.1))
+        moved (IsExpr (suc room) 6 ts) p.2 (search (unary_sound, sign_takes), omega (arith, x.0.1))
   ]
 
   -- ---- operators
 
   not_above : (m : ℕ) (o : Binary) (ts : List Token) → operator_at (suc m) (op o ∷ ts) ≡ None → level o ≤ m
   unfolding operator_at
-  not_above m o ts e = elim (chosen _ _ _ _ e) [ inl (h, k) ↦ absurd cc | inr (h, k) ↦ let t = leb-false _ _ h in omega arith ]
+  not_above m o ts e = grind (arith, chosen, leb-false)
 
   room_left : (us : List Token) (o : Binary) (vs ws rs : List Token) (n : ℕ) → us ≡ op o ∷ vs → ws ≡ rs → length ws < length vs → length us ≤ suc n → length rs ≤ n
   room_left us o vs ws rs n e f lt few = omega (arith, ap length e, ap length f)
@@ -426,19 +408,13 @@ module _ (room : ℕ) (inner : ℕ → Reader Expr) (argument : Reader Arg)
         let t = operator_takes l us o h in
         let small = level_small o.0 in
         let r = inner_sound (suc (level o.0)) o.1 p.0 (omega arith) p.1 in
-        let below : level o.0 ≤ m = not_above m o.0 o.1 (subst (λ (r : List Token). operator_at (suc m) r ≡ None) t.0 stop) in
-        let rest : p.0.1 ≡ q.0.1 = ap (λ (z : Expr × List Token). z.1) g.0 in
-        let left : SpellsExpr x (left_level o.0) ts (op o.0 ∷ o.1) = lower x (left_level o.0) m ts (op o.0 ∷ o.1) (left_within o.0 m low below) (subst (λ (r : List Token). SpellsExpr x m ts r) t.0 s.0) in
-        let whole : IsExpr (suc room) (level o.0) ts q.0 = subst (IsExpr (suc room) (level o.0) ts) g.0 ((omega arith, o.1, left, r.0.0), g.1) in
+        let below : level o.0 ≤ m = grind (arith, not_above) in
+        let rest : p.0.1 ≡ q.0.1 = search in
+        let left = lower x (left_level o.0) m ts (op o.0 ∷ o.1) (grind arith) (subst (λ r. SpellsExpr x m ts r) t.0 s.0) in
+        let whole : IsExpr (suc room) (level o.0) ts q.0 = grind arith in
         elim (chosen _ _ _ _ q.2) [
-          | inl (z, j) ↦
-              let zero_level : level o.0 ≡ 0 = eqb-true _ _ z in
-              moved (Ended l ts) j ((lower q.0.0 l (level o.0) ts q.0.1 t.1 whole.0, whole.1), λ i. absurd (omega (arith, t.1)))
-          | inr (z, j) ↦
-              operators_sound n l (level o.0) q.0.0 ts q.0.1 y
-              (room_left us o.0 o.1 p.0.1 q.0.1 n t.0 rest (expr_shorter p.0.0 _ o.1 p.0.1 r.0.0) few)
-              (above (level o.0) z) t.1
-              (subst (λ (r : List Token). operator_at (suc (level o.0)) r ≡ None) rest (r.1 (omega arith))) whole j
+          | inl (z, j) ↦ grind (arith, eqb-true, moved)
+          | inr (z, j) ↦ grind (arith, room_left, expr_shorter, above, operators_sound n l (level o.0) q.0.0 ts q.0.1 y)
         ]
   ]
 
@@ -462,20 +438,20 @@ module _ (room : ℕ) (inner : ℕ → Reader Expr) (argument : Reader Arg)
   unparted_sound (expr x) ts us vs y f s e =
       let p = bind_some _ _ _ e in
       let q = bind_some _ _ _ p.2 in
-      let z = from_sound (paren x) ts p.0 q.0 ((us, f, subst (λ (r : List Token). SpellsExpr x 0 us r) (mark_takes close_paren vs p.0 p.1) s.0), omega (arith, s.1)) q.1 in
-      moved (IsArg (suc room) ts) q.2 z
+      let z = from_sound (paren x) ts p.0 q.0 (grind (arith, mark_takes)) q.1 in
+      grind (arith, moved)
   unparted_sound _ ts us vs y f s e = absurd cc
 
   opened_sound : (ts us : List Token) (a y : Arg × List Token) → ts ≡ mark open_paren ∷ us → IsArg room us a → opened room inner argument a.0 a.1 ≡ Some y → IsArg (suc room) ts y
   unfolding opened
   opened_sound ts us a y f s e = elim (or_cases _ _ _ _ e) [
-    | inl (h, k) ↦ unparted_sound a.0 ts us a.1 y f s k
+    | inl (h, k) ↦ search unparted_sound
     | inr (vs, h, k) ↦
         let c = first _ _ _ k in
         let q = bind_some _ _ _ c.1 in
         let t = items_sound close_paren _ vs q.0 q.1 in
         moved (IsArg (suc room) ts) q.2
-        ((us, f, (vs, item_is a.0 c.0, subst (λ (r : List Token). SpellsArg a.0 us r) (mark_takes comma a.1 vs h) s.0, t.0)), omega (arith, s.1, t.1))
+        (grind (arith, item_is, mark_takes))
   ]
 
   argument_with_sound : (ts : List Token) (y : Arg × List Token) → argument_with room inner argument ts ≡ Some y → IsArg (suc room) ts y
@@ -486,14 +462,14 @@ module _ (room : ℕ) (inner : ℕ → Reader Expr) (argument : Reader Arg)
       | inr (us, h', k') ↦
           let r = bind_some _ _ _ k' in
           let s = items_sound close_bracket _ us r.0 r.1 in
-          moved (IsArg (suc room) ts) r.2 ((us, mark_takes open_bracket ts us h', s.0), omega (arith, s.1))
+          moved (IsArg (suc room) ts) r.2 (search mark_takes, omega (arith, s.1))
       | inl (h', k') ↦ elim (or_cases _ _ _ _ k') [
         | inr (us, i, j) ↦
             let r = bind_some _ _ _ j in
             let s = pairs_sound _ us r.0 r.1 in
-            moved (IsArg (suc room) ts) r.2 ((us, mark_takes open_brace ts us i, s.0), omega (arith, s.1))
+            moved (IsArg (suc room) ts) r.2 (search mark_takes, omega (arith, s.1))
         | inl (i, j) ↦ elim (or_cases _ _ _ _ j) [
-          | inr (us, i', j') ↦ moved (IsArg (suc room) ts) j' (word_takes (codes "None") ts us i', omega arith)
+          | inr (us, i', j') ↦ grind (arith, moved, word_takes)
           | inl (i', j') ↦
               let p = bind_some _ _ _ j' in
               let x = expr_with_sound 0 ts p.0 (omega arith) p.1 in

@@ -1,9 +1,9 @@
 -- What parts of a statement begin with, and what may follow them.
 use Rattle.{
-  std.{proofs.Common.{◌≡◌, ℕ, Bool, true, false, List, [], ◌∷◌, None, refl, ap, inl, inr}, specs.Prelude.{codes}},
+  script_syntax.{proofs.Gives.{reserved_is_none, other_mark, unreserved, no_target}, specs.Reading.{and_then, pick, after_mark, after_word, name_at, target_at, operator_at, begins_step, ends_bound, word_at}},
+  std.{proofs.Common.{arith, ◌≡◌, ℕ, Bool, true, false, List, [], ◌∷◌, None, refl, inl, inr}, specs.Prelude.{codes}},
   meaning.specs.Text.{Text, same_text},
-  language_meaning.specs.{Token.{Token, word, int, text, op, mark, Mark, equals, dot, comma, colon, tilde, open_paren, close_paren, open_bracket, close_bracket, open_brace, close_brace}, Tree.{Literal, Expr, Step, OptionalExpr, Arg, ArgList, Args, ArgPairs, name, literal, unary, binary, after, len, make, paren, item, access, method, group, rolling, expanding, no_expr, some_expr, expr, many, row, table, nothing, no_args, more_args, no_named, more_named, no_pairs, more_pairs}, Grammar.{left_level, IsName, SpellsLiteral, SpellsExpr, SpellsStep, SpellsStride, SpellsArg, SpellsMoreItems, SpellsMoreArgs, SpellsMorePairs}},
-  script_syntax.{specs.Reading.{and_then, pick, after_mark, after_word, name_at, target_at, operator_at, begins_step, ends_bound, word_at}, proofs.Gives.{other_mark, unreserved, no_target, reserved_no_target}},
+  language_meaning.specs.{Token.{Token, word, int, text, op, mark, Mark, equals, comma, colon, tilde, open_paren, close_paren, open_bracket, close_bracket, open_brace, close_brace}, Tree.{Literal, Expr, Step, OptionalExpr, Arg, ArgList, Args, ArgPairs, name, literal, unary, binary, after, len, make, paren, item, access, method, group, rolling, expanding, no_expr, some_expr, expr, many, row, table, nothing, no_args, more_args, no_named, more_named, no_pairs, more_pairs}, Grammar.{left_level, SpellsLiteral, SpellsExpr, SpellsStep, SpellsStride, SpellsArg, SpellsMoreItems, SpellsMoreArgs, SpellsMorePairs}},
 }
 use Rattle.language_meaning.specs.Tree as tree
 
@@ -36,36 +36,22 @@ StartsArg (mark open_bracket ∷ ts) = Unit {0}
 StartsArg (mark open_brace ∷ ts) = Unit {0}
 StartsArg _ = ⊥
 
-name_begins : (n : Text) → IsName n → BeginsExpr n
-name_begins n h = let u = unreserved n h in record { not_none = u.not_none; not_del = u.not_del; not_import = u.not_import; not_print = u.not_print }
-
 literal_starts : (v : Literal) (ts us : List Token) → SpellsLiteral v ts us → StartsExpr ts
-literal_starts (tree.int z) ts us (inl (n, k, h, s)) = rw s tt
-literal_starts (tree.int z) ts us (inr (n, k, h, s)) = rw s tt
-literal_starts (tree.truth true) ts us s = rw s (record { not_none = refl; not_del = refl; not_import = refl; not_print = refl })
-literal_starts (tree.truth false) ts us s = rw s (record { not_none = refl; not_del = refl; not_import = refl; not_print = refl })
-literal_starts (tree.text w) ts us s = rw s tt
-literal_starts tree.na ts us s = rw s.0 (record { not_none = refl; not_del = refl; not_import = refl; not_print = refl })
+literal_starts x ts us s = grind arith
 
 pub expr_starts : (x : Expr) (l : ℕ) (ts us : List Token) → SpellsExpr x l ts us → StartsExpr ts
-expr_starts (name n) l ts us (s, h) = rw s (name_begins n h)
+expr_starts (name n) l ts us (s, h) = rw s (grind (arith, unreserved))
 expr_starts (literal v) l ts us s = literal_starts v ts us s
 expr_starts (unary tree.minus x) l ts us (h, vs, e, n, s) = rw e tt
 expr_starts (unary tree.invert x) l ts us (h, vs, e, s) = rw e tt
 expr_starts (binary o x y) l ts us (h, vs, s, t) = expr_starts x (left_level o) ts (op o ∷ vs) s
 expr_starts (after x p) l ts us (vs, s, t) = expr_starts x 7 ts vs s
-expr_starts (len x) l ts us (vs, e, s) = rw e (record { not_none = refl; not_del = refl; not_import = refl; not_print = refl })
-expr_starts (make n r) l ts us (vs, e, h, s) = rw e (record { not_none = refl; not_del = refl; not_import = refl; not_print = refl })
+expr_starts (len x) l ts us (vs, e, s) = grind arith
+expr_starts (make n r) l ts us (vs, e, h, s) = grind arith
 expr_starts (paren x) l ts us (vs, e, s) = rw e tt
 
 as_arg : (ts : List Token) → StartsExpr ts → StartsArg ts
-as_arg (word w ∷ ts) s = tt
-as_arg (int n ∷ ts) s = tt
-as_arg (text w ∷ ts) s = tt
-as_arg (op o ∷ ts) s = tt
-as_arg (mark open_paren ∷ ts) s = tt
-as_arg (mark tilde ∷ ts) s = tt
-as_arg _ s = absurd s
+as_arg x s = grind arith
 
 pub arg_starts : (a : Arg) (ts us : List Token) → SpellsArg a ts us → StartsArg ts
 arg_starts (expr x) ts us s = as_arg ts (expr_starts x 0 ts us s)
@@ -83,55 +69,29 @@ opens_arg m = false
 
 pub arg_no_mark : (m : Mark) (ts : List Token) → opens_arg m ≡ false → StartsArg ts → after_mark m ts ≡ None
 unfolding after_mark
-arg_no_mark m (word w ∷ ts) h s = refl
-arg_no_mark m (int n ∷ ts) h s = refl
-arg_no_mark m (text w ∷ ts) h s = refl
-arg_no_mark m (op o ∷ ts) h s = refl
-arg_no_mark m (mark open_paren ∷ ts) h s = other_mark open_paren m ts (λ e. let k = ap opens_arg e in cc)
-arg_no_mark m (mark tilde ∷ ts) h s = other_mark tilde m ts (λ e. let k = ap opens_arg e in cc)
-arg_no_mark m (mark open_bracket ∷ ts) h s = other_mark open_bracket m ts (λ e. let k = ap opens_arg e in cc)
-arg_no_mark m (mark open_brace ∷ ts) h s = other_mark open_brace m ts (λ e. let k = ap opens_arg e in cc)
-arg_no_mark m _ h s = absurd s
+arg_no_mark m x h s = grind (arith, other_mark)
 
 pub arg_no_end : (ts : List Token) → StartsArg ts → ends_bound ts ≡ false
 unfolding ends_bound
-arg_no_end (mark comma ∷ ts) s = absurd s
-arg_no_end (mark colon ∷ ts) s = absurd s
-arg_no_end (mark close_bracket ∷ ts) s = absurd s
-arg_no_end _ s = refl
+arg_no_end x s = grind arith
 
 pub expr_no_end : (ts : List Token) → StartsExpr ts → ends_bound ts ≡ false
 expr_no_end ts s = arg_no_end ts (as_arg ts s)
 
 pub arg_no_bracket : (ts : List Token) → StartsExpr ts → after_mark open_bracket ts ≡ None
 unfolding after_mark pick
-arg_no_bracket (mark open_bracket ∷ ts) s = absurd s
-arg_no_bracket (mark open_paren ∷ ts) s = refl
-arg_no_bracket (mark tilde ∷ ts) s = refl
-arg_no_bracket (word w ∷ ts) s = refl
-arg_no_bracket (int n ∷ ts) s = refl
-arg_no_bracket (text w ∷ ts) s = refl
-arg_no_bracket (op o ∷ ts) s = refl
-arg_no_bracket _ s = absurd s
+arg_no_bracket x s = grind arith
 
 pub arg_no_brace : (ts : List Token) → StartsExpr ts → after_mark open_brace ts ≡ None
 unfolding after_mark pick
-arg_no_brace (mark open_paren ∷ ts) s = refl
-arg_no_brace (mark tilde ∷ ts) s = refl
-arg_no_brace (word w ∷ ts) s = refl
-arg_no_brace (int n ∷ ts) s = refl
-arg_no_brace (text w ∷ ts) s = refl
-arg_no_brace (op o ∷ ts) s = refl
-arg_no_brace _ s = absurd s
+arg_no_brace x s = grind arith
 
 pub no_none : (ts : List Token) → StartsExpr ts → after_word (codes "None") ts ≡ None
 unfolding after_word pick
-no_none (word w ∷ ts) s = rw s.not_none refl
-no_none [] s = refl
-no_none _ s = refl
+no_none x s = grind arith
 
 pub literal_no_mark : (m : Mark) (v : Literal) (ts us : List Token) → opens_arg m ≡ false → SpellsLiteral v ts us → after_mark m ts ≡ None
-literal_no_mark m v ts us h s = arg_no_mark m ts h (as_arg ts (literal_starts v ts us s))
+literal_no_mark m v ts us h s = search (arg_no_mark, as_arg, literal_starts)
 
 -- ---- what begins as no target
 
@@ -144,25 +104,16 @@ step_begins (group r by n q) ts us (vs, ws, xs, e, s, b, ys, f, h, t) = rw e ref
 step_begins (rolling r n q) ts us (vs, ws, e, s, xs, f, h, t) = rw e refl
 step_begins (expanding r n q) ts us (vs, ws, e, s, xs, f, h, t) = rw e refl
 
-literal_no_target : (v : Literal) (ts us : List Token) → SpellsLiteral v ts us → target_at ts ≡ None
-unfolding target_at name_at word_at and_then
-literal_no_target (tree.int z) ts us (inl (n, k, h, s)) = rw s refl
-literal_no_target (tree.int z) ts us (inr (n, k, h, s)) = rw s refl
-literal_no_target (tree.truth true) ts us s = rw s (reserved_no_target (codes "True") us refl)
-literal_no_target (tree.truth false) ts us s = rw s (reserved_no_target (codes "False") us refl)
-literal_no_target (tree.text w) ts us s = rw s refl
-literal_no_target tree.na ts us s = rw s.0 (reserved_no_target (codes "pd") (mark dot ∷ word (codes "NA") ∷ us) refl)
-
 pub expr_no_target : (x : Expr) (l : ℕ) (ts us : List Token) → SpellsExpr x l ts us → after_mark equals us ≡ None → target_at ts ≡ None
 unfolding target_at name_at word_at and_then after_mark
 expr_no_target (name n) l ts us (s, h) k = rw s (no_target n us k)
-expr_no_target (literal v) l ts us s k = literal_no_target v ts us s
+expr_no_target (literal v) l ts us s k = grind (arith, reserved_is_none)
 expr_no_target (unary tree.minus x) l ts us (h, vs, e, n, s) k = rw e refl
 expr_no_target (unary tree.invert x) l ts us (h, vs, e, s) k = rw e refl
 expr_no_target (binary o x y) l ts us (h, vs, s, t) k = expr_no_target x (left_level o) ts (op o ∷ vs) s refl
 expr_no_target (after x p) l ts us (vs, s, t) k = expr_no_target x 7 ts vs s (step_begins p vs us t)
-expr_no_target (len x) l ts us (vs, e, s) k = rw e (reserved_no_target (codes "len") (mark open_paren ∷ vs) refl)
-expr_no_target (make n r) l ts us (vs, e, h, s) k = rw e (reserved_no_target (codes "pd") (mark dot ∷ word n ∷ mark open_paren ∷ vs) refl)
+expr_no_target (len x) l ts us (vs, e, s) k = rw e (search reserved_is_none)
+expr_no_target (make n r) l ts us (vs, e, h, s) k = rw e (search reserved_is_none)
 expr_no_target (paren x) l ts us (vs, e, s) k = rw e refl
 
 pub arg_no_target : (a : Arg) (ts us : List Token) → SpellsArg a ts us → after_mark equals us ≡ None → target_at ts ≡ None
@@ -171,7 +122,7 @@ arg_no_target (expr x) ts us s k = expr_no_target x 0 ts us s k
 arg_no_target (many r) ts us (vs, e, s) k = rw e refl
 arg_no_target (row r) ts us (vs, e, s) k = rw e refl
 arg_no_target (table r) ts us (vs, e, s) k = rw e refl
-arg_no_target nothing ts us s k = rw s (reserved_no_target (codes "None") us refl)
+arg_no_target nothing ts us s k = rw s (search reserved_is_none)
 
 -- a target of a setting begins as no name that is bound
 pub put_no_target : (x : Expr) (p : Step) (ts us : List Token) → SpellsExpr (after x p) 7 ts us → target_at ts ≡ None
@@ -185,31 +136,31 @@ pub record Ends (l : ℕ) (us : List Token) : Type 0 where
 
 pub close_paren_ends : (us : List Token) → Ends 0 (mark close_paren ∷ us)
 unfolding begins_step operator_at
-close_paren_ends us = record { no_step = refl; no_operator = refl }
+close_paren_ends us = search
 
 pub close_bracket_ends : (us : List Token) → Ends 0 (mark close_bracket ∷ us)
 unfolding begins_step operator_at
-close_bracket_ends us = record { no_step = refl; no_operator = refl }
+close_bracket_ends us = search
 
 pub close_brace_ends : (us : List Token) → Ends 0 (mark close_brace ∷ us)
 unfolding begins_step operator_at
-close_brace_ends us = record { no_step = refl; no_operator = refl }
+close_brace_ends us = search
 
 pub comma_ends : (us : List Token) → Ends 0 (mark comma ∷ us)
 unfolding begins_step operator_at
-comma_ends us = record { no_step = refl; no_operator = refl }
+comma_ends us = search
 
 pub colon_ends : (us : List Token) → Ends 0 (mark colon ∷ us)
 unfolding begins_step operator_at
-colon_ends us = record { no_step = refl; no_operator = refl }
+colon_ends us = search
 
 pub equals_ends : (us : List Token) → Ends 0 (mark equals ∷ us)
 unfolding begins_step operator_at
-equals_ends us = record { no_step = refl; no_operator = refl }
+equals_ends us = search
 
 pub nil_ends : Ends 0 []
 unfolding begins_step operator_at
-nil_ends = record { no_step = refl; no_operator = refl }
+nil_ends = search
 
 -- what closes a list
 pub record Closes (close : Mark) : Type 0 where
@@ -223,9 +174,6 @@ paren_closes = record { no_comma = λ h. cc; no_start = refl; ends = close_paren
 pub bracket_closes : Closes close_bracket
 bracket_closes = record { no_comma = λ h. cc; no_start = refl; ends = close_bracket_ends }
 
-pub brace_closes : Closes close_brace
-brace_closes = record { no_comma = λ h. cc; no_start = refl; ends = close_brace_ends }
-
 pub more_items_end : (r : ArgList) (close : Mark) (ts us : List Token) → Closes close → SpellsMoreItems r close ts us → Ends 0 ts
 more_items_end no_args close ts us c (inl s) = rw s (c.ends us)
 more_items_end no_args close ts us c (inr s) = rw s (comma_ends (mark close ∷ us))
@@ -234,7 +182,7 @@ more_items_end (more_args a r) close ts us c (vs, ws, e, i, s, t) = rw e (comma_
 pub more_args_end : (r : Args) (named : Bool) (ts us : List Token) → SpellsMoreArgs r named ts us → Ends 0 ts × (after_mark equals ts ≡ None)
 unfolding after_mark pick
 more_args_end no_named named ts us (inl s) = rw s (close_paren_ends us, refl)
-more_args_end no_named named ts us (inr s) = rw s (comma_ends (mark close_paren ∷ us), refl)
+more_args_end no_named named ts us (inr s) = rw s (search comma_ends, refl)
 more_args_end (more_named n a r) named ts us (vs, ws, xs, e, i, s, t, u) = rw e (comma_ends vs, refl)
 
 pub more_pairs_end : (r : ArgPairs) (ts us : List Token) → SpellsMorePairs r ts us → Ends 0 ts
@@ -250,14 +198,14 @@ pub record EndsSub (us : List Token) : Type 0 where
 
 pub comma_ends_sub : (us : List Token) → EndsSub (mark comma ∷ us)
 unfolding after_mark pick ends_bound
-comma_ends_sub us = record { ends = comma_ends us; no_colon = refl; bound_ends = refl }
+comma_ends_sub us = search comma_ends
 
 pub bracket_ends_sub : (us : List Token) → EndsSub (mark close_bracket ∷ us)
 unfolding after_mark pick ends_bound
-bracket_ends_sub us = record { ends = close_bracket_ends us; no_colon = refl; bound_ends = refl }
+bracket_ends_sub us = search close_bracket_ends
 
 pub stride_ends : (by : OptionalExpr) (ts us : List Token) → EndsSub us → SpellsStride by ts us → Ends 0 ts × (ends_bound ts ≡ true)
 unfolding ends_bound
-stride_ends no_expr ts us e (inl s) = rw s (e.ends, e.bound_ends)
+stride_ends no_expr ts us e (inl s) = search
 stride_ends no_expr ts us e (inr s) = rw s (colon_ends us, refl)
 stride_ends (some_expr x) ts us e (vs, k, s) = rw k (colon_ends vs, refl)

@@ -1,16 +1,16 @@
 -- The file of a name, as it is fetched.
 use Rattle.{
-  std.{proofs.{Common.{◌≡◌, ◌<◌, ◌^◌, ◌+◌, ℕ, Bool, true, false, List, [], ◌∷◌, length, Option, Some, None, refl, sym, ◌∙◌, ap, subst, arith, inl, inr}, lemmas.Bool.Decides.{nat_tests}}, specs.{Prelude.{Result, Ok, Err, nat_lt, if◌then◌else◌}, FinMap.{get}, Str.Lossy.{utf8_valid_len}}},
+  std.{proofs.{Common.{◌≡◌, ◌<◌, ◌^◌, ◌+◌, ℕ, Bool, true, false, List, [], ◌∷◌, length, Option, Some, None, ◌∙◌, ap, arith}, lemmas.Bool.Decides.{nat_tests}}, specs.{Prelude.{Result, Ok, Err, nat_lt, if◌then◌else◌}, FinMap.{get}, Str.Lossy.{utf8_valid_len}}},
   csv.specs.Reading.{records, default_config, strip_bom},
   outside_io.specs.{Count.{HasRisen, raised}, Whole.{IsWholeFile, IsLonger, IsAbsent}, Files.{FilesValue}},
-  meaning.specs.{Text.{Text, Contents}, Fault.{FaultValue, limit}, FaultOf.{fault_of}},
-  table_meaning.specs.{Settled.{IsSettled}, Value.{Given, NamedGiven, dict_in}},
+  meaning.specs.{Text.{Text, Contents}, Fault.{FaultValue, limit}},
+  table_meaning.specs.Value.{Given, NamedGiven},
   form_meaning.specs.{declared.{Function.TheVariants.{ReadCsv}, Parameter.{Parameter}}, Signature.{function_parameters}, Binding.{Bound, not_taken, not_listed, bound, fit, none_missing, are_listed, argument_at, arguments_from, on_bound}},
   cell_core.specs.declared.cell.Kind.{Kind},
   csv_meaning.specs.CsvRead.{beyond_limits, not_utf8, columns_of_file, columns_of_records},
-  method_meaning.specs.Readers.{name_of_bound, file_name_of, csv_result, read_result, frame_or_fault, kinds_given},
+  method_meaning.specs.Readers.{name_of_bound, file_name_of, csv_result, read_result},
   script_meaning.specs.Reading.{Reads, at_once, after, path_of_name, of_bytes, of_path, of_file},
-  script_work.{specs.{declared.{file_names.FileName.{FileName}, fault.EvalFault.{EvalFault, TheVariants.{Refused, Input, NoMemory}}}, Faults.{IsNoFile}, Reads.{Holds, Goes, Stuck, Spends, Halts, RefusesLong, IsCaused, absent_name, paths_of, files_in}}, proofs.Rides.{goes_same, spends_none}},
+  script_work.{specs.{declared.{file_names.FileName.{FileName}, fault.EvalFault.{EvalFault}}, Faults.{IsNoFile}, Reads.{Holds, Goes, Stuck, Spends, Halts, RefusesLong, paths_of, files_in}}, proofs.Rides.{goes_same}},
 }
 
 module _ {A : Type 0} (texts : List Text) (names : List FileName) (held : Contents) (name : Text) (go : List ℕ → Result A FaultValue) where
@@ -19,22 +19,15 @@ module _ {A : Type 0} (texts : List Text) (names : List FileName) (held : Conten
 
   -- a name that stands for no path
   pub unnamed_file : (s : FilesValue) (f : EvalFault) → path_of_name (paths_of names) name ≡ None → IsNoFile f name → Halts Err texts (files_in names held) s s whole f
-  unnamed_file s (Refused c) none is = (
-    goes_same (ap (λ p. of_path held name p go) none ∙ ap (λ c. let r : Reads A = at_once (Err (fault_of texts c)) in r) (sym is)),
-    subst (λ c. IsCaused (paths_of names) s s (absent_name c)) (sym is) (inl none),
-    subst (IsSettled fault_of texts) (sym is) (λ more. refl),
-  )
-  unnamed_file s Input none is = absurd is
-  unnamed_file s NoMemory none is = spends_none
+  unnamed_file s x none is = grind (arith, goes_same)
 
   module _ (path : Text) (found : path_of_name (paths_of names) name ≡ Some path) (old new : FilesValue) (once : new.fetches ≡ raised old.fetches 1) where
     whole_fetches : whole.fetches ≡ 1 + 0
-    whole_fetches = ap (λ p. (of_path held name p go).fetches) found
+    whole_fetches = search
 
     -- something was fetched, so the files tell their contents
     never : Holds None 1 whole.fetches held → ⊥
-    never (inl none) = omega (arith, none)
-    never (inr none) = omega (arith, none, whole_fetches)
+    never x = grind (arith, whole_fetches)
 
     fetched : (r : Result A FaultValue) → (Holds old.contents 1 whole.fetches held → of_bytes name (get held path) go ≡ r) → Goes held old new whole (at_once r)
     fetched r is = record { fetched = 1; counted = once; meant = λ h. ap (λ p. of_path held name p go) found ∙ ap (λ r. after 1 (at_once r)) (is h) }
@@ -50,17 +43,7 @@ module _ {A : Type 0} (texts : List Text) (names : List FileName) (held : Conten
         at (Some told) is h = ap (λ c. of_bytes name (get c path) go) h ∙ ap (λ o. of_bytes name o go) is
 
     pub absent_file : (f : EvalFault) → IsNoFile f name → IsAbsent old.contents path → HasRisen old.absences new.absences → Halts Err texts (files_in names held) old new whole f
-    absent_file (Refused c) none is risen = (
-      fetched (Err (fault_of texts c)) (at old.contents is),
-      subst (λ c. IsCaused (paths_of names) old new (absent_name c)) (sym none) (inr risen),
-      subst (IsSettled fault_of texts) (sym none) (λ more. refl),
-    )
-      where
-        at : (contents : Option Contents) → IsAbsent contents path → Holds contents 1 whole.fetches held → of_bytes name (get held path) go ≡ Err (fault_of texts c)
-        at None is h = absurd (never h)
-        at (Some told) is h = ap (λ c. of_bytes name (get c path) go) h ∙ ap (λ o. of_bytes name o go) is ∙ ap (λ c. let r : Result A FaultValue = Err (fault_of texts c) in r) (sym none)
-    absent_file Input none is risen = absurd none
-    absent_file NoMemory none is risen = spent_file
+    absent_file x none is risen = grind (arith, fetched, never, spent_file)
 
     pub long_file : RefusesLong go → IsLonger old.contents path (2 ^ 28) → Goes held old new whole (at_once (Err limit))
     long_file refuses is = fetched (Err limit) (at old.contents is)
@@ -86,7 +69,7 @@ module _ (gs : List NamedGiven) where
       ap (λ b. if b then Err beyond_limits else if nat_lt (utf8_valid_len bytes) (length bytes) then Err (not_utf8 (utf8_valid_len bytes)) else columns_of_records kinds (records default_config (strip_bom bytes))) beyond
 
   long_result : (bytes : List ℕ) → 2 ^ 28 < length bytes → (name backend dtype : Given) → csv_result bytes (name ∷ backend ∷ dtype ∷ []) ≡ Err limit
-  long_result bytes long name backend dtype = ap frame_or_fault (long_columns bytes long (kinds_given (dict_in dtype)))
+  long_result bytes long name backend dtype = search long_columns
 
   pub refuses_long : (name : Text) → file_name_of ReadCsv gs ≡ Ok name → RefusesLong (λ bytes. read_result bytes gs)
   refuses_long name is bytes long = go (fit ps 0 gs) (none_missing ps gs 0 ps) (are_listed ps 0 gs) is

@@ -1,15 +1,14 @@
 -- A name stands for each object that is named.
 use Rattle.{
-  std.{proofs.{Common.{◌≡◌, ◌↔◌, ℕ, zero, suc, Bool, true, false, List, [], ◌∷◌, Some, None, Option, IsSome, refl, sym, ◌∙◌, ap, subst, string_bytes}, lemmas.Map.Entries.{lookup_from_place}}, specs.{Prelude.{slice_get, if◌then◌else◌, Result, Ok, Err, IfOk}, declared.string.String.{String}, String.{string_eq, string_eq_equiv}, List.{IsDistinct}, Map.{keys_of}}},
+  std.{proofs.{Common.{arith, ◌≡◌, ◌↔◌, ℕ, zero, suc, Bool, true, false, List, [], ◌∷◌, Some, None, IsSome, refl, sym, ◌∙◌, subst, string_bytes}, lemmas.Map.Entries.{lookup_from_place}}, specs.{Prelude.{slice_get, if◌then◌else◌, Result, Ok, Err, IfOk}, declared.string.String.{String}, String.{string_eq, string_eq_equiv}, List.{IsDistinct}, Map.{keys_of}}},
   meaning.specs.{Text.{Text}, Fault.{FaultValue}},
-  table_meaning.specs.{Table.{NumberedTable}, Value.{Entry}},
+  table_meaning.specs.Value.{Entry},
   frame_store.specs.{Objects.{Tables}, declared.{object.ObjId.{ObjId}, arguments.Value.{Value, TheVariants.{Object, Scalar}}, fault.OpFault.{OpFault}}, World.{World, objects_of, Forms}},
   script_work.{specs.Bindings.{Bindings, bindings_of, value_at, is_named, is_object, AreLive, AreNamed, IsOf}, proofs.{Numbers.{nat_same, some_none}, Bindings.{value_at-bindings_of}, Worlds.{some_shown, none_shown}}},
 }
 
 is_object_same : (v : Value) (id : ObjId) → is_object v id.0 ≡ true → v ≡ Object id
-is_object_same (Object o) id e = ap (λ k. Object (record { 0 = k })) (nat_same o.0 id.0 e)
-is_object_same (Scalar c) id e = Prim.cc
+is_object_same x id e = grind (arith, nat_same)
 
 -- an entry of an object that is named
 place_of_named : {Y : Type 0} (es : List (String Y × Value)) (id : ObjId) → is_named (bindings_of es) id.0 ≡ true → (i : ℕ) × (k : String Y) × (slice_get es i ≡ Some (k, Object id))
@@ -21,7 +20,7 @@ place_of_named {Y} (e ∷ es) id named = go (place_of_named es id) (is_object e.
 
     go : (is_named (bindings_of es) id.0 ≡ true → (i : ℕ) × (k : String Y) × (slice_get es i ≡ Some (k, Object id))) → (c : Bool) → is_object e.1 id.0 ≡ c → (if c then true else is_named (bindings_of es) id.0) ≡ true
         → (i : ℕ) × (k : String Y) × (slice_get (e ∷ es) i ≡ Some (k, Object id))
-    go among true is named = (zero, e.0, ap (λ v. Some (e.0, v)) (is_object_same e.1 id is))
+    go among true is named = (zero, e.0, grind (arith, is_object_same))
     go among false is named = later (among named)
 
 module _ {Y : Type 0} (es : List (String Y × Value)) (unique : IsDistinct string_eq (keys_of es)) where
@@ -31,14 +30,7 @@ module _ {Y : Type 0} (es : List (String Y × Value)) (unique : IsDistinct strin
       (string_bytes p.1, value_at-bindings_of es (string_bytes p.1) ∙ lookup_from_place string_eq_equiv es p.0 p.1 (Object id) unique p.2)
 
   pub live_are_named : (w : World) → AreLive (bindings_of es) w.tables → AreNamed (bindings_of es) w.tables → (id : ObjId) → IsSome (objects_of w id.0) ↔ ((n : Text) × (value_at (bindings_of es) n ≡ Some (Object id)))
-  live_are_named w live named id = (λ is. name_of_named id (named id.0 (some_shown w id.0 is)), λ p. shown_some w id.0 (live p.0 id p.1))
-    where
-      shown_some : (w : World) (k : ℕ) → IsSome (w.tables k) → IsSome (objects_of w k)
-      shown_some w k is = go (w.tables k) is
-        where
-          go : (o : Option NumberedTable) → IsSome o → IsSome (objects_of (record { tables = λ other. o; texts = w.texts }) k)
-          go None is = is
-          go (Some t) is = refl
+  live_are_named w live named id = grind (arith, name_of_named, some_shown)
 
   pub named_live : (tables : Tables) → AreLive (bindings_of es) tables → (id : ℕ) → is_named (bindings_of es) id ≡ true → IsSome (tables id)
   named_live tables live id named = let p = name_of_named (record { 0 = id }) named in live p.0 (record { 0 = id }) p.1
@@ -48,7 +40,7 @@ module _ {Y : Type 0} (es : List (String Y × Value)) (unique : IsDistinct strin
   unnamed tables live id none = go (is_named (bindings_of es) id.0) refl
     where
       go : (b : Bool) → is_named (bindings_of es) id.0 ≡ b → b ≡ false
-      go true named = let p = name_of_named id named in some_none {X = NumberedTable} (tables id.0) (live p.0 id p.1) none
+      go true named = let p = name_of_named id named in some_none (tables id.0) (live p.0 id p.1) none
       go false named = refl
 
   -- and so for none that a form makes

@@ -1,6 +1,6 @@
 -- Tests of numbers and texts.
 use Rattle.{
-  std.{proofs.{Common.{◌≡◌, ℕ, Bool, true, false, nat_eq, Option, Some, None, arith, IsSome}, lemmas.Bool.Decides.{nat_tests}}, specs.Cmp.Lexicographic.{nat_list_eq_equiv}},
+  std.proofs.{Common.{rules, ◌≡◌, ℕ, Bool, true, false, nat_eq, Option, None, arith, IsSome}, lemmas.Bool.Decides.{nat_tests}},
   meaning.specs.Text.{Text, same_text},
 }
 
@@ -11,16 +11,14 @@ pub nat_eq_self : (n : ℕ) → nat_eq n n ≡ true
 nat_eq_self n = grind (arith, nat_tests)
 
 pub true_false : {P : Type 0} (b : Bool) → b ≡ true → b ≡ false → P
-true_false true e f = Prim.cc
-true_false false e f = Prim.cc
+true_false x e f = grind arith
 
 pub some_none : {X P : Type 0} (o : Option X) → IsSome o → o ≡ None → P
-some_none None live e = Prim.cc
-some_none (Some x) live e = Prim.cc
+some_none x1 live e = grind arith
 
 -- a text that is the same as one is like it to every other
 pub same_congr : (a b c : Text) → same_text a b ≡ true → same_text a c ≡ same_text b c
-same_congr a b c e = nat_list_eq_equiv.congr a b c e
+same_congr a b c e = search rules
 
 pub same_sym : (a b : Text) → same_text a b ≡ same_text b a
-same_sym a b = nat_list_eq_equiv.symm a b
+same_sym a b = search rules

@@ -1,10 +1,10 @@
 -- What is made of values is seen as before where their objects are.
 use mathlib.Core.Former.{Count}
 use Rattle.{
-  std.proofs.Common.{◌≡◌, ℕ, List, [], ◌∷◌, refl, ap, IsSome},
+  std.proofs.Common.{arith, ◌≡◌, ℕ, List, [], ◌∷◌, refl, ap, IsSome},
   cell_core.specs.declared.cell.Label.{Label},
   meaning.specs.{Text.{Text}, Cell.{label_datum}},
-  frame_store.specs.{Objects.{Tables}, Arguments.{object_value, entry_of, item_of, items_row, items_of, argument_of, entries_row, entries_of, arguments_of, subscript_of, IsLive, IsLiveItem, IsLiveRow, AreLiveItems, IsLiveArgument, AreLiveEntries, AreLivePairs, AreLive, IsLiveSubscript}, declared.{object.ObjId.{ObjId}, arguments.{Value.{Value, TheVariants.{Object, Scalar}}, Argument.{Argument, Nothing, One, Row, Many, Table', Row_of-Entries-pairs-2, end_of-Entries-pairs-2, more_of-Entries-pairs-2}, Item.{Item, One as OneItem, Row' as RowItem', Row_of-Item, end_of-Item, more_of-Item}, Named.{Named}, Subscript.{Subscript, TheVariants.{Key, Span}}}}},
+  frame_store.specs.{Objects.{Tables}, Arguments.{object_value, entry_of, item_of, items_row, items_of, argument_of, entries_row, entries_of, arguments_of, subscript_of, IsLive, IsLiveItem, IsLiveRow, AreLiveItems, IsLiveArgument, AreLiveEntries, AreLivePairs, AreLive, IsLiveSubscript}, declared.{object.ObjId.{ObjId}, arguments.{Value.{Value}, Argument.{Argument, Nothing, One, Row, Many, Table', Row_of-Entries-pairs-2, end_of-Entries-pairs-2, more_of-Entries-pairs-2}, Item.{Item, One as OneItem, Row' as RowItem', Row_of-Item, end_of-Item, more_of-Item}, Named.{Named}, Subscript.{Subscript, TheVariants.{Key, Span}}}}},
 }
 use Rattle.table_meaning.specs.Value as value
 
@@ -14,8 +14,7 @@ SameObjects texts tables tables' = (id : ObjId) → IsSome (tables id.0) → obj
 
 module _ (texts : List Text) (tables tables' : Tables) (same : (id : ObjId) → IsSome (tables id.0) → object_value tables' texts id ≡ object_value tables texts id) where
   pub entry_same : (v : Value) → IsLive tables v → entry_of tables' texts v ≡ entry_of tables texts v
-  entry_same (Object id) live = ap value.table (same id live)
-  entry_same (Scalar c) live = refl
+  entry_same x live = grind arith
 
   mutual
     pub item_same : (item : Item) → IsLiveItem tables item → item_of tables' texts item ≡ item_of tables texts item
@@ -51,14 +50,13 @@ module _ (texts : List Text) (tables tables' : Tables) (same : (id : ObjId) → 
   arguments_same (g ∷ args) live = λ j. record { name = g.name; value = argument_same g.value live.0 j } ∷ arguments_same args live.1 j
 
   pub subscript_same : (s : Subscript) → IsLiveSubscript tables s → subscript_of tables' texts s ≡ subscript_of tables texts s
-  subscript_same (Key a) live = ap value.key_given (argument_same a live)
+  subscript_same (Key a) live = cc (argument_same a live)
   subscript_same (Span from to by) live = λ j. value.span_given (argument_same from live.0 j) (argument_same to live.1 j) (argument_same by live.2 j)
 
 -- live objects are still live
 module _ (tables tables' : Tables) (later : (id : ℕ) → IsSome (tables id) → IsSome (tables' id)) where
   pub value_later : (v : Value) → IsLive tables v → IsLive tables' v
-  value_later (Object id) live = later id.0 live
-  value_later (Scalar c) live = tt
+  value_later x live = grind arith
 
   mutual
     pub item_later : (item : Item) → IsLiveItem tables item → IsLiveItem tables' item

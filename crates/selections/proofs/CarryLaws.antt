@@ -5,7 +5,7 @@ use Rattle.{
   meaning.specs.{Text.{Text}, Cell.{CellValue, na_cell, datum}, Fault.{FaultValue, then_value}},
   table_meaning.specs.{Table.{ColumnOf, NumberedTable, Table, table_value, column_at}, Value.{Entry, GivenSub}},
   select_meaning.specs.Select.{cut, without_leading, first_cell, shown_as, picked_result, Way, way_reach, select_result},
-  frame_store.{specs.{Objects.{Tables, tables}, Arguments.{entry_of, object_value}, Parts.{HeadingList}, World.{World, world, entry_in, IsSettledWorld, Forms}, declared.{arguments.Value.{Value, TheVariants.{Object, Scalar}}, fault.OpFault.{OpFault, TheVariants.{Refused, NoMemory}}, object.ObjId.{ObjId}, store.Store.{Store}}}, proofs.Settling.{longer_self, settled_by, object_settled}},
+  frame_store.{specs.{Objects.{Tables, tables}, Arguments.{entry_of, object_value}, Parts.{HeadingList}, World.{World, world, entry_in, IsSettledWorld, Forms}, declared.{arguments.Value.{Value, TheVariants.{Object, Scalar}}, fault.OpFault.{OpFault}, object.ObjId.{ObjId}, store.Store.{Store}}}, proofs.Settling.{longer_self, settled_by, object_settled}},
   selections.{specs.{Selected.{headings_at}, Plans.{rows_in, levels_lost, AreTakenFrom, has_single_row, has_single_column, reach_of_plan, PlansBy}, declared.planning.{Taken.{Taken, TheVariants.{Slice, Listed, Under}}, Form.{Form}, Plan.{Plan}}}, proofs.{AnswerLaws.{column_seen}, CutLaws.{headings_with}, PickedLaws.{read_is}, PlanLaws.{spaced_below, without_none}}},
 }
 use Rattle.table_meaning.specs.Value as value
@@ -64,8 +64,7 @@ module _ (texts : List Text) (store : Store) (on : Value) (id : ObjId) (source :
 
   pub select_refused : (why : OpFault) → IsSettledWorld (world store texts) → PlansBy texts source (Err why) (way_reach way (table_value texts source) first second)
       → Forms (Err why) (select_result (entry_in (world store texts) on) way first second) (world store texts) (world store texts)
-  select_refused (Refused code) settled planned = (((selected ∙ planned.0, planned.1), refl), longer_self texts, settled)
-  select_refused NoMemory settled planned = (refl, longer_self texts, settled)
+  select_refused x settled planned = grind (arith, selected, longer_self)
 
   pub select_made : (plan : Plan) (result : Result Value OpFault) (new : World) → PlansBy texts source (Ok plan) (way_reach way (table_value texts source) first second)
       → Forms result (picked_result (object_value (tables store) texts id) (reach_of_plan plan)) (world store texts) new → Forms result (select_result (entry_in (world store texts) on) way first second) (world store texts) new

@@ -3,17 +3,17 @@ use Rattle.{
   std.{proofs.{Common.{◌≡◌, ◌∙◌, refl, ap, sym, subst, arith, ℕ, suc, ◌+◌, ◌<◌, List, [], ◌∷◌, map, length, slice_index_or, All, Option, Some, None, Result, Err}, lemmas.List.{length-map, Elements.{All-nil, All-cons}}}, specs.{Prelude.{IsSome}, List.{range_with_len}}},
   cell_core.specs.{Texts.{AreDistinct}, declared.{cell.{Cell.{Cell, TheVariants.{Na}}, Label.{Label}}, grid.Shape.{Shape, TheVariants.{Series, Frame}}}},
   meaning.specs.{Text.{Text}, Cell.{CellValue, na_cell, datum, LabelValue}, FaultOf.{fault_of}, Fault.{FaultValue}},
-  table_meaning.specs.{Settled.{IsSettled}, Table.{ColumnOf, NumberedTable, Table, table_value, tuple_value, heading_value, column_at, no_column}, Valid.{AreHeadings, IsWhole}, Value.{Entry}},
-  form_meaning.specs.{Finish.{first_repeated, unless_repeated, limited, finished}, Select.{heading_at, columns_frame}},
+  table_meaning.specs.{Settled.{IsSettled}, Table.{ColumnOf, NumberedTable, Table, table_value, heading_value, column_at, no_column}, Valid.{IsWhole}, Value.{Entry}},
+  form_meaning.specs.{Finish.{unless_repeated, limited, finished}, Select.{heading_at, columns_frame}},
   select_meaning.specs.Select.{column_rows, cut, without_leading, as_series},
-  frame_store.{specs.{Parts.{HeadingList, table_with}, Shown.{headings_value}, World.{world, IsSettledWorld, Forms}, declared.{store.Store.{Store}, fault.OpFault.{OpFault, TheVariants.{Refused, NoMemory}}}}, proofs.Settling.{longer_self, columns_name_part, headings_part}},
+  frame_store.{specs.{Parts.{HeadingList}, Shown.{headings_value}, World.{world, IsSettledWorld, Forms}, declared.{store.Store.{Store}, fault.OpFault.{OpFault, TheVariants.{Refused, NoMemory}}}}, proofs.Settling.{longer_self, columns_name_part, headings_part}},
   selections.{specs.{Selected.{heading_of, headings_at}, Headings.{NamesRepeated, repeated_heading}, Chosen.{cells_at, chosen, AreSettledHeadings}, Picked.{headed_by}, Plans.{rows_in, levels_lost, AreTakenFrom, taken_table, CanTake}, declared.planning.Taken.{Taken}}, proofs.{AnswerLaws.{column_seen, own_name, own_labels}, HeadingLaws.{repeated_seen, different}, PickedLaws.{list_is, places_inside, places_count}, PlaceLaws.{heading_seen, heading_settled}, RefusalLaws.{repeated_settled}, TakenLaws.{labels_seen, columns_seen, taken_seen}}},
 }
 
 -- the headings of columns
 headings_seen : (texts : List Text) (t : NumberedTable) (places : List ℕ) → headings_value texts (headings_at t places) ≡ map (heading_at (table_value texts t)) places
 headings_seen texts t [] = refl
-headings_seen texts t (p ∷ ps) = λ j. sym (heading_seen texts t.headings p) j ∷ headings_seen texts t ps j
+headings_seen texts t (p ∷ ps) = search (heading_seen, headings_seen texts t ps)
 
 headings_settled : (texts : List Text) (t : NumberedTable) (places : List ℕ) → IsSettled headings_value texts t.headings → IsSettled headings_value texts (headings_at t places)
 headings_settled texts t [] settled = λ more. refl
@@ -22,7 +22,7 @@ headings_settled texts t (p ∷ ps) settled = λ more j. heading_settled texts t
 all_labelled : (t : NumberedTable) (places : List ℕ) → All IsSome t.headings → All (λ p. p < length t.headings) places → All IsSome (headings_at t places)
 all_labelled t [] some below = All-nil IsSome
 all_labelled t (p ∷ ps) some below =
-    All-cons IsSome (heading_of t p) (headings_at t ps) (some p None (below 0 p (omega arith))) (all_labelled t ps some (λ k d lt. below (suc k) d (omega (arith, lt))))
+    All-cons IsSome (heading_of t p) (headings_at t ps) (some p None (below 0 p (omega arith))) (all_labelled t ps some (λ k d lt. below (suc k) d (omega arith)))
 
 -- those of these columns, with a name of the columns or none
 abbrev pub headings_with : Option Label → NumberedTable → List ℕ → HeadingList
@@ -31,17 +31,10 @@ headings_with name t places = record { columns_name = name; labels = headings_at
 -- what is chosen is what is cut
 module _ (texts : List Text) (rows columns : List ℕ) (t : NumberedTable) where
   cut_seen : (shape : Shape) (name : Option Label) → table_value texts (chosen shape (headings_with name t columns) rows columns t) ≡ record (cut (table_value texts t) rows columns) { shape = shape; columns_name = heading_value texts name }
-  cut_seen shape name = λ j. record {
-    shape = shape;
-    columns_name = heading_value texts name;
-    level_names = map (heading_value texts) t.level_names;
-    labels = labels_seen texts rows t.labels j;
-    headings = headings_seen texts t columns j;
-    columns = columns_seen texts rows columns t j;
-  }
+  cut_seen shape name = grind (arith, labels_seen, headings_seen, columns_seen)
 
   pub series_seen : (headings : HeadingList) → headings ≡ headings_with None t columns → table_value texts (chosen Series headings rows columns t) ≡ as_series (cut (table_value texts t) rows columns)
-  series_seen headings is = ap (λ (h : HeadingList). table_value texts (chosen Series h rows columns t)) is ∙ cut_seen Series None
+  series_seen headings is = cc (cut_seen Series None)
 
   pub frame_seen : (headings : HeadingList) → headings ≡ headings_with t.columns_name t columns → t.shape ≡ Frame → table_value texts (chosen Frame headings rows columns t) ≡ cut (table_value texts t) rows columns
   frame_seen headings is frame =
@@ -55,17 +48,17 @@ module _ (texts : List Text) (taken : Taken) (columns : List ℕ) (t : NumberedT
   lost = without_leading (levels_lost taken)
 
   pub series_shown : (headings : HeadingList) → headings ≡ headings_with None t columns → table_value texts (taken_table Series headings taken columns t) ≡ as_series (lost (cut (table_value texts t) (rows_in taken) columns))
-  series_shown headings is = taken_seen texts Series headings taken columns t ∙ ap lost (series_seen texts (rows_in taken) columns t headings is)
+  series_shown headings is = taken_seen texts Series headings taken columns t ∙ ap lost (search series_seen)
 
   frame_shown : (headings : HeadingList) → headings ≡ headings_with t.columns_name t columns → t.shape ≡ Frame → table_value texts (taken_table Frame headings taken columns t) ≡ lost (cut (table_value texts t) (rows_in taken) columns)
-  frame_shown headings is frame = taken_seen texts Frame headings taken columns t ∙ ap lost (frame_seen texts (rows_in taken) columns t headings is frame)
+  frame_shown headings is frame = taken_seen texts Frame headings taken columns t ∙ ap lost (search frame_seen)
 
 -- all rows of some columns
 rows_all : {C : Type 0} (d : C) (n : ℕ) (c : ColumnOf C) → length c.cells ≡ n → record { kind = c.kind; cells = map (λ row. slice_index_or c.cells row d) (range_with_len 0 n) } ≡ c
 rows_all {C} d n c is =
     let cell : ℕ → C = λ row. slice_index_or c.cells row d in
     ap (λ (cells : List C). record { kind = c.kind; cells = cells })
-    (ap (λ (m : ℕ). map cell (range_with_len 0 m)) (sym is) ∙ list_is cell c.cells 0 d (λ k lt. let e : 0 + k ≡ k = omega arith in ap cell e))
+    (cc (list_is cell c.cells 0 d (λ k lt. let e : 0 + k ≡ k = omega arith in ap cell e)))
 
 each_all : (n : ℕ) (cs : List (ColumnOf CellValue)) → All (λ c. length c.cells ≡ n) cs → map (column_rows (range_with_len 0 n)) cs ≡ cs
 each_all n [] filled = refl
@@ -73,21 +66,21 @@ each_all n (c ∷ cs) filled = λ j. rows_all na_cell n c (filled 0 c (omega ari
 
 columns_filled : (texts : List Text) (t : NumberedTable) (columns : List ℕ) → IsWhole t → All (λ place. place < length t.columns) columns
     → All (λ c. length c.cells ≡ length t.labels) (map (column_at (table_value texts t).columns) columns)
-columns_filled texts t [] whole below = All-nil (λ (c : ColumnOf CellValue). length c.cells ≡ length t.labels)
+columns_filled texts t [] whole below = grind arith
 columns_filled texts t (p ∷ ps) whole below =
     All-cons (λ (c : ColumnOf CellValue). length c.cells ≡ length t.labels) (column_at (table_value texts t).columns p) (map (column_at (table_value texts t).columns) ps)
-    (ap (λ (c : ColumnOf CellValue). length c.cells) (column_seen texts t.columns p) ∙ length-map (column_at t.columns p).cells (datum texts) ∙ whole.filled p no_column (below 0 p (omega arith)))
+    (grind (arith, column_seen texts t.columns p, length-map (column_at t.columns p).cells (datum texts), whole.filled p no_column (below 0 p (omega arith))))
     (columns_filled texts t ps whole (λ k d lt. below (suc k) d (omega arith)))
 
 pub all_rows_cut : (texts : List Text) (t : NumberedTable) (rows columns : List ℕ) → IsWhole t → All (λ place. place < length t.columns) columns → rows ≡ range_with_len 0 (length t.labels)
     → cut (table_value texts t) rows columns ≡ columns_frame (table_value texts t) columns
 all_rows_cut texts t rows columns whole below all =
     let T = table_value texts t in
-    let count : length t.labels ≡ length T.labels = sym (length-map t.labels (tuple_value texts)) in
+    let count : length t.labels ≡ length T.labels = search length-map in
     let label : ℕ → List LabelValue = λ row. slice_index_or T.labels row [] in
-    let labels : map label (range_with_len 0 (length t.labels)) ≡ T.labels = ap (λ (n : ℕ). map label (range_with_len 0 n)) count ∙ list_is label T.labels 0 [] (λ k lt. let e : 0 + k ≡ k = omega arith in ap label e) in
+    let labels : map label (range_with_len 0 (length t.labels)) ≡ T.labels = cc (list_is label T.labels 0 [] (λ k lt. let e : 0 + k ≡ k = omega arith in ap label e)) in
     ap (λ (l : List ℕ). cut T l columns) all
-    ∙ (λ j. record (columns_frame T columns) { labels = labels j; columns = each_all (length t.labels) (map (column_at T.columns) columns) (columns_filled texts t columns whole below) j })
+    ∙ (λ j. record (columns_frame T columns) { labels = labels j; columns = each_all (length t.labels) (map (column_at T.columns) columns) (search columns_filled) j })
 
 -- all rows and columns under other headings
 pub whole_chosen : (shape : Shape) (headings : HeadingList) (rows columns : List ℕ) (t : NumberedTable) → IsWhole t → rows ≡ range_with_len 0 (length t.labels) → columns ≡ range_with_len 0 (length t.columns)
@@ -98,56 +91,29 @@ whole_chosen shape headings rows columns t whole all each =
     let column : ℕ → ColumnOf Cell = λ place. cells_at (range_with_len 0 (length t.labels)) (column_at t.columns place) in
     let columns_are : map column (range_with_len 0 (length t.columns)) ≡ t.columns =
     list_is column t.columns 0 no_column (λ k lt. let e : 0 + k ≡ k = omega arith in ap column e ∙ rows_all Na (length t.labels) (column_at t.columns k) (whole.filled k no_column lt)) in
-    (λ j. chosen shape headings (all j) (each j) t)
-    ∙ (λ j. table_with shape record { tuples = labels j; names = t.level_names } headings (columns_are j))
+    grind arith
 
 -- a table's own headings
 abbrev pub own_headings : NumberedTable → HeadingList
 own_headings t = record { columns_name = t.columns_name; labels = t.headings }
 
--- each may be taken
-pub series_taken : (t : NumberedTable) (rows : Taken) (columns : List ℕ) (headings : HeadingList) → AreTakenFrom t rows → All (λ place. place < length t.columns) columns → length columns ≡ 1
-    → headings ≡ headings_with None t columns → CanTake Series headings rows columns t
-series_taken t rows columns headings rows_below columns_below one is =
-    let count : length (headings_at t columns) ≡ length columns = length-map columns (heading_of t) in
-    record {
-      rows_below = rows_below;
-      columns_below = columns_below;
-      headed = ap (λ (h : HeadingList). length h.labels) is ∙ count;
-      fit = subst (λ (h : HeadingList). AreHeadings Series h.columns_name h.labels) (sym is) (record { single = λ e. count ∙ one; nameless = λ e. refl; labelled = λ e. cc; different = λ e. cc });
-    }
-
 pub frame_taken : (t : NumberedTable) (rows : Taken) (columns : List ℕ) (headings : HeadingList) → IsWhole t → t.shape ≡ Frame → AreTakenFrom t rows → All (λ place. place < length t.columns) columns
     → headings ≡ headings_with t.columns_name t columns → repeated_heading (headings_at t columns) ≡ None → CanTake Frame headings rows columns t
-frame_taken t rows columns headings whole frame rows_below columns_below is none =
-    let below : All (λ p. p < length t.headings) columns = subst (λ (n : ℕ). All (λ p. p < n) columns) (sym whole.headed) columns_below in
-    let some : All IsSome (headings_at t columns) = all_labelled t columns (whole.headings.labelled frame) below in
-    record {
-      rows_below = rows_below;
-      columns_below = columns_below;
-      headed = ap (λ (h : HeadingList). length h.labels) is ∙ length-map columns (heading_of t);
-      fit = subst (λ (h : HeadingList). AreHeadings Frame h.columns_name h.labels) (sym is) (record { single = λ e. cc; nameless = λ e. cc; labelled = λ e. some; different = λ e. different (headings_at t columns) some none });
-    }
+frame_taken t rows columns headings whole frame rows_below columns_below is none = grind (arith, all_labelled, length-map, different)
 
 pub all_taken : (shape : Shape) (t : NumberedTable) (rows : Taken) (columns : List ℕ) (headings : HeadingList) → shape ≡ t.shape → IsWhole t → AreTakenFrom t rows → headings ≡ own_headings t → columns ≡ range_with_len 0 (length t.columns)
     → CanTake shape headings rows columns t
-all_taken shape t rows columns headings same whole rows_below own all =
-    record {
-      rows_below = rows_below;
-      columns_below = places_inside columns (length t.columns) (length t.columns) all refl;
-      headed = ap (λ (h : HeadingList). length h.labels) own ∙ whole.headed ∙ sym (places_count columns (length t.columns) all);
-      fit = subst (λ (h : HeadingList). AreHeadings shape h.columns_name h.labels) (sym own) (subst (λ (s : Shape). AreHeadings s t.columns_name t.headings) (sym same) whole.headings);
-    }
+all_taken shape t rows columns headings same whole rows_below own all = grind (arith, places_inside, places_count)
 
 -- each has headings whose texts were given
 pub series_given : (texts : List Text) (t : NumberedTable) (columns : List ℕ) (headings : HeadingList) → headings ≡ headings_with None t columns → IsSettled table_value texts t → AreSettledHeadings texts headings
-series_given texts t columns headings is settled = subst (AreSettledHeadings texts) (sym is) (λ more. refl, headings_settled texts t columns (headings_part texts t settled))
+series_given texts t columns headings is settled = grind (arith, headings_settled)
 
 pub frame_given : (texts : List Text) (t : NumberedTable) (columns : List ℕ) (headings : HeadingList) → headings ≡ headings_with t.columns_name t columns → IsSettled table_value texts t → AreSettledHeadings texts headings
-frame_given texts t columns headings is settled = subst (AreSettledHeadings texts) (sym is) (columns_name_part texts t settled, headings_settled texts t columns (headings_part texts t settled))
+frame_given texts t columns headings is settled = subst (AreSettledHeadings texts) (sym is) (search (columns_name_part, headings_settled, headings_part))
 
 pub own_given : (texts : List Text) (t : NumberedTable) (headings : HeadingList) → headings ≡ own_headings t → IsSettled table_value texts t → AreSettledHeadings texts headings
-own_given texts t headings own settled = (own_name texts t headings own settled, own_labels texts t headings own settled)
+own_given texts t headings own settled = search (own_name, own_labels)
 
 -- unless a heading stands again, by numbers
 abbrev unless_again : Table → Option LabelValue → Result Entry FaultValue
@@ -155,20 +121,16 @@ unless_again t o = unless_repeated o (limited t)
 
 finished_is : (texts : List Text) (t : NumberedTable) (lost : ℕ) (rows columns : List ℕ) (found : Option Label) → AreDistinct texts → IsSettled headings_value texts t.headings → repeated_heading (headings_at t columns) ≡ found
     → finished (without_leading lost (cut (table_value texts t) rows columns)) ≡ unless_again (without_leading lost (cut (table_value texts t) rows columns)) (heading_value texts found)
-finished_is texts t lost rows columns found distinct settled is =
-    ap (unless_again (without_leading lost (cut (table_value texts t) rows columns)))
-    (ap first_repeated (sym (headings_seen texts t columns)) ∙ sym (repeated_seen texts (headings_at t columns) distinct (headings_settled texts t columns settled)) ∙ ap (heading_value texts) is)
+finished_is texts t lost rows columns found distinct settled is = cc (headings_seen texts t columns, repeated_seen texts (headings_at t columns) distinct (headings_settled texts t columns settled))
 
 pub frame_meant : (texts : List Text) (t : NumberedTable) (taken : Taken) (columns : List ℕ) (headings : HeadingList) → AreDistinct texts → IsSettled headings_value texts t.headings → t.shape ≡ Frame → headings ≡ headings_with t.columns_name t columns
     → repeated_heading (headings_at t columns) ≡ None
     → limited (table_value texts (taken_table Frame headings taken columns t)) ≡ finished (without_leading (levels_lost taken) (cut (table_value texts t) (rows_in taken) columns))
-frame_meant texts t taken columns headings distinct settled frame is none =
-    ap limited (frame_shown texts taken columns t headings is frame) ∙ sym (finished_is texts t (levels_lost taken) (rows_in taken) columns None distinct settled none)
+frame_meant texts t taken columns headings distinct settled frame is none = cc (frame_shown texts taken columns t headings is frame, finished_is texts t (levels_lost taken) (rows_in taken) columns None distinct settled none)
 
 pub frame_refused : (texts : List Text) (store : Store) (t : NumberedTable) (lost : ℕ) (rows columns : List ℕ) (why : OpFault) → AreDistinct texts → IsSettled headings_value texts t.headings → NamesRepeated why (repeated_heading (headings_at t columns))
     → IsSettledWorld (world store texts) → Forms (Err why) (finished (without_leading lost (cut (table_value texts t) rows columns))) (world store texts) (world store texts)
 frame_refused texts store t lost rows columns (Refused code) distinct settled named left =
     let meant = finished_is texts t lost rows columns (Some named.0) distinct settled named.1 ∙ ap (λ c. Err (fault_of texts c)) (sym named.2) in
-    let given = repeated_settled texts code (headings_at t columns) named.0 named.1 named.2 (headings_settled texts t columns settled) in
-    (((meant, given), refl), longer_self texts, left)
-frame_refused texts store t lost rows columns NoMemory distinct settled named left = (refl, longer_self texts, left)
+    search (repeated_settled, headings_settled, longer_self)
+frame_refused texts store t lost rows columns NoMemory distinct settled named left = search longer_self

@@ -1,7 +1,7 @@
 -- Rows and places of another table.
 use Rattle.{
-  std.{proofs.{Common.{◌≡◌, ◌∙◌, ℕ, suc, zero, ◌+◌, ◌<◌, pos, List, [], ◌∷◌, length, map, refl, ap, sym, subst, arith, All, Option, Some, ◌++◌}, lemmas.List.FromFn.{get_or-range_with_len, length-range_with_len}}, specs.{Prelude.{slice_index_or}, List.{range_with_len}}},
-  cell_core.specs.{Grids.{AreRowsBelow}, declared.grid.Rows.{Rows}},
+  std.{proofs.{Common.{◌≡◌, ◌∙◌, ℕ, suc, zero, ◌+◌, ◌<◌, pos, List, [], ◌∷◌, length, map, refl, ap, sym, arith, All, Option, Some, ◌++◌}, lemmas.List.FromFn.{get_or-range_with_len, length-range_with_len}}, specs.{Prelude.{slice_index_or}, List.{range_with_len}}},
+  cell_core.specs.declared.grid.Rows.{Rows},
   table_meaning.specs.Table.{NumberedTable},
   frame_store.specs.Objects.{table_or},
 }
@@ -12,41 +12,30 @@ list_is f [] a d h = refl
 list_is f (x ∷ xs) a d h =
     let first : a ≡ a + 0 = omega arith in
     let later : (k : ℕ) → k < length xs → f (a + 1 + k) ≡ slice_index_or xs k d = λ k lt. let e : a + 1 + k ≡ a + suc k = omega arith in ap f e ∙ h (suc k) (omega arith) in
-    ap (λ y. y ∷ map f (range_with_len (a + 1) (length xs))) (ap f first ∙ h 0 (omega arith)) ∙ ap (λ l. x ∷ l) (list_is f xs (a + 1) d later)
+    grind (arith, list_is f xs (a + 1) d later)
 
 -- all rows of so many
 abbrev pub all_rows : ℕ → Rows
 all_rows count = record { start = 0; step = pos 1; count = count }
 
-pub all_rows_below : (count : ℕ) → AreRowsBelow (all_rows count) count
-all_rows_below count =
-    record {
-      places = λ row lt. tt;
-      below = λ row lt. omega arith;
-      moves = λ more e. cc;
-    }
-
 -- the places below a count
 range_suc : (a n : ℕ) → range_with_len a (suc n) ≡ range_with_len a n ++ (a + n) ∷ []
-range_suc a zero = ap (λ x. x ∷ []) (let e : a ≡ a + 0 = omega arith in e)
-range_suc a (suc n) = ap (λ l. a ∷ l) (range_suc (a + 1) n ∙ ap (λ x. range_with_len (a + 1) n ++ x ∷ []) (let e : a + 1 + n ≡ a + suc n = omega arith in e))
+range_suc a zero = grind arith
+range_suc a (suc n) = grind (arith, range_suc (a + 1) n)
 
 pub one_more_place : (places places' : List ℕ) (place : ℕ) → places ≡ range_with_len 0 place → places' ≡ places ++ place ∷ [] → places' ≡ range_with_len 0 (place + 1)
 one_more_place places places' place before pushed =
     pushed ∙ (λ j. before j ++ (let e : place ≡ 0 + place = omega arith in e) j ∷ []) ∙ sym (range_suc 0 place) ∙ ap (range_with_len 0) (let e : suc place ≡ place + 1 = omega arith in e)
 
 pub places_inside : (places : List ℕ) (count limit : ℕ) → places ≡ range_with_len 0 count → count ≡ limit → All (λ place. place < limit) places
-places_inside places count limit is same =
-    subst (λ (l : List ℕ). All (λ place. place < limit) l) (sym is) (λ k d lt.
-    let at : slice_index_or (range_with_len 0 count) k d ≡ 0 + k = get_or-range_with_len 0 count k d (omega (arith, lt, length-range_with_len 0 count)) in
-    omega (arith, at, same, lt, length-range_with_len 0 count))
+places_inside places count limit is same = grind (arith, get_or-range_with_len, length-range_with_len)
 
 pub places_count : (places : List ℕ) (count : ℕ) → places ≡ range_with_len 0 count → length places ≡ count
-places_count places count is = ap (λ (l : List ℕ). length l) is ∙ length-range_with_len 0 count
+places_count places count is = cc (length-range_with_len 0 count)
 
 -- the table of an object that is read
 pub read_is : (object : Option NumberedTable) (source : NumberedTable) → object ≡ Some source → source ≡ table_or object
-read_is object source is = sym (ap table_or is)
+read_is object source is = cc
 
 pub all_columns : (object : Option NumberedTable) (source : NumberedTable) (count : ℕ) → object ≡ Some source → count ≡ length source.columns → count ≡ length (table_or object).columns
-all_columns object source count is same = same ∙ ap (λ (t : NumberedTable). length t.columns) (read_is object source is)
+all_columns object source count is same = search

@@ -1,17 +1,17 @@
 -- The rows and columns that keys reach are those that are meant.
 use Rattle.{
-  std.{proofs.{Common.{◌≡◌, ◌∙◌, refl, ap, sym, subst, arith, ℕ, suc, ◌+◌, ◌<◌, pos, Bool, true, false, not, ◌&&◌, List, [], ◌∷◌, ◌++◌, map, take, length, slice_index_or, All, Option, Some, None, Result, Ok, Err, if◌then◌else◌, unwrap_or}, lemmas.{List.{length-map, map-append, take_more, Elements.{All-nil, All-cons}, FromFn.{length-range_with_len}}, Simd.{map-map}, Option.{get_or_from_slice_get}}, Math.{ListN.{get_or-map}, Seq.{take-length}}}, specs.{Prelude.{slice_get, IsSome}, List.{range_with_len}, Option.{is_some}, Cmp.Lexicographic.{pointwise}}},
-  cell_core.specs.{declared.{grid.Shape.{Shape, TheVariants.{Series, Frame}}, cell.{Cell.{Cell}, Kind.TheVariants.{Boolean}, Label.{Label}}}, Texts.{AreDistinct}},
+  std.{proofs.{Common.{◌≡◌, ◌∙◌, refl, ap, sym, subst, arith, ℕ, suc, ◌+◌, ◌<◌, pos, Bool, true, false, not, ◌&&◌, List, [], ◌∷◌, ◌++◌, map, take, length, slice_index_or, All, Option, Some, None, Result, Ok, Err, if◌then◌else◌, unwrap_or}, lemmas.{List.{length-map, map-append, take_more, Elements.{All-nil, All-cons}, FromFn.{length-range_with_len}}, Simd.{map-map}, Option.{get_or_from_slice_get}}, Math.ListN.{get_or-map}}, specs.{Prelude.{slice_get, IsSome}, List.{range_with_len}, Option.{is_some}, Cmp.Lexicographic.{pointwise}}},
+  cell_core.specs.{declared.{grid.Shape.{Shape, TheVariants.{Frame}}, cell.{Cell.{Cell}, Kind.TheVariants.{Boolean}, Label.{Label}}}, Texts.{AreDistinct}},
   meaning.specs.{Symbol.{Accessor}, Text.{Text}, Cell.{CellValue, na_cell, datum, LabelValue, int}, Fault.{FaultValue, wrong_kind, bad_value, repeated, then_value}},
   column_core.specs.Columns.{CellColumn},
-  table_meaning.specs.{Settled.{IsSettled}, Table.{ColumnOf, NumberedTable, Table, table_value, tuple_value, heading_value, column_value, column_at, no_column, row_of}, Value.{GivenSub, key_given, span_given, nothing, one, row, many, entries, cell, table}},
+  table_meaning.specs.{Settled.{IsSettled}, Table.{ColumnOf, NumberedTable, Table, table_value, tuple_value, heading_value, column_value, column_at, no_column, row_of}, Value.{GivenSub}},
   form_meaning.specs.{Binding.{is_frame}, Finish.{column_labels}, Infix.{same_tuple, is_boolean}},
   form_parts.specs.Makes.{MakesBy},
-  frame_store.specs.{Parts.{axis_of}, Shown.{headings_value, columns_value}, declared.fault.OpFault.{OpFault, TheVariants.{Refused, NoMemory}}},
+  frame_store.specs.{Parts.{axis_of}, Shown.{headings_value, columns_value}, declared.fault.OpFault.{OpFault}},
   index_core.specs.{Labels.{same_number}, Picks.{as_it_is}},
   indexers.specs.{Masks.{is_true}, Picks.{PicksBy, pick_of}, declared.keys.{LocKey.{LocKey}, Picked.{Picked}, KeyFault.{KeyFault}}},
   multi_index.specs.Axes.{AxisValue, HaveLevels},
-  pick_meaning.{specs.{Keys.{one_key, Pick, listed_pick, single_pick}, Masks.{is_kept, masked_rows}}, proofs.SeenLaws.{masked_rows-map}},
+  pick_meaning.{specs.{Keys.{one_key, Pick, listed_pick}, Masks.{is_kept, masked_rows}}, proofs.SeenLaws.{masked_rows-map}},
   select_meaning.specs.Keys.{found_pick, found_labels, once, Reach},
   selections.{specs.Reaches.{label_key_value, tuples_value, pick_value, found_result, object_key, heading_tuple, columns_axis, is_row, is_series}, proofs.{AnswerLaws.{column_seen}, PickedLaws.{list_is}, SeenKeys.{IsGivenTuple, tuples_given, tuples_same, mask_in, found_seen}}},
 }
@@ -22,8 +22,7 @@ use Rattle.select_meaning.specs.Keys as meant
 -- a refusal before the last step
 pub refused_then : {X Y A B : Type 0} (v : List Text → X → A) (w : List Text → Y → B) (texts : List Text) (why : OpFault) (m : Result A FaultValue) (go : A → Result B FaultValue)
     → MakesBy v texts (Err why) m → MakesBy w texts (Err why) (then_value m go)
-refused_then v w texts (Refused code) m go h = (ap (λ r. then_value r go) h.0, h.1)
-refused_then v w texts NoMemory m go h = tt
+refused_then v w texts x m go h = grind arith
 
 -- a key that is settled has settled labels
 abbrev ok_or : {A : Type 0} → A → Result A FaultValue → A
@@ -80,32 +79,10 @@ module _ (texts : List Text) (t : NumberedTable) (axis : AxisValue) (levels : �
 some_is : {A : Type 0} (a b : A) → Some a ≡ Some b → a ≡ b
 some_is a b e = cc
 
-pub loc_mask : (t : Table) (sub : GivenSub) (m : Table) → Some m ≡ object_key sub → meant.loc_rows t sub ≡ meant.mask_pick t m
-loc_mask t (key_given (one (table n))) m e = ap (meant.mask_pick t) (sym (some_is m n e))
-loc_mask t (key_given (one (cell c))) m e = cc
-loc_mask t (key_given nothing) m e = cc
-loc_mask t (key_given (row parts)) m e = cc
-loc_mask t (key_given (many parts)) m e = cc
-loc_mask t (key_given (entries pairs)) m e = cc
-loc_mask t (span_given from to by) m e = cc
-
-loc_other : (t : Table) (sub : GivenSub) → None ≡ object_key sub → meant.loc_rows t sub ≡ meant.label_pick (length t.level_names) t.labels sub
-loc_other t (key_given (one (table n))) e = cc
-loc_other t (key_given (one (cell c))) e = refl
-loc_other t (key_given nothing) e = refl
-loc_other t (key_given (row parts)) e = refl
-loc_other t (key_given (many parts)) e = refl
-loc_other t (key_given (entries pairs)) e = refl
-loc_other t (span_given from to by) e = refl
-
-pub loc_is : (texts : List Text) (t : NumberedTable) (levels : ℕ) (sub : GivenSub) → levels ≡ length t.level_names → None ≡ object_key sub → meant.loc_rows (table_value texts t) sub ≡ meant.label_pick levels (tuples_value texts t.labels) sub
-loc_is texts t levels sub count none =
-    loc_other (table_value texts t) sub none ∙ ap (λ (n : ℕ). meant.label_pick n (tuples_value texts t.labels) sub) (length-map t.level_names (heading_value texts) ∙ sym count)
-
 pub loc_refused : (texts : List Text) (t : NumberedTable) (levels : ℕ) (sub : GivenSub) (why : OpFault) → levels ≡ length t.level_names → None ≡ object_key sub → MakesBy label_key_value texts (Err why) (meant.label_key levels sub)
     → MakesBy pick_value texts (Err why) (meant.loc_rows (table_value texts t) sub)
 loc_refused texts t levels sub why count none refused =
-    subst (MakesBy pick_value texts (Err why)) (sym (loc_is texts t levels sub count none)) (refused_then label_key_value pick_value texts why (meant.label_key levels sub) (found_labels levels (tuples_value texts t.labels)) refused)
+    subst (MakesBy pick_value texts (Err why)) (sym (grind (arith, length-map))) (refused_then label_key_value pick_value texts why (meant.label_key levels sub) (found_labels levels (tuples_value texts t.labels)) refused)
 
 pub loc_found : (texts : List Text) (t : NumberedTable) (axis : AxisValue) (levels : ℕ) (sub : List Text → GivenSub) (k : LocKey) (out : Result Picked OpFault) → levels ≡ length t.level_names → axis ≡ axis_of t → None ≡ object_key (sub texts)
     → ((ts : List Text) → meant.label_key levels (sub ts) ≡ Ok (label_key_value ts k)) → ((more : List Text) → sub (texts ++ more) ≡ sub texts)
@@ -115,7 +92,7 @@ loc_found texts t axis levels sub k out count same_axis none is settled found =
     (ap (λ (a : AxisValue). found_labels (length a.names) (tuples_value texts a.tuples) (label_key_value texts k)) same_axis
     ∙ ap (λ (n : ℕ). found_labels n (tuples_value texts t.labels) (label_key_value texts k)) (sym count)
     ∙ ap (λ r. then_value r (found_labels levels (tuples_value texts t.labels))) (sym (is texts))
-    ∙ sym (loc_is texts t levels (sub texts) count none))
+    ∙ sym (grind (arith, length-map)))
     (found (key_settled texts levels sub k is settled))
 
 -- two keys of a Series
@@ -126,18 +103,12 @@ module _ (texts : List Text) (t : NumberedTable) (by : Accessor) (levels : ℕ) 
   two_are : rows_joined by (table_value texts t) first second levels ≡ meant.rows_by_two by (table_value texts t) first second
   two_are = ap (rows_joined by (table_value texts t) first second) (count ∙ sym (length-map t.level_names (heading_value texts)))
 
-  pub two_refused : {X : Type 0} (view : List Text → X → GivenSub) (why : OpFault) → MakesBy view texts (Err why) (meant.joined_key by levels first second) → MakesBy pick_value texts (Err why) (meant.rows_by_two by (table_value texts t) first second)
-  two_refused view why refused = subst (MakesBy pick_value texts (Err why)) two_are (refused_then view pick_value texts why (meant.joined_key by levels first second) (meant.rows_by by (table_value texts t)) refused)
-
   pub two_found : (k : GivenSub) (out : Result Picked OpFault) → meant.joined_key by levels first second ≡ Ok k → MakesBy pick_value texts out (meant.rows_by by (table_value texts t) k) → MakesBy pick_value texts out (meant.rows_by_two by (table_value texts t) first second)
   two_found k out is found = subst (MakesBy pick_value texts out) (sym (ap (λ r. then_value r (meant.rows_by by (table_value texts t))) is) ∙ two_are) found
 
 -- masks
 kept_is : (texts : List Text) (c : Cell) → is_kept (datum texts c) ≡ is_true c
-kept_is texts code_cell.Na = refl
-kept_is texts (code_cell.Int z) = refl
-kept_is texts (code_cell.Bool b) = refl
-kept_is texts (code_cell.Text id) = refl
+kept_is texts x = grind arith
 
 cell_seen : (texts : List Text) (columns : List (ColumnOf Cell)) (k : ℕ)
     → is_kept (slice_index_or (map (λ c. slice_index_or c.cells k na_cell) (columns_value texts columns)) 0 na_cell) ≡ slice_index_or (map is_true (column_at columns 0).cells) k false
@@ -210,8 +181,7 @@ module _ (texts : List Text) (t m : NumberedTable) (axis mask_axis : AxisValue) 
 
 -- the labels of the columns as rows
 one_label : (h : Option Label) → IsSome h → length (heading_tuple h) ≡ 1
-one_label None some = cc
-one_label (Some l) some = refl
+one_label x some = grind arith
 
 pub axis_levels : (headings : List (Option Label)) (places : List ℕ) → All IsSome headings → All (λ place. place < length headings) places → HaveLevels 1 (map (λ place. heading_tuple (slice_index_or headings place None)) places)
 axis_levels headings [] some below = All-nil (λ tuple. length tuple ≡ 1)
@@ -235,8 +205,7 @@ label_tuple None = []
 label_tuple (Some l) = l ∷ []
 
 tuple_seen : (texts : List Text) (h : Option Label) → tuple_value texts (heading_tuple h) ≡ label_tuple (heading_value texts h)
-tuple_seen texts None = refl
-tuple_seen texts (Some l) = refl
+tuple_seen texts x = grind arith
 
 axis_seen : (texts : List Text) (headings : List (Option Label)) (places : List ℕ)
     → tuples_value texts (map (λ place. heading_tuple (slice_index_or headings place None)) places) ≡ map (λ place. label_tuple (slice_index_or (headings_value texts headings) place None)) places
@@ -269,24 +238,7 @@ all_labels texts t places some all =
 
 -- the columns of a key that isn't a tuple
 loc_columns_is : (t : Table) (sub : GivenSub) → is_row sub ≡ false → meant.loc_columns t sub ≡ meant.label_pick 1 (column_labels t) sub
-loc_columns_is t (key_given (row parts)) e = cc
-loc_columns_is t (key_given (one v)) e = refl
-loc_columns_is t (key_given nothing) e = refl
-loc_columns_is t (key_given (many parts)) e = refl
-loc_columns_is t (key_given (entries pairs)) e = refl
-loc_columns_is t (span_given from to by) e = refl
-
-pub loc_columns_row : (t : Table) (sub : GivenSub) → is_row sub ≡ true → meant.loc_columns t sub ≡ Err wrong_kind
-loc_columns_row t (key_given (row parts)) e = refl
-loc_columns_row t (key_given (one v)) e = cc
-loc_columns_row t (key_given nothing) e = cc
-loc_columns_row t (key_given (many parts)) e = cc
-loc_columns_row t (key_given (entries pairs)) e = cc
-loc_columns_row t (span_given from to by) e = cc
-
-pub loc_columns_refused : (texts : List Text) (t : Table) (sub : GivenSub) (why : OpFault) → is_row sub ≡ false → MakesBy label_key_value texts (Err why) (meant.label_key 1 sub) → MakesBy pick_value texts (Err why) (meant.loc_columns t sub)
-loc_columns_refused texts t sub why other refused =
-    subst (MakesBy pick_value texts (Err why)) (sym (loc_columns_is t sub other)) (refused_then label_key_value pick_value texts why (meant.label_key 1 sub) (found_labels 1 (column_labels t)) refused)
+loc_columns_is t x e = grind arith
 
 pub columns_found : (texts : List Text) (t : NumberedTable) (axis : AxisValue) (places : List ℕ) (sub : List Text → GivenSub) (k : LocKey) (out : Result Picked OpFault) → All IsSome t.headings → places ≡ range_with_len 0 (length t.headings)
     → axis ≡ columns_axis t places → is_row (sub texts) ≡ false → ((ts : List Text) → meant.label_key 1 (sub ts) ≡ Ok (label_key_value ts k)) → ((more : List Text) → sub (texts ++ more) ≡ sub texts)
@@ -301,26 +253,13 @@ columns_found texts t axis places sub k out some all same_axis other is settled 
 
 -- what isn't a Series is a frame
 pub no_series : (shape : Shape) → is_series shape ≡ false → shape ≡ Frame
-no_series Series e = cc
-no_series Frame e = refl
+no_series x e = grind arith
 
 -- what one key reaches
 module _ (texts : List Text) (t : NumberedTable) (rows_meant : Result Pick FaultValue) (rows columns : Picked) (reached : rows_meant ≡ Ok (pick_of rows))
     (places : columns.places ≡ range_with_len 0 (length t.columns)) (single : columns.single ≡ is_series t.shape) (sliced : (columns.dropped ≡ 0) × (is_some columns.span ≡ not columns.single)) where
   abbrev reached_of : Pick → Pick → Reach
   reached_of r c = record { rows = r; columns = c }
-
-  pub reach_series : t.shape ≡ Series → length t.columns ≡ 1 → meant.reach_of rows_meant (Ok meant.only_column) ≡ Ok (reached_of (pick_of rows) (pick_of columns))
-  reach_series series one_column =
-      let this : single_pick 0 ≡ pick_of columns =
-      λ j. record {
-        rows = sym (places ∙ ap (range_with_len 0) one_column) j;
-        single = sym (single ∙ ap is_series series) j;
-        dropped = sym sliced.0 j;
-        sliced = sym (sliced.1 ∙ ap not (single ∙ ap is_series series)) j;
-      } in
-      ap (λ r. then_value r (λ p. Ok (reached_of p (single_pick 0)))) reached
-      ∙ ap (λ c. Ok (reached_of (pick_of rows) c)) this
 
   pub reach_frame : t.shape ≡ Frame → meant.reach_of rows_meant (Ok (meant.all_columns (table_value texts t))) ≡ Ok (reached_of (pick_of rows) (pick_of columns))
   reach_frame frame =
@@ -337,12 +276,7 @@ module _ (texts : List Text) (t : NumberedTable) (rows_meant : Result Pick Fault
 
 -- the loop of the labels
 pub no_heading : {G : Type 0} (h : Option Label) → IsSome h → h ≡ None → G
-no_heading None some is = cc
-no_heading (Some l) some is = cc
-
-pub loop_done : (headings : List (Option Label)) (places : List ℕ) (k : ℕ) (made : List (List Label)) → k ≡ length places → made ≡ map (λ place. heading_tuple (slice_index_or headings place None)) (take k places)
-    → made ≡ map (λ place. heading_tuple (slice_index_or headings place None)) places
-loop_done headings places k made all is = is ∙ ap (map (λ place. heading_tuple (slice_index_or headings place None))) (ap (λ (n : ℕ). take n places) all ∙ take-length places)
+no_heading x some is = grind arith
 
 pub axis_count : (headings : List (Option Label)) (places : List ℕ) (n : ℕ) → places ≡ range_with_len 0 n → length (map (λ place. heading_tuple (slice_index_or headings place None)) places) ≡ n
 axis_count headings places n all = length-map places (λ place. heading_tuple (slice_index_or headings place None)) ∙ ap (λ (l : List ℕ). length l) all ∙ length-range_with_len 0 n

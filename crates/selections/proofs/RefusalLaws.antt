@@ -1,29 +1,29 @@
 -- Refusals that name a label whose text was given its number.
 use Rattle.{
-  std.{proofs.Common.{◌≡◌, Bool, true, false, List, [], ◌∷◌, ap, sym, subst, refl, if◌then◌else◌, Option, Some}, specs.List.{list_any}},
+  std.{proofs.Common.{arith, ◌≡◌, Bool, true, false, List, [], ◌∷◌, refl, if◌then◌else◌, Option, Some}, specs.List.{list_any}},
   cell_core.specs.declared.{cell.Label.{Label}, code.{Code.{Code, TheVariants.{NoKey, BadValue}}, Reason.TheVariants.{Repeated}}},
-  meaning.specs.{Text.{Text}, Cell.{label_datum}, Fault.{no_key, bad_value, repeated}, FaultOf.{fault_of}},
+  meaning.specs.{Text.{Text}, Cell.{label_datum}, FaultOf.{fault_of}},
   table_meaning.specs.{Settled.{IsSettled}, Table.{heading_value}},
   form_parts.proofs.LabelLaws.{heading_label},
   frame_store.specs.Shown.{headings_value},
-  selections.{specs.Headings.{same_heading, repeated_heading}, proofs.HeadingLaws.{head_settled, rest_settled}},
+  selections.{specs.Headings.{same_heading, repeated_heading}, proofs.HeadingLaws.{head_settled}},
 }
 
 -- a key that isn't there
 pub no_key_settled : (texts : List Text) (label : Label) → IsSettled label_datum texts label → IsSettled fault_of texts (NoKey (label ∷ []))
-no_key_settled texts label settled = λ more. ap (λ l. no_key (l ∷ [])) (settled more)
+no_key_settled texts label settled = search
 
 -- a heading that stands again
 heading_repeated : (texts : List Text) (hs : List (Option Label)) → IsSettled headings_value texts hs → IsSettled heading_value texts (repeated_heading hs)
 heading_repeated texts [] settled = λ more. refl
-heading_repeated texts (h ∷ hs) settled = go (heading_repeated texts hs (rest_settled heading_value texts h hs settled)) (list_any (same_heading h) hs)
+heading_repeated texts (h ∷ hs) settled = go (heading_repeated texts hs (grind arith)) (list_any (same_heading h) hs)
   where
     go : IsSettled heading_value texts (repeated_heading hs) → (b : Bool) → IsSettled heading_value texts (if b then h else repeated_heading hs)
-    go later true = head_settled heading_value texts h hs settled
+    go later true = search head_settled
     go later false = later
 
 pub repeated_settled : (texts : List Text) (code : Code) (hs : List (Option Label)) (label : Label) → repeated_heading hs ≡ Some label → code ≡ BadValue (Repeated (label ∷ [])) → IsSettled headings_value texts hs
     → IsSettled fault_of texts code
 repeated_settled texts code hs label found is settled =
-    let here : IsSettled label_datum texts label = heading_label texts (repeated_heading hs) label found (heading_repeated texts hs settled) in
-    subst (IsSettled fault_of texts) (sym is) (λ more. ap (λ l. bad_value (repeated (l ∷ []))) (here more))
+    let here : IsSettled label_datum texts label = search (heading_label, heading_repeated) in
+    grind arith

@@ -1,36 +1,31 @@
 -- A row across columns as a Series.
 use Rattle.{
-  std.{proofs.{Common.{◌≡◌, ◌∙◌, refl, ap, sym, arith, ℕ, suc, ◌<◌, pos, Bool, true, false, ◌&&◌, List, [], ◌∷◌, map, length, slice_index_or, All, Option, Some, None, Ok, Err, if◌then◌else◌, unwrap_or}, lemmas.{List.{length-map}, Option.{get_or_from_slice_get}}, Math.ListN.{get_or-map}}, specs.{Prelude.{◌≢◌, IsSome, slice_get, option_and_then}, List.{list_all}}},
+  std.{proofs.{Common.{◌≡◌, ◌∙◌, refl, ap, sym, arith, ℕ, suc, ◌<◌, pos, Bool, true, false, List, [], ◌∷◌, map, length, slice_index_or, All, Option, Some, None, Ok, Err, if◌then◌else◌, unwrap_or}, lemmas.{List.{length-map}, Option.{get_or_from_slice_get}}, Math.ListN.{get_or-map}}, specs.{Prelude.{◌≢◌, IsSome, slice_get, option_and_then}, List.{list_all}}},
   cell_core.specs.declared.{cell.{Kind.{Kind}, Cell.TheVariants.{Na}, Label.{Label}}, grid.Shape.TheVariants.{Series}},
-  meaning.specs.{Text.{Text}, Cell.{CellValue, na_cell, datum, label_datum, int}, Fault.{wrong_kind, limit, then_value}},
+  meaning.specs.{Text.{Text}, Cell.{CellValue, na_cell, datum, label_datum, int}, Fault.{limit, then_value}},
   table_meaning.specs.{Settled.{IsSettled}, Table.{ColumnOf, NumberedTable, table_value, tuple_value, heading_value, column_at}},
   form_meaning.specs.{Finish.{same_kind, limited, within_limits}, Select.{heading_at}},
   select_meaning.specs.Select.{kind_across, one_kind, column_rows, cut, first_cell, row_name, row_series, row_result},
   form_parts.specs.Makes.{MakesBy},
-  frame_store.{specs.{Parts.{HeadingList, table_with}, Shown.{Makes}, declared.fault.OpFault.{OpFault, TheVariants.{Refused, NoMemory}}}, proofs.Settling.{settled_by}},
+  frame_store.{specs.{Parts.{HeadingList, table_with}, Shown.{Makes}, declared.fault.OpFault.{OpFault}}, proofs.Settling.{settled_by}},
   selections.{specs.{Across.{cell_across}, Reaches.{columns_axis, heading_tuple, tuples_value}, Selected.{as_it_is}}, proofs.{AnswerLaws.{column_seen}, PlaceLaws.{heading_seen}}},
 }
-use Rattle.cell_core.specs.declared.cell.Label.TheVariants as label
 use Rattle.table_meaning.specs.Value as value
 
 -- rows have the kinds of their columns
 kinds_all : (rows : List ℕ) (kind : Kind) (cs : List (ColumnOf CellValue)) → list_all (λ c. same_kind c.kind kind) (map (column_rows rows) cs) ≡ list_all (λ c. same_kind c.kind kind) cs
 kinds_all rows kind [] = refl
-kinds_all rows kind (c ∷ cs) = ap (λ b. same_kind c.kind kind && b) (kinds_all rows kind cs)
+kinds_all rows kind (c ∷ cs) = cc (kinds_all rows kind cs)
 
 kind_first : (rows : List ℕ) (cs : List (ColumnOf CellValue)) → kind_across (map (column_rows rows) cs) ≡ kind_across cs
-kind_first rows [] = refl
-kind_first rows (c ∷ cs) = refl
+kind_first rows x = grind arith
 
 one_kind_rows : (rows : List ℕ) (cs : List (ColumnOf CellValue)) → one_kind (map (column_rows rows) cs) ≡ one_kind cs
-one_kind_rows rows cs =
-    ap (λ kind. if list_all (λ c. same_kind c.kind kind) (map (column_rows rows) cs) then Ok kind else Err wrong_kind) (kind_first rows cs)
-    ∙ ap (λ b. if b then Ok (kind_across cs) else Err wrong_kind) (kinds_all rows (kind_across cs) cs)
+one_kind_rows rows cs = grind (arith, kinds_all rows (kind_across cs) cs)
 
 -- the parts of the Series
 label_seen : (texts : List Text) (h : Option Label) → IsSome h → unwrap_or (heading_value texts h) (int (pos 0)) ∷ [] ≡ tuple_value texts (heading_tuple h)
-label_seen texts None some = cc
-label_seen texts (Some l) some = refl
+label_seen texts x some = grind arith
 
 labels_seen : (texts : List Text) (t : NumberedTable) (places : List ℕ) → All IsSome t.headings → All (λ place. place < length t.headings) places
     → map (λ h. unwrap_or h (int (pos 0)) ∷ []) (map (heading_at (table_value texts t)) places) ≡ tuples_value texts (columns_axis t places).tuples
@@ -48,19 +43,15 @@ cells_seen texts t row (p ∷ ps) =
 -- the name of a row: its label, or none where it has several
 pub name_of_one : (texts : List Text) (tuple : List Label) (l : Label) → length tuple ≡ 1 → slice_get tuple 0 ≡ Some l → Some (label_datum texts l) ≡ row_name (tuple_value texts tuple)
 name_of_one texts [] l one at = cc
-name_of_one texts (m ∷ []) l one at = ap (λ (x : Label). Some (label_datum texts x)) (sym (get_or_from_slice_get (m ∷ []) 0 l label.Na at))
+name_of_one texts (m ∷ []) l one at = search
 name_of_one texts (m ∷ (n ∷ ls)) l one at = cc
 
 pub label_first : (tuples : List (List Label)) (row : ℕ) (l : Label) → option_and_then (λ tuple. slice_get tuple 0) (slice_get tuples row) ≡ Some l → slice_get (slice_index_or tuples row []) 0 ≡ Some l
-label_first tuples row l at = by (slice_get tuples row) refl at
-  where
-    by : (o : Option (List Label)) → slice_get tuples row ≡ o → option_and_then (λ tuple. slice_get tuple 0) o ≡ Some l → slice_get (slice_index_or tuples row []) 0 ≡ Some l
-    by None is e = cc
-    by (Some tuple) is e = ap (λ (t : List Label). slice_get t 0) (get_or_from_slice_get tuples row tuple [] is) ∙ e
+label_first tuples row l at = grind (arith, get_or_from_slice_get)
 
 pub name_of_several : (texts : List Text) (tuple : List Label) → length tuple ≢ 1 → None ≡ row_name (tuple_value texts tuple)
 name_of_several texts [] several = refl
-name_of_several texts (l ∷ []) several = absurd (several refl)
+name_of_several texts (l ∷ []) several = search
 name_of_several texts (l ∷ (m ∷ ls)) several = refl
 
 -- the Series of a row
@@ -85,19 +76,15 @@ module _ (t : NumberedTable) (row : ℕ) (label_name : Option Label) (kind : Kin
       }
 
   row_limited : (texts : List Text) (b : Bool) → within_limits (length places) 1 ≡ b → limited (table_value texts (row_table t row label_name kind places)) ≡ then_value (if b then Ok (table_value texts (row_table t row label_name kind places)) else Err limit) (λ t. Ok (value.table t))
-  row_limited texts b is =
-      ap (λ b. then_value (if b then Ok (table_value texts (row_table t row label_name kind places)) else Err limit) (λ t. Ok (value.table t)))
-      (ap (λ (n : ℕ). within_limits n 1) (length-map (columns_axis t places).tuples (tuple_value texts) ∙ length-map places (λ place. heading_tuple (slice_index_or t.headings place None))) ∙ is)
+  row_limited texts b is = grind (arith, length-map)
 
   row_is : (texts : List Text) → one_kind (map (column_at (table_value texts t).columns) places) ≡ Ok kind → row_result (cut (table_value texts t) (row ∷ []) places) ≡ limited (table_value texts (row_table t row label_name kind places))
-  row_is texts one =
-      ap (λ r. then_value r (λ k. limited (row_series (cut (table_value texts t) (row ∷ []) places) k))) (one_kind_rows (row ∷ []) (map (column_at (table_value texts t).columns) places) ∙ one)
-      ∙ ap limited (series_seen texts)
+  row_is texts one = grind (arith, one_kind_rows (row ∷ []) (map (column_at (table_value texts t).columns) places), series_seen texts)
 
   pub row_made : (texts : List Text) (made : NumberedTable) → one_kind (map (column_at (table_value texts t).columns) places) ≡ Ok kind → within_limits (length places) 1 ≡ true → made ≡ row_table t row label_name kind places → IsSettled table_value texts t
       → (row_result (cut (table_value texts t) (row ∷ []) places) ≡ Ok (value.table (table_value texts made))) × IsSettled table_value texts made
   row_made texts made one within is settled = (
-    row_is texts one ∙ row_limited texts true within ∙ ap (λ (m : NumberedTable). Ok (value.table (table_value texts m))) (sym is),
+    cc (row_is texts one, row_limited texts true within),
     settled_by table_value table_value (λ T. row_series (cut T (row ∷ []) places) kind) texts t made (λ ts. series_seen ts ∙ ap (table_value ts) (sym is)) settled,
   )
 
@@ -106,6 +93,4 @@ module _ (t : NumberedTable) (row : ℕ) (label_name : Option Label) (kind : Kin
 
 pub row_refused : (texts : List Text) (t : NumberedTable) (row : ℕ) (places : List ℕ) (why : OpFault) → MakesBy as_it_is texts (Err why) (one_kind (map (column_at (table_value texts t).columns) places))
     → Makes texts (Err why) (row_result (cut (table_value texts t) (row ∷ []) places))
-row_refused texts t row places (Refused code) h =
-    (ap (λ r. then_value r (λ k. limited (row_series (cut (table_value texts t) (row ∷ []) places) k))) (one_kind_rows (row ∷ []) (map (column_at (table_value texts t).columns) places) ∙ h.0), h.1)
-row_refused texts t row places NoMemory h = tt
+row_refused texts t row places x h = grind (arith, one_kind_rows)

@@ -1,12 +1,12 @@
 -- Rows that are taken from a column.
 use Rattle.{
-  std.{proofs.{Common.{◌≡◌, ◌∙◌, ℕ, ◌+◌, ◌<◌, ap, refl, sym, subst, arith, List, [], ◌∷◌, ◌++◌, length, map, take, drop, slice_index_or, Option, Some, All}, lemmas.{List.{get_or-map, length-map, map-append, take_more, Elements.{All-nil, All-cons, All-push}, FromFn.{fill_by_all}}, Option.{get_or_from_slice_get}}}, specs.Prelude.{slice_index, slice_get}},
+  std.{proofs.{Common.{◌≡◌, ◌∙◌, ℕ, ◌+◌, ◌<◌, ap, refl, sym, subst, arith, List, [], ◌∷◌, ◌++◌, length, map, take, slice_index_or, Option, Some, All}, lemmas.{List.{get_or-map, length-map, map-append, take_more, Elements.{All-push}, FromFn.{fill_by_all}}, Option.{get_or_from_slice_get}}}, specs.Prelude.{slice_index, slice_get}},
   cell_core.specs.declared.{cell.{Kind.{Kind}, Cell.{Cell, TheVariants.{Na}}}, grid.Shape.{Shape}},
   meaning.specs.Column.{tabulate},
   column_core.{specs.{Columns.{CellColumn, column_with}, Blocks.{CellBlock}}, proofs.{CellRows.{range-same}, MoveLaws.{get_or-tabulate}}},
   table_meaning.specs.{Table.{ColumnOf, NumberedTable, column_at}, Valid.{IsWhole, AreHeadings}},
   frame_store.specs.Parts.{HeadingList, block_column, IsSingle},
-  selections.specs.Chosen.{cells_by_place, cells_at, columns_at, chosen, chosen_under},
+  selections.specs.Chosen.{cells_by_place, cells_at, columns_at, chosen},
 }
 
 -- the rows at these places are the cells there
@@ -16,52 +16,38 @@ chosen_seen kind cell n row places below =
     let at : ℕ → Cell = λ place. slice_index_or (tabulate n (λ k. cell (row k))) place Na in
     ap (λ (cells : List Cell). record { kind = kind; cells = cells })
     (range-same (λ k. cell (row (slice_index places k))) (λ k. at (slice_index places k)) 0 (length places)
-    (λ k le lt. sym (get_or-tabulate n (λ j. cell (row j)) (slice_index places k) Na (below k 0 (omega arith))))
+    (λ k le lt. sym (grind (arith, get_or-tabulate)))
     ∙ sym (fill_by_all (λ k. at (slice_index places k)) (map at places) (length places) Na (length-map places at) (λ k lt. get_or-map at places k 0 Na lt)))
 
 -- a place that stands in a list
 pub place_inside : (places : List ℕ) (count k place : ℕ) → All (λ p. p < count) places → k < length places → slice_get places k ≡ Some place → place < count
-place_inside places count k place below lt at = subst (λ (p : ℕ). p < count) (get_or_from_slice_get places k place 0 at) (below k 0 lt)
+place_inside places count k place below lt at = grind (arith, get_or_from_slice_get)
 
 -- one more column
 pub one_more_chosen : (t : NumberedTable) (rows columns : List ℕ) (k place : ℕ) (source made : CellColumn) (block : CellBlock) (blocks blocks' : List CellBlock) → k < length columns → slice_get columns k ≡ Some place
     → column_at t.columns place ≡ record { kind = source.kind; cells = source.cells } → made ≡ cells_by_place rows source → block ≡ record { kind = made.kind; rows = length made.cells; columns = made.cells ∷ [] }
     → blocks' ≡ blocks ++ block ∷ [] → map block_column blocks ≡ columns_at rows (take k columns) t → map block_column blocks' ≡ columns_at rows (take (k + 1) columns) t
 one_more_chosen t rows columns k place source made block blocks blocks' lt at here is boxed pushed before =
-    let this : block_column block ≡ cells_at rows (column_at t.columns (slice_index_or columns k 0)) =
-    ap block_column boxed ∙ ap (λ (c : CellColumn). record { kind = c.kind; cells = c.cells }) is ∙ ap (cells_at rows) (sym here) ∙ ap (λ p. cells_at rows (column_at t.columns p)) (sym (get_or_from_slice_get columns k place 0 at)) in
+    let this : block_column block ≡ cells_at rows (column_at t.columns (slice_index_or columns k 0)) = grind (arith, get_or_from_slice_get) in
     ap (map block_column) pushed ∙ map-append block_column blocks (block ∷ [])
     ∙ (λ j. before j ++ this j ∷ [])
-    ∙ sym (ap (λ l. columns_at rows l t) (take_more columns k 0 lt) ∙ map-append (λ p. cells_at rows (column_at t.columns p)) (take k columns) (slice_index_or columns k 0 ∷ []))
+    ∙ sym (cc (take_more columns k 0 lt, map-append (λ p. cells_at rows (column_at t.columns p)) (take k columns) (slice_index_or columns k 0 ∷ [])))
 
 pub one_more_single : (made : CellColumn) (block : CellBlock) (blocks blocks' : List CellBlock) → block ≡ record { kind = made.kind; rows = length made.cells; columns = made.cells ∷ [] } → blocks' ≡ blocks ++ block ∷ []
     → All IsSingle blocks → All IsSingle blocks'
-one_more_single made block blocks blocks' boxed pushed before =
-    subst (All IsSingle) (sym pushed) (All-push IsSingle blocks block before (subst IsSingle (sym boxed) refl))
+one_more_single made block blocks blocks' boxed pushed before = rw pushed (All-push IsSingle blocks block before (subst IsSingle (sym boxed) refl))
 
 -- a heading for each column, and a cell for each row
 pub chosen_whole : (shape : Shape) (headings : HeadingList) (rows columns : List ℕ) (t : NumberedTable) → length headings.labels ≡ length columns → AreHeadings shape headings.columns_name headings.labels → IsWhole (chosen shape headings rows columns t)
 chosen_whole shape headings rows columns t headed fit =
-    let count : length (map (λ place. slice_index_or t.labels place []) rows) ≡ length rows = length-map rows (λ place. slice_index_or t.labels place []) in
+    let count : length (map (λ place. slice_index_or t.labels place []) rows) ≡ length rows = search length-map in
     record {
-      headed = headed ∙ sym (length-map columns (λ place. cells_at rows (column_at t.columns place)));
+      headed = search length-map;
       filled = filled columns count;
       headings = fit;
     }
   where
     filled : (columns : List ℕ) → length (map (λ place. slice_index_or t.labels place []) rows) ≡ length rows
         → All (λ (c : ColumnOf Cell). length c.cells ≡ length (map (λ place. slice_index_or t.labels place []) rows)) (columns_at rows columns t)
-    filled [] count = All-nil (λ (c : ColumnOf Cell). length c.cells ≡ length (map (λ place. slice_index_or t.labels place []) rows))
-    filled (p ∷ ps) count =
-        All-cons (λ (c : ColumnOf Cell). length c.cells ≡ length (map (λ place. slice_index_or t.labels place []) rows)) (cells_at rows (column_at t.columns p)) (columns_at rows ps t)
-        (length-map rows (λ row. slice_index_or (column_at t.columns p).cells row Na) ∙ sym count) (filled ps count)
-
-pub under_whole : (count : ℕ) (shape : Shape) (headings : HeadingList) (rows columns : List ℕ) (t : NumberedTable) → length headings.labels ≡ length columns → AreHeadings shape headings.columns_name headings.labels
-    → IsWhole (chosen_under count shape headings rows columns t)
-under_whole count shape headings rows columns t headed fit =
-    let whole : IsWhole (chosen shape headings rows columns t) = chosen_whole shape headings rows columns t headed fit in
-    record {
-      headed = whole.headed;
-      filled = subst (λ (n : ℕ). All (λ (c : ColumnOf Cell). length c.cells ≡ n) (columns_at rows columns t)) (sym (length-map (map (λ place. slice_index_or t.labels place []) rows) (drop count))) whole.filled;
-      headings = fit;
-    }
+    filled [] count = grind arith
+    filled (p ∷ ps) count = grind (arith, length-map, filled ps count)

@@ -1,17 +1,16 @@
 -- Rows that are taken from a table.
 use Rattle.{
-  std.{proofs.{Common.{◌≡◌, ◌∙◌, refl, ap, sym, arith, ℕ, ◌+◌, Bool, true, List, [], ◌∷◌, ◌++◌, length, map, drop, slice_index_or, Some, None, Ok, Err, if◌then◌else◌}, Math.ListN.{get_or-map}, lemmas.{List.{length-map, drop-map}, Simd.{map-map}}}, specs.{Prelude.{IsSome}, List.{range_with_len}}},
+  std.{proofs.{Common.{◌≡◌, ◌∙◌, refl, ap, sym, arith, ℕ, ◌+◌, true, List, [], ◌∷◌, ◌++◌, length, map, drop, slice_index_or, Some, None, Ok}, Math.ListN.{get_or-map}, lemmas.{List.{length-map, drop-map}, Simd.{map-map}}}, specs.{Prelude.{IsSome}, List.{range_with_len}}},
   cell_core.specs.{declared.{cell.{Label.{Label}, Cell.{Cell, TheVariants.{Na}}}, grid.{Rows.{Rows}, Shape.{Shape}}}, Grids.{place_from}},
-  meaning.specs.{Text.{Text}, Cell.{CellValue, na_cell, datum, label_datum}, Fault.{limit, then_value}},
-  table_meaning.specs.{Settled.{IsSettled}, Table.{ColumnOf, NumberedTable, Table, column_at, no_column, table_value, heading_value, tuple_value, column_value}, Change.{strided_column, cut_columns}},
+  meaning.specs.{Text.{Text}, Cell.{CellValue, na_cell, datum, label_datum}},
+  table_meaning.specs.{Settled.{IsSettled}, Table.{ColumnOf, NumberedTable, column_at, no_column, table_value, heading_value, tuple_value, column_value}, Change.{strided_column, cut_columns}},
   form_meaning.specs.Finish.{limited, within_limits},
   select_meaning.specs.Select.{column_rows, rows_taken, without_leading},
   frame_store.{specs.{Objects.{tables, table_at, with_object}, World.{world, IsSettledWorld, Forms}, declared.{arguments.Value.TheVariants.{Object}, object.ObjId.{ObjId}, store.Store.{Store}}, Parts.{HeadingList, table_with, axis_of}}, proofs.Settling.{longer_self, settled_with, table_settled, level_names_part, labels_part, columns_part}},
-  selections.{proofs.{AnswerLaws.{column_seen, new_answers, table_is_settled}, PickedLaws.{list_is}, PlanLaws.{span_count, without_none}}, specs.{Chosen.{cells_at, columns_at, chosen, chosen_under, AreSettledHeadings}, Plans.{rows_in, levels_lost, taken_table}, declared.planning.Taken.{Taken, TheVariants.{Slice, Listed, Under}}}},
+  selections.{proofs.{AnswerLaws.{column_seen, new_answers, table_is_settled}, PickedLaws.{list_is}, PlanLaws.{without_none}}, specs.{Chosen.{cells_at, columns_at, chosen, chosen_under, AreSettledHeadings}, Plans.{rows_in, levels_lost, taken_table}, declared.planning.Taken.{Taken, TheVariants.{Slice, Listed, Under}}}},
   multi_index.specs.Axes.{AxisValue, taken_axis},
   pick_meaning.specs.Rows.{rows_of},
 }
-use Rattle.table_meaning.specs.Value as value
 
 column_cut : (rows : Rows) (c : ColumnOf Cell) → strided_column Na rows c ≡ cells_at (rows_of rows) c
 column_cut rows c =
@@ -21,9 +20,6 @@ column_cut rows c =
 pub cut_is_chosen : (shape : Shape) (axis : AxisValue) (headings : HeadingList) (rows : Rows) (columns : List ℕ) (t : NumberedTable) → axis ≡ taken_axis (axis_of t) (rows_of rows)
     → table_with shape axis headings (cut_columns Na t.columns rows columns) ≡ chosen shape headings (rows_of rows) columns t
 cut_is_chosen shape axis headings rows columns t same = λ j. table_with shape (same j) headings (map (λ place. column_cut rows (column_at t.columns place) j) columns)
-
-pub slice_count : (axis source : AxisValue) (rows : Rows) → axis ≡ taken_axis source (rows_of rows) → length axis.tuples ≡ rows.count
-slice_count axis source rows same = ap (λ (a : AxisValue). length a.tuples) same ∙ length-map (rows_of rows) _ ∙ sym (span_count rows)
 
 -- what is chosen, as it is seen
 cells_seen : (texts : List Text) (rows : List ℕ) (cells : List Cell) → map (datum texts) (map (λ row. slice_index_or cells row Na) rows) ≡ map (λ row. slice_index_or (map (datum texts) cells) row na_cell) rows
@@ -86,21 +82,6 @@ taken_settled texts shape headings taken columns t settled given =
     ∙ ap (without_leading (levels_lost taken)) (chosen_settled texts shape headings (rows_in taken) columns t settled given more)
     ∙ sym (taken_seen texts shape headings taken columns t)
 
-taken_limited : (texts : List Text) (shape : Shape) (headings : HeadingList) (taken : Taken) (columns : List ℕ) (t : NumberedTable) (b : Bool) → within_limits (length (rows_in taken)) (length columns) ≡ b
-    → limited (table_value texts (taken_table shape headings taken columns t)) ≡ then_value (if b then Ok (table_value texts (taken_table shape headings taken columns t)) else Err limit) (λ t. Ok (value.table t))
-taken_limited texts shape headings taken columns t b is =
-    let made = table_value texts (taken_table shape headings taken columns t) in
-    let rows = rows_in taken in
-    let seen = taken_seen texts shape headings taken columns t in
-    let high : length made.labels ≡ length rows =
-    ap (λ (m : Table). length m.labels) seen
-    ∙ length-map (table_value texts (chosen shape headings rows columns t)).labels (drop (levels_lost taken))
-    ∙ length-map (map (λ row. slice_index_or t.labels row []) rows) (tuple_value texts)
-    ∙ length-map rows (λ row. slice_index_or t.labels row []) in
-    let wide : length made.columns ≡ length columns =
-    ap (λ (m : Table). length m.columns) seen ∙ length-map (columns_at rows columns t) (column_value texts) ∙ length-map columns (λ place. cells_at rows (column_at t.columns place)) in
-    ap (λ b. then_value (if b then Ok made else Err limit) (λ t. Ok (value.table t))) ((λ j. within_limits (high j) (wide j)) ∙ is)
-
 pub taken_answers : (texts : List Text) (store store' : Store) (on : ℕ) (id : ObjId) (shape : Shape) (headings : HeadingList) (taken : Taken) (columns : List ℕ) → IsSome (tables store on) → tables store id.0 ≡ None
     → tables store' ≡ with_object (tables store) id.0 (Some (taken_table shape headings taken columns (table_at (tables store) on))) → within_limits (length (rows_in taken)) (length columns) ≡ true
     → IsSettledWorld (world store texts) → AreSettledHeadings texts headings
@@ -108,7 +89,7 @@ pub taken_answers : (texts : List Text) (store store' : Store) (on : ℕ) (id : 
 taken_answers texts store store' on id shape headings taken columns live fresh put within settled given =
     let t = table_at (tables store) on in
     let made = taken_table shape headings taken columns t in (
-      new_answers texts (tables store) (tables store') id made _ fresh put settled (taken_limited texts shape headings taken columns t true within),
+      new_answers texts (tables store) (tables store') id made _ fresh put settled (grind (arith, taken_seen, length-map)),
       longer_self texts,
       settled_with texts (tables store) (tables store') id.0 made settled (taken_settled texts shape headings taken columns t (table_is_settled texts (tables store) on live settled) given) put,
     )

@@ -1,43 +1,41 @@
 -- Tables that get a row or a column.
 use Rattle.{
-  std.{proofs.{Common.{◌≡◌, ◌∙◌, ℕ, zero, suc, ◌+◌, ◌<◌, ◌%◌, ◌/◌, false, List, [], ◌∷◌, ◌++◌, length, take, drop, map, refl, ap, sym, subst, arith, All, Option, Some, None}, lemmas.{List.{length-map, length-append, length-set, map-append, take_more, Elements.{All-push, All-cons, All-nil}}, Bool.Decides.{nat_tests}}}, specs.Prelude.{slice_index_or, slice_get, slice_set, IfSome, nat_lt, slice_index, if◌then◌else◌}},
+  std.{proofs.{Common.{◌≡◌, ◌∙◌, ℕ, zero, suc, ◌+◌, ◌<◌, ◌%◌, ◌/◌, false, List, [], ◌∷◌, ◌++◌, length, take, drop, map, refl, ap, sym, subst, arith, All, Option, Some, None}, lemmas.{List.{length-map, length-append, length-set, map-append, take_more, Elements.{All-push, All-cons}}, Bool.Decides.{nat_tests}}}, specs.Prelude.{slice_index_or, slice_get, IfSome, nat_lt, slice_index}},
   cell_core.specs.declared.{cell.{Cell.{Cell, TheVariants.{Na}}, Kind.{Kind}, Label.{Label}}, grid.Shape.{Shape}},
   column_core.specs.{Blocks.{CellBlock}, Columns.{CellColumn}},
   multi_index.specs.Axes.{AxisValue, HaveLevels, nameless_axis, with_name},
   table_meaning.specs.{Table.{ColumnOf, NumberedTable, column_at, no_column}, Valid.{IsWhole, AreHeadings}, Change.{with_cell_at, with_values_from, put_at, with_cell, with_column, with_values}},
   frame_store.{specs.Parts.{HeadingList, HaveRows, block_column, single_block, IsSingle, table_with, AreHeld, IsHeld}, proofs.{PartLaws.{column_made, single_made, singles_more}, ValueLaws.{all_put, one_more_put}}},
-  meaning.specs.Block.{filled_with, with_cell as with_block_cell},
+  meaning.specs.Block.{with_cell as with_block_cell},
   settings.{specs.{declared.targets.Target.{Target}, Grown.{column_added, grown_table, row_added, axis_with, columns_with_gap, missing_column, new_column, with_gap, with_row}, Values.{count_with, rows_after, columns_after, ArePlacesOf, IsFreshIn}}, proofs.PutLaws.{put_headed, own_headings}},
 }
 
 -- the axis with one more label
 only_name : (names : List (Option Label)) → length names ≡ 1 → slice_index_or names 0 None ∷ [] ≡ names
-only_name [] one = absurd (omega (arith, one))
+only_name [] one = search
 only_name (x ∷ []) one = refl
-only_name (x ∷ (y ∷ ys)) one = absurd (omega (arith, one))
+only_name (x ∷ (y ∷ ys)) one = search
 
 pub axis_made : (t : NumberedTable) (label : Label) (tuples : List (List Label)) (axis named : AxisValue) (name : Option Label) → length t.level_names ≡ 1 → tuples ≡ t.labels ++ (label ∷ []) ∷ [] → axis ≡ nameless_axis tuples 1 → name ≡ slice_index_or t.level_names 0 None
     → named ≡ with_name axis 0 name → named ≡ axis_with t label
-axis_made t label tuples axis named name one all made is renamed =
-    renamed ∙ ap (λ (a : AxisValue). with_name a 0 name) made ∙ (λ j. record { tuples = all j; names = (ap (λ x. x ∷ []) is ∙ only_name t.level_names one) j })
+axis_made t label tuples axis named name one all made is renamed = grind (arith, only_name)
 
 pub one_level : (labels tuples : List (List Label)) (label : Label) → HaveLevels 1 labels → tuples ≡ labels ++ (label ∷ []) ∷ [] → HaveLevels 1 tuples
-one_level labels tuples label levels all = subst (HaveLevels 1) (sym all) (All-push (λ (t : List Label). length t ≡ 1) labels (label ∷ []) levels refl)
+one_level labels tuples label levels all = rw all (All-push (λ t. length t ≡ 1) labels (label ∷ []) levels refl)
 
 -- one more column with a gap
 gap_block : (c copied pushed : CellColumn) (block : CellBlock) → copied ≡ c → pushed ≡ record { kind = copied.kind; cells = copied.cells ++ Na ∷ [] }
     → block ≡ record { kind = pushed.kind; rows = length pushed.cells; columns = pushed.cells ∷ [] } → block ≡ single_block (with_gap record { kind = c.kind; cells = c.cells })
-gap_block c copied pushed block same push is =
-    is ∙ ap (λ (v : CellColumn). single_block record { kind = v.kind; cells = v.cells }) (push ∙ ap (λ (v : CellColumn). record { kind = v.kind; cells = v.cells ++ Na ∷ [] }) same)
+gap_block c copied pushed block same push is = search
 
 pub gap_more : (columns : List (ColumnOf Cell)) (place : ℕ) (c copied pushed : CellColumn) (block : CellBlock) (made made' : List CellBlock) → place < length columns → column_at columns place ≡ record { kind = c.kind; cells = c.cells } → copied ≡ c
     → pushed ≡ record { kind = copied.kind; cells = copied.cells ++ Na ∷ [] } → block ≡ record { kind = pushed.kind; rows = length pushed.cells; columns = pushed.cells ∷ [] } → made' ≡ made ++ block ∷ []
     → map block_column made ≡ map with_gap (take place columns) → map block_column made' ≡ map with_gap (take (place + 1) columns)
 gap_more columns place c copied pushed block made made' lt at same push is more before =
-    let column : block_column block ≡ with_gap (column_at columns place) = column_made block _ (gap_block c copied pushed block same push is) ∙ ap with_gap (sym at) in
+    let column : block_column block ≡ with_gap (column_at columns place) = grind (arith, column_made, gap_block) in
     ap (map block_column) more ∙ map-append block_column made (block ∷ [])
     ∙ (λ j. before j ++ column j ∷ [])
-    ∙ sym (ap (map with_gap) (take_more columns place no_column lt) ∙ map-append with_gap (take place columns) (column_at columns place ∷ []))
+    ∙ sym (cc (take_more columns place no_column lt, map-append with_gap (take place columns) (column_at columns place ∷ [])))
 
 pub gap_single : (c copied pushed : CellColumn) (block : CellBlock) (made made' : List CellBlock) → All IsSingle made → copied ≡ c → pushed ≡ record { kind = copied.kind; cells = copied.cells ++ Na ∷ [] }
     → block ≡ record { kind = pushed.kind; rows = length pushed.cells; columns = pushed.cells ∷ [] } → made' ≡ made ++ block ∷ [] → All IsSingle made'
@@ -45,39 +43,28 @@ gap_single c copied pushed block made made' single same push is more = singles_m
 
 -- the table with one more row
 gap_rows : (n : ℕ) (columns : List (ColumnOf Cell)) → HaveRows n columns → HaveRows (n + 1) (map with_gap columns)
-gap_rows n [] rows = All-nil (λ c. length c.cells ≡ n + 1)
+gap_rows n [] rows = grind arith
 gap_rows n (c ∷ cs) rows =
-    All-cons (λ c. length c.cells ≡ n + 1) (with_gap c) (map with_gap cs) (length-append c.cells (Na ∷ []) ∙ ap (λ m. m + 1) (rows 0 c (omega arith))) (gap_rows n cs (λ k d lt. rows (suc k) d (omega (arith, lt))))
+    All-cons (λ c. length c.cells ≡ n + 1) (with_gap c) (map with_gap cs) (cc (length-append c.cells (Na ∷ []), rows 0 c (omega arith))) (gap_rows n cs (λ k d lt. rows (suc k) d (omega (arith, lt))))
 
 pub row_is_whole : (t : NumberedTable) (label : Label) → IsWhole t → IsWhole (with_row t label)
-row_is_whole t label whole =
-    record {
-      headed = whole.headed ∙ sym (length-map t.columns with_gap);
-      filled = subst (λ n. HaveRows n (columns_with_gap t)) (sym (length-append t.labels ((label ∷ []) ∷ []))) (gap_rows (length t.labels) t.columns whole.filled);
-      headings = whole.headings;
-    }
+row_is_whole t label whole = search (length-map, length-append, gap_rows)
 
 pub row_made : (t : NumberedTable) (label : Label) (shape : Shape) (axis : AxisValue) (headings : HeadingList) (columns : List (ColumnOf Cell)) → shape ≡ t.shape → axis ≡ axis_with t label → headings ≡ own_headings t → columns ≡ columns_with_gap t
     → table_with shape axis headings columns ≡ with_row t label
-row_made t label shape axis headings columns same at headed made = λ j. table_with (same j) (at j) (headed j) (made j)
-
--- a block of one column
-pub missing_is : (kind : Kind) (count : ℕ) (block : CellBlock) → block ≡ record { kind = kind; rows = count; columns = filled_with Na 1 count } → block_column block ≡ missing_column kind count
-missing_is kind count block is = ap block_column is
+row_made t label shape axis headings columns same at headed made = search
 
 put_is : (block block' : CellBlock) (at : ℕ) (cell : Cell) → IsSingle block → block' ≡ record { kind = block.kind; rows = block.rows; columns = with_block_cell block.columns 0 at cell } → block' ≡ single_block (with_cell_at (block_column block) at cell)
-put_is block block' at cell single is =
-    is ∙ ap (λ (b : CellBlock). record { kind = b.kind; rows = b.rows; columns = with_block_cell b.columns 0 at cell }) single
-    ∙ (λ j. record { kind = block.kind; rows = sym (length-set (block_column block).cells at cell) j; columns = slice_set (block_column block).cells at cell ∷ [] })
+put_is block block' at cell single is = grind (arith, length-set)
 
 pub put_keeps : (block block' : CellBlock) (at : ℕ) (cell : Cell) → IsSingle block → block' ≡ record { kind = block.kind; rows = block.rows; columns = with_block_cell block.columns 0 at cell } → IsSingle block'
-put_keeps block block' at cell single is = single_made block' _ (put_is block block' at cell single is)
+put_keeps block block' at cell single is = grind (arith, single_made, put_is)
 
 pub put_rows : (block block' : CellBlock) (at : ℕ) (cell : Cell) → IsSingle block → block' ≡ record { kind = block.kind; rows = block.rows; columns = with_block_cell block.columns 0 at cell } → length (block_column block').cells ≡ length (block_column block).cells
-put_rows block block' at cell single is = ap (λ (c : ColumnOf Cell). length c.cells) (column_made block' _ (put_is block block' at cell single is)) ∙ length-set (block_column block).cells at cell
+put_rows block block' at cell single is = grind (arith, column_made, put_is, length-set)
 
 pub put_kind : (block block' : CellBlock) (at : ℕ) (cell : Cell) → IsSingle block → block' ≡ record { kind = block.kind; rows = block.rows; columns = with_block_cell block.columns 0 at cell } → (block_column block').kind ≡ (block_column block).kind
-put_kind block block' at cell single is = ap (λ (c : ColumnOf Cell). c.kind) (column_made block' _ (put_is block block' at cell single is))
+put_kind block block' at cell single is = search (column_made, put_is)
 
 pub put_more : (rows : List ℕ) (values : List Cell) (k at : ℕ) (cell : Cell) (block block' : CellBlock) (whole : List (ColumnOf Cell)) → IsSingle block → block' ≡ record { kind = block.kind; rows = block.rows; columns = with_block_cell block.columns 0 at cell }
     → k < length values → slice_get rows k ≡ Some at → slice_get values k ≡ Some cell → with_values_from k (block_column block ∷ []) rows (0 ∷ []) (drop k values) ≡ whole
@@ -86,43 +73,34 @@ put_more rows values k at cell block block' whole single is lt at_row at_value b
     let first : k % 1 ≡ 0 = omega arith in
     let same : k / 1 ≡ k = omega arith in
     one_more_put rows (0 ∷ []) values k 1 0 at cell (block_column block ∷ []) (block_column block' ∷ []) whole refl before lt (ap (slice_get (0 ∷ [])) first) (ap (slice_get rows) same ∙ at_row) at_value
-    (ap (λ (c : ColumnOf Cell). c ∷ []) (column_made block' _ (put_is block block' at cell single is)))
+    (search (column_made, put_is))
 
 pub put_done : (kind : Kind) (count : ℕ) (rows : List ℕ) (values : List Cell) (k : ℕ) (block : CellBlock) → k ≡ length values → with_values_from k (block_column block ∷ []) rows (0 ∷ []) (drop k values) ≡ with_values_from 0 (missing_column kind count ∷ []) rows (0 ∷ []) values
     → block_column block ≡ new_column kind count rows values
 put_done kind count rows values k block end before =
     ap (λ l. column_at l 0)
     (all_put rows (0 ∷ []) values (block_column block ∷ []) (with_values_from 0 (missing_column kind count ∷ []) rows (0 ∷ []) values)
-    (ap (λ n. with_values_from n (block_column block ∷ []) rows (0 ∷ []) (drop n values)) (sym end) ∙ before))
+    (cc))
 
 -- a column behind the last
 not_below : (n : ℕ) → nat_lt n n ≡ false
 not_below n = grind (arith, nat_tests)
 
 pub put_last : {X : Type 0} (xs : List X) (x : X) → put_at xs (length xs) x ≡ xs ++ x ∷ []
-put_last xs x = ap (λ b. if b then slice_set xs (length xs) x else xs ++ x ∷ []) (not_below (length xs))
+put_last xs x = search not_below
 
 set_last : (cs : List (ColumnOf Cell)) (m : ColumnOf Cell) (at : ℕ) (x : Cell) → with_cell (cs ++ m ∷ []) (length cs) at x ≡ cs ++ with_cell_at m at x ∷ []
 set_last [] m at x = refl
-set_last (c ∷ cs) m at x = ap (λ l. c ∷ l) (set_last cs m at x)
+set_last (c ∷ cs) m at x = cc (set_last cs m at x)
 
 values_last : (k : ℕ) (cs : List (ColumnOf Cell)) (m : ColumnOf Cell) (rows : List ℕ) (values : List Cell)
     → with_values_from k (cs ++ m ∷ []) rows (length cs ∷ []) values ≡ cs ++ column_at (with_values_from k (m ∷ []) rows (0 ∷ []) values) 0 ∷ []
 values_last k cs m rows [] = refl
-values_last k cs m rows (x ∷ xs) =
-    let first : k % 1 ≡ 0 = omega arith in
-    ap (λ i. with_values_from (suc k) (with_cell (cs ++ m ∷ []) (slice_index (length cs ∷ []) i) (slice_index rows (k / 1)) x) rows (length cs ∷ []) xs) first
-    ∙ ap (λ l. with_values_from (suc k) l rows (length cs ∷ []) xs) (set_last cs m (slice_index rows (k / 1)) x)
-    ∙ values_last (suc k) cs (with_cell_at m (slice_index rows (k / 1)) x) rows xs
-    ∙ sym (ap (λ i. cs ++ column_at (with_values_from (suc k) (with_cell (m ∷ []) (slice_index (0 ∷ []) i) (slice_index rows (k / 1)) x) rows (0 ∷ []) xs) 0 ∷ []) first)
+values_last k cs m rows (x ∷ xs) = grind (arith, set_last, values_last (suc k) cs (with_cell_at m (slice_index rows (k / 1)) x) rows xs)
 
 pub column_filled : (t : NumberedTable) (label : Label) (kind : Kind) (rows : List ℕ) (values : List Cell) (c : ColumnOf Cell) → c ≡ new_column kind (length t.labels) rows values
     → with_column t (length t.columns) (Some label) c ≡ with_values (with_column t (length t.columns) (Some label) (missing_column kind (length t.labels))) rows (length t.columns ∷ []) values
-column_filled t label kind rows values c is =
-    let missing = missing_column kind (length t.labels) in
-    let columns : put_at t.columns (length t.columns) c ≡ with_values_from 0 (put_at t.columns (length t.columns) missing) rows (length t.columns ∷ []) values =
-    put_last t.columns c ∙ ap (λ x. t.columns ++ x ∷ []) is ∙ sym (ap (λ l. with_values_from 0 l rows (length t.columns ∷ []) values) (put_last t.columns missing) ∙ values_last 0 t.columns missing rows values) in
-    λ j. record t { headings = put_at t.headings (length t.columns) (Some label); columns = columns j }
+column_filled t label kind rows values c is = grind (arith, put_last, values_last)
 
 -- headings with one more
 pub fresh_headed : (t : NumberedTable) (label : Label) (place : ℕ) → IsWhole t → IsFreshIn t (Some label) → place ≡ length t.columns → AreHeadings t.shape t.columns_name (put_at t.headings place (Some label))
@@ -130,40 +108,27 @@ fresh_headed t label place whole fresh is = put_headed t label place place None 
 
 -- the table that a target grows
 pub grown_by : (t : NumberedTable) (target : Target) (kind : Kind) (row column : Option Label) → target.rows.added ≡ row → target.columns.added ≡ column → grown_table t target kind ≡ column_added (row_added t row) column kind
-grown_by t target kind row column r c = λ j. column_added (row_added t (r j)) (c j) kind
+grown_by t target kind row column r c = search
 
 length-put : {X : Type 0} (xs : List X) (x : X) → length (put_at xs (length xs) x) ≡ length xs + 1
-length-put xs x = ap (λ (l : List _). length l) (put_last xs x) ∙ length-append xs (x ∷ [])
+length-put xs x = search (put_last, length-append)
 
 pub grown_rows : (t : NumberedTable) (target : Target) (kind : Kind) → length (grown_table t target kind).labels ≡ rows_after t target
-grown_rows t target kind = go target.rows.added target.columns.added
-  where
-    go : (row column : Option Label) → length (column_added (row_added t row) column kind).labels ≡ count_with (length t.labels) row
-    go None None = refl
-    go None (Some l) = refl
-    go (Some r) None = length-append t.labels ((r ∷ []) ∷ [])
-    go (Some r) (Some l) = length-append t.labels ((r ∷ []) ∷ [])
+grown_rows t target kind = grind (arith, length-append)
 
 pub grown_columns : (t : NumberedTable) (target : Target) (kind : Kind) → length (grown_table t target kind).columns ≡ columns_after t target
-grown_columns t target kind = go target.rows.added target.columns.added
-  where
-    go : (row column : Option Label) → length (column_added (row_added t row) column kind).columns ≡ count_with (length t.columns) column
-    go None None = refl
-    go None (Some l) = length-put t.columns (missing_column kind (length t.labels))
-    go (Some r) None = length-map t.columns with_gap
-    go (Some r) (Some l) = length-put (columns_with_gap t) (missing_column kind (length (with_row t r).labels)) ∙ ap (λ n. n + 1) (length-map t.columns with_gap)
+grown_columns t target kind = grind (arith, length-put, length-map)
 
 -- places among those that there are then
 pub reached_below : (count : ℕ) (places : List ℕ) (added : Option Label) → ArePlacesOf count places added → All (λ place. place < count_with count added) places
 reached_below count places None reached = reached
-reached_below count places (Some l) reached =
-    subst (All (λ place. place < count + 1)) (sym reached) (All-cons (λ place. place < count + 1) count [] (omega arith) (All-nil (λ place. place < count + 1)))
+reached_below count places (Some l) reached = grind arith
 
 pub one_added : (count : ℕ) (places : List ℕ) (added : Option Label) (label : Label) → ArePlacesOf count places added → added ≡ Some label → places ≡ count ∷ []
-one_added count places added label reached is = subst (ArePlacesOf count places) is reached
+one_added count places added label reached is = grind arith
 
 pub adds_one : (levels : ℕ) (added : Option Label) (label : Label) → added ≡ Some label → IfSome added (λ l. levels ≡ 1) → levels ≡ 1
-adds_one levels added label is one = subst (λ (o : Option Label). IfSome o (λ l. levels ≡ 1)) is one
+adds_one levels added label is one = grind arith
 
 -- values that the new column holds
 last_kind : (cs : List (ColumnOf Cell)) (m : ColumnOf Cell) → (column_at (cs ++ m ∷ []) (length cs)).kind ≡ m.kind
@@ -175,12 +140,10 @@ pub new_held : (t : NumberedTable) (target : Target) (kind : Kind) (label : Labe
 new_held t target kind label values row column places held = λ k d lt.
     let missing = missing_column kind (length t.labels) in
     let first : k % 1 ≡ 0 = omega arith in
-    let kinds : (column_at (grown_table t target kind).columns (slice_index target.columns.places (k % length target.columns.places))).kind ≡ kind =
-    (λ j. (column_at (grown_by t target kind None (Some label) row column j).columns (slice_index (places j) (k % length (places j)))).kind)
-    ∙ (λ j. (column_at (put_last t.columns missing j) (slice_index (length t.columns ∷ []) (first j))).kind) ∙ last_kind t.columns missing in
+    let kinds : (column_at (grown_table t target kind).columns (slice_index target.columns.places (k % length target.columns.places))).kind ≡ kind = grind (arith, grown_by, put_last, last_kind) in
     subst (IsHeld kind) (get_or-default values k Na d lt) (subst (λ q. IsHeld q (slice_index_or values k Na)) kinds (held k lt))
   where
     get_or-default : (xs : List Cell) (k : ℕ) (a b : Cell) → k < length xs → slice_index_or xs k a ≡ slice_index_or xs k b
-    get_or-default [] k a b lt = absurd (omega (arith, lt))
+    get_or-default [] k a b lt = grind arith
     get_or-default (x ∷ xs) zero a b lt = refl
     get_or-default (x ∷ xs) (suc k) a b lt = get_or-default xs k a b (omega (arith, lt))

@@ -1,14 +1,14 @@
 -- Columns that move, with which a Series ends.
 use Rattle.{
-  std.{proofs.Common.{◌≡◌, ◌∙◌, ℕ, Bool, true, false, List, length, refl, ap, sym, nat_eq, if◌then◌else◌, Option, Some, None, Ok, Err}, specs.Prelude.{is_some, IsSome, IfSome}},
+  std.{proofs.Common.{arith, ◌≡◌, ◌∙◌, ℕ, Bool, true, false, List, length, refl, ap, sym, nat_eq, if◌then◌else◌, Option, Some, None, Ok, Err}, specs.Prelude.{IsSome, IfSome}},
   cell_core.specs.declared.{grid.Shape.{Shape, TheVariants.{Series, Frame}}, cell.{Cell.{Cell}, Label.{Label}}},
-  meaning.specs.{Text.{Text}, Cell.{LabelValue, CellValue, label_datum}, Fault.{wrong_kind, then_value}},
+  meaning.specs.{Text.{Text}, Cell.{LabelValue, label_datum}, Fault.{wrong_kind}},
   column_core.specs.Columns.{CellColumn},
-  table_meaning.specs.{Settled.{IsSettled}, Table.{ColumnOf, NumberedTable, Table, table_value, column_at, no_column}, Change.{with_column}, Valid.{IsWhole}, Value.{one, table}},
+  table_meaning.specs.{Settled.{IsSettled}, Table.{ColumnOf, NumberedTable, Table, table_value, column_at}, Change.{with_column}, Valid.{IsWhole}, Value.{one, table}},
   form_meaning.specs.{Binding.{is_frame}, Infix.{same_tuples}},
-  select_meaning.specs.Set.{SetValue, aligned, column_set, put_result, series_set, set_value},
+  select_meaning.specs.Set.{SetValue, aligned, column_set, series_set, set_value},
   frame_store.{specs.{Objects.{Tables, with_object}, Shown.{labels_value, headings_value}, declared.object.ObjId.{ObjId}}, proofs.Settling.{columns_given, columns_part}},
-  settings.{specs.{Assigned.{put_place}, Changes.{ended, MayEnd}}, proofs.{PutCases.{first_column, has_column, series_fits}, PutLaws.{kept_there, nat_same, put_meant, put_refused_of, put_settled, put_there}}},
+  settings.{specs.{Assigned.{put_place}, Changes.{ended, MayEnd}}, proofs.{PutCases.{first_column, has_column, series_fits}, PutLaws.{kept_there, nat_same, put_meant, put_settled}}},
 }
 
 -- what a Series is as a value
@@ -20,7 +20,7 @@ pub series_shape : (s : Table) (v : SetValue) → set_value (one (table s)) ≡ 
 series_shape s v is = (series_if s.shape s v is).0
 
 pub column_moves : (t s : Table) (l : LabelValue) (v : SetValue) → set_value (one (table s)) ≡ Ok v → column_set t l v ≡ series_set t l s
-column_moves t s l v is = ap (column_set t l) (series_if s.shape s v is).1
+column_moves t s l v is = grind (arith, series_if)
 
 -- its column, as one of a kernel
 abbrev pub kernel_column : ColumnOf Cell → CellColumn
@@ -29,32 +29,18 @@ kernel_column c = record { kind = c.kind; cells = c.cells }
 pub move_meant : (texts : List Text) (t s : NumberedTable) (label : Label) (place rows : ℕ) → IsWhole t → rows ≡ length t.labels → length (column_at s.columns 0).cells ≡ length s.labels → same_tuples (labels_value texts t.labels) (labels_value texts s.labels) ≡ true
     → put_place rows (headings_value texts t.headings) (label_datum texts label) ≡ Ok place
     → series_set (table_value texts t) (label_datum texts label) (table_value texts s) ≡ Ok (table_value texts (with_column t place (Some label) (column_at s.columns 0)))
-move_meant texts t s label place rows whole count many same placed =
-    series_fits texts t s (label_datum texts label) many same
-    ∙ ap (λ (c : ColumnOf CellValue). put_result (table_value texts t) (label_datum texts label) c) (first_column texts s.columns)
-    ∙ put_meant texts t place rows label (kernel_column (column_at s.columns 0)) (with_column t place (Some label) (column_at s.columns 0)) whole count placed refl
-
-pub move_refused : (texts : List Text) (t s : NumberedTable) (label : Label) (rows : ℕ) → IsWhole t → rows ≡ length t.labels → length (column_at s.columns 0).cells ≡ length s.labels → same_tuples (labels_value texts t.labels) (labels_value texts s.labels) ≡ true
-    → then_value (put_place rows (headings_value texts t.headings) (label_datum texts label)) (put_there (table_value texts t) (label_datum texts label) (column_at (table_value texts s).columns 0))
-    ≡ series_set (table_value texts t) (label_datum texts label) (table_value texts s)
-move_refused texts t s label rows whole count many same =
-    put_refused_of texts t rows label (column_at (table_value texts s).columns 0) whole count ∙ sym (series_fits texts t s (label_datum texts label) many same)
+move_meant texts t s label place rows whole count many same placed = cc (series_fits texts t s (label_datum texts label) many same, first_column texts s.columns, put_meant texts t place rows label (kernel_column (column_at s.columns 0)) (with_column t place (Some label) (column_at s.columns 0)) whole count placed refl)
 
 pub move_settled : (texts : List Text) (t s : NumberedTable) (label : Label) (place : ℕ) → IsSettled table_value texts t → IsSettled label_datum texts label → IsWhole s → s.shape ≡ Series → IsSettled table_value texts s
     → IsSettled table_value texts (with_column t place (Some label) (column_at s.columns 0))
-move_settled texts t s label place settled named whole series given =
-    put_settled texts t place label (column_at s.columns 0) settled named (columns_given texts s.columns (columns_part texts s given) 0 no_column (has_column s whole series))
-
--- an object ends beside one that is set
-other_kept : (old new : Tables) (on : ObjId) (t : NumberedTable) (id : ObjId) → MayEnd old on id → new ≡ with_object old on.0 (Some t) → IsSome (new id.0)
-other_kept old new on t id may put = ap is_some (kept_there old new on.0 id.0 t put (λ e. may.1 (sym e))) ∙ may.0
+move_settled texts t s label place settled named whole series given = search (put_settled, columns_given, columns_part, has_column)
 
 pub others_kept : (old new : Tables) (on : ObjId) (t : NumberedTable) (ends : Option ObjId) → IfSome ends (MayEnd old on) → new ≡ with_object old on.0 (Some t) → IfSome ends (λ id. IsSome (new id.0))
 others_kept old new on t None may put = tt
-others_kept old new on t (Some id) may put = other_kept old new on t id may put
+others_kept old new on t (Some id) may put = grind (arith, kept_there)
 
 either_first : {X : Type 0} (a b : Bool) (x y z : X) → (a ≡ true → b ≡ true → ⊥) → (if a then x else (if b then y else z)) ≡ (if b then y else (if a then x else z))
-either_first true true x y z apart = absurd (apart refl refl)
+either_first true true x y z apart = search
 either_first true false x y z apart = refl
 either_first false b x y z apart = refl
 
@@ -64,5 +50,5 @@ ended_beside old new new' on t (Some id) may put end = end ∙ (λ j other. (at 
   where
     at : (other : ℕ) → (if nat_eq id.0 other then None else new other) ≡ (if nat_eq on.0 other then Some t else (if nat_eq id.0 other then None else old other))
     at other =
-        ap (λ (f : Tables). if nat_eq id.0 other then None else f other) put
+        ap (λ f. if nat_eq id.0 other then None else f other) put
         ∙ either_first (nat_eq id.0 other) (nat_eq on.0 other) None (Some t) (old other) (λ a b. may.1 (nat_same on.0 other b ∙ sym (nat_same id.0 other a)))

@@ -1,15 +1,15 @@
 -- What settings make of the table of an object.
 use Rattle.{
-  std.{proofs.{Common.{◌≡◌, ◌∙◌, ℕ, ◌<◌, Bool, true, false, List, ◌++◌, length, refl, ap, sym, subst, arith, nat_eq, if◌then◌else◌, Option, Some, None, Result, Ok, Err}, lemmas.{Bool.Decides.{nat_tests}, List.Quantifiers.{all_pairs_remove}}}, specs.Prelude.{◌≢◌, is_some, option_map, IsSome, IfSome}},
+  std.{proofs.{Common.{◌≡◌, ◌∙◌, ℕ, ◌<◌, Bool, true, false, List, ◌++◌, length, refl, ap, sym, subst, arith, nat_eq, if◌then◌else◌, Option, Some, None, Result, Ok, Err}, lemmas.{Bool.Decides.{nat_tests}, List.Quantifiers.{all_pairs_remove}}}, specs.Prelude.{◌≢◌, option_map, IsSome}},
   cell_core.specs.declared.{grid.Shape.TheVariants.{Series, Frame}, cell.{Cell.{Cell}, Label.{Label}}, code.Code.{Code}},
-  meaning.specs.{Text.{Text}, Cell.{CellValue, na_cell, LabelValue, datum, label_datum, na}, Operator.{cell_label}, Fault.{FaultValue, wrong_kind, then_value}, FaultOf.{fault_of}, Symbol.{Accessor, loc}},
-  table_meaning.specs.{Settled.{IsSettled}, Table.{NumberedTable, Table, table_value, heading_value, column_value}, Change.{without_column}, Valid.{AreHeadings, IsWhole}, Value.{Entry, cell, table, Given, GivenSub, key_given, span_given, nothing, one, row, many, entries}},
-  form_meaning.specs.{Binding.{is_frame}, Select.{column_place}},
-  select_meaning.specs.{Set.{removal_result, SetValue, access_set, added_label, assign_result, column_set, frame_set, set_value, table_set, target_by, target_set}, Select.{Way}},
+  meaning.specs.{Text.{Text}, Cell.{CellValue, na_cell, LabelValue, datum, label_datum, na}, Operator.{cell_label}, Fault.{FaultValue, wrong_kind, then_value}, FaultOf.{fault_of}, Symbol.{loc}},
+  table_meaning.specs.{Settled.{IsSettled}, Table.{NumberedTable, Table, table_value}, Change.{without_column}, Valid.{AreHeadings, IsWhole}, Value.{Entry, cell, table, Given, GivenSub, key_given, span_given, nothing, one, row, many, entries}},
+  form_meaning.specs.Select.{column_place},
+  select_meaning.specs.{Set.{removal_result, added_label, assign_result, column_set, frame_set, set_value, table_set}, Select.{Way}},
   form_parts.specs.Makes.{MakesBy},
-  frame_store.{specs.{declared.{arguments.{Value.{Value, TheVariants.{Object, Scalar}}, Subscript.{Subscript}}, object.ObjId.{ObjId}, fault.OpFault.{OpFault, TheVariants.{Refused, NoMemory}}}, Objects.{Tables, with_object, table_or, table_at}, Arguments.{entry_of, subscript_of}, Shown.{Shown, shown, with_shown, table_in, Changes}, World.{World, Sets}}, proofs.{ColumnLaws.{map-remove, All-remove}, Settling.{longer_self, shown_with, settled_by, settled_with, object_settled}}},
+  frame_store.{specs.{declared.{arguments.{Value.{Value, TheVariants.{Object, Scalar}}, Subscript.{Subscript}}, object.ObjId.{ObjId}, fault.OpFault.{OpFault, TheVariants.{Refused, NoMemory}}}, Objects.{Tables, with_object, table_or, table_at}, Arguments.{entry_of, subscript_of}, Shown.{shown, Changes}, World.{World, Sets}}, proofs.{ColumnLaws.{map-remove, All-remove}, Settling.{longer_self, shown_with, settled_by, settled_with, object_settled}}},
   selections.proofs.PlaceLaws.{label_settled},
-  settings.specs.{declared.{changes.{Change.{Change}, Setting.{Setting}}, values.NewValue.{NewValue, TheVariants.{Copied, Moved}}}, Assigned.{moved_object, without, IsLiveNew, IsOther}, Changes.{ended, table_after, ChangesBy, GivesBy, RefusesBy, SetsBy, MayEnd, changed as changed_by}},
+  settings.specs.{declared.changes.{Change.{Change}, Setting.{Setting}}, Assigned.{without}, Changes.{ended, table_after, ChangesBy, GivesBy, RefusesBy, SetsBy}},
 }
 
 nat_eq_self : (n : ℕ) → nat_eq n n ≡ true
@@ -18,83 +18,69 @@ nat_eq_self n = grind (arith, nat_tests)
 -- an object has got another table
 pub changed : (texts : List Text) (tables tables' : Tables) (on : ObjId) (t : NumberedTable) (meant : Result Table FaultValue) → IsSettled shown texts tables → tables' ≡ with_object tables on.0 (Some t) → meant ≡ Ok (table_value texts t)
     → Changes texts (Ok tt) (Object on) meant (shown texts tables) (shown texts tables')
-changed texts tables tables' on t meant settled put here =
-    let grown : shown texts tables' ≡ with_shown (shown texts tables) on.0 (Some (table_value texts t)) = shown_with texts texts tables tables' on.0 t (longer_self texts) settled put in
-    let at : shown texts tables' on.0 ≡ Some (table_value texts t) =
-    ap (λ (f : Shown). f on.0) grown ∙ ap (λ b. if b then Some (table_value texts t) else shown texts tables on.0) (nat_eq_self on.0) in (
-      here ∙ ap (λ o. Ok (table_in o)) (sym at),
-      ap is_some at,
-      grown ∙ ap (with_shown (shown texts tables) on.0) (sym at),
-    )
+changed texts tables tables' on t meant settled put here = grind (arith, shown_with, longer_self, nat_eq_self)
 
 abbrev pub in_world : List Text → Tables → World
 in_world texts tables = record { tables = tables; texts = texts }
 
 pub set_made : (texts : List Text) (tables tables' : Tables) (on : ObjId) (t : NumberedTable) (meant : Result Table FaultValue) → IsSettled shown texts tables → IsSettled table_value texts t → tables' ≡ with_object tables on.0 (Some t)
     → meant ≡ Ok (table_value texts t) → Sets (Ok tt) (Object on) meant (in_world texts tables) (in_world texts tables')
-set_made texts tables tables' on t meant settled here put is =
-    (changed texts tables tables' on t meant settled put is, longer_self texts, settled_with texts tables tables' on.0 t settled here put)
+set_made texts tables tables' on t meant settled here put is = search (changed, longer_self, settled_with)
 
 -- or it hasn't
 pub set_refused : (texts : List Text) (tables : Tables) (on : Value) (meant : Result Table FaultValue) (fault : OpFault) → IsSettled shown texts tables → RefusesBy texts fault meant
     → Sets (Err fault) on meant (in_world texts tables) (in_world texts tables)
-set_refused texts tables on meant (Refused code) settled refused = ((refused, refl), longer_self texts, settled)
-set_refused texts tables on meant NoMemory settled refused = (refl, longer_self texts, settled)
+set_refused texts tables on meant (Refused code) settled refused = search longer_self
+set_refused texts tables on meant NoMemory settled refused = search longer_self
 
 pub set_left : (texts : List Text) (tables tables' : Tables) (on : Value) (meant : Result Table FaultValue) → IsSettled shown texts tables → tables' ≡ tables → Sets (Err NoMemory) on meant (in_world texts tables) (in_world texts tables')
-set_left texts tables tables' on meant settled same = (ap (shown texts) same, longer_self texts, subst (IsSettled shown texts) (sym same) settled)
+set_left texts tables tables' on meant settled same = (search, longer_self texts, subst (IsSettled shown texts) (sym same) settled)
 
 -- a part that is refused, and another name for what is meant
 pub part_refused : {X Y : Type 0} (view : List Text → X → Y) (texts : List Text) (meant : Result Y FaultValue) (go : Y → Result Table FaultValue) (fault : OpFault) → MakesBy view texts (Err fault) meant
     → RefusesBy texts fault (then_value meant go)
-part_refused view texts meant go (Refused code) makes = (ap (λ (r : Result _ FaultValue). then_value r go) makes.0, makes.1)
+part_refused view texts meant go (Refused code) makes = search
 part_refused view texts meant go NoMemory makes = tt
 
 pub gives_so : {X : Type 0} (to : X → NumberedTable) (texts : List Text) (result : Result X OpFault) (meant meant' : Result Table FaultValue) → meant ≡ meant' → GivesBy to texts result meant → GivesBy to texts result meant'
-gives_so to texts result meant meant' is gives = subst (λ (m : Result Table FaultValue). GivesBy to texts result m) is gives
+gives_so to texts result meant meant' is gives = grind arith
 
 pub changes_so : (texts : List Text) (t : NumberedTable) (result : Result Change OpFault) (meant meant' : Result Table FaultValue) → meant ≡ meant' → ChangesBy texts t result meant → ChangesBy texts t result meant'
-changes_so texts t result meant meant' is changes = gives_so (changed_by t) texts result meant meant' is changes
+changes_so texts t result meant meant' is changes = search gives_so
 
 pub refuses_so : (texts : List Text) (fault : OpFault) (meant meant' : Result Table FaultValue) → meant ≡ meant' → RefusesBy texts fault meant → RefusesBy texts fault meant'
-refuses_so texts fault meant meant' is refused = subst (λ (m : Result Table FaultValue). RefusesBy texts fault m) is refused
+refuses_so texts fault meant meant' is refused = grind arith
 
 -- a column is removed
 pub removed_is : (texts : List Text) (t : NumberedTable) (place : ℕ) → without_column (table_value texts t) place ≡ table_value texts (without_column t place)
-removed_is texts t place = λ j. record (table_value texts t) { headings = sym (map-remove (heading_value texts) t.headings place) j; columns = sym (map-remove (column_value texts) t.columns place) j }
+removed_is texts t place = search map-remove
 
 pub removed_settled : (texts : List Text) (t : NumberedTable) (place : ℕ) → IsSettled table_value texts t → IsSettled table_value texts (without_column t place)
-removed_settled texts t place settled = settled_by table_value table_value (λ (v : Table). without_column v place) texts t (without_column t place) (λ ts. removed_is ts t place) settled
+removed_settled texts t place settled = settled_by table_value table_value (λ v. without_column v place) texts t (without_column t place) (λ ts. removed_is ts t place) settled
 
 pub removed_headed : (t : NumberedTable) (place : ℕ) → IsWhole t → t.shape ≡ Frame → place < length t.columns → AreHeadings t.shape t.columns_name (without_column t place).headings
 removed_headed t place whole frame inside =
-    let other : t.shape ≡ Series → ⊥ = λ e. let wrong : Series ≡ Frame = sym e ∙ frame in cc in
+    let other : t.shape ≡ Series → ⊥ = grind arith in
     record {
       single = λ e. absurd (other e);
-      nameless = λ e. absurd (other e);
+      nameless = search;
       labelled = λ e. All-remove IsSome t.headings place (whole.headings.labelled e);
       different = λ e. all_pairs_remove (λ a b. a ≢ b) t.headings place (omega (arith, whole.headed, inside)) (whole.headings.different e);
     }
-
-removal_or : (texts : List Text) (t : NumberedTable) (l : LabelValue) (place : ℕ) (b : Bool) → b ≡ true → column_place (table_value texts t) l ≡ Ok place
-    → (if b then then_value (column_place (table_value texts t) l) (λ place. Ok (without_column (table_value texts t) place)) else Err wrong_kind) ≡ Ok (table_value texts (without_column t place))
-removal_or texts t l place true so is = ap (λ r. then_value r (λ place. Ok (without_column (table_value texts t) place))) is ∙ ap (λ (v : Table). Ok v) (removed_is texts t place)
-removal_or texts t l place false so is = cc
 
 pub removal_set : (texts : List Text) (tables tables' : Tables) (on v : Value) (id : ObjId) (c : Cell) (t : NumberedTable) (l : Label) (place : ℕ) → on ≡ Object id → v ≡ Scalar c → tables id.0 ≡ Some t → t.shape ≡ Frame
     → label_datum texts l ≡ cell_label (datum texts c) → IsSettled shown texts tables → column_place (table_value texts t) (label_datum texts l) ≡ Ok place → tables' ≡ with_object tables id.0 (Some (without_column (table_at tables id.0) place))
     → Sets (Ok tt) on (removal_result (entry_of tables texts on) (entry_of tables texts v)) (in_world texts tables) (in_world texts tables')
 removal_set texts tables tables' on v id c t l place on_is v_is there frame seen settled placed put =
-    let at : table_at tables id.0 ≡ t = ap table_or there in
-    let put' : tables' ≡ with_object tables id.0 (Some (without_column t place)) = put ∙ ap (λ (u : NumberedTable). with_object tables id.0 (Some (without_column u place))) at in
-    let place_is : column_place (table_value texts t) (cell_label (datum texts c)) ≡ Ok place = ap (column_place (table_value texts t)) (sym seen) ∙ placed in
+    let at = ap table_or there in
+    let put' : tables' ≡ with_object tables id.0 (Some (without_column t place)) = cc in
+    let place_is : column_place (table_value texts t) (cell_label (datum texts c)) ≡ Ok place = cc in
     let is : removal_result (table (table_value texts t)) (cell (datum texts c)) ≡ Ok (table_value texts (without_column t place)) =
-    removal_or texts t (cell_label (datum texts c)) place (is_frame t.shape) (ap is_frame frame) place_is in
-    let here : Sets (Ok tt) (Object id) (removal_result (table (table_value texts (table_at tables id.0))) (cell (datum texts c))) (in_world texts tables) (in_world texts tables') =
+    grind (arith, removed_is) in
+    let here =
     set_made texts tables tables' id (without_column t place) (removal_result (table (table_value texts (table_at tables id.0))) (cell (datum texts c))) settled
-    (removed_settled texts t place (object_settled texts tables id.0 t there settled)) put' (ap (λ (u : NumberedTable). removal_result (table (table_value texts u)) (cell (datum texts c))) at ∙ is) in
-    subst (λ (o : Value). Sets (Ok tt) o (removal_result (entry_of tables texts o) (entry_of tables texts v)) (in_world texts tables) (in_world texts tables')) (sym on_is)
-    (subst (λ (w : Value). Sets (Ok tt) (Object id) (removal_result (entry_of tables texts (Object id)) (entry_of tables texts w)) (in_world texts tables) (in_world texts tables')) (sym v_is) here)
+    (search (removed_settled, object_settled)) put' (cc) in
+    grind arith
 
 -- the label that a settled scalar is
 abbrev cell_in : Entry → CellValue
@@ -118,20 +104,10 @@ pub assign_set : (texts : List Text) (live live' : Tables) (on : Value) (id : Ob
     → SetsBy live texts t (Ok setting) (table_set way (table_value texts t) first second g) → live' ≡ with_object (ended ends live) id.0 (Some (table_after live (table_at live id.0) setting))
     → Sets (Ok tt) on (assign_result (entry_of live texts on) way first second g) (without (Ok tt) ends (in_world texts live)) (in_world texts live')
 assign_set texts live live' on id t setting ends way first second g on_is there settled sets put =
-    let at : table_at live id.0 ≡ t = ap table_or there in
-    let put' : live' ≡ with_object (ended ends live) id.0 (Some (table_after live t setting)) = put ∙ ap (λ (u : NumberedTable). with_object (ended ends live) id.0 (Some (table_after live u setting))) at in
-    let is : table_set way (table_value texts (table_at live id.0)) first second g ≡ Ok (table_value texts (table_after live t setting)) = ap (λ (u : NumberedTable). table_set way (table_value texts u) first second g) at ∙ sets.0 in
-    subst (λ (o : Value). Sets (Ok tt) o (assign_result (entry_of live texts o) way first second g) (in_world texts (ended ends live)) (in_world texts live')) (sym on_is)
-    (set_made texts (ended ends live) live' id (table_after live t setting) _ (ended_settled texts ends live settled) sets.1 put' is)
-
-pub may_end : (live : Tables) (on : Value) (id : ObjId) (value : NewValue) → on ≡ Object id → IsLiveNew live value → IfSome (moved_object value) (IsOther on) → IfSome (moved_object value) (MayEnd live id)
-may_end live on id (Copied a) is alive other = tt
-may_end live on id (Moved series) is alive other = (alive, subst (λ (o : Value). IsOther o series) is other)
-
--- a setting behind an accessor
-pub access_is : (texts : List Text) (t : NumberedTable) (by : Accessor) (first : GivenSub) (second : Option GivenSub) (g : Given) (v : SetValue) → set_value g ≡ Ok v
-    → access_set by (table_value texts t) first second g ≡ then_value (target_by t.shape by (table_value texts t) first second) (target_set by (table_value texts t) v)
-access_is texts t by first second g v is = ap (λ r. then_value r (λ value. then_value (target_by t.shape by (table_value texts t) first second) (target_set by (table_value texts t) value))) is
+    let at = ap table_or there in
+    let put' : live' ≡ with_object (ended ends live) id.0 (Some (table_after live t setting)) = cc in
+    let is : table_set way (table_value texts (table_at live id.0)) first second g ≡ Ok (table_value texts (table_after live t setting)) = search in
+    rw on_is (set_made texts (ended ends live) live' id (table_after live t setting) _ (ended_settled texts ends live settled) sets.1 put' is)
 
 -- the label that a settled scalar key is
 abbrev label_in : Option LabelValue → LabelValue
@@ -157,11 +133,11 @@ frame_by t (key_given (entries pairs)) g = refl
 frame_by t (span_given from to by) g = refl
 
 pub frame_is : (t : Table) (k : GivenSub) (g : Given) (l : LabelValue) → Some l ≡ added_label loc k → frame_set t k g ≡ then_value (set_value g) (column_set t l)
-frame_is t k g l is = frame_by t k g ∙ ap (frame_or t g) (sym is)
+frame_is t k g l is = cc (frame_by t k g)
 
 pub frame_refused : (t : Table) (k : GivenSub) (g : Given) → None ≡ added_label loc k → frame_set t k g ≡ Err wrong_kind
-frame_refused t k g is = frame_by t k g ∙ ap (frame_or t g) (sym is)
+frame_refused t k g is = cc (frame_by t k g)
 
 -- a refusal by a code
 pub refused_by : (texts : List Text) (meant : Result Table FaultValue) (code : Code) (fault : OpFault) → fault ≡ Refused code → meant ≡ Err (fault_of texts code) → IsSettled fault_of texts code → RefusesBy texts fault meant
-refused_by texts meant code fault is so settled = subst (λ (f : OpFault). RefusesBy texts f meant) (sym is) (so, settled)
+refused_by texts meant code fault is so settled = grind arith

@@ -1,33 +1,29 @@
 -- What a setting reaches: keys whose label isn't there.
 use Rattle.{
-  std.{proofs.{Common.{◌≡◌, ◌∙◌, ℕ, suc, ◌+◌, pos, Bool, true, false, ◌&&◌, List, [], ◌∷◌, ◌++◌, length, map, refl, ap, sym, subst, arith, if◌then◌else◌, All, Option, Some, None, option_map, Result, Ok, Err}, lemmas.{Bool.Decides.{nat_tests}, List.{length-map, Elements.{All-nil, All-cons}}}}, specs.{Prelude.{◌||◌, ◌≢◌, nat_eq, not, unwrap_or, IfOk, IfSome}, List.{list_any}}},
+  std.{proofs.{Common.{◌≡◌, ◌∙◌, ℕ, suc, ◌+◌, pos, Bool, true, false, List, [], ◌∷◌, ◌++◌, length, map, refl, ap, sym, arith, if◌then◌else◌, All, Option, Some, None, option_map, Result, Ok, Err}, lemmas.{Bool.Decides.{nat_tests}, List.{length-map, Elements.{All-cons}}}}, specs.{Prelude.{◌||◌, ◌≢◌, nat_eq, not, unwrap_or, IfOk}, List.{list_any}}},
   cell_core.specs.declared.{cell.Label.{Label}, grid.Shape.TheVariants.{Frame}, code.Code.TheVariants.{NoKey}},
-  meaning.specs.{Text.{Text}, Cell.{LabelValue, int, label_datum}, Operator.{cell_label}, Symbol.{Accessor, loc, iloc, at, iat}, Fault.{FaultValue, no_key, bad_value, repeated, then_value}},
+  meaning.specs.{Text.{Text}, Cell.{LabelValue, int, label_datum}, Symbol.{Accessor, loc, iloc, at, iat}, Fault.{FaultValue, bad_value, repeated, then_value}},
   multi_index.specs.Axes.{HaveLevels},
-  table_meaning.specs.{Table.{NumberedTable, Table, table_value, tuple_value, heading_value}, Value.{GivenSub, key_given, span_given, nothing, one, row, many, entries, cell, table}, Valid.{IsWhole}, Settled.{IsSettled}},
+  table_meaning.specs.{Table.{NumberedTable, Table, table_value, tuple_value, heading_value}, Value.{GivenSub, key_given, span_given, nothing, one, row, many, entries, cell, table}, Settled.{IsSettled}},
   form_meaning.specs.{Binding.{same_label}, Finish.{column_labels}, Infix.{same_tuple}},
   pick_meaning.specs.{Faults.{then_pick}, Keys.{Pick, key_pick, one_key}, Labels.{unless_none}, Leading.{leads}, Rows.{rows_where, are_some}},
-  select_meaning.specs.{Keys.{found_pick, rows_by, columns_by, joined_key, once, whole_key, found_labels}, Set.{Reached, picked, added_label, row_to_add, or_added, rows_set}},
+  select_meaning.specs.{Keys.{found_pick, rows_by, columns_by, joined_key, once, found_labels}, Set.{Reached, added_label, row_to_add, or_added, rows_set}},
   frame_store.specs.{Shown.{labels_value, headings_value}, declared.{fault.OpFault.{OpFault, TheVariants.{Refused}}, arguments.Subscript.{Subscript}}, Arguments.{subscript_of}, Objects.{Tables}},
   form_parts.{specs.Makes.{MakesBy}, proofs.LabelLaws.{value_decides}},
   indexers.specs.declared.keys.Picked.{Picked as CodePicked},
-  selections.{specs.Reaches.{pick_value}, proofs.ReachLaws.{refused_then}},
-  settings.specs.{declared.targets.Reached.{Reached as CodeReached}, Values.{reached_value, target_value, rows_of_pair, is_no_key, AddsOnOne, IsFreshIn, TellsAbsence}},
+  selections.specs.Reaches.{pick_value},
+  settings.specs.{declared.targets.Reached.{Reached as CodeReached}, Values.{reached_value, target_value, rows_of_pair, is_no_key, IsFreshIn, TellsAbsence}},
 }
 
 -- a row is found where a label stands
 any_row : {X : Type 0} (p : X → Bool) (first : ℕ) (xs : List X) → are_some (rows_where p first xs) ≡ list_any p xs
 any_row p first [] = refl
-any_row p first (x ∷ xs) = go (any_row p (first + 1) xs) (p x)
-  where
-    go : are_some (rows_where p (first + 1) xs) ≡ list_any p xs → (b : Bool) → are_some (if b then first ∷ rows_where p (first + 1) xs else rows_where p (first + 1) xs) ≡ (b || list_any p xs)
-    go later true = refl
-    go later false = later
+any_row p first (x ∷ xs) = grind (arith, any_row p (first + 1) xs)
 
 alike : (l : LabelValue) (tuple : List LabelValue) → length tuple ≡ 1 → leads same_label (l ∷ []) tuple ≡ same_tuple (l ∷ []) tuple
 alike l [] single = refl
 alike l (x ∷ []) single = refl
-alike l (x ∷ (y ∷ ys)) single = absurd (omega (arith, single))
+alike l (x ∷ (y ∷ ys)) single = search
 
 any_alike : (l : LabelValue) (tuples : List (List LabelValue)) → All (λ tuple. length tuple ≡ 1) tuples → list_any (leads same_label (l ∷ [])) tuples ≡ list_any (same_tuple (l ∷ [])) tuples
 any_alike l [] single = refl
@@ -44,10 +40,10 @@ not_no_key false p key = refl
 
 of_one : (levels : ℕ) (key : List LabelValue) (rows : List ℕ) → is_no_key (then_value (found_pick (then_pick (unless_none key rows) (λ rows. Ok (key_pick levels key rows)))) (once key)) ≡ not (are_some rows)
 of_one levels key [] = refl
-of_one levels key (r ∷ rows) = not_no_key (key_pick levels key (r ∷ rows)).single (key_pick levels key (r ∷ rows)) key
+of_one levels key (r ∷ rows) = search not_no_key
 
 there : (l : LabelValue) (tuples : List (List LabelValue)) → All (λ tuple. length tuple ≡ 1) tuples → not (are_some (rows_where (leads same_label (l ∷ [])) 0 tuples)) ≡ not (list_any (same_tuple (l ∷ [])) tuples)
-there l tuples single = ap not (any_row (leads same_label (l ∷ [])) 0 tuples ∙ any_alike l tuples single)
+there l tuples single = search (any_row, any_alike)
 
 label_tells : (levels : ℕ) (l : LabelValue) (tuples : List (List LabelValue)) → All (λ tuple. length tuple ≡ 1) tuples → TellsAbsence (Some l) tuples (found_labels levels tuples (one_key (l ∷ [])))
 label_tells levels l tuples single = of_rows levels (l ∷ []) (rows_where (leads same_label (l ∷ [])) 0 tuples) ∙ there l tuples single
@@ -59,12 +55,12 @@ single_labels : (t : Table) → All (λ tuple. length tuple ≡ 1) (column_label
 single_labels t = go t.headings
   where
     go : (hs : List (Option LabelValue)) → All (λ tuple. length tuple ≡ 1) (map (λ h. unwrap_or h (int (pos 0)) ∷ []) hs)
-    go [] = All-nil (λ tuple. length tuple ≡ 1)
-    go (h ∷ hs) = All-cons (λ tuple. length tuple ≡ 1) (unwrap_or h (int (pos 0)) ∷ []) (map (λ h. unwrap_or h (int (pos 0)) ∷ []) hs) refl (go hs)
+    go [] = grind arith
+    go (h ∷ hs) = grind (arith, go hs)
 
 -- the tuples of rows on one level
 single_rows : (texts : List Text) (labels : List (List Label)) → HaveLevels 1 labels → All (λ tuple. length tuple ≡ 1) (labels_value texts labels)
-single_rows texts [] single = All-nil (λ tuple. length tuple ≡ 1)
+single_rows texts [] single = grind arith
 single_rows texts (t ∷ ts) single =
     All-cons (λ tuple. length tuple ≡ 1) (tuple_value texts t) (labels_value texts ts) (length-map t (label_datum texts) ∙ single 0 t (omega arith)) (single_rows texts ts (λ k d lt. single (suc k) d (omega (arith, lt))))
 
@@ -72,16 +68,14 @@ single_rows texts (t ∷ ts) single =
 added_tells : (by : Accessor) (t : Table) (k : GivenSub) → length t.level_names ≡ 1 → All (λ tuple. length tuple ≡ 1) t.labels → TellsAbsence (added_label by k) t.labels (rows_by by t k)
 added_tells iloc t k levels single = tt
 added_tells iat t k levels single = tt
-added_tells loc t (key_given (one (cell c))) levels single = label_tells (length t.level_names) (cell_label c) t.labels single
+added_tells loc t (key_given (one (cell c))) levels single = search label_tells
 added_tells loc t (key_given (one (table m))) levels single = tt
 added_tells loc t (key_given nothing) levels single = tt
 added_tells loc t (key_given (row parts)) levels single = tt
 added_tells loc t (key_given (many parts)) levels single = tt
 added_tells loc t (key_given (entries pairs)) levels single = tt
 added_tells loc t (span_given from to by) levels single = tt
-added_tells at t (key_given (one (cell c))) levels single =
-    subst (λ n. TellsAbsence (Some (cell_label c)) t.labels (then_value (whole_key n (key_given (one (cell c)))) (λ key. then_value (found_labels n t.labels (one_key key)) (once key)))) (sym levels)
-    (once_tells 1 (cell_label c) t.labels single)
+added_tells at t (key_given (one (cell c))) levels single = grind (arith, once_tells)
 added_tells at t (key_given (one (table m))) levels single = tt
 added_tells at t (key_given nothing) levels single = tt
 added_tells at t (key_given (row parts)) levels single = tt
@@ -92,14 +86,14 @@ added_tells at t (span_given from to by) levels single = tt
 pub columns_tell : (by : Accessor) (t : Table) (k : GivenSub) → TellsAbsence (added_label by k) (column_labels t) (columns_by by t k)
 columns_tell iloc t k = tt
 columns_tell iat t k = tt
-columns_tell loc t (key_given (one (cell c))) = label_tells 1 (cell_label c) (column_labels t) (single_labels t)
+columns_tell loc t (key_given (one (cell c))) = search (label_tells, single_labels)
 columns_tell loc t (key_given (one (table m))) = tt
 columns_tell loc t (key_given nothing) = tt
 columns_tell loc t (key_given (row parts)) = tt
 columns_tell loc t (key_given (many parts)) = tt
 columns_tell loc t (key_given (entries pairs)) = tt
 columns_tell loc t (span_given from to by) = tt
-columns_tell at t (key_given (one (cell c))) = label_tells 1 (cell_label c) (column_labels t) (single_labels t)
+columns_tell at t (key_given (one (cell c))) = search (label_tells, single_labels)
 columns_tell at t (key_given (one (table m))) = tt
 columns_tell at t (key_given nothing) = tt
 columns_tell at t (key_given (row parts)) = tt
@@ -116,87 +110,24 @@ rows_tell texts by t k levels = go (nat_eq (length (table_value texts t).level_n
   where
     go : (b : Bool) → nat_eq (length (table_value texts t).level_names) 1 ≡ b → TellsAbsence (if b then added_label by k else None) (labels_value texts t.labels) (rows_by by (table_value texts t) k)
     go true e =
-        let one : length (table_value texts t).level_names ≡ 1 = same_number (length (table_value texts t).level_names) 1 e in
-        added_tells by (table_value texts t) k one (single_rows texts t.labels (subst (λ n. HaveLevels n t.labels) (sym (length-map t.level_names (heading_value texts)) ∙ one) levels))
+        let one : length (table_value texts t).level_names ≡ 1 = search same_number in
+        added_tells by (table_value texts t) k one (grind (arith, single_rows, length-map))
     go false e = tt
-
-own_on : (t : NumberedTable) (label added : Option Label) → IfSome label (λ l. length t.level_names ≡ 1) → IfSome added (λ l. label ≡ Some l) → IfSome added (λ l. length t.level_names ≡ 1)
-own_on t label None single own = tt
-own_on t label (Some l) single own = subst (λ (o : Option Label). IfSome o (λ l. length t.level_names ≡ 1)) own single
-
-pub own_on_one : (t : NumberedTable) (label : Option Label) (r : Result CodeReached OpFault) → IfSome label (λ l. length t.level_names ≡ 1) → IfOk r (λ reached. IfSome reached.added (λ added. label ≡ Some added)) → IfOk r (AddsOnOne t)
-own_on_one t label (Err fault) single own = tt
-own_on_one t label (Ok reached) single own = own_on t label reached.added single own
 
 -- two keys of a Series
 module _ (texts : List Text) (t : NumberedTable) (by : Accessor) (levels : ℕ) (first second : GivenSub) (count : levels ≡ length t.level_names) where
-  pair_is : then_value (joined_key by levels first second) (rows_set by (table_value texts t)) ≡ rows_of_pair by (table_value texts t) first second
-  pair_is = ap (λ (n : ℕ). then_value (joined_key by n first second) (rows_set by (table_value texts t))) (count ∙ sym (length-map t.level_names (heading_value texts)))
-
-  pub pair_refused : {X : Type 0} (view : List Text → X → GivenSub) (why : OpFault) → MakesBy view texts (Err why) (joined_key by levels first second) → MakesBy reached_value texts (Err why) (rows_of_pair by (table_value texts t) first second)
-  pair_refused view why refused = subst (MakesBy reached_value texts (Err why)) pair_is (refused_then view reached_value texts why (joined_key by levels first second) (rows_set by (table_value texts t)) refused)
-
   pub pair_reached : (k : GivenSub) (out : Result CodeReached OpFault) → joined_key by levels first second ≡ Ok k → MakesBy reached_value texts out (rows_set by (table_value texts t) k) → MakesBy reached_value texts out (rows_of_pair by (table_value texts t) first second)
-  pair_reached k out is reached = subst (MakesBy reached_value texts out) (sym (ap (λ r. then_value r (rows_set by (table_value texts t))) is) ∙ pair_is) reached
-
--- what was picked, or one more
-pub as_picked : (o : Option LabelValue) (tuples : List (List LabelValue)) (pick : Result Pick FaultValue) (p : Pick) → pick ≡ Ok p → TellsAbsence o tuples pick → or_added o tuples pick ≡ Ok (picked p)
-as_picked None tuples pick p is tells = ap (λ r. then_value r (λ p. Ok (picked p))) is
-as_picked (Some l) tuples pick p is tells = ap (or_added (Some l) tuples) is ∙ go (list_any (same_tuple (l ∷ [])) tuples) (ap is_no_key (sym is) ∙ tells)
-  where
-    go : (b : Bool) → false ≡ not b → (if b then then_value (Ok p) (λ p. Ok (picked p)) else Ok record { places = length tuples ∷ []; added = Some l }) ≡ Ok (picked p)
-    go true e = refl
-    go false e = cc
-
-pub as_added : (l : LabelValue) (tuples : List (List LabelValue)) (pick : Result Pick FaultValue) (key : List LabelValue) (count : ℕ) → pick ≡ Err (no_key key) → TellsAbsence (Some l) tuples pick → length tuples ≡ count
-    → or_added (Some l) tuples pick ≡ Ok record { places = count ∷ []; added = Some l }
-as_added l tuples pick key count is tells as_many = go (list_any (same_tuple (l ∷ [])) tuples) (ap is_no_key (sym is) ∙ tells)
-  where
-    go : (b : Bool) → true ≡ not b → (if b then then_value pick (λ p. Ok (picked p)) else Ok record { places = length tuples ∷ []; added = Some l }) ≡ Ok record { places = count ∷ []; added = Some l }
-    go true e = cc
-    go false e = λ j. Ok record { places = as_many j ∷ []; added = Some l }
-
-pub as_refused : (o : Option LabelValue) (tuples : List (List LabelValue)) (pick : Result Pick FaultValue) (fault : FaultValue) → pick ≡ Err fault → is_no_key (Err fault) ≡ false → TellsAbsence o tuples pick → or_added o tuples pick ≡ Err fault
-as_refused None tuples pick fault is other tells = ap (λ r. then_value r (λ p. Ok (picked p))) is
-as_refused (Some l) tuples pick fault is other tells = ap (or_added (Some l) tuples) is ∙ go (list_any (same_tuple (l ∷ [])) tuples) (sym other ∙ ap is_no_key (sym is) ∙ tells)
-  where
-    go : (b : Bool) → false ≡ not b → (if b then then_value (Err fault) (λ p. Ok (picked p)) else Ok record { places = length tuples ∷ []; added = Some l }) ≡ Err fault
-    go true e = refl
-    go false e = cc
+  pair_reached k out is reached = grind (arith, length-map)
 
 -- a key that isn't there, where no label may be added
 pub as_nothing : (texts : List Text) (label : Option Label) (rows : Result CodePicked OpFault) (key : List Label) (tuples : List (List LabelValue)) (pick : Result Pick FaultValue) → label ≡ None → rows ≡ Err (Refused (NoKey key))
     → MakesBy pick_value texts rows pick → MakesBy reached_value texts (Err (Refused (NoKey key))) (or_added (option_map (label_datum texts) label) tuples pick)
-as_nothing texts label rows key tuples pick none is makes =
-    let refused : MakesBy pick_value texts (Err (Refused (NoKey key))) pick = subst (λ (r : Result CodePicked OpFault). MakesBy pick_value texts r pick) is makes in
-    subst (λ (o : Option Label). MakesBy reached_value texts (Err (Refused (NoKey key))) (or_added (option_map (label_datum texts) o) tuples pick)) (sym none)
-    (ap (λ r. then_value r (λ p. Ok (picked p))) refused.0, refused.1)
-
-pub column_count : (texts : List Text) (t : NumberedTable) → IsWhole t → length (column_labels (table_value texts t)) ≡ length t.columns
-column_count texts t whole = length-map (headings_value texts t.headings) (λ h. unwrap_or h (int (pos 0)) ∷ []) ∙ length-map t.headings (heading_value texts) ∙ whole.headed
+as_nothing texts label rows key tuples pick none is makes = grind arith
 
 -- a label that is added stands in no column
 abbrev added_in : Result Reached FaultValue → Option LabelValue
 added_in (Ok r) = r.added
 added_in (Err fault) = None
-
-added_of : {A : Type 0} (pick : Result Pick FaultValue) (r : Reached) (l : LabelValue) → then_value pick (λ p. Ok (picked p)) ≡ Ok r → r.added ≡ Some l → A
-added_of (Ok p) r l is some =
-    let none : None ≡ r.added = ap (λ (x : Result Reached FaultValue). added_in x) is in
-    let wrong : None ≡ Some l = none ∙ some in
-    cc
-added_of (Err fault) r l is some = cc
-
-added_absent : (o : Option LabelValue) (tuples : List (List LabelValue)) (pick : Result Pick FaultValue) (r : Reached) (l : LabelValue) → or_added o tuples pick ≡ Ok r → r.added ≡ Some l → list_any (same_tuple (l ∷ [])) tuples ≡ false
-added_absent None tuples pick r l is some = added_of pick r l is some
-added_absent (Some l') tuples pick r l is some = go (list_any (same_tuple (l' ∷ [])) tuples) refl is
-  where
-    go : (b : Bool) → list_any (same_tuple (l' ∷ [])) tuples ≡ b → (if b then then_value pick (λ p. Ok (picked p)) else Ok record { places = length tuples ∷ []; added = Some l' }) ≡ Ok r → list_any (same_tuple (l ∷ [])) tuples ≡ false
-    go true e made = added_of pick r l made some
-    go false e made =
-        let both : Some l' ≡ Some l = ap (λ (x : Result Reached FaultValue). added_in x) made ∙ some in
-        let same : l' ≡ l = cc in
-        ap (λ x. list_any (same_tuple (x ∷ [])) tuples) (sym same) ∙ e
 
 or_false : (a b : Bool) → (a || b) ≡ false → (a ≡ false) × (b ≡ false)
 or_false true b e = cc
@@ -204,28 +135,15 @@ or_false false b e = (refl, e)
 
 absent_headings : (texts : List Text) (headings : List (Option Label)) (label : Label) → list_any (same_tuple (label_datum texts label ∷ [])) (map (λ h. unwrap_or h (int (pos 0)) ∷ []) (headings_value texts headings)) ≡ false
     → All (λ heading. heading ≢ Some label) headings
-absent_headings texts [] label none = All-nil (λ heading. heading ≢ Some label)
+absent_headings texts [] label none = grind arith
 absent_headings texts (h ∷ hs) label none =
     let both = or_false (same_tuple (label_datum texts label ∷ []) (unwrap_or (heading_value texts h) (int (pos 0)) ∷ [])) (list_any (same_tuple (label_datum texts label ∷ [])) (map (λ h. unwrap_or h (int (pos 0)) ∷ []) (headings_value texts hs))) none in
-    let apart : h ≢ Some label = λ e.
-    let met : same_tuple (label_datum texts label ∷ []) (unwrap_or (heading_value texts h) (int (pos 0)) ∷ []) ≡ true =
-    ap (λ (o : Option Label). same_tuple (label_datum texts label ∷ []) (unwrap_or (heading_value texts o) (int (pos 0)) ∷ [])) e ∙ ap (λ b. b && true) ((value_decides (label_datum texts label) (label_datum texts label)).1 refl) in
-    let wrong : true ≡ false = sym met ∙ both.0 in
-    cc in
-    All-cons (λ heading. heading ≢ Some label) h hs apart (absent_headings texts hs label both.1)
+    grind (arith, value_decides, absent_headings texts hs label both.1)
 
 pub fresh_reached : (texts : List Text) (t : NumberedTable) (o : Option LabelValue) (pick : Result Pick FaultValue) (r : Result CodeReached OpFault) → t.shape ≡ Frame → MakesBy reached_value texts r (or_added o (column_labels (table_value texts t)) pick)
     → IfOk r (λ reached. IsFreshIn t reached.added)
 fresh_reached texts t o pick (Err fault) frame makes = tt
-fresh_reached texts t o pick (Ok reached) frame makes = go reached.added refl
-  where
-    go : (a : Option Label) → reached.added ≡ a → IsFreshIn t a
-    go None e = tt
-    go (Some label) e = (frame, absent_headings texts t.headings label (added_absent o (column_labels (table_value texts t)) pick (reached_value texts reached) (label_datum texts label) makes (ap (option_map (label_datum texts)) e)))
-
--- the label that is added is the one that may be
-pub added_own : (label : Option Label) (l : Label) (count : ℕ) (r : CodeReached) → label ≡ Some l → r ≡ record { places = count ∷ []; added = Some l } → IfSome r.added (λ added. label ≡ Some added)
-added_own label l count r some made = subst (λ (r : CodeReached). IfSome r.added (λ added. label ≡ Some added)) (sym made) some
+fresh_reached texts t o pick (Ok reached) frame makes = grind (arith, absent_headings)
 
 -- texts of what is reached were given
 pub added_settled : (texts : List Text) (label : Option Label) (l : Label) (count : ℕ) (r : CodeReached) → label ≡ Some l → r ≡ record { places = count ∷ []; added = Some l } → IsSettled heading_value texts label → IsSettled reached_value texts r
@@ -235,7 +153,7 @@ added_settled texts label l count r some made settled = λ more.
     ∙ sym (ap (reached_value texts) made)
 
 pub picked_settled : (texts : List Text) (places : List ℕ) (r : CodeReached) → r ≡ record { places = places; added = None } → IsSettled reached_value texts r
-picked_settled texts places r made = λ more. ap (reached_value (texts ++ more)) made ∙ sym (ap (reached_value texts) made)
+picked_settled texts places r made = grind arith
 
 pub label_settled : (texts : List Text) (live : Tables) (by : Accessor) (key : Subscript) (label : Option Label) → ((live : Tables) (texts : List Text) → option_map (label_datum texts) label ≡ added_label by (subscript_of live texts key))
     → IsSettled (subscript_of live) texts key → IsSettled heading_value texts label

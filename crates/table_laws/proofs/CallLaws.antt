@@ -23,14 +23,14 @@ plain_result_keeps (cell c) name gs h k = tt
 plain_result_keeps (table t) name gs h k = by (is_merge (method_named t.shape name)) refl
   where
     by : (b : Bool) → is_merge (method_named t.shape name) ≡ b → IfOk (if b then merge_call t gs else method_result (table t) name gs) IsValidEntry
-    by true e = merge_call_keeps t gs record { fits = shaped t h; frame = merge_frame t (method_named t.shape name) e (named_fits t.shape name) } k
-    by false e = method_result_keeps (table t) name gs h
+    by true e = search (merge_call_keeps, shaped, merge_frame, named_fits)
+    by false e = search method_result_keeps
 
 -- any call behind a value
 pub call_result_keeps : (v : Entry) (chain : ChainValue) (gs : List NamedGiven) → IsValidObject v → AreValidArguments gs → IfOk (call_result v chain gs) IsValidEntry
 call_result_keeps v (plain name) gs h k = plain_result_keeps v name gs h k
-call_result_keeps v (grouped by brackets name) gs h k = chain_result_keeps v (grouped by brackets name) gs h
-call_result_keeps v (through name) gs h k = chain_result_keeps v (through name) gs h
+call_result_keeps v (grouped by brackets name) gs h k = search chain_result_keeps
+call_result_keeps v (through name) gs h k = search chain_result_keeps
 
 -- any function of `pd`
 pub function_result_keeps : (file : Option (List ℕ)) (name : Text) (gs : List NamedGiven) → AreValidArguments gs → IfOk (function_result file name gs) IsValidEntry

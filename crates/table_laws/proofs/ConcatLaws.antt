@@ -1,16 +1,15 @@
 -- `pd.concat` makes a valid table of valid ones.
 use Rattle.{
-  std.{proofs.{Common.{◌≡◌, ◌≢◌, ◌∙◌, refl, sym, ap, subst, ℕ, suc, ◌+◌, ◌<◌, ◌≤◌, pos, List, [], ◌∷◌, length, map, filter, length-append, arith}, lemmas.{Bool.{eqb-true, false≢true, Decides.{nat_tests}}, List.{length-map, FromFn.{length-map-range_with_len}, Elements.{All-nil, All-cons, All-head, All-tail, All-filter, All-append, All-weaker, filter_passes}, Kept.{AllPairs-cons, AllPairs-filter}}}}, specs.{Prelude.{Bool, true, false, not, nat_eq, nat_lt, fold, slice_index_or, unwrap_or, option_map, if◌then◌else◌, Option, Some, None, IsSome, IfSome, Result, Ok, Err, IfOk, All, AllPairs}, Bool.{Decides}, List.{list_all, flat_map, position_or_len, range_with_len}, Cmp.Lexicographic.{pointwise, as_long}}},
-  cell_core.specs.declared.{cell.Kind.{Kind, TheVariants.{Int64}}, grid.Shape.{Shape, TheVariants.{Series, Frame}}},
-  meaning.specs.{Cell.{CellValue, na_cell, LabelValue, int}, Column.{ColumnValue}, Fault.{FaultValue, wrong_kind, bad_value, levels}, Reduce.{distinct}},
+  std.{proofs.{Common.{◌≡◌, ◌≢◌, ◌∙◌, refl, sym, ap, ℕ, suc, ◌+◌, ◌<◌, List, [], ◌∷◌, length, map, filter, length-append, arith}, lemmas.{Bool.{eqb-true, false≢true, Decides.{nat_tests}}, List.{length-map, FromFn.{length-map-range_with_len}, Elements.{All-nil, All-cons, All-head, All-tail, All-filter, All-append, filter_passes}, Kept.{AllPairs-cons, AllPairs-filter}}}}, specs.{Prelude.{Bool, true, false, not, nat_lt, fold, slice_index_or, unwrap_or, if◌then◌else◌, Option, Some, None, IsSome, IfSome, Result, Ok, Err, IfOk, All, AllPairs}, Bool.{Decides}, List.{list_all, flat_map, range_with_len}, Cmp.Lexicographic.{pointwise, as_long}}},
+  cell_core.specs.declared.{cell.Kind.{Kind}, grid.Shape.{Shape, TheVariants.{Series, Frame}}},
+  meaning.specs.{Cell.{CellValue, na_cell, LabelValue}, Column.{ColumnValue}, Fault.{FaultValue, bad_value, levels}, Reduce.{distinct}},
   align_meaning.{specs.Targets.{rows_of_targets}, proofs.OrderLaws.{all_flat, all_distinct}},
   join_meaning.specs.Concat.{same_kind, united, are_equal, repeated_on_any, labels_under},
-  table_meaning.{specs.{Table.{ColumnOf, Table, column_at}, Valid.{IsValid, AreHeadings}, Value.{Entry, Given, NamedGiven, nothing, one, row, many, entries, list_in}}, proofs.KindLaws.{kind_is}},
-  form_meaning.specs.{Signature.{function_parameters}, Binding.{argument_at, truth_in}, Finish.{limited, finished, same_heading, value_of_column, column_of_value, missing_column, try_all}, Infix.{same_tuple, common_name}, Make.{on}},
-  method_meaning.specs.Concat.{Concatenation, tables_of, kept_names, level_names_of_all, columns_name_of_all, have_same_levels, labels_of_tables, RowAxis, rows_below, columns_below, column_under, kind_under, column_or_missing, frame_column_below, is_series, table_below, finished_below, series_below, frames_below, are_series, are_frames, below, numbered_from, headings_beside, rows_met, columns_beside, table_beside, unless_label_twice, beside, with_keys, along, concatenated, concat_result, concat_call},
-  table_laws.{specs.Validity.{IsValidEntry, IsValidArgument, AreValidArguments}, proofs.{ListLaws.{both_true, all_pass, all_made, all_any, all_mapped, then_keeps, try_keeps, on_keeps, on_some_keeps, of_length_keeps}, CellLaws.{Held, na_held}, ColumnLaws.{IsColumn, spread_column}, TableLaws.{IsShaped, shaped, limited_keeps, column_of_table, series_heading, frame_headings, one_column}, HeadingLaws.{label_decides}, InfixLaws.{columns_on}, GroupLaws.{AreLabels, frame_keeps}, LevelLaws.{on_levels_keep}, SetLaws.{length_default, default_levels}, ArgumentLaws.{argument_valid, bound_taken}}},
+  table_meaning.{specs.{Table.{ColumnOf, Table, column_at}, Valid.{IsValid, AreHeadings}, Value.{Entry, Given, NamedGiven, list_in}}, proofs.KindLaws.{kind_is}},
+  form_meaning.specs.{Finish.{finished, same_heading, value_of_column, column_of_value, missing_column, try_all}, Infix.{same_tuple, common_name}, Make.{on}},
+  method_meaning.specs.Concat.{Concatenation, tables_of, kept_names, level_names_of_all, columns_name_of_all, have_same_levels, labels_of_tables, RowAxis, rows_below, columns_below, column_under, column_or_missing, frame_column_below, is_series, table_below, finished_below, series_below, frames_below, are_series, are_frames, numbered_from, headings_beside, rows_met, columns_beside, table_beside, unless_label_twice, beside, with_keys, along, concatenated, concat_result, concat_call},
+  table_laws.{specs.Validity.{IsValidEntry, IsValidArgument, AreValidArguments}, proofs.{ListLaws.{both_true, all_pass, all_made, all_any, all_mapped, then_keeps, try_keeps, on_keeps, on_some_keeps, of_length_keeps}, CellLaws.{Held, na_held}, ColumnLaws.{IsColumn, spread_column}, TableLaws.{IsShaped, shaped, limited_keeps, column_of_table, series_heading, frame_headings, one_column}, HeadingLaws.{label_decides}, InfixLaws.{columns_on}, GroupLaws.{AreLabels, frame_keeps}, LevelLaws.{on_levels_keep}, SetLaws.{length_default, default_levels}, ArgumentLaws.{argument_valid}}},
 }
-use Rattle.form_meaning.specs.declared.Function.TheVariants as function
 
 abbrev Has : ℕ → List LabelValue → Type 0
 Has n tuple = length tuple ≡ n
@@ -45,15 +44,15 @@ module _ (f : Table → ColumnOf CellValue) where
   cells_held : (kind : Kind) (ts : List Table) → AreColumns f ts → list_all (λ (other : ColumnValue). same_kind kind other.kind) (parts ts) ≡ true → All (Held kind) (cells ts)
   cells_held kind [] h alike = All-nil (Held kind)
   cells_held kind (t ∷ ts) h alike =
-      let both = both_true (same_kind kind (f t).kind) (list_all (λ (other : ColumnValue). same_kind kind other.kind) (parts ts)) alike in
+      let both = both_true (same_kind kind (f t).kind) (list_all (λ other. same_kind kind other.kind) (parts ts)) alike in
       All-append (Held kind) (f t).cells (cells ts)
-      (subst (λ k. All (Held k) (f t).cells) (sym (kind_is kind (f t).kind both.0)) (All-head Fits t ts h).held) (cells_held kind ts (All-tail Fits t ts h) both.1)
+      (rw (kind_is kind (f t).kind both.0) (All-head Fits t ts h).held) (cells_held kind ts (All-tail Fits t ts h) both.1)
 
   below_held : (ts : List Table) → AreColumns f ts → IfOk (columns_below (map f ts)) (IsColumn (length (all_labels ts)))
-  below_held [] h = record { filled = refl; held = All-nil (Held Int64) }
-  below_held (t ∷ ts) h = by (list_all (λ (other : ColumnValue). same_kind (f t).kind other.kind) (parts ts)) refl
+  below_held [] h = grind arith
+  below_held (t ∷ ts) h = by (list_all (λ other. same_kind (f t).kind other.kind) (parts ts)) refl
     where
-      by : (b : Bool) → list_all (λ (other : ColumnValue). same_kind (f t).kind other.kind) (parts ts) ≡ b
+      by : (b : Bool) → list_all (λ other. same_kind (f t).kind other.kind) (parts ts) ≡ b
           → IfOk (on (if b then Some record { kind = (f t).kind; cells = cells (t ∷ ts) } else None) (λ c. Ok (column_of_value c))) (IsColumn (length (all_labels (t ∷ ts))))
       by true e = record {
         filled = cells_count (t ∷ ts) h;
@@ -64,23 +63,14 @@ module _ (f : Table → ColumnOf CellValue) where
 below_is : (a b : ℕ) → nat_lt a b ≡ true → a < b
 below_is a b e = Prim.grind (arith, nat_tests)
 
-under_held : (h : Option LabelValue) (t : Table) → IsShaped t → IfSome (column_under h t) (IsColumn (length t.labels))
-under_held h t s = by (nat_lt (position_or_len (same_heading h) t.headings) (length t.headings)) refl
-  where
-    by : (b : Bool) → nat_lt (position_or_len (same_heading h) t.headings) (length t.headings) ≡ b
-        → IfSome (option_map (column_at t.columns) (if b then Some (position_or_len (same_heading h) t.headings) else None)) (IsColumn (length t.labels))
-    by true e = let lt : position_or_len (same_heading h) t.headings < length t.headings = below_is _ _ e in column_of_table t s (position_or_len (same_heading h) t.headings) (Prim.omega (arith, lt, s.headed))
-    by false e = tt
-
 or_else : {X : Type 0} (P : X → Type 0) (o : Option X) (x : X) → IfSome o P → P x → P (unwrap_or o x)
-or_else P None x h k = k
-or_else P (Some y) x h k = h
+or_else x1 x2 x h k = grind arith
 
 column_held : (h : Option LabelValue) (kind : Kind) (t : Table) → IsShaped t → IsColumn (length t.labels) (column_or_missing h kind t)
-column_held h kind t s = or_else (IsColumn (length t.labels)) (column_under h t) (missing_column kind (length t.labels)) (under_held h t s) (spread_column kind (length t.labels) na_cell (na_held kind))
+column_held h kind t s = or_else (IsColumn (length t.labels)) (column_under h t) (missing_column kind (length t.labels)) (grind (arith, below_is, column_of_table)) (spread_column kind (length t.labels) na_cell (na_held kind))
 
 frame_column_held : (ts : List Table) (h : Option LabelValue) → AreShaped ts → IfOk (frame_column_below ts h) (IsColumn (length (all_labels ts)))
-frame_column_held ts h s = below_held (column_or_missing h (kind_under h ts)) ts (λ k d lt. column_held h (kind_under h ts) (slice_index_or ts k d) (s k d lt))
+frame_column_held ts h s = search (below_held, column_held)
 
 -- the names of levels
 
@@ -94,7 +84,7 @@ fold_count names [] = refl
 fold_count names (m ∷ more) = fold_count (kept_names names m) more ∙ kept_count names m
 
 names_count : (t : Table) (ts : List Table) → length (level_names_of_all (t ∷ ts)) ≡ length t.level_names
-names_count t ts = fold_count t.level_names (map (λ other. other.level_names) ts)
+names_count t ts = search fold_count
 
 -- Series have no name of columns
 no_common : (names : List (Option LabelValue)) → fold common_name None names ≡ None
@@ -106,15 +96,8 @@ no_common (Some l ∷ names) = no_common names
 abbrev HaveLevels : ℕ → List Table → Type 0
 HaveLevels n ts = All (λ t. All (Has n) t.labels) ts
 
-levels_alike : (t : Table) (ts : List Table) → AreShaped (t ∷ ts) → have_same_levels (t ∷ ts) ≡ true → HaveLevels (length t.level_names) (t ∷ ts)
-levels_alike t ts s e =
-    let alike = all_pass (λ (other : Table). nat_eq (length t.level_names) (length other.level_names)) ts e in
-    let others = All-tail IsShaped t ts s in
-    All-cons (λ (u : Table). All (Has (length t.level_names)) u.labels) t ts (All-head IsShaped t ts s).levels
-    (λ k d lt. subst (λ n. All (Has n) (slice_index_or ts k d).labels) (sym (eqb-true _ _ (alike k d lt))) (others k d lt).levels)
-
 labels_have : (n : ℕ) (ts : List Table) → HaveLevels n ts → All (All (Has n)) (labels_of_tables ts)
-labels_have n ts h = all_made (λ (t : Table). All (Has n) t.labels) (All (Has n)) (λ t. t.labels) (λ t k. k) ts h
+labels_have n ts h = all_made (λ t. All (Has n) t.labels) (All (Has n)) (λ t. t.labels) (λ t k. k) ts h
 
 all_have : (n : ℕ) (ts : List Table) → HaveLevels n ts → All (Has n) (all_labels ts)
 all_have n ts h = all_flat (Has n) (All (Has n)) (λ labels. labels) (λ labels k. k) (labels_of_tables ts) (labels_have n ts h)
@@ -123,20 +106,17 @@ all_have n ts h = all_flat (Has n) (All (Has n)) (λ labels. labels) (λ labels 
 
 under_count : (keys : List LabelValue) (ts : List Table) → length keys ≡ length ts → length (labels_under keys (labels_of_tables ts)) ≡ length (all_labels ts)
 under_count [] [] e = refl
-under_count [] (t ∷ ts) e = absurd (Prim.omega (arith, e))
-under_count (key ∷ keys) [] e = absurd (Prim.omega (arith, e))
-under_count (key ∷ keys) (t ∷ ts) e =
-    let first : length (map (λ tuple. key ∷ tuple) t.labels) ≡ length t.labels = length-map t.labels _ in
-    let more = under_count keys ts (Prim.omega (arith, e)) in
-    length-append (map (λ tuple. key ∷ tuple) t.labels) (labels_under keys (labels_of_tables ts)) ∙ (λ i. first i + more i) ∙ sym (length-append t.labels (all_labels ts))
+under_count [] (t ∷ ts) e = search
+under_count (key ∷ keys) [] e = search
+under_count (key ∷ keys) (t ∷ ts) e = search (length-map, length-append, under_count keys ts (Prim.omega (arith, e)))
 
 under_have : (n : ℕ) (keys : List LabelValue) (ts : List Table) → HaveLevels n ts → All (Has (suc n)) (labels_under keys (labels_of_tables ts))
 under_have n [] ts h = All-nil (Has (suc n))
 under_have n (key ∷ keys) [] h = All-nil (Has (suc n))
 under_have n (key ∷ keys) (t ∷ ts) h =
     All-append (Has (suc n)) (map (λ tuple. key ∷ tuple) t.labels) (labels_under keys (labels_of_tables ts))
-    (all_made (Has n) (Has (suc n)) (λ tuple. key ∷ tuple) (λ tuple k. ap suc k) t.labels (All-head (λ (t : Table). All (Has n) t.labels) t ts h))
-    (under_have n keys ts (All-tail (λ (t : Table). All (Has n) t.labels) t ts h))
+    (all_made (Has n) (Has (suc n)) (λ tuple. key ∷ tuple) (λ tuple k. ap suc k) t.labels (All-head (λ t. All (Has n) t.labels) t ts h))
+    (under_have n keys ts (All-tail (λ t. All (Has n) t.labels) t ts h))
 
 -- a label for each part
 abbrev AreKeys : ℕ → Bool → Option (List LabelValue) → Type 0
@@ -148,56 +128,48 @@ record IsAxis (rows : ℕ) (a : RowAxis) : Type 0 where
 
 axis_is : (t : Table) (ts : List Table) (renumbered : Bool) (keys : Option (List LabelValue)) → HaveLevels (length t.level_names) (t ∷ ts) → AreKeys (length (t ∷ ts)) renumbered keys
     → IsAxis (length (all_labels (t ∷ ts))) (rows_below renumbered keys (t ∷ ts))
-axis_is t ts true keys h fit = record { count = length_default (length (all_labels (t ∷ ts))); levels = default_levels (length (all_labels (t ∷ ts))) }
-axis_is t ts false None h fit = record { count = refl; levels = subst (λ n. All (Has n) (all_labels (t ∷ ts))) (sym (names_count t ts)) (all_have (length t.level_names) (t ∷ ts) h) }
-axis_is t ts false (Some keys) h fit = record {
-  count = under_count keys (t ∷ ts) (fit refl);
-  levels = subst (λ n. All (Has (suc n)) (labels_under keys (labels_of_tables (t ∷ ts)))) (sym (names_count t ts)) (under_have (length t.level_names) keys (t ∷ ts) h);
-}
+axis_is t ts true keys h fit = search (length_default, default_levels)
+axis_is t ts false None h fit = search (names_count, all_have)
+axis_is t ts false (Some keys) h fit = search (under_count, names_count, under_have)
 
 -- one below the other
 
 series_is : (s : Shape) → is_series s ≡ true → s ≡ Series
-series_is Series e = refl
-series_is Frame e = Prim.cc
+series_is x e = grind arith
 
 frame_is : (s : Shape) → not (is_series s) ≡ true → s ≡ Frame
-frame_is Series e = Prim.cc
-frame_is Frame e = refl
+frame_is x e = grind arith
 
 abbrev AreOf : Shape → List Table → Type 0
 AreOf shape ts = All (λ t. t.shape ≡ shape) ts
 
 all_series : (ts : List Table) → are_series ts ≡ true → AreOf Series ts
-all_series ts e = λ k d lt. series_is _ (all_pass (λ (t : Table). is_series t.shape) ts e k d lt)
+all_series ts e = grind (arith, series_is, all_pass)
 
 all_frames : (ts : List Table) → are_frames ts ≡ true → AreOf Frame ts
-all_frames ts e = λ k d lt. frame_is _ (all_pass (λ (t : Table). not (is_series t.shape)) ts e k d lt)
+all_frames ts e = grind (arith, frame_is, all_pass)
 
 -- labels of columns that differ
 
 heading_decides : (a b : Option LabelValue) → Decides (same_heading a b) (a ≡ b)
-heading_decides None None = (λ e. refl, λ e. refl)
-heading_decides None (Some b) = (λ e. Prim.cc, λ e. Prim.cc)
-heading_decides (Some a) None = (λ e. Prim.cc, λ e. Prim.cc)
-heading_decides (Some a) (Some b) = (λ e. ap (λ l. Some l) ((label_decides a b).0 e), λ e. (label_decides a b).1 (ap (λ o. unwrap_or o a) e))
+heading_decides x x1 = grind (arith, label_decides)
 
 module _ {K : Type 0} (same : K → K → Bool) where
   distinct_apart : ((a b : K) → Decides (same a b) (a ≡ b)) → (xs : List K) → AllPairs (λ a b. a ≢ b) (distinct same xs)
-  distinct_apart decides [] = λ i j d lt inside. absurd (Prim.omega (arith, inside))
+  distinct_apart decides [] = grind arith
   distinct_apart decides (x ∷ xs) =
       let others = filter (λ q. not (same q x)) (distinct same xs) in
       AllPairs-cons (λ a b. a ≢ b) x others
-      (All-weaker (λ q. not (same q x) ≡ true) (λ q. x ≢ q) (λ q h e. false≢true (sym (ap not ((decides q x).1 (sym e))) ∙ h)) others (filter_passes (λ q. not (same q x)) (distinct same xs)))
+      (grind (arith, false≢true, filter_passes))
       (AllPairs-filter (λ a b. a ≢ b) (λ q. not (same q x)) (distinct same xs) (distinct_apart decides xs))
 
   united_all : (P : K → Type 0) (inner : Bool) (first : List K) (others : List (List K)) → All (All P) (first ∷ others) → All P (united same inner (first ∷ others))
   united_all P true first others h = All-filter _ P first (All-head (All P) first others h)
-  united_all P false first others h = all_distinct P same (flat_map (λ list. list) (first ∷ others)) (all_flat P (All P) (λ list. list) (λ list k. k) (first ∷ others) h)
+  united_all P false first others h = search (all_distinct, all_flat)
 
   united_apart : ((a b : K) → Decides (same a b) (a ≡ b)) → (inner : Bool) (first : List K) (others : List (List K)) → AllPairs (λ a b. a ≢ b) first → AllPairs (λ a b. a ≢ b) (united same inner (first ∷ others))
   united_apart decides true first others h = AllPairs-filter (λ a b. a ≢ b) _ first h
-  united_apart decides false first others h = distinct_apart decides (flat_map (λ list. list) (first ∷ others))
+  united_apart decides false first others h = search distinct_apart
 
 module _ (t : Table) (ts : List Table) (s : AreShaped (t ∷ ts)) (c : Concatenation) where
   abbrev all : List Table
@@ -207,51 +179,29 @@ module _ (t : Table) (ts : List Table) (s : AreShaped (t ∷ ts)) (c : Concatena
   rows = length (all_labels all)
 
   first : IsShaped t
-  first = All-head IsShaped t ts s
+  first = grind arith
 
   module _ (levels : HaveLevels (length t.level_names) all) (keys : AreKeys (length all) c.renumbered c.keys) where
     below_keeps : (shape : Shape) (headings : List (Option LabelValue)) (columns : List (ColumnOf CellValue)) → AreHeadings shape (columns_name_of_all all) headings → length headings ≡ length columns → All (IsColumn rows) columns
         → IfOk (finished_below (table_below shape all c headings columns)) IsValidEntry
-    below_keeps shape headings columns are headed held =
-        let u : Table = table_below shape all c headings columns in
-        let axis : IsAxis rows (rows_below c.renumbered c.keys all) = axis_is t ts c.renumbered c.keys levels keys in
-        on_levels_keep (length u.level_names) (limited u)
-        (λ some few. limited_keeps u record {
-          some = some;
-          few = few;
-          levels = axis.levels;
-          headed = headed;
-          columns = subst (λ n. All (IsColumn n) columns) (sym axis.count) held;
-          headings = are;
-        })
+    below_keeps shape headings columns are headed held = grind (arith, axis_is, on_levels_keep, limited_keeps)
 
     series_keep : AreOf Series all → IfOk (series_below all c) IsValidEntry
     series_keep are =
-        let nameless : columns_name_of_all all ≡ None = ap (λ name. fold common_name name (map (λ u. u.columns_name) ts)) (first.headings.nameless (All-head (λ (u : Table). u.shape ≡ Series) t ts are)) ∙ no_common (map (λ u. u.columns_name) ts) in
+        let nameless : columns_name_of_all all ≡ None = grind (arith, no_common) in
         then_keeps (IsColumn rows) IsValidEntry (columns_below (map (λ u. column_at u.columns 0) all)) _
         (below_held (λ u. column_at u.columns 0) all (λ k d lt. let u = slice_index_or all k d in column_of_table u (s k d lt) 0 (Prim.omega (arith, one_column u (s k d lt) (are k d lt)))))
         (λ column held. below_keeps Series _ (column ∷ []) (series_heading Series (columns_name_of_all all) _ refl nameless) refl (All-cons (IsColumn rows) column [] held (All-nil (IsColumn rows))))
 
     frames_keep : AreOf Frame all → IfOk (frames_below all c (united same_heading c.inner (map (λ u. u.headings) all))) IsValidEntry
     frames_keep are =
-        let hs : List (Option LabelValue) = united same_heading c.inner (map (λ u. u.headings) all) in
-        let labelled : All (All IsSome) (map (λ u. u.headings) all) = all_made (λ (u : Table). IsShaped u × (u.shape ≡ Frame)) (All IsSome) (λ u. u.headings) (λ u both. both.0.headings.labelled both.1) all (λ k d lt. (s k d lt, are k d lt)) in
-        let some : All IsSome hs = united_all same_heading IsSome c.inner t.headings (map (λ u. u.headings) ts) labelled in
-        let apart : AllPairs (λ a b. a ≢ b) hs = united_apart same_heading heading_decides c.inner t.headings (map (λ u. u.headings) ts) (first.headings.different (All-head (λ (u : Table). u.shape ≡ Frame) t ts are)) in
+        let hs = united same_heading c.inner (map (λ u. u.headings) all) in
+        let labelled = all_made (λ u. IsShaped u × (u.shape ≡ Frame)) (All IsSome) (λ u. u.headings) (λ u both. both.0.headings.labelled both.1) all (λ k d lt. (s k d lt, are k d lt)) in
+        let some : All IsSome hs = search united_all in
+        let apart = united_apart same_heading heading_decides c.inner t.headings (map (λ u. u.headings) ts) (grind arith) in
         then_keeps (λ columns. (length columns ≡ length hs) × All (IsColumn rows) columns) IsValidEntry (try_all (frame_column_below all) hs) _
         (try_keeps (λ h. Unit {0}) (IsColumn rows) (frame_column_below all) (λ h _. frame_column_held all h s) hs (all_any (λ h. Unit {0}) (λ h. tt) hs))
         (λ columns made. below_keeps Frame hs columns (frame_headings Frame (columns_name_of_all all) hs refl some apart) (sym made.0) made.1)
-
-  below_all_keeps : AreKeys (length all) c.renumbered c.keys → IfOk (below all c) IsValidEntry
-  below_all_keeps keys = by (are_series all) (are_frames all) (have_same_levels all) refl refl refl
-    where
-      by : (a b e : Bool) → are_series all ≡ a → are_frames all ≡ b → have_same_levels all ≡ e
-          → IfOk (if a then (if e then series_below all c else Err (bad_value levels)) else if b then (if e then frames_below all c (united same_heading c.inner (map (λ u. u.headings) all)) else Err (bad_value levels)) else Err wrong_kind) IsValidEntry
-      by true b true x y z = series_keep (levels_alike t ts s z) keys (all_series all x)
-      by true b false x y z = tt
-      by false true true x y z = frames_keep (levels_alike t ts s z) keys (all_frames all y)
-      by false true false x y z = tt
-      by false false e x y z = tt
 
 -- side by side
 
@@ -262,15 +212,14 @@ numbered_count n (Some l ∷ hs) = ap suc (numbered_count n hs)
 
 numbered_some : (n : ℕ) (hs : List (Option LabelValue)) → AreLabels (numbered_from n hs)
 numbered_some n [] = All-nil IsSome
-numbered_some n (None ∷ hs) = All-cons IsSome (Some (int (pos n))) (numbered_from (n + 1) hs) refl (numbered_some (n + 1) hs)
-numbered_some n (Some l ∷ hs) = All-cons IsSome (Some l) (numbered_from n hs) refl (numbered_some n hs)
+numbered_some n (None ∷ hs) = grind (arith, numbered_some (n + 1) hs)
+numbered_some n (Some l ∷ hs) = grind (arith, numbered_some n hs)
 
 headings_count : (renumbered : Bool) (hs : List (Option LabelValue)) → length (headings_beside renumbered hs) ≡ length hs
-headings_count true hs = length-map-range_with_len (λ n. Some (int (pos n))) 0 (length hs)
-headings_count false hs = numbered_count 0 hs
+headings_count x hs = grind (arith, length-map-range_with_len, numbered_count)
 
 headings_some : (renumbered : Bool) (hs : List (Option LabelValue)) → AreLabels (headings_beside renumbered hs)
-headings_some true hs = all_mapped IsSome (λ n. Some (int (pos n))) (λ n. refl) (range_with_len 0 (length hs))
+headings_some true hs = search all_mapped
 headings_some false hs = numbered_some 0 hs
 
 met_count : (own labels : List (List LabelValue)) → length (rows_met own labels) ≡ length labels
@@ -281,29 +230,19 @@ met_count own labels = by (pointwise same_tuple own labels) refl
     by false e = length-map labels _
 
 beside_held : (labels : List (List LabelValue)) (t : Table) → IsShaped t → All (IsColumn (length labels)) (columns_beside labels t)
-beside_held labels t s = columns_on (length t.labels) (length labels) (rows_met t.labels labels) t.columns (met_count t.labels labels) s.columns
+beside_held labels t s = search (columns_on, met_count)
 
 beside_count : (labels : List (List LabelValue)) (ts : List Table) → AreShaped ts → length (flat_map (λ t. t.headings) ts) ≡ length (flat_map (columns_beside labels) ts)
 beside_count labels [] s = refl
 beside_count labels (t ∷ ts) s =
     let own : length t.headings ≡ length (columns_beside labels t) = (All-head IsShaped t ts s).headed ∙ sym (length-map t.columns _) in
-    let more = beside_count labels ts (All-tail IsShaped t ts s) in
-    length-append t.headings (flat_map (λ t. t.headings) ts) ∙ (λ i. own i + more i) ∙ sym (length-append (columns_beside labels t) (flat_map (columns_beside labels) ts))
+    grind (arith, length-append, beside_count labels ts (All-tail IsShaped t ts s))
 
 module _ (t : Table) (ts : List Table) (s : AreShaped (t ∷ ts)) (renumbered : Bool) where
   beside_keeps : (labels : List (List LabelValue)) → All (Has (length t.level_names)) labels → IfOk (finished (table_beside (t ∷ ts) renumbered labels)) IsValidEntry
   beside_keeps labels has =
-      let own : IsShaped t = All-head IsShaped t ts s in
-      let names : length t.level_names ≡ length (level_names_of_all (t ∷ ts)) = sym (names_count t ts) in
-      let hs : List (Option LabelValue) = flat_map (λ u. u.headings) (t ∷ ts) in
-      frame_keeps (table_beside (t ∷ ts) renumbered labels) record {
-        some = subst (λ n. 1 ≤ n) names own.some;
-        few = subst (λ n. n ≤ 4) names own.few;
-        levels = subst (λ n. All (Has n) labels) names has;
-        headed = headings_count renumbered hs ∙ beside_count labels (t ∷ ts) s;
-        columns = all_flat (IsColumn (length labels)) IsShaped (columns_beside labels) (beside_held labels) (t ∷ ts) s;
-        frame = refl;
-      } (headings_some renumbered hs)
+      let own : IsShaped t = grind arith in
+      search (names_count, frame_keeps, headings_count, beside_count, all_flat, beside_held, headings_some)
 
 beside_all_keeps : (t : Table) (ts : List Table) (c : Concatenation) → AreShaped (t ∷ ts) → IfOk (beside (t ∷ ts) c) IsValidEntry
 beside_all_keeps t ts c s = by (are_equal same_tuple (labels_of_tables all)) (have_same_levels all) (repeated_on_any same_tuple (labels_of_tables all)) refl
@@ -318,39 +257,27 @@ beside_all_keeps t ts c s = by (are_equal same_tuple (labels_of_tables all)) (ha
     by false true (Some label) is = tt
     by false true None is =
         let n = length t.level_names in
-        beside_keeps t ts s c.renumbered (united same_tuple c.inner (labels_of_tables all)) (united_all same_tuple (Has n) c.inner t.labels (labels_of_tables ts) (labels_have n all (levels_alike t ts s is)))
+        beside_keeps t ts s c.renumbered (united same_tuple c.inner (labels_of_tables all)) (united_all same_tuple (Has n) c.inner t.labels (labels_of_tables ts) (labels_have n all (grind (arith, all_pass, eqb-true))))
 
 -- along either axis
 
 along_keeps : (across : Bool) (t : Table) (ts : List Table) (c : Concatenation) → AreShaped (t ∷ ts) → AreKeys (length (t ∷ ts)) c.renumbered c.keys → IfOk (along across (t ∷ ts) c) IsValidEntry
 along_keeps true t ts c s keys = beside_all_keeps t ts c s
-along_keeps false t ts c s keys = below_all_keeps t ts s c keys
+along_keeps false t ts c s keys = grind (arith, series_keep, all_pass, eqb-true, all_series, frames_keep, all_frames)
 
 with_keys_keep : (count : ℕ) (across renumbered : Bool) (keys : Option (List LabelValue)) (rest : Result Entry FaultValue) → (AreKeys count renumbered keys → IfOk rest IsValidEntry) → IfOk (with_keys count across renumbered keys rest) IsValidEntry
-with_keys_keep count across renumbered None rest h = h (λ _. tt)
-with_keys_keep count across true (Some keys) rest h = tt
-with_keys_keep count true false (Some keys) rest h = tt
-with_keys_keep count false false (Some keys) rest h = of_length_keeps IsValidEntry count (length keys) rest (λ e. h (λ _. sym e))
+with_keys_keep count across renumbered x rest h = grind (arith, of_length_keeps)
 
 concatenated_keeps : (across : Bool) (ts : List Table) (c : Concatenation) → AreShaped ts → IfOk (concatenated across ts c) IsValidEntry
 concatenated_keeps across [] c s = tt
-concatenated_keeps across (t ∷ ts) c s = with_keys_keep (length (t ∷ ts)) across c.renumbered c.keys (along across (t ∷ ts) c) (along_keeps across t ts c s)
+concatenated_keeps across (t ∷ ts) c s = search (with_keys_keep, along_keeps)
 
 list_valid : (a : Given) → IsValidArgument a → IfSome (list_in a) (λ parts. All IsValid (tables_of parts))
-list_valid (many parts) h = h
-list_valid (one v) h = tt
-list_valid nothing h = tt
-list_valid (row parts) h = tt
-list_valid (entries pairs) h = tt
+list_valid x h = grind arith
 
 pub concat_result_keeps : (objects axis join renumbered keys : Given) → IsValidArgument objects → IfOk (concat_result (objects ∷ axis ∷ join ∷ renumbered ∷ keys ∷ [])) IsValidEntry
-concat_result_keeps objects axis join renumbered keys h =
-    on_some_keeps (λ parts. All IsValid (tables_of parts)) IsValidEntry (list_in objects) _ (list_valid objects h)
-    (λ parts valid. on_keeps IsValidEntry (truth_in renumbered) _ (λ b. concatenated_keeps _ (tables_of parts) _ (λ k d lt. shaped (slice_index_or (tables_of parts) k d) (valid k d lt))))
+concat_result_keeps objects axis join renumbered keys h = search (on_some_keeps, list_valid, on_keeps, concatenated_keeps, shaped)
 
 -- a call of `pd.concat`
 pub concat_call_keeps : (gs : List NamedGiven) → AreValidArguments gs → IfOk (concat_call gs) IsValidEntry
-concat_call_keeps gs h =
-    let ps = function_parameters function.Concat in
-    bound_taken ps gs concat_result
-    (λ _. concat_result_keeps (argument_at ps gs 0) (argument_at ps gs 1) (argument_at ps gs 2) (argument_at ps gs 3) (argument_at ps gs 4) (argument_valid ps gs 0 h))
+concat_call_keeps gs h = grind (arith, concat_result_keeps, argument_valid)

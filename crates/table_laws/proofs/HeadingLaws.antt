@@ -1,62 +1,52 @@
 -- Labels of columns that differ.
 use Rattle.{
-  std.{proofs.{Common.{◌≡◌, ◌≢◌, ◌∙◌, refl, ap, sym, subst, ℕ, zero, suc, ◌<◌, List, [], ◌∷◌, ◌++◌, length, arith}, lemmas.{Bool.Decides.{nat_tests}, Cmp.{tied_itself}, List.{Elements.{All-nil, All-cons, All-head, All-tail}, Kept.{AllPairs-cons}, Quantifiers.{all_pairs_push}}}}, specs.{Prelude.{Bool, true, false, ◌||◌, if◌then◌else◌, nat_lt, slice_set, slice_index_or, Option, Some, None, IsSome, IfSome, option_map, unwrap_or, IfOk, All, AllPairs}, Bool.{Decides}, FinMap.{int_cmp-IsAntisymmetric, nat_cmp-IsAntisymmetric, slice_cmp-IsAntisymmetric}, List.{list_any}, Ordering.{is_eq, bool_cmp}, declared.cmp.Ordering.{Ordering, TheVariants.{Less, Equal, Greater}}}},
+  std.{proofs.{Common.{◌≡◌, ◌≢◌, refl, sym, ℕ, zero, suc, ◌<◌, List, [], ◌∷◌, length, arith}, lemmas.{Bool.Decides.{nat_tests}, Cmp.{tied_itself}, List.{Elements.{All-nil, All-cons, All-head, All-tail}, Quantifiers.{all_pairs_push}}}}, specs.{Prelude.{Bool, true, false, ◌||◌, if◌then◌else◌, nat_lt, slice_set, slice_index_or, Option, Some, None, IsSome, IfSome, option_map, unwrap_or, IfOk, All, AllPairs}, Bool.{Decides}, FinMap.{nat_cmp-IsAntisymmetric, slice_cmp-IsAntisymmetric}, List.{list_any}, Ordering.{is_eq, bool_cmp}, declared.cmp.Ordering.{Ordering, TheVariants.{Equal}}}},
   cell_core.{specs.Values.{LabelValue, truth, int, text, na, label_cmp}, proofs.LabelLaws.{label_total}},
   table_meaning.specs.{Change.{put_at}, Table.{Table}},
-  form_meaning.specs.{Binding.{same_label}, Finish.{same_heading, first_repeated, unless_repeated, limited, finished}, Select.{place_of_label, found, column_place}},
-  table_laws.{specs.Validity.{IsValidEntry}, proofs.{ListLaws.{both_ways}, TableLaws.{IsShaped, limited_keeps}}},
+  form_meaning.specs.{Binding.{same_label}, Finish.{same_heading, first_repeated, finished}, Select.{place_of_label, found, column_place}},
+  table_laws.{specs.Validity.{IsValidEntry}, proofs.{ListLaws.{both_ways}, TableLaws.{IsShaped}}},
 }
 
 abbrev Heading : Type 0
 Heading = Option LabelValue
 
 bool_same : (a b : Bool) → bool_cmp a b ≡ Equal → a ≡ b
-bool_same true true e = refl
-bool_same false false e = refl
-bool_same true false e = Prim.cc
-bool_same false true e = Prim.cc
+bool_same x x1 e = grind arith
 
 -- labels that compare as equal are the same
 value_same : (a b : LabelValue) → label_cmp a b ≡ Equal → a ≡ b
-value_same (truth a) (truth b) e = ap (λ x. truth x) (bool_same a b e)
-value_same (int a) (int b) e = ap (λ x. int x) (int_cmp-IsAntisymmetric a b e)
-value_same (text a) (text b) e = ap (λ x. text x) (slice_cmp-IsAntisymmetric nat_cmp-IsAntisymmetric a b e)
+value_same (truth a) (truth b) e = search bool_same
+value_same (int a) (int b) e = grind arith
+value_same (text a) (text b) e = cc (slice_cmp-IsAntisymmetric nat_cmp-IsAntisymmetric a b e)
 value_same na na e = refl
 value_same a b e = Prim.cc
 
 is_equal : (o : Ordering) → is_eq o ≡ true → o ≡ Equal
-is_equal Equal e = refl
-is_equal Less e = Prim.cc
-is_equal Greater e = Prim.cc
+is_equal x e = grind arith
 
 pub label_decides : (a b : LabelValue) → Decides (same_label a b) (a ≡ b)
-label_decides a b = (λ e. value_same a b (is_equal (label_cmp a b) e), λ e. ap (λ x. is_eq (label_cmp a x)) (sym e) ∙ ap is_eq (tied_itself label_total a))
+label_decides a b = grind (arith, value_same, is_equal, tied_itself, label_total)
 
 -- the label of a heading
 met : (l : LabelValue) (h : Heading) → same_heading (Some l) h ≡ true → h ≡ Some l
-met l None e = Prim.cc
-met l (Some m) e = ap (λ x. Some x) (sym ((label_decides l m).0 e))
+met l x e = grind (arith, label_decides)
 
 -- another heading
 other : (h g : Heading) → same_heading h g ≡ false → h ≢ g
-other None None e is = both_ways true refl e
-other (Some l) (Some m) e is = both_ways (same_label l m) ((label_decides l m).1 (ap (λ o. unwrap_or o l) is)) e
-other None (Some m) e is = Prim.cc
-other (Some l) None e is = Prim.cc
+other x x1 e is = grind (arith, both_ways, label_decides)
 
 neither : (b c : Bool) → b || c ≡ false → (b ≡ false) × (c ≡ false)
-neither true c e = Prim.cc
-neither false c e = (refl, e)
+neither x c e = grind arith
 
 none_such : (h : Heading) (hs : List Heading) → list_any (same_heading h) hs ≡ false → All (λ g. h ≢ g) hs
 none_such h [] e = All-nil (λ g. h ≢ g)
 none_such h (g ∷ gs) e =
     let both = neither (same_heading h g) (list_any (same_heading h) gs) e in
-    All-cons (λ g. h ≢ g) g gs (other h g both.0) (none_such h gs both.1)
+    grind (arith, other, none_such h gs both.1)
 
 -- headings of which none stands again
 pub different : (hs : List Heading) → All IsSome hs → first_repeated hs ≡ None → AllPairs (λ a b. a ≢ b) hs
-different [] some e = λ i j d lt within. absurd (Prim.omega (arith, within))
+different [] some e = grind arith
 different (h ∷ hs) some e = by (list_any (same_heading h) hs) refl e (different hs (All-tail IsSome h hs some))
   where
     no_heading : (g : Heading) → IsSome g → g ≡ None → ⊥
@@ -65,15 +55,11 @@ different (h ∷ hs) some e = by (list_any (same_heading h) hs) refl e (differen
 
     by : (b : Bool) → list_any (same_heading h) hs ≡ b → (if b then h else first_repeated hs) ≡ None → (first_repeated hs ≡ None → AllPairs (λ a b. a ≢ b) hs) → AllPairs (λ a b. a ≢ b) (h ∷ hs)
     by true is none rest = absurd (no_heading h (All-head IsSome h hs some) none)
-    by false is none rest = AllPairs-cons (λ a b. a ≢ b) h hs (none_such h hs is) (rest none)
+    by false is none rest = grind (arith, none_such)
 
 -- a table that is finished
 pub finished_keeps : (t : Table) → (first_repeated t.headings ≡ None → IsShaped t) → IfOk (finished t) IsValidEntry
-finished_keeps t h = by (first_repeated t.headings) refl
-  where
-    by : (o : Heading) → first_repeated t.headings ≡ o → IfOk (unless_repeated o (limited t)) IsValidEntry
-    by None e = limited_keeps t (h e)
-    by (Some l) e = tt
+finished_keeps t h = grind arith
 
 -- where a label stands
 pub record IsPlace (hs : List Heading) (l : LabelValue) (place : ℕ) : Type 0 where
@@ -81,28 +67,19 @@ pub record IsPlace (hs : List Heading) (l : LabelValue) (place : ℕ) : Type 0 w
   pub here : slice_index_or hs place None ≡ Some l
 
 later : (h : Heading) (hs : List Heading) (l : LabelValue) (o : Option ℕ) → IfSome o (IsPlace hs l) → IfSome (option_map suc o) (IsPlace (h ∷ hs) l)
-later h hs l None p = tt
-later h hs l (Some n) p = record { below = Prim.omega (arith, p.below); here = p.here }
+later h hs l x p = grind arith
 
 pub place_found : (hs : List Heading) (l : LabelValue) → IfSome (place_of_label hs l) (IsPlace hs l)
 place_found [] l = tt
-place_found (h ∷ hs) l = by (same_heading (Some l) h) refl (place_found hs l)
-  where
-    by : (b : Bool) → same_heading (Some l) h ≡ b → IfSome (place_of_label hs l) (IsPlace hs l) → IfSome (if b then Some 0 else option_map suc (place_of_label hs l)) (IsPlace (h ∷ hs) l)
-    by true e rest = record { below = Prim.omega arith; here = met l h e }
-    by false e rest = later h hs l (place_of_label hs l) rest
-
-no_later : (o : Option ℕ) → option_map suc o ≡ None → o ≡ None
-no_later None e = refl
-no_later (Some n) e = Prim.cc
+place_found (h ∷ hs) l = grind (arith, met, later, place_found hs l)
 
 pub place_absent : (hs : List Heading) (l : LabelValue) → place_of_label hs l ≡ None → All (λ h. h ≢ Some l) hs
-place_absent [] l e = All-nil (λ h. h ≢ Some l)
+place_absent [] l e = grind arith
 place_absent (h ∷ hs) l e = by (same_heading (Some l) h) refl e (place_absent hs l)
   where
     by : (b : Bool) → same_heading (Some l) h ≡ b → (if b then Some 0 else option_map suc (place_of_label hs l)) ≡ None → (place_of_label hs l ≡ None → All (λ h. h ≢ Some l) hs) → All (λ h. h ≢ Some l) (h ∷ hs)
     by true is none rest = Prim.cc
-    by false is none rest = All-cons (λ h. h ≢ Some l) h hs (λ e. other (Some l) h is (sym e)) (rest (no_later (place_of_label hs l) none))
+    by false is none rest = All-cons (λ h. h ≢ Some l) h hs (λ e. other (Some l) h is (sym e)) (rest (grind arith))
 
 pub found_within : (hs : List Heading) (l : LabelValue) → IfOk (found l (place_of_label hs l)) (λ place. place < length hs)
 found_within hs l = by (place_of_label hs l) (place_found hs l)
@@ -116,11 +93,8 @@ column_place_found t l = found_within t.headings l
 
 set_same : {X : Type 0} (xs : List X) (i : ℕ) (x d : X) → i < length xs → slice_index_or xs i d ≡ x → slice_set xs i x ≡ xs
 set_same [] i x d lt is = refl
-set_same (y ∷ ys) zero x d lt is = ap (λ z. z ∷ ys) (sym is)
-set_same (y ∷ ys) (suc i) x d lt is = ap (λ l. y ∷ l) (set_same ys i x d (Prim.omega (arith, lt)) is)
-
-below_test : (place n : ℕ) → place < n → nat_lt place n ≡ true
-below_test place n lt = Prim.grind (arith, nat_tests)
+set_same (y ∷ ys) zero x d lt is = cc
+set_same (y ∷ ys) (suc i) x d lt is = grind (arith, set_same ys)
 
 not_below : (n : ℕ) → nat_lt n n ≡ false
 not_below n = Prim.grind (arith, nat_tests)
@@ -130,10 +104,5 @@ pub put_heading : (hs : List Heading) (l : LabelValue) → AllPairs (λ a b. a �
 put_heading hs l apart = by (place_of_label hs l) refl (place_found hs l)
   where
     by : (o : Option ℕ) → place_of_label hs l ≡ o → IfSome o (IsPlace hs l) → AllPairs (λ a b. a ≢ b) (put_at hs (unwrap_or o (length hs)) (Some l))
-    by (Some p) e at =
-        subst (λ xs. AllPairs (λ a b. a ≢ b) xs)
-        (sym (ap (λ b. if b then slice_set hs p (Some l) else hs ++ Some l ∷ []) (below_test p (length hs) at.below) ∙ set_same hs p (Some l) None at.below at.here)) apart
-    by None e at =
-        subst (λ xs. AllPairs (λ a b. a ≢ b) xs)
-        (sym (ap (λ b. if b then slice_set hs (length hs) (Some l) else hs ++ Some l ∷ []) (not_below (length hs))))
-        (all_pairs_push (λ a b. a ≢ b) hs (Some l) apart (λ k d lt. place_absent hs l e k d lt))
+    by (Some p) e at = grind (arith, nat_tests, set_same)
+    by None e at = grind (arith, not_below (length hs), all_pairs_push (λ a b. a ≢ b) hs (Some l) apart (λ k d lt. place_absent hs l e k d lt))

@@ -1,11 +1,11 @@
 -- Operators make valid tables of valid values.
 use Rattle.{
-  std.{proofs.{Common.{◌≡◌, ◌∙◌, ◌≤◌, refl, ap, sym, subst, ℕ, suc, pos, List, [], ◌∷◌, length, map, arith}, lemmas.List.{length-map, Elements.{All-nil, All-cons, All-head, All-tail}}}, specs.{Prelude.{replicate, Bool, true, false, if◌then◌else◌, Option, Some, None, Result, Ok, Err, IfOk, All}, List.{list_all}}},
+  std.{proofs.{Common.{rules, ◌≡◌, ◌∙◌, refl, ap, sym, subst, ℕ, suc, List, [], ◌∷◌, length, map, arith}, lemmas.List.{length-map, Elements.{All-cons, All-head, All-tail}}}, specs.{Prelude.{replicate, Bool, true, false, if◌then◌else◌, Option, Some, None, Result, Ok, Err, IfOk, All}, List.{list_all}}},
   cell_core.specs.declared.grid.Shape.{Shape, TheVariants.{Series, Frame}},
-  meaning.specs.{Cell.{CellValue, int_cell, na_cell, Kind, LabelValue}, Column.{gap_cell, taken}, Symbol.{Binary, sub}, Fault.{FaultValue, wrong_kind, bad_value, not_aligned, limit, then_value}},
+  meaning.specs.{Cell.{CellValue, na_cell, Kind, LabelValue}, Column.{gap_cell, taken}, Symbol.{Binary}, Fault.{FaultValue, wrong_kind, bad_value, not_aligned, limit, then_value}},
   align_meaning.{specs.{Faults.{AlignRefusal, met_rows}, Joins.{outer}}, proofs.{DifferLaws.{joined_apart}, InsideLaws.{IsRowOf, AreInside, joined_inside}}},
   table_meaning.specs.{Table.{ColumnOf, Table, column_at}, Valid.{IsValid, within_limits}, Value.{Entry, cell, table}},
-  form_meaning.specs.{Finish.{same_heading, first_repeated, unless_repeated, try_all, with_columns, column_labels}, Infix.{Meeting, swapped, meets, met, infix_table, with_scalar, beside, across, turned, scalar_infix, on_levels, same_tuple, same_tuples, tuple_before, same_headings, are_headings, same_count, has_one, common_name, common_names, first_heading, compares, Joined, joined_rows, on_rows, with_joined, joined_infix, unequal_infix, rows_infix, series_infix, on_columns, common_infix, unequal_columns, wide_infix, joined_frames, frame_infix, across_series, takes_each, labels_fit, spread_series, spread_frame, joined_turned, across_unequal, across_infix, table_infix, infix_result, is_truth_column, inverted_column, inverted, sign_result}},
+  form_meaning.specs.{Finish.{same_heading, try_all, with_columns, column_labels}, Infix.{Meeting, swapped, meets, met, infix_table, with_scalar, beside, across, turned, scalar_infix, on_levels, same_tuple, same_tuples, tuple_before, same_headings, are_headings, same_count, has_one, common_name, common_names, first_heading, compares, Joined, joined_rows, on_rows, with_joined, joined_infix, unequal_infix, rows_infix, series_infix, common_infix, unequal_columns, wide_infix, joined_frames, frame_infix, across_series, takes_each, labels_fit, spread_frame, joined_turned, across_unequal, across_infix, table_infix, infix_result, is_truth_column, inverted_column, inverted, sign_result}},
   table_laws.{specs.Validity.{IsValidObject, IsValidEntry}, proofs.{ListLaws.{both_true, all_made, all_mapped, at_or, then_keeps, try_keeps}, CellLaws.{Held, na_held}, ColumnLaws.{columns_meet, side, IsColumn, IsMeeting, met_keeps, scalar_meets, inverted_keeps, spread_column}, WideLaws.{tuple_decides, labels_single, labels_many, labels_apart, length_wide, wide_shaped, spread_shaped}, TableLaws.{IsShaped, shaped, valid, with_columns_shaped, column_of_table, series_heading, frame_headings, one_column}}},
 }
 
@@ -17,9 +17,7 @@ record AreMeetings (t : Table) (meetings : List Meeting) : Type 0 where
 columns_keep : (t : Table) → IsShaped t → (rows : Result (List (ColumnOf CellValue)) FaultValue) (count : ℕ) → count ≡ length t.columns → within_limits (length t.labels) count ≡ true
     → IfOk rows (λ columns. (length columns ≡ count) × All (IsColumn (length t.labels)) columns)
     → IfOk (then_value rows (λ columns. Ok (table (with_columns t columns)))) IsValidEntry
-columns_keep t s rows count size within h =
-    then_keeps (λ columns. (length columns ≡ count) × All (IsColumn (length t.labels)) columns) IsValidEntry rows _ h
-    (λ columns made. valid (with_columns t columns) (with_columns_shaped t s columns (made.0 ∙ size) made.1) (subst (λ n. within_limits (length t.labels) n ≡ true) (sym made.0) within))
+columns_keep t s rows count size within h = grind (arith, then_keeps, valid, with_columns_shaped)
 
 infix_keeps : (op : Binary) (t : Table) (meetings : List Meeting) → IsShaped t → AreMeetings t meetings → IfOk (infix_table op t meetings) IsValidEntry
 infix_keeps op t meetings s m = by (list_all (meets op) meetings) (within_limits (length t.labels) (length meetings)) refl
@@ -33,7 +31,7 @@ infix_keeps op t meetings s m = by (list_all (meets op) meetings) (within_limits
 turned_meet : (left : Bool) (t : Table) (meetings : List Meeting) → AreMeetings t meetings → AreMeetings t (turned left meetings)
 turned_meet false t meetings m = m
 turned_meet true t meetings m = record {
-  count = length-map meetings swapped ∙ m.count;
+  count = search length-map;
   each = all_made (IsMeeting (length t.labels)) (IsMeeting (length t.labels)) swapped (λ x h. record { first = h.second; second = h.first }) meetings m.each;
 }
 
@@ -41,39 +39,37 @@ scalar_keeps : (op : Binary) (left : Bool) (t : Table) (c : CellValue) → IsVal
 scalar_keeps op left t c v =
     infix_keeps op t (turned left (map (with_scalar c) t.columns)) (shaped t v)
     (turned_meet left t (map (with_scalar c) t.columns) record {
-      count = length-map t.columns (with_scalar c);
+      count = search length-map;
       each = all_made (IsColumn (length t.labels)) (IsMeeting (length t.labels)) (with_scalar c) (λ a h. scalar_meets c (length t.labels) a h) t.columns (shaped t v).columns;
     })
 
 length_beside : (as' bs : List (ColumnOf CellValue)) → length as' ≡ length bs → length (beside as' bs) ≡ length as'
 length_beside [] [] e = refl
 length_beside [] (b ∷ bs) e = refl
-length_beside (a ∷ as') [] e = absurd (Prim.omega arith)
+length_beside (a ∷ as') [] e = search
 length_beside (a ∷ as') (b ∷ bs) e = ap suc (length_beside as' bs (Prim.omega arith))
 
 beside_meet : (rows : ℕ) (as' bs : List (ColumnOf CellValue)) → All (IsColumn rows) as' → All (IsColumn rows) bs → All (IsMeeting rows) (beside as' bs)
-beside_meet rows [] bs h k = All-nil (IsMeeting rows)
-beside_meet rows (a ∷ as') [] h k = All-nil (IsMeeting rows)
+beside_meet rows [] bs h k = grind arith
+beside_meet rows (a ∷ as') [] h k = grind arith
 beside_meet rows (a ∷ as') (b ∷ bs) h k =
     All-cons (IsMeeting rows) _ (beside as' bs) (columns_meet rows a b (All-head (IsColumn rows) a as' h) (All-head (IsColumn rows) b bs k))
     (beside_meet rows as' bs (All-tail (IsColumn rows) a as' h) (All-tail (IsColumn rows) b bs k))
 
 length_across : (count : ℕ) (kind : Kind) (as' : List (ColumnOf CellValue)) (cells : List CellValue) → length as' ≡ length cells → length (across count kind as' cells) ≡ length as'
 length_across count kind [] cells e = refl
-length_across count kind (a ∷ as') [] e = absurd (Prim.omega arith)
+length_across count kind (a ∷ as') [] e = search
 length_across count kind (a ∷ as') (c ∷ cs) e = ap suc (length_across count kind as' cs (Prim.omega arith))
 
 across_meet : (rows : ℕ) (kind : Kind) (as' : List (ColumnOf CellValue)) (cells : List CellValue) → All (IsColumn rows) as' → All (Held kind) cells → All (IsMeeting rows) (across rows kind as' cells)
-across_meet rows kind [] cells h k = All-nil (IsMeeting rows)
-across_meet rows kind (a ∷ as') [] h k = All-nil (IsMeeting rows)
+across_meet rows kind [] cells h k = grind arith
+across_meet rows kind (a ∷ as') [] h k = grind arith
 across_meet rows kind (a ∷ as') (c ∷ cs) h k =
     All-cons (IsMeeting rows) _ (across rows kind as' cs) record { first = side rows a.kind a.cells (All-head (IsColumn rows) a as' h); second = side rows kind (replicate rows c) (spread_column kind rows c (All-head (Held kind) c cs k)) }
     (across_meet rows kind as' cs (All-tail (IsColumn rows) a as' h) (All-tail (Held kind) c cs k))
 
 levels_keep : (kinds equal : Bool) (rest : Result Entry FaultValue) → IfOk rest IsValidEntry → IfOk (on_levels kinds equal rest) IsValidEntry
-levels_keep false equal rest h = tt
-levels_keep true false rest h = tt
-levels_keep true true rest h = h
+levels_keep x equal rest h = grind arith
 
 pub length_tuples : (as' bs : List (List LabelValue)) → same_tuples as' bs ≡ true → length as' ≡ length bs
 length_tuples [] [] e = refl
@@ -95,9 +91,8 @@ length_labels ls hs e = Prim.cc
 beside_meetings : (a b t : Table) → IsShaped a → IsShaped b → length a.labels ≡ length b.labels → length a.columns ≡ length b.columns → length t.labels ≡ length a.labels → length t.columns ≡ length a.columns
     → AreMeetings t (beside a.columns b.columns)
 beside_meetings a b t s r rows count rows' count' = record {
-  count = length_beside a.columns b.columns count ∙ sym count';
-  each = subst (λ n. All (IsMeeting n) (beside a.columns b.columns)) (sym rows')
-      (beside_meet (length a.labels) a.columns b.columns s.columns (subst (λ n. All (IsColumn n) b.columns) (sym rows) r.columns));
+  count = grind (arith, length_beside);
+  each = rw rows' (beside_meet (length a.labels) a.columns b.columns s.columns (subst (λ n. All (IsColumn n) b.columns) (sym rows) r.columns));
 }
 
 -- columns on other rows
@@ -108,11 +103,11 @@ gap_held kind cells (Some place) h = at_or (Held kind) cells place na_cell (na_h
 pub columns_on : (n count : ℕ) (rows : List (Option ℕ)) (cs : List (ColumnOf CellValue)) → length rows ≡ count → All (IsColumn n) cs → All (IsColumn count) (on_rows na_cell rows cs)
 columns_on n count rows cs same h =
     all_made (IsColumn n) (IsColumn count) (λ c. record { kind = c.kind; cells = taken na_cell c.cells rows })
-    (λ c k. record { filled = length-map rows (gap_cell na_cell c.cells) ∙ same; held = all_mapped (Held c.kind) (gap_cell na_cell c.cells) (λ gap. gap_held c.kind c.cells gap k.held) rows }) cs h
+    (λ c k. record { filled = search length-map; held = search (all_mapped, gap_held) }) cs h
 
 length_names : (as' bs : List (Option LabelValue)) → length as' ≡ length bs → length (common_names as' bs) ≡ length as'
 length_names [] bs e = refl
-length_names (a ∷ as') [] e = absurd (Prim.omega arith)
+length_names (a ∷ as') [] e = search
 length_names (a ∷ as') (b ∷ bs) e = ap suc (length_names as' bs (Prim.omega arith))
 
 length_count : {A B : Type 0} (as' : List A) (bs : List B) → same_count as' bs ≡ true → length as' ≡ length bs
@@ -122,8 +117,7 @@ length_count (a ∷ as') [] e = Prim.cc
 length_count (a ∷ as') (b ∷ bs) e = ap suc (length_count as' bs e)
 
 met_is : (r : Result Joined (AlignRefusal (List LabelValue))) (rows : Joined) → met_rows r ≡ Ok rows → r ≡ Ok rows
-met_is (Ok joined) rows e = let same : joined ≡ rows = Prim.cc in ap Ok same
-met_is (Err refusal) rows e = Prim.cc
+met_is x rows e = grind arith
 
 -- Two tables whose columns meet in order, and the frame of the answer.
 module _ (op : Binary) (a b t : Table) (s : IsShaped a) (r : IsShaped b) (frame : IsShaped t) (columns : length t.columns ≡ length a.columns) (columns' : length a.columns ≡ length b.columns) (levels : length a.level_names ≡ length b.level_names) where
@@ -142,18 +136,18 @@ module _ (op : Binary) (a b t : Table) (s : IsShaped a) (r : IsShaped b) (frame 
     size = length-map a.columns _
 
     many : length left ≡ length right
-    many = size ∙ columns' ∙ sym (length-map b.columns _)
+    many = search (size, length-map)
 
     names : length (common_names a.level_names b.level_names) ≡ length a.level_names
-    names = length_names a.level_names b.level_names levels
+    names = search length_names
 
     joined_shaped : IsShaped on_these
     joined_shaped = record {
-      some = subst (λ n. 1 ≤ n) (sym names) s.some;
-      few = subst (λ n. n ≤ 4) (sym names) s.few;
-      levels = subst (λ n. All (λ tuple. length tuple ≡ n) rows.keys) (sym names) inside.keyed;
-      headed = frame.headed ∙ columns ∙ sym size;
-      columns = columns_on (length a.labels) (length rows.keys) rows.left a.columns inside.left_count s.columns;
+      some = search names;
+      few = search names;
+      levels = grind (arith, names);
+      headed = search size;
+      columns = search columns_on;
       headings = frame.headings;
     }
 
@@ -161,7 +155,7 @@ module _ (op : Binary) (a b t : Table) (s : IsShaped a) (r : IsShaped b) (frame 
     joined_keep =
         infix_keeps op on_these (beside left right) joined_shaped record {
           count = length_beside left right many;
-          each = beside_meet (length rows.keys) left right joined_shaped.columns (columns_on (length b.labels) (length rows.keys) rows.right b.columns inside.right_count r.columns);
+          each = search (beside_meet, columns_on);
         }
 
   unequal_keep : IfOk (unequal_infix op a b t) IsValidEntry
@@ -172,18 +166,11 @@ module _ (op : Binary) (a b t : Table) (s : IsShaped a) (r : IsShaped b) (frame 
       by false (Err fault) e = tt
       by false (Ok rows) e =
           joined_keep rows (joined_inside (λ tuple. length tuple ≡ length a.level_names) same_tuple tuple_before a.labels b.labels s.levels
-          (subst (λ n. All (λ tuple. length tuple ≡ n) b.labels) (sym levels) r.levels) rows (met_is (outer same_tuple tuple_before a.labels b.labels) rows e))
+          (grind arith) rows (met_is (outer same_tuple tuple_before a.labels b.labels) rows e))
 
 rows_keep : (op : Binary) (a b t : Table) → IsShaped a → IsShaped b → IsShaped t → length t.labels ≡ length a.labels → length t.columns ≡ length a.columns → length a.columns ≡ length b.columns
     → IfOk (rows_infix op a b t) IsValidEntry
-rows_keep op a b t s r frame rows columns columns' = by (list_all (meets op) (beside a.columns b.columns)) (same_count a.level_names b.level_names) (same_tuples a.labels b.labels) refl refl
-  where
-    by : (k l e : Bool) → same_count a.level_names b.level_names ≡ l → same_tuples a.labels b.labels ≡ e
-        → IfOk (on_levels k l (if e then infix_table op t (beside a.columns b.columns) else unequal_infix op a b t)) IsValidEntry
-    by false l e counted same = tt
-    by true false e counted same = tt
-    by true true true counted same = infix_keeps op t (beside a.columns b.columns) frame (beside_meetings a b t s r (length_tuples a.labels b.labels same) columns' rows columns)
-    by true true false counted same = unequal_keep op a b t s r frame columns columns' (length_count a.level_names b.level_names counted)
+rows_keep op a b t s r frame rows columns columns' = grind (arith, infix_keeps, beside_meetings, length_tuples, unequal_keep, length_count)
 
 series_keep : (op : Binary) (a b : Table) → IsShaped a → IsShaped b → a.shape ≡ Series → b.shape ≡ Series → IfOk (series_infix op a b) IsValidEntry
 series_keep op a b s r is is' = rows_keep op a b t s r fits refl refl (one_column a s is ∙ sym (one_column b r is'))
@@ -192,7 +179,7 @@ series_keep op a b s r is is' = rows_keep op a b t s r fits refl refl (one_colum
     t = record a { headings = common_name (first_heading a.headings) (first_heading b.headings) ∷ [] }
 
     fits : IsShaped t
-    fits = record { some = s.some; few = s.few; levels = s.levels; headed = sym (one_column a s is); columns = s.columns; headings = series_heading a.shape a.columns_name _ is (s.headings.nameless is) }
+    fits = grind (arith, series_heading)
 
 common_keep : (op : Binary) (a b : Table) → IsShaped a → IsShaped b → a.shape ≡ Frame → length a.columns ≡ length b.columns → IfOk (common_infix op a b) IsValidEntry
 common_keep op a b s r is columns = rows_keep op a b t s r fits refl refl columns
@@ -201,23 +188,10 @@ common_keep op a b s r is columns = rows_keep op a b t s r fits refl refl column
     t = record a { columns_name = common_name a.columns_name b.columns_name }
 
     fits : IsShaped t
-    fits = record {
-      some = s.some;
-      few = s.few;
-      levels = s.levels;
-      headed = s.headed;
-      columns = s.columns;
-      headings = frame_headings a.shape _ a.headings is (s.headings.labelled is) (s.headings.different is);
-    }
+    fits = grind (arith, frame_headings)
 
 unequal_columns_keep : (op : Binary) (a b : Table) → IsShaped a → IsShaped b → a.shape ≡ Frame → length a.columns ≡ length b.columns → IfOk (unequal_columns op a b) IsValidEntry
-unequal_columns_keep op a b s r is columns = by (list_all (meets op) (beside a.columns b.columns)) (same_count a.level_names b.level_names) (compares op)
-  where
-    by : (k l c : Bool) → IfOk (on_levels k l (if c then Err (bad_value not_aligned) else common_infix op a b)) IsValidEntry
-    by false l c = tt
-    by true false c = tt
-    by true true true = tt
-    by true true false = common_keep op a b s r is columns
+unequal_columns_keep op a b s r is columns = search (rules, common_keep)
 
 wide_keep : (op : Binary) (a b : Table) → IsShaped a → IsShaped b → a.shape ≡ Frame → b.shape ≡ Frame → IfOk (joined_frames op a b) IsValidEntry
 wide_keep op a b s r is is' = by (joined_rows (column_labels a) (column_labels b)) refl
@@ -230,28 +204,16 @@ wide_keep op a b s r is is' = by (joined_rows (column_labels a) (column_labels b
         let apart = joined_apart same_tuple tuple_before tuple_decides (column_labels a) (column_labels b) (labels_apart a s is) (labels_apart b r is') j joined in
         let lefts = subst (λ n. All (IsRowOf n) j.left) (labels_many a s) inside.left in
         let rights = subst (λ n. All (IsRowOf n) j.right) (labels_many b r) inside.right in
-        unequal_columns_keep op (on_columns a b j.keys j.left j.right) (on_columns b a j.keys j.right j.left)
-        (wide_shaped a b j.keys j.left j.right s is inside.keyed apart inside.left_count inside.right_count lefts) (wide_shaped b a j.keys j.right j.left r is' inside.keyed apart inside.right_count inside.left_count rights) is
-        (length_wide a b j.keys j.left j.right inside.left_count inside.right_count ∙ sym (length_wide b a j.keys j.right j.left inside.right_count inside.left_count))
+        search (unequal_columns_keep, wide_shaped, length_wide)
 
 frames_keep : (op : Binary) (a b : Table) → IsShaped a → IsShaped b → a.shape ≡ Frame → b.shape ≡ Frame → IfOk (frame_infix op a b) IsValidEntry
-frames_keep op a b s r is is' = by (same_headings a.headings b.headings) refl
-  where
-    by : (c : Bool) → same_headings a.headings b.headings ≡ c → IfOk (if c then common_infix op a b else joined_frames op a b) IsValidEntry
-    by true e = common_keep op a b s r is (sym s.headed ∙ length_headings a.headings b.headings e ∙ r.headed)
-    by false e = wide_keep op a b s r is is'
+frames_keep op a b s r is is' = grind (arith, common_keep, length_headings, wide_keep)
 
 turned_keep : (op : Binary) (left : Bool) (f g : Table) → IsShaped f → IsShaped g → f.shape ≡ Frame → g.shape ≡ Frame → IfOk (joined_turned op left f g) IsValidEntry
-turned_keep op false f g h k is is' = wide_keep op f g h k is is'
-turned_keep op true f g h k is is' = wide_keep op g f k h is' is
+turned_keep op x f g h k is is' = grind (arith, wide_keep)
 
 spread_keep : (op : Binary) (left : Bool) (f s : Table) → IsShaped f → IsShaped s → f.shape ≡ Frame → s.shape ≡ Series → length s.level_names ≡ 1 → IfOk (then_value (spread_frame f s) (joined_turned op left f)) IsValidEntry
-spread_keep op left f s h k is is' one = by (first_repeated (spread_series f s).headings) (within_limits (length f.labels) (length (spread_series f s).columns)) refl
-  where
-    by : (o : Option LabelValue) (b : Bool) → first_repeated (spread_series f s).headings ≡ o → IfOk (then_value (unless_repeated o (if b then Ok (spread_series f s) else Err limit)) (joined_turned op left f)) IsValidEntry
-    by (Some l) b e = tt
-    by None false e = tt
-    by None true e = turned_keep op left f (spread_series f s) h (spread_shaped f s h k is is' one e) is is
+spread_keep op left f s h k is is' one = grind (arith, turned_keep, spread_shaped)
 
 across_unequal_keep : (op : Binary) (left : Bool) (f s : Table) → IsShaped f → IsShaped s → f.shape ≡ Frame → s.shape ≡ Series → IfOk (across_unequal op left f s) IsValidEntry
 across_unequal_keep op left f s h k is is' = by (takes_each op f s) (has_one s.level_names) (labels_fit same_tuple (column_at s.columns 0).kind s.labels (column_labels f) f.columns) (compares op) refl
@@ -266,7 +228,7 @@ across_unequal_keep op left f s h k is is' = by (takes_each op f s) (has_one s.l
     by true false fit c e = tt
     by true true false c e = tt
     by true true true true e = tt
-    by true true true false e = spread_keep op left f s h k is is' (only s.level_names e)
+    by true true true false e = search (spread_keep, only)
 
 across_keep : (op : Binary) (left : Bool) (f s : Table) → IsShaped f → IsShaped s → f.shape ≡ Frame → s.shape ≡ Series → IfOk (across_infix op left f s) IsValidEntry
 across_keep op left f s h k is' is = by (are_headings s.labels f.headings) refl
@@ -275,21 +237,21 @@ across_keep op left f s h k is' is = by (are_headings s.labels f.headings) refl
     c = column_at s.columns 0
 
     series : IsColumn (length s.labels) c
-    series = column_of_table s k 0 (Prim.omega (arith, one_column s k is))
+    series = grind (arith, column_of_table)
 
     by : (b : Bool) → are_headings s.labels f.headings ≡ b
         → IfOk (if b then on_levels (list_all (meets op) (across_series left f s)) (has_one s.level_names) (infix_table op f (across_series left f s)) else across_unequal op left f s) IsValidEntry
     by true e = levels_keep _ _ (infix_table op f (across_series left f s)) (infix_keeps op f (across_series left f s) h
         (turned_meet left f _ record {
-          count = length_across (length f.labels) c.kind f.columns c.cells (sym h.headed ∙ sym (length_labels s.labels f.headings e) ∙ sym series.filled);
+          count = grind (arith, length_across, length_labels);
           each = across_meet (length f.labels) c.kind f.columns c.cells h.columns series.held;
         }))
-    by false e = across_unequal_keep op left f s h k is' is
+    by false e = search across_unequal_keep
 
 tables_keep : (op : Binary) (p q : Shape) (a b : Table) → IsShaped a → IsShaped b → a.shape ≡ p → b.shape ≡ q → IfOk (table_infix op p q a b) IsValidEntry
 tables_keep op Series Series a b s r is is' = series_keep op a b s r is is'
-tables_keep op Series Frame a b s r is is' = across_keep op true b a r s is' is
-tables_keep op Frame Series a b s r is is' = across_keep op false a b s r is is'
+tables_keep op Series Frame a b s r is is' = search across_keep
+tables_keep op Frame Series a b s r is is' = search across_keep
 tables_keep op Frame Frame a b s r is is' = frames_keep op a b s r is is'
 
 -- an operator on two values
@@ -297,7 +259,7 @@ pub infix_result_keeps : (op : Binary) (v w : Entry) → IsValidObject v → IsV
 infix_result_keeps op (cell a) (cell b) h k = tt
 infix_result_keeps op (cell a) (table t) h k = scalar_keeps op true t a k
 infix_result_keeps op (table t) (cell b) h k = scalar_keeps op false t b h
-infix_result_keeps op (table a) (table b) h k = tables_keep op a.shape b.shape a b (shaped a h) (shaped b k) refl refl
+infix_result_keeps op (table a) (table b) h k = search (tables_keep, shaped)
 
 inverted_table : (t : Table) → IsValid t → IfOk (inverted (table t)) IsValidEntry
 inverted_table t v = by (list_all is_truth_column t.columns) (within_limits (length t.labels) (length t.columns)) refl
@@ -312,6 +274,6 @@ inverted_table t v = by (list_all is_truth_column t.columns) (within_limits (len
 -- a sign before a value
 pub sign_result_keeps : (minus : Bool) (v : Entry) → IsValidObject v → IfOk (sign_result minus v) IsValidEntry
 sign_result_keeps true (cell c) h = tt
-sign_result_keeps true (table t) h = scalar_keeps sub true t (int_cell (pos 0)) h
+sign_result_keeps true (table t) h = search scalar_keeps
 sign_result_keeps false (cell c) h = tt
 sign_result_keeps false (table t) h = inverted_table t h

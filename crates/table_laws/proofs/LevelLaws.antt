@@ -1,12 +1,12 @@
 -- Methods that give the rows other levels make valid tables of valid ones.
 use Rattle.{
-  std.{proofs.{Common.{◌≡◌, ◌∙◌, refl, sym, subst, ℕ, ◌<◌, ◌≤◌, ◌+◌, List, ◌++◌, length, map, length-append, arith}, lemmas.{Bool.Decides.{nat_tests}, List.{length-map, FromFn.{length-range_with_len}, Edits.{length-remove, length-swap}, Elements.{All-filter, All-append}}}}, specs.{Prelude.{Bool, true, false, nat_le, ◌&&◌, if◌then◌else◌, remove, swap, Option, Some, None, IsSome, Result, IfOk, All}, List.{range_with_len}}},
+  std.{proofs.{Common.{◌≡◌, ◌∙◌, refl, sym, ℕ, ◌<◌, ◌≤◌, ◌+◌, List, length, map, length-append, arith}, lemmas.{Bool.Decides.{nat_tests}, List.{length-map, FromFn.{length-range_with_len}, Edits.{length-remove, length-swap}, Elements.{All-filter, All-append}}}}, specs.{Prelude.{remove, Option, Some, None, IsSome, Result, IfOk, All}, List.{range_with_len}}},
   cell_core.specs.declared.grid.Shape.TheVariants.{Frame},
-  meaning.specs.{Cell.{CellValue, LabelValue, na_cell, int_cell, text_cell, text}, Operator.{cell_label}, Fault.{FaultValue, bad_value, levels, limit}},
-  pick_meaning.{specs.Positions.{row_at}, proofs.PositionLaws.{at_inside}},
-  table_meaning.specs.{Table.{ColumnOf, RowOf, Table, row_of, rows_of}, Value.{Entry, Given}},
-  form_meaning.specs.{Finish.{first_repeated, unless_repeated, limited}, Select.{heading_at, columns_frame, column_places}, Set.{list_column}},
-  method_meaning.specs.{Rows.{cells_by_row, all_places, labels_in, places_besides}, Levels.{names_in, rename_axis_result, on_levels, indexed_by, index_set, set_index_result, renumbered, level_cells, level_columns, level_labels, with_levels, levels_reset, level_of, of_several, level_dropped, droplevel_result, levels_swapped, swaplevel_result}},
+  meaning.specs.{Cell.{CellValue, LabelValue, na_cell}, Operator.{cell_label}, Fault.{FaultValue, levels}},
+  pick_meaning.proofs.PositionLaws.{at_inside},
+  table_meaning.specs.{Table.{ColumnOf, RowOf, Table, rows_of}, Value.{Entry, Given}},
+  form_meaning.specs.{Finish.{first_repeated, limited}, Select.{heading_at, columns_frame}, Set.{list_column}},
+  method_meaning.specs.{Rows.{cells_by_row, all_places, places_besides}, Levels.{rename_axis_result, on_levels, indexed_by, index_set, set_index_result, renumbered, level_cells, level_columns, level_labels, with_levels, levels_reset, level_of, of_several, level_dropped, droplevel_result, levels_swapped, swaplevel_result}},
   table_laws.{specs.Validity.{IsValidEntry}, proofs.{ListLaws.{both_true, all_made, all_any, all_mapped, all_tabulated, then_keeps, try_keeps, of_length_keeps}, ColumnLaws.{IsColumn, list_keeps}, TableLaws.{IsShaped, limited_keeps, frame_headings}, HeadingLaws.{different, finished_keeps, found_within}, ReachLaws.{below_all, found_is}, RowLaws.{kept_shaped, rows_counted, anything}, SetLaws.{length_default, default_levels}}},
 }
 
@@ -15,65 +15,39 @@ Has n tuple = length tuple ≡ n
 
 -- names of levels
 pub rename_axis_keeps : (t : Table) (names : Given) → IsShaped t → IfOk (rename_axis_result t names) IsValidEntry
-rename_axis_keeps t names s =
-    let u : Table = record t { level_names = names_in names } in
-    of_length_keeps IsValidEntry (length t.level_names) (length (names_in names)) (limited u)
-    (λ e. limited_keeps u record {
-      some = subst (λ n. 1 ≤ n) e s.some;
-      few = subst (λ n. n ≤ 4) e s.few;
-      levels = subst (λ n. All (Has n) t.labels) e s.levels;
-      headed = s.headed;
-      columns = s.columns;
-      headings = s.headings;
-    })
+rename_axis_keeps t names s = grind (arith, of_length_keeps, limited_keeps)
 
 -- columns as labels
 pub on_levels_keep : (count : ℕ) (rest : Result Entry FaultValue) → (1 ≤ count → count ≤ 4 → IfOk rest IsValidEntry) → IfOk (on_levels count rest) IsValidEntry
-on_levels_keep count rest h = by (nat_le 1 count && nat_le count 4) refl
-  where
-    at_least : nat_le 1 count ≡ true → 1 ≤ count
-    at_least e = Prim.grind (arith, nat_tests)
-
-    at_most : nat_le count 4 ≡ true → count ≤ 4
-    at_most e = Prim.grind (arith, nat_tests)
-
-    by : (b : Bool) → nat_le 1 count && nat_le count 4 ≡ b → IfOk (if b then rest else Rattle.std.specs.Prelude.Err limit) IsValidEntry
-    by true e = let x = both_true (nat_le 1 count) (nat_le count 4) e in h (at_least x.0) (at_most x.1)
-    by false e = tt
+on_levels_keep count rest h = grind (arith, nat_tests, both_true)
 
 pub row_has : (t : Table) (places : List ℕ) → All (λ (r : RowOf LabelValue CellValue). length r.cells ≡ length places) (rows_of na_cell (columns_frame t places))
-row_has t places =
-    all_tabulated (λ (r : RowOf LabelValue CellValue). length r.cells ≡ length places) (row_of na_cell (columns_frame t places)) (λ k. length-map (columns_frame t places).columns _ ∙ length-map places _) (length t.labels)
+row_has t places = search (all_tabulated, length-map)
 
 tuples_have : (t : Table) (places : List ℕ) → All (Has (length (indexed_by t places).level_names)) (indexed_by t places).labels
 tuples_have t places =
-    all_made (λ (cells : List CellValue). length cells ≡ length places) (Has (length (indexed_by t places).level_names)) (map cell_label) (λ cells h. length-map cells cell_label ∙ h ∙ sym (length-map places (heading_at t))) (cells_by_row t places)
-    (all_made (λ (r : RowOf LabelValue CellValue). length r.cells ≡ length places) (λ (cells : List CellValue). length cells ≡ length places) (λ r. r.cells) (λ r h. h) (rows_of na_cell (columns_frame t places)) (row_has t places))
+    all_made (λ cells. length cells ≡ length places) (Has (length (indexed_by t places).level_names)) (map cell_label) (λ cells h. length-map cells cell_label ∙ h ∙ sym (length-map places (heading_at t))) (cells_by_row t places)
+    (all_made (λ r. length r.cells ≡ length places) (λ cells. length cells ≡ length places) (λ r. r.cells) (λ r h. h) (rows_of na_cell (columns_frame t places)) (row_has t places))
 
 indexed_shaped : (t : Table) (places : List ℕ) → IsShaped t → t.shape ≡ Frame → 1 ≤ length places → length places ≤ 4 → first_repeated (indexed_by t places).headings ≡ None → IsShaped (indexed_by t places)
 indexed_shaped t places s is some few none =
     let k = kept_shaped t (places_besides t places) s is (All-filter _ (λ place. place < length t.columns) (all_places t) (below_all (length t.columns))) none in
-    let names : length places ≡ length (indexed_by t places).level_names = sym (length-map places (heading_at t)) in
-    let rows : length t.labels ≡ length (indexed_by t places).labels = sym (length-map (cells_by_row t places) (map cell_label) ∙ rows_counted t places) in
+    let names : length places ≡ length (indexed_by t places).level_names = search length-map in
+    let rows = sym (length-map (cells_by_row t places) (map cell_label) ∙ rows_counted t places) in
     record {
-      some = subst (λ n. 1 ≤ n) names some;
-      few = subst (λ n. n ≤ 4) names few;
+      some = grind arith;
+      few = grind arith;
       levels = tuples_have t places;
       headed = k.headed;
-      columns = subst (λ n. All (IsColumn n) (indexed_by t places).columns) rows k.columns;
+      columns = grind arith;
       headings = k.headings;
     }
 
 index_set_keeps : (t : Table) (places : List ℕ) → IsShaped t → t.shape ≡ Frame → IfOk (index_set t places) IsValidEntry
-index_set_keeps t places s is = by (first_repeated (indexed_by t places).headings) refl
-  where
-    by : (o : Option LabelValue) → first_repeated (indexed_by t places).headings ≡ o → IfOk (unless_repeated o (on_levels (length places) (limited (indexed_by t places)))) IsValidEntry
-    by None e = on_levels_keep (length places) (limited (indexed_by t places)) (λ some few. limited_keeps (indexed_by t places) (indexed_shaped t places s is some few e))
-    by (Some l) e = tt
+index_set_keeps t places s is = grind (arith, on_levels_keep, limited_keeps, indexed_shaped)
 
 pub set_index_keeps : (t : Table) (keys : Given) → IsShaped t → t.shape ≡ Frame → IfOk (set_index_result t keys) IsValidEntry
-set_index_keeps t keys s is =
-    then_keeps (λ places. Unit {0}) IsValidEntry (column_places t (labels_in keys)) (index_set t) (anything (column_places t (labels_in keys))) (λ places h. index_set_keeps t places s is)
+set_index_keeps t keys s is = grind (arith, then_keeps, anything, index_set_keeps)
 
 -- the labels 0, 1 and so on
 renumbered_shaped : (t : Table) → IsShaped t → IsShaped (renumbered t)
@@ -82,7 +56,7 @@ renumbered_shaped t s = record {
   few = Prim.omega arith;
   levels = default_levels (length t.labels);
   headed = s.headed;
-  columns = subst (λ n. All (IsColumn n) t.columns) (sym (length_default (length t.labels))) s.columns;
+  columns = rw (length_default (length t.labels)) s.columns;
   headings = s.headings;
 }
 
@@ -91,22 +65,22 @@ renumbered_keeps t s = limited_keeps (renumbered t) (renumbered_shaped t s)
 
 -- levels as columns
 level_keeps : (t : Table) (level : ℕ) → IfOk (list_column (level_cells t level)) (IsColumn (length t.labels))
-level_keeps t level = subst (λ n. IfOk (list_column (level_cells t level)) (IsColumn n)) (length-map t.labels _) (list_keeps (level_cells t level))
+level_keeps t level = grind (arith, length-map, list_keeps)
 
 with_levels_shaped : (t : Table) (columns : List (ColumnOf CellValue)) → IsShaped t → t.shape ≡ Frame → length columns ≡ length t.level_names → All (IsColumn (length t.labels)) columns → first_repeated (with_levels t columns).headings ≡ None
     → IsShaped (with_levels t columns)
 with_levels_shaped t columns s is size h none =
     let r = renumbered_shaped t s in
-    let own : List (Option LabelValue) = map (λ l. Some l) (level_labels t) in
-    let count : length own ≡ length columns = length-map (level_labels t) _ ∙ length-map (range_with_len 0 (length t.level_names)) _ ∙ length-range_with_len 0 (length t.level_names) ∙ sym size in
-    let some : All IsSome (own ++ t.headings) = All-append IsSome own t.headings (all_mapped IsSome (λ l. Some l) (λ l. refl) (level_labels t)) (s.headings.labelled is) in
+    let own = map (λ l. Some l) (level_labels t) in
+    let count : length own ≡ length columns = grind (arith, length-map, length-range_with_len) in
+    let some = All-append IsSome own t.headings (all_mapped IsSome (λ l. Some l) (λ l. refl) (level_labels t)) (s.headings.labelled is) in
     record {
       some = r.some;
       few = r.few;
       levels = r.levels;
-      headed = length-append own t.headings ∙ (λ j. count j + s.headed j) ∙ sym (length-append columns t.columns);
-      columns = All-append (IsColumn (length (renumbered t).labels)) columns t.columns (subst (λ n. All (IsColumn n) columns) (sym (length_default (length t.labels))) h) r.columns;
-      headings = frame_headings t.shape t.columns_name (own ++ t.headings) is some (different (own ++ t.headings) some none);
+      headed = grind (arith, length-append);
+      columns = All-append (IsColumn (length (renumbered t).labels)) columns t.columns (search length_default) r.columns;
+      headings = search (frame_headings, different);
     }
 
 pub levels_reset_keeps : (t : Table) → IsShaped t → t.shape ≡ Frame → IfOk (levels_reset t) IsValidEntry
@@ -121,40 +95,24 @@ abbrev pub IsLevel : Table → ℕ → Type 0
 IsLevel t level = level < length t.level_names
 
 pub level_of_keeps : (t : Table) (level : Option CellValue) → IfOk (level_of t level) (IsLevel t)
-level_of_keeps t (Some (int_cell z)) = found_is (IsLevel t) (row_at (length t.level_names) z) (λ k is. at_inside (length t.level_names) z k is)
-level_of_keeps t (Some (text_cell name)) = found_within t.level_names (text name)
-level_of_keeps t level = tt
+level_of_keeps t level = grind (arith, found_is, at_inside, found_within)
 
 -- where a level goes, another one stays
 pub of_several_keeps : {A : Type 0} (P : A → Type 0) (t : Table) (rest : Result A FaultValue) → (2 ≤ length t.level_names → IfOk rest P) → IfOk (of_several t rest) P
-of_several_keeps P t rest h = by (nat_le 2 (length t.level_names)) refl
-  where
-    at_least : nat_le 2 (length t.level_names) ≡ true → 2 ≤ length t.level_names
-    at_least e = Prim.grind (arith, nat_tests)
-
-    by : (b : Bool) → nat_le 2 (length t.level_names) ≡ b → IfOk (if b then rest else Rattle.std.specs.Prelude.Err (bad_value levels)) P
-    by true e = h (at_least e)
-    by false e = tt
-
--- the table without a level
-one_less : (n : ℕ) (level : ℕ) → level < n → (tuple : List LabelValue) → length tuple ≡ n → length (remove tuple level) + 1 ≡ n
-one_less n level lt tuple has = length-remove tuple level (subst (λ k. level < k) (sym has) lt) ∙ has
+of_several_keeps P t rest h = grind (arith, nat_tests)
 
 dropped_has : (t : Table) (level : ℕ) → IsLevel t level → (tuple : List LabelValue) → length tuple ≡ length t.level_names → Has (length (remove t.level_names level)) (remove tuple level)
-dropped_has t level lt tuple has =
-    let here : length (remove tuple level) + 1 ≡ length t.level_names = one_less (length t.level_names) level lt tuple has in
-    let there : length (remove t.level_names level) + 1 ≡ length t.level_names = length-remove t.level_names level lt in
-    Prim.omega (arith, here, there)
+dropped_has t level lt tuple has = grind (arith, length-remove)
 
 pub dropped_shaped : (t : Table) (level : ℕ) → IsShaped t → IsLevel t level → 2 ≤ length t.level_names → IsShaped (level_dropped t level)
 dropped_shaped t level s lt several =
-    let count : length (remove t.level_names level) + 1 ≡ length t.level_names = length-remove t.level_names level lt in
+    let count : length (remove t.level_names level) + 1 ≡ length t.level_names = search length-remove in
     record {
-      some = Prim.omega (arith, count, several);
-      few = Prim.omega (arith, count, s.few);
-      levels = all_made (Has (length t.level_names)) (Has (length (remove t.level_names level))) (λ tuple. remove tuple level) (dropped_has t level lt) t.labels s.levels;
+      some = grind arith;
+      few = grind arith;
+      levels = search (all_made, dropped_has);
       headed = s.headed;
-      columns = subst (λ n. All (IsColumn n) t.columns) (sym (length-map t.labels _)) s.columns;
+      columns = grind (arith, length-map);
       headings = s.headings;
     }
 
@@ -166,13 +124,13 @@ droplevel_keeps t level s =
 -- two levels exchanged
 swapped_shaped : (t : Table) (i j : ℕ) → IsShaped t → IsShaped (levels_swapped t i j)
 swapped_shaped t i j s =
-    let count : length (swap t.level_names i j) ≡ length t.level_names = length-swap t.level_names i j in
+    let count = length-swap t.level_names i j in
     record {
-      some = subst (λ n. 1 ≤ n) (sym count) s.some;
-      few = subst (λ n. n ≤ 4) (sym count) s.few;
-      levels = all_made (Has (length t.level_names)) (Has (length (swap t.level_names i j))) (λ tuple. swap tuple i j) (λ tuple has. length-swap tuple i j ∙ has ∙ sym count) t.labels s.levels;
+      some = grind arith;
+      few = grind arith;
+      levels = search (all_made, length-swap);
       headed = s.headed;
-      columns = subst (λ n. All (IsColumn n) t.columns) (sym (length-map t.labels _)) s.columns;
+      columns = grind (arith, length-map);
       headings = s.headings;
     }
 

@@ -1,12 +1,12 @@
 -- `merge` makes a valid frame of valid ones.
 use Rattle.{
-  std.{proofs.{Common.{◌≡◌, ◌∙◌, refl, sym, ap, subst, ℕ, suc, ◌+◌, ◌<◌, List, [], ◌∷◌, length, map, length-append, arith}, lemmas.{Bool.{eqb-true}, List.{length-map, Elements.{All-nil, All-filter, All-append}}}}, specs.{Prelude.{Bool, true, false, not, nat_eq, nat_lt, slice_get, is_some, if◌then◌else◌, codes, Option, Some, None, IsSome, IfSome, Result, Ok, Err, IfOk, All}, List.{list_any, position_or_len}}},
+  std.{proofs.{Common.{◌≡◌, refl, ℕ, suc, ◌+◌, ◌<◌, List, [], ◌∷◌, length, map, length-append, arith}, lemmas.{Bool.{eqb-true}, List.{length-map, Elements.{All-nil, All-filter, All-append}}}}, specs.{Prelude.{Bool, true, false, not, nat_eq, slice_get, if◌then◌else◌, codes, Option, Some, None, IsSome, IfSome, IfOk, All}, List.{position_or_len}}},
   cell_core.specs.declared.{cell.Kind.{Kind, TheVariants.{Int64}}, grid.Shape.TheVariants.{Frame}},
-  meaning.specs.{Text.{Text}, Cell.{CellValue, na_cell, LabelValue}, Column.{gap_cell}, Fault.{FaultValue, bad_value, key_kinds, limit, then_value}},
-  join_meaning.specs.{declared.{How.{How}, Validate.{Validate}}, Pairs.{Pair, RepeatedKey, repeated_key, key_pairs}},
-  table_meaning.{specs.{Table.{ColumnOf, Table, column_at, no_column}, Valid.{IsValid}, Value.{Given, NamedGiven, object_in}}, proofs.KindLaws.{kind_is}},
-  form_meaning.specs.{declared.{Method.TheVariants.{Other}, OtherMethod.TheVariants.{Merge}}, Signature.{parameters_of}, Binding.{argument_at, text_in}, Finish.{same_heading, same_kind, finished}, Infix.{same_tuple, tuple_before}, Select.{heading_at}},
-  method_meaning.specs.{Rows.{all_places, places_besides}, Groups.{row_keys, headings_of}, Merge.{MergeKeys, keys_on, kinds_at, are_same_kinds, checked_keys, keys_of_merge, with_suffix, suffixed_heading, right_places, is_key, left_heading, right_heading, column_of_side, key_cell, joined_key_column, right_key, joined_or_left, left_column, merged, unless_twice, merged_rows, merge_result}, Calls.{merge_call}},
+  meaning.specs.{Text.{Text}, Cell.{CellValue, LabelValue}},
+  join_meaning.specs.{declared.{How.{How}, Validate.{Validate}}, Pairs.{Pair}},
+  table_meaning.{specs.{Table.{Table, column_at, no_column}, Valid.{IsValid}, Value.{Given, NamedGiven, object_in}}, proofs.KindLaws.{kind_is}},
+  form_meaning.specs.{declared.{Method.TheVariants.{Other}, OtherMethod.TheVariants.{Merge}}, Signature.{parameters_of}, Binding.{argument_at, text_in}, Finish.{same_kind, finished}, Select.{heading_at}},
+  method_meaning.specs.{Rows.{all_places, places_besides}, Groups.{headings_of}, Merge.{MergeKeys, kinds_at, are_same_kinds, keys_of_merge, suffixed_heading, right_places, left_heading, right_heading, column_of_side, key_cell, joined_key_column, right_key, joined_or_left, left_column, merged, merged_rows, merge_result}, Calls.{merge_call}},
   table_laws.{specs.Validity.{IsValidEntry, AreValidArguments}, proofs.{ListLaws.{both_true, all_made, all_mapped, at_or, then_keeps, on_keeps, on_some_keeps}, CellLaws.{Held}, ColumnLaws.{IsColumn}, TableLaws.{IsShaped, shaped}, ReachLaws.{below_all}, InfixLaws.{gap_held}, GroupLaws.{AreLabels, frame_keeps}, SetLaws.{length_default, default_levels}, ArgumentLaws.{argument_valid, object_valid, frame_at, bound_taken}}},
 }
 
@@ -14,45 +14,15 @@ use Rattle.{
 abbrev AreKeys : Table → Table → MergeKeys → Type 0
 AreKeys l r keys = are_same_kinds (kinds_at l keys.left) (kinds_at r keys.right) ≡ true
 
-checked_are : (l r : Table) (keys : MergeKeys) → IfOk (checked_keys l r keys) (AreKeys l r)
-checked_are l r keys = by (are_same_kinds (kinds_at l keys.left) (kinds_at r keys.right)) (nat_lt 4 (length keys.left)) refl
-  where
-    by : (a b : Bool) → are_same_kinds (kinds_at l keys.left) (kinds_at r keys.right) ≡ a → IfOk (if a then (if b then Err limit else Ok keys) else Err (bad_value key_kinds)) (AreKeys l r)
-    by true true e = tt
-    by true false e = e
-    by false b e = tt
-
 keys_are : (l r : Table) (labels : Given) → IfOk (keys_of_merge l r labels) (AreKeys l r)
-keys_are l r labels = by (keys_on l r labels)
-  where
-    by : (o : Result MergeKeys FaultValue) → IfOk (then_value o (checked_keys l r)) (AreKeys l r)
-    by (Ok keys) = checked_are l r keys
-    by (Err fault) = tt
+keys_are l r labels = grind arith
 
 -- cells of columns are held, also where there is no such column
 cells_held : (t : Table) → IsShaped t → (place : ℕ) → All (Held (column_at t.columns place).kind) (column_at t.columns place).cells
-cells_held t s place = at_or (λ (c : ColumnOf CellValue). All (Held c.kind) c.cells) t.columns place no_column (All-nil (Held Int64)) (λ k d lt. (s.columns k d lt).held)
-
-side_column : (t : Table) → IsShaped t → (rows : List (Option ℕ)) (count : ℕ) → length rows ≡ count → (place : ℕ) → IsColumn count (column_of_side t rows place)
-side_column t s rows count size place =
-    let kind = (column_at t.columns place).kind in
-    let cells = (column_at t.columns place).cells in
-    record { filled = length-map rows (gap_cell na_cell cells) ∙ size; held = all_mapped (Held kind) (gap_cell na_cell cells) (λ gap. gap_held kind cells gap (cells_held t s place)) rows }
-
--- a headed frame's labels
-label_some : (t : Table) → IsShaped t → t.shape ≡ Frame → (place : ℕ) → place < length t.columns → IsSome (heading_at t place)
-label_some t s is place lt = s.headings.labelled is place None (Prim.omega (arith, lt, s.headed))
-
-suffix_some : (suffix : Text) (h : Option LabelValue) → IsSome h → IsSome (with_suffix suffix h)
-suffix_some suffix (Some l) h = refl
-suffix_some suffix None h = h
+cells_held t s place = at_or (λ c. All (Held c.kind) c.cells) t.columns place no_column (All-nil (Held Int64)) (λ k d lt. (s.columns k d lt).held)
 
 beside_some : (suffix : Text) (others : List (Option LabelValue)) (h : Option LabelValue) → IsSome h → IsSome (suffixed_heading suffix others h)
-beside_some suffix others h some = by (list_any (same_heading h) others)
-  where
-    by : (b : Bool) → IsSome (if b then with_suffix suffix h else h)
-    by true = suffix_some suffix h some
-    by false = some
+beside_some suffix others h some = grind arith
 
 -- the key of the right side is of the kind of the left
 kinds_meet : (l r : Table) (lefts rights : List ℕ) (place other : ℕ) → are_same_kinds (kinds_at l lefts) (kinds_at r rights) ≡ true → slice_get rights (position_or_len (nat_eq place) lefts) ≡ Some other
@@ -62,17 +32,15 @@ kinds_meet l r [] (b ∷ rights) place other alike found = Prim.cc
 kinds_meet l r (a ∷ lefts) [] place other alike found = Prim.cc
 kinds_meet l r (a ∷ lefts) (b ∷ rights) place other alike found =
     let both = both_true (same_kind (column_at l.columns a).kind (column_at r.columns b).kind) (are_same_kinds (kinds_at l lefts) (kinds_at r rights)) alike in
-    by (nat_eq place a) refl found (kind_is (column_at l.columns a).kind (column_at r.columns b).kind both.0) (kinds_meet l r lefts rights place other both.1)
+    by (nat_eq place a) refl found (search kind_is) (kinds_meet l r lefts rights place other both.1)
   where
     by : (c : Bool) → nat_eq place a ≡ c → slice_get (b ∷ rights) (if not c then 1 + position_or_len (nat_eq place) lefts else 0) ≡ Some other → (column_at l.columns a).kind ≡ (column_at r.columns b).kind
         → (slice_get rights (position_or_len (nat_eq place) lefts) ≡ Some other → (column_at l.columns place).kind ≡ (column_at r.columns other).kind)
         → (column_at l.columns place).kind ≡ (column_at r.columns other).kind
-    by true e f here later =
-        let same : b ≡ other = Prim.cc in
-        ap (λ p. (column_at l.columns p).kind) (eqb-true place a e) ∙ here ∙ ap (λ p. (column_at r.columns p).kind) same
+    by true e f here later = grind (arith, eqb-true)
     by false e f here later =
         let next : suc (position_or_len (nat_eq place) lefts) ≡ 1 + position_or_len (nat_eq place) lefts = Prim.omega arith in
-        later (ap (slice_get (b ∷ rights)) next ∙ f)
+        grind arith
 
 -- the frame of two frames
 module _ (l r : Table) (s : IsShaped l) (w : IsShaped r) (is : l.shape ≡ Frame) (is' : r.shape ≡ Frame) (keys : MergeKeys) (are : AreKeys l r keys) (pairs : List Pair) where
@@ -89,28 +57,20 @@ module _ (l r : Table) (s : IsShaped l) (w : IsShaped r) (is : l.shape ≡ Frame
       right = (column_at r.columns other).cells
 
       right_held : All (Held kind) right
-      right_held = subst (λ k. All (Held k) right) (sym (kinds_meet l r keys.left keys.right place other are key)) (cells_held r w other)
+      right_held = grind (arith, right, kinds_meet, cells_held)
 
       each : (p : Pair) → Held kind (key_cell left right p)
-      each p = by (is_some p.left)
-        where
-          by : (b : Bool) → Held kind (if b then gap_cell na_cell left p.left else gap_cell na_cell right p.right)
-          by true = gap_held kind left p.left (cells_held l s place)
-          by false = gap_held kind right p.right right_held
+      each p = grind (arith, kind, left, right, gap_held, cells_held, right_held)
 
   left_held : (place : ℕ) → IsColumn (length pairs) (left_column l r keys pairs place)
   left_held place = by (right_key keys place) refl
     where
       by : (o : Option ℕ) → right_key keys place ≡ o → IsColumn (length pairs) (joined_or_left l r pairs place o)
       by (Some other) e = key_held place other e
-      by None e = side_column l s (map (λ p. p.left) pairs) (length pairs) (length-map pairs (λ p. p.left)) place
+      by None e = search (length-map, all_mapped, gap_held, cells_held)
 
   left_some : (place : ℕ) → place < length l.columns → IsSome (left_heading l r keys place)
-  left_some place lt = by (is_key keys.left place)
-    where
-      by : (b : Bool) → IsSome (if b then heading_at l place else suffixed_heading (codes "_x") (headings_of r (right_places r keys)) (heading_at l place))
-      by true = label_some l s is place lt
-      by false = beside_some (codes "_x") (headings_of r (right_places r keys)) (heading_at l place) (label_some l s is place lt)
+  left_some place lt = grind (arith, beside_some)
 
   right_below : All (λ place. place < length r.columns) (right_places r keys)
   right_below = All-filter _ (λ place. place < length r.columns) (all_places r) (below_all (length r.columns))
@@ -120,39 +80,19 @@ module _ (l r : Table) (s : IsShaped l) (w : IsShaped r) (is : l.shape ≡ Frame
       All-append IsSome (map (left_heading l r keys) (all_places l)) (map (right_heading l r keys) (right_places r keys))
       (all_made (λ place. place < length l.columns) IsSome (left_heading l r keys) left_some (all_places l) (below_all (length l.columns)))
       (all_made (λ place. place < length r.columns) IsSome (right_heading l r keys)
-      (λ place lt. beside_some (codes "_y") (headings_of l (places_besides l keys.left)) (heading_at r place) (label_some r w is' place lt)) (right_places r keys) right_below)
+      (λ place lt. beside_some (codes "_y") (headings_of l (places_besides l keys.left)) (heading_at r place) (grind arith)) (right_places r keys) right_below)
 
   merged_columns : All (IsColumn (length pairs)) (merged l r keys pairs).columns
   merged_columns =
       All-append (IsColumn (length pairs)) (map (left_column l r keys pairs) (all_places l)) (map (column_of_side r (map (λ p. p.right) pairs)) (right_places r keys))
-      (all_mapped (IsColumn (length pairs)) (left_column l r keys pairs) left_held (all_places l))
-      (all_mapped (IsColumn (length pairs)) (column_of_side r (map (λ p. p.right) pairs)) (side_column r w (map (λ p. p.right) pairs) (length pairs) (length-map pairs (λ p. p.right))) (right_places r keys))
-
-  merged_headed : length (merged l r keys pairs).headings ≡ length (merged l r keys pairs).columns
-  merged_headed =
-      let lefts : length (map (left_heading l r keys) (all_places l)) ≡ length (map (left_column l r keys pairs) (all_places l)) = length-map (all_places l) _ ∙ sym (length-map (all_places l) _) in
-      let rights : length (map (right_heading l r keys) (right_places r keys)) ≡ length (map (column_of_side r (map (λ p. p.right) pairs)) (right_places r keys)) = length-map (right_places r keys) _ ∙ sym (length-map (right_places r keys) _) in
-      length-append (map (left_heading l r keys) (all_places l)) _ ∙ (λ i. lefts i + rights i) ∙ sym (length-append (map (left_column l r keys pairs) (all_places l)) _)
+      (search (all_mapped, left_held))
+      (search (all_mapped, length-map, gap_held, cells_held))
 
   merged_keeps : IfOk (finished (merged l r keys pairs)) IsValidEntry
-  merged_keeps = frame_keeps (merged l r keys pairs) record {
-    some = Prim.omega arith;
-    few = Prim.omega arith;
-    levels = default_levels (length pairs);
-    headed = merged_headed;
-    columns = subst (λ n. All (IsColumn n) (merged l r keys pairs).columns) (sym (length_default (length pairs))) merged_columns;
-    frame = refl;
-  } merged_labels
+  merged_keeps = grind (arith, frame_keeps, default_levels, length-map, length-append, length_default, merged_columns, merged_labels)
 
 rows_keep : (l r : Table) → IsShaped l → IsShaped r → l.shape ≡ Frame → r.shape ≡ Frame → (h : How) (once : Validate) (keys : MergeKeys) → AreKeys l r keys → IfOk (merged_rows l r h once keys) IsValidEntry
-rows_keep l r s w is is' h once keys are = by (repeated_key same_tuple once (row_keys l keys.left) (row_keys r keys.right))
-  where
-    pairs : List Pair
-    pairs = key_pairs same_tuple tuple_before h (row_keys l keys.left) (row_keys r keys.right)
-
-    by : (o : Option (RepeatedKey (List LabelValue))) → IfOk (unless_twice o (finished (merged l r keys pairs))) IsValidEntry
-    by None = merged_keeps l r s w is is' keys are pairs
-    by (Some twice) = tt
+rows_keep l r s w is is' h once keys are = grind (arith, merged_keeps)
 
 -- a frame that is valid
 pub record IsShapedFrame (t : Table) : Type 0 where
@@ -167,8 +107,7 @@ merge_result_keeps l right how labels once s h =
     (λ keys are. rows_keep l r s.fits w.fits s.frame w.frame _ _ keys are)))
 
 both_fit : (o : Option Table) → IfSome o IsValid → IfSome o (λ t. t.shape ≡ Frame) → IfSome o IsShapedFrame
-both_fit None h k = tt
-both_fit (Some t) h k = record { fits = shaped t h; frame = k }
+both_fit x h k = grind (arith, shaped)
 
 -- a call of `merge`
 pub merge_call_keeps : (t : Table) (gs : List NamedGiven) → IsShapedFrame t → AreValidArguments gs → IfOk (merge_call t gs) IsValidEntry

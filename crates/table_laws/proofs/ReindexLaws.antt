@@ -1,11 +1,11 @@
 -- `reindex` makes valid tables of valid ones.
 use Rattle.{
-  std.{proofs.{Common.{◌≡◌, ◌∙◌, refl, ap, sym, subst, ℕ, suc, ◌+◌, ◌<◌, List, [], ◌∷◌, length, map, arith}, lemmas.{Bool.{eqb-true}, List.{length-map, Elements.{All-nil, All-cons}}}}, specs.Prelude.{Bool, true, false, ◌&&◌, nat_eq, nat_lt, if◌then◌else◌, Option, Some, None, IsSome, IfSome, Result, Ok, Err, IfOk, All}},
+  std.{proofs.{Common.{◌≡◌, refl, ℕ, ◌<◌, List, length, map, arith}, lemmas.{Bool.{eqb-true}, List.{length-map, Elements.{All-nil, All-cons}}}}, specs.Prelude.{true, Option, Some, None, IsSome, IfSome, Result, IfOk, All}},
   cell_core.specs.declared.grid.Shape.TheVariants.{Frame},
-  meaning.specs.{Cell.{na_cell, LabelValue, Int64}, Fault.{wrong_kind}, Operator.{cell_label}},
+  meaning.specs.Cell.{na_cell, LabelValue},
   align_meaning.{specs.{Faults.{AlignRefusal, met_rows}, Targets.{reindexed}}, proofs.FoundLaws.{reindexed_count, reindexed_below}},
-  table_meaning.specs.{Table.{Table}, Value.{Given, GivenList, cell, table, nothing, one, row, many, entries, no_given, more_given}},
-  form_meaning.specs.{Binding.{each, is_scalar, count_of, is_tuple_of}, Finish.{first_repeated, column_labels}, Infix.{same_tuple}, Select.{labels_of}},
+  table_meaning.specs.{Table.{Table}, Value.{GivenList, cell, table, nothing, one, row, many, entries, no_given, more_given}},
+  form_meaning.specs.{Binding.{each, is_scalar, count_of}, Finish.{first_repeated, column_labels}, Infix.{same_tuple}, Select.{labels_of}},
   select_meaning.specs.{Keys.{whole_item, whole_items}, Select.{row_name}},
   method_meaning.specs.Reindex.{rows_at, rows_reindexed, column_or_missing, columns_at, columns_reindexed, reindex_result},
   table_laws.{specs.Validity.{IsValidEntry}, proofs.{ListLaws.{both_true, all_made, then_keeps}, CellLaws.{na_held}, ColumnLaws.{IsColumn, spread_column}, TableLaws.{IsShaped, limited_keeps, column_of_table, frame_headings}, HeadingLaws.{different, finished_keeps}, InfixLaws.{columns_on}, SetLaws.{met_keeps}}},
@@ -17,64 +17,32 @@ Has n tuple = length tuple ≡ n
 -- each item of a list has a label for each level
 labels_count : (parts : GivenList) → each is_scalar parts ≡ true → length (labels_of parts) ≡ count_of parts
 labels_count no_given h = refl
-labels_count (more_given (one (cell c)) rest) h = let more : suc (count_of rest) ≡ count_of rest + 1 = Prim.omega arith in ap suc (labels_count rest h) ∙ more
+labels_count (more_given (one (cell c)) rest) h = grind (arith, labels_count rest h)
 labels_count (more_given (one (table t)) rest) h = Prim.cc
 labels_count (more_given nothing rest) h = Prim.cc
 labels_count (more_given (row parts) rest) h = Prim.cc
 labels_count (more_given (many parts) rest) h = Prim.cc
 labels_count (more_given (entries pairs) rest) h = Prim.cc
 
-item_has : (n : ℕ) (g : Given) → IfOk (whole_item n g) (Has n)
-item_has n (one (cell c)) = by (nat_eq n 1) refl
-  where
-    by : (b : Bool) → nat_eq n 1 ≡ b → IfOk (if b then Ok (cell_label c ∷ []) else Err wrong_kind) (Has n)
-    by true e = sym (eqb-true n 1 e)
-    by false e = tt
-item_has n (row parts) = by (nat_lt 1 n && is_tuple_of n (row parts)) refl
-  where
-    by : (b : Bool) → nat_lt 1 n && is_tuple_of n (row parts) ≡ b → IfOk (if b then Ok (labels_of parts) else Err wrong_kind) (Has n)
-    by true e =
-        let tuple : is_tuple_of n (row parts) ≡ true = (both_true (nat_lt 1 n) (is_tuple_of n (row parts)) e).1 in
-        let x = both_true (nat_eq (count_of parts) n) (each is_scalar parts) tuple in
-        labels_count parts x.1 ∙ eqb-true (count_of parts) n x.0
-    by false e = tt
-item_has n (one (table t)) = tt
-item_has n nothing = tt
-item_has n (many parts) = tt
-item_has n (entries pairs) = tt
-
 items_have : (n : ℕ) (items : GivenList) → IfOk (whole_items n items) (All (Has n))
 items_have n no_given = All-nil (Has n)
 items_have n (more_given g rest) =
-    then_keeps (Has n) (All (Has n)) (whole_item n g) _ (item_has n g)
+    then_keeps (Has n) (All (Has n)) (whole_item n g) _ (grind (arith, eqb-true, both_true, labels_count))
     (λ key first. then_keeps (All (Has n)) (All (Has n)) (whole_items n rest) _ (items_have n rest) (λ keys others. All-cons (Has n) key keys first others))
-
--- rows
-rows_at_shaped : (t : Table) (labels : List (List LabelValue)) (rows : List (Option ℕ)) → IsShaped t → All (Has (length t.level_names)) labels → length rows ≡ length labels → IsShaped (rows_at na_cell t labels rows)
-rows_at_shaped t labels rows s has count = record {
-  some = s.some;
-  few = s.few;
-  levels = has;
-  headed = s.headed ∙ sym (length-map t.columns _);
-  columns = columns_on (length t.labels) (length labels) rows t.columns count s.columns;
-  headings = s.headings;
-}
 
 rows_reindexed_keeps : (t : Table) (labels : List (List LabelValue)) → IsShaped t → All (Has (length t.level_names)) labels → IfOk (rows_reindexed t labels) IsValidEntry
 rows_reindexed_keeps t labels s has =
     then_keeps (λ rows. length rows ≡ length labels) IsValidEntry (met_rows (reindexed same_tuple t.labels labels)) _
     (met_keeps (λ rows. length rows ≡ length labels) (reindexed same_tuple t.labels labels) (reindexed_count same_tuple t.labels labels))
-    (λ rows count. limited_keeps (rows_at na_cell t labels rows) (rows_at_shaped t labels rows s has count))
+    (λ rows count. limited_keeps (rows_at na_cell t labels rows) (search (length-map, columns_on)))
 
 -- columns
 column_or_missing_keeps : (t : Table) (place : Option ℕ) → IsShaped t → IfSome place (λ k. k < length t.columns) → IsColumn (length t.labels) (column_or_missing na_cell t place)
-column_or_missing_keeps t None s inside = spread_column Int64 (length t.labels) na_cell (na_held Int64)
+column_or_missing_keeps t None s inside = search (spread_column, na_held)
 column_or_missing_keeps t (Some place) s inside = column_of_table t s place inside
 
 name_there : (tuple : List LabelValue) → Has 1 tuple → IsSome (row_name tuple)
-name_there [] one_label = absurd (Prim.omega (arith, one_label))
-name_there (l ∷ []) one_label = refl
-name_there (l ∷ m ∷ more) one_label = absurd (Prim.omega (arith, one_label))
+name_there x one_label = grind arith
 
 abbrev ArePlaces : Table → List (List LabelValue) → List (Option ℕ) → Type 0
 ArePlaces t labels places = (length places ≡ length labels) × All (λ place. IfSome place (λ k. k < length t.columns)) places
@@ -82,26 +50,25 @@ ArePlaces t labels places = (length places ≡ length labels) × All (λ place. 
 columns_at_shaped : (t : Table) (labels : List (List LabelValue)) (places : List (Option ℕ)) → IsShaped t → t.shape ≡ Frame → All (Has 1) labels → ArePlaces t labels places → first_repeated (map row_name labels) ≡ None
     → IsShaped (columns_at na_cell t (map row_name labels) places)
 columns_at_shaped t labels places s is has found none =
-    let some : All IsSome (map row_name labels) = all_made (Has 1) IsSome row_name name_there labels has in
+    let some : All IsSome (map row_name labels) = search (all_made, name_there) in
     record {
       some = s.some;
       few = s.few;
       levels = s.levels;
-      headed = length-map labels row_name ∙ sym found.0 ∙ sym (length-map places (column_or_missing na_cell t));
-      columns = all_made (λ place. IfSome place (λ k. k < length t.columns)) (IsColumn (length t.labels)) (column_or_missing na_cell t) (λ place inside. column_or_missing_keeps t place s inside) places found.1;
-      headings = frame_headings t.shape t.columns_name (map row_name labels) is some (different (map row_name labels) some none);
+      headed = grind (arith, length-map);
+      columns = search (all_made, column_or_missing_keeps);
+      headings = search (frame_headings, different);
     }
 
 both_hold : {A : Type 0} (P Q : A → Type 0) (r : Result A (AlignRefusal (List LabelValue))) → IfOk r P → IfOk r Q → IfOk r (λ a. P a × Q a)
-both_hold P Q (Ok a) p q = (p, q)
-both_hold P Q (Err refusal) p q = tt
+both_hold x x1 x2 p q = grind arith
 
 places_found : (t : Table) (labels : List (List LabelValue)) → IsShaped t → IfOk (reindexed same_tuple (column_labels t) labels) (ArePlaces t labels)
 places_found t labels s =
-    let count : length (column_labels t) ≡ length t.columns = length-map t.headings _ ∙ s.headed in
+    let count : length (column_labels t) ≡ length t.columns = search length-map in
     both_hold (λ places. length places ≡ length labels) (All (λ place. IfSome place (λ k. k < length t.columns))) (reindexed same_tuple (column_labels t) labels)
     (reindexed_count same_tuple (column_labels t) labels)
-    (subst (λ n. IfOk (reindexed same_tuple (column_labels t) labels) (All (λ place. IfSome place (λ k. k < n)))) count (reindexed_below same_tuple (column_labels t) labels))
+    (grind (arith, reindexed_below same_tuple (column_labels t) labels))
 
 columns_reindexed_keeps : (t : Table) (labels : List (List LabelValue)) → IsShaped t → t.shape ≡ Frame → All (Has 1) labels → IfOk (columns_reindexed t labels) IsValidEntry
 columns_reindexed_keeps t labels s is has =

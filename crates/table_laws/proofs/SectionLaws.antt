@@ -1,6 +1,6 @@
 -- `xs` makes valid tables of valid ones.
 use Rattle.{
-  std.{proofs.Common.{ℕ, ◌<◌, ◌≤◌, List, [], ◌∷◌, length}, specs.Prelude.{Option, IfOk, All}},
+  std.{proofs.Common.{arith, ℕ, ◌<◌, ◌≤◌, List, length}, specs.Prelude.{Option, IfOk, All}},
   meaning.specs.{Cell.{CellValue, LabelValue}, Operator.{cell_label}},
   pick_meaning.{specs.{Labels.{unless_none}, Rows.{rows_where}}, proofs.InsideLaws.{rows_inside}},
   table_meaning.specs.Table.{Table},
@@ -11,14 +11,13 @@ use Rattle.{
 
 -- the rows lie in the table
 some_inside : (P : List ℕ → Type 0) (key : List LabelValue) (rows : List ℕ) → P rows → IfOk (found_pick (unless_none key rows)) P
-some_inside P key [] h = tt
-some_inside P key (row ∷ rows) h = h
+some_inside x key x1 h = grind arith
 
 section_keeps : (t : Table) (l : LabelValue) (level : ℕ) → IsShaped t → IsLevel t level → 2 ≤ length t.level_names → IfOk (section t l level) IsValidEntry
 section_keeps t l level s lt several =
     let rows = rows_where (has_label level l) 0 t.labels in
-    then_keeps (λ (rows : List ℕ). All (λ row. row < length t.labels) rows) IsValidEntry (rows_with_label t l level) _
-    (some_inside (λ (rows : List ℕ). All (λ row. row < length t.labels) rows) (l ∷ []) rows (rows_inside (has_label level l) t.labels))
+    then_keeps (λ rows. All (λ row. row < length t.labels) rows) IsValidEntry (rows_with_label t l level) _
+    (search (some_inside, rows_inside))
     (λ rows inside. limited_keeps (level_dropped (rows_taken t rows) level) (dropped_shaped (rows_taken t rows) level (rows_shaped t rows s inside) lt several))
 
 pub xs_keeps : (t : Table) (key : CellValue) (level : Option CellValue) → IsShaped t → IfOk (xs_result t key level) IsValidEntry

@@ -1,11 +1,11 @@
 -- Selections give valid tables of valid ones, and cells that columns can hold.
 use Rattle.{
-  std.{proofs.{Common.{◌≡◌, ◌∙◌, refl, ap, sym, subst, ℕ, ◌<◌, ◌-◌, drop, pos, List, [], ◌∷◌, length, map, arith}, lemmas.List.{length-map, length-drop, Elements.{All-nil, All-cons}}}, specs.{Prelude.{Bool, true, false, if◌then◌else◌, slice_index_or, unwrap_or, Option, None, IsSome, Ok, Err, IfOk, All}, List.{list_all}}},
+  std.{proofs.{Common.{◌≡◌, ◌∙◌, refl, ap, sym, subst, ℕ, ◌<◌, ◌-◌, drop, List, [], ◌∷◌, length, map, arith}, lemmas.List.{length-map, length-drop}}, specs.{Prelude.{Bool, true, false, if◌then◌else◌, slice_index_or, Option, None, IsSome, Ok, Err, IfOk, All}, List.{list_all}}},
   cell_core.specs.declared.{cell.Kind.{Kind}, grid.Shape.{Shape, TheVariants.{Series, Frame}}},
-  meaning.specs.{Cell.{CellValue, na_cell, LabelValue, int}, Fault.{wrong_kind, then_value}},
-  table_meaning.{specs.{Table.{ColumnOf, Table, column_at}, Valid.{AreHeadings}, Value.{Entry, cell, table}}, proofs.KindLaws.{kind_is}},
+  meaning.specs.{Cell.{CellValue, na_cell, LabelValue}, Fault.{wrong_kind, then_value}},
+  table_meaning.{specs.{Table.{ColumnOf, Table, column_at}, Valid.{AreHeadings}, Value.{Entry}}, proofs.KindLaws.{kind_is}},
   form_meaning.specs.{Finish.{limited, same_kind}, Select.{heading_at, length_result}},
-  select_meaning.specs.{Keys.{Reach}, Select.{column_rows, rows_taken, without_leading, cut, as_series, row_name, first_cell, kind_across, row_series, row_result, shown_as, picked_result}},
+  select_meaning.specs.{Keys.{Reach}, Select.{column_rows, rows_taken, without_leading, cut, as_series, first_cell, kind_across, row_series, row_result, shown_as, picked_result}},
   table_laws.{specs.Validity.{IsHeldCell, IsValidEntry}, proofs.{ListLaws.{all_made, all_mapped, all_pass, at_or}, CellLaws.{Held, na_held, held_cell, wrap_fits}, ColumnLaws.{IsColumn}, TableLaws.{IsShaped, limited_keeps, column_of_table, series_heading, frame_headings}, HeadingLaws.{different, finished_keeps}}},
 }
 
@@ -22,46 +22,35 @@ pub record IsReach (t : Table) (reach : Reach) : Type 0 where
 pub cell_of_column : (rows : ℕ) (c : ColumnOf CellValue) (k : ℕ) → IsColumn rows c → Held c.kind (slice_index_or c.cells k na_cell)
 cell_of_column rows c k h = at_or (Held c.kind) c.cells k na_cell (na_held c.kind) h.held
 
-rows_of_column : (count : ℕ) (rows : List ℕ) (c : ColumnOf CellValue) → IsColumn count c → IsColumn (length rows) (column_rows rows c)
-rows_of_column count rows c h = record {
-  filled = length-map rows (λ row. slice_index_or c.cells row na_cell);
-  held = all_mapped (Held c.kind) (λ row. slice_index_or c.cells row na_cell) (λ row. cell_of_column count c row h) rows;
-}
-
 -- some rows of a table
 pub rows_shaped : (t : Table) (rows : List ℕ) → IsShaped t → All (λ row. row < length t.labels) rows → IsShaped (rows_taken t rows)
 rows_shaped t rows s inside = record {
   some = s.some;
   few = s.few;
   levels = all_made (λ row. row < length t.labels) (λ tuple. length tuple ≡ length t.level_names) (λ row. slice_index_or t.labels row []) (λ row lt. s.levels row [] lt) rows inside;
-  headed = s.headed ∙ sym (length-map t.columns (column_rows rows));
-  columns = subst (λ n. All (IsColumn n) (map (column_rows rows) t.columns)) (sym (length-map rows (λ row. slice_index_or t.labels row [])))
-      (all_made (IsColumn (length t.labels)) (IsColumn (length rows)) (column_rows rows) (rows_of_column (length t.labels) rows) t.columns s.columns);
+  headed = search length-map;
+  columns = search (length-map, all_made, all_mapped, cell_of_column);
   headings = s.headings;
 }
 
 -- without its leading levels
 pub leading_shaped : (t : Table) (count : ℕ) → IsShaped t → count < length t.level_names → IsShaped (without_leading count t)
 leading_shaped t count s left =
-    let levels : length (drop count t.level_names) ≡ length t.level_names - count = length-drop count t.level_names in
+    let levels : length (drop count t.level_names) ≡ length t.level_names - count = search length-drop in
     record {
       some = omega (arith, levels, left);
       few = omega (arith, levels, s.few);
-      levels = all_made (λ tuple. length tuple ≡ length t.level_names) (λ tuple. length tuple ≡ length (drop count t.level_names)) (drop count) (λ tuple same. length-drop count tuple ∙ ap (λ (n : ℕ). n - count) same ∙ sym levels) t.labels s.levels;
+      levels = all_made (λ tuple. length tuple ≡ length t.level_names) (λ tuple. length tuple ≡ length (drop count t.level_names)) (drop count) (λ tuple same. length-drop count tuple ∙ ap (λ n. n - count) same ∙ sym levels) t.labels s.levels;
       headed = s.headed;
-      columns = subst (λ n. All (IsColumn n) t.columns) (sym (length-map t.labels (drop count))) s.columns;
+      columns = grind (arith, length-map);
       headings = s.headings;
     }
-
--- the rows and columns that were picked: a heading for each column, and as many cells as rows
-cut_headed : (t : Table) (rows places : List ℕ) → length (cut t rows places).headings ≡ length (cut t rows places).columns
-cut_headed t rows places = length-map places (heading_at t) ∙ sym (length-map (map (column_at t.columns) places) (column_rows rows) ∙ length-map places (column_at t.columns))
 
 cut_columns : (t : Table) (rows places : List ℕ) → IsShaped t → All (λ place. place < length t.columns) places → All (IsColumn (length (cut t rows places).labels)) (cut t rows places).columns
 cut_columns t rows places s below =
     subst (λ n. All (IsColumn n) (map (column_rows rows) (map (column_at t.columns) places))) (sym (length-map rows (λ row. slice_index_or t.labels row [])))
-    (all_made (IsColumn (length t.labels)) (IsColumn (length rows)) (column_rows rows) (rows_of_column (length t.labels) rows) (map (column_at t.columns) places)
-    (all_made (λ place. place < length t.columns) (IsColumn (length t.labels)) (column_at t.columns) (λ place lt. column_of_table t s place lt) places below))
+    (all_made (IsColumn (length t.labels)) (IsColumn (length rows)) (column_rows rows) (search (length-map, all_mapped, cell_of_column)) (map (column_at t.columns) places)
+    (search (all_made, column_of_table)))
 
 -- under headings that fit they are a table
 cut_shaped : (t : Table) (rows places : List ℕ) (shape : Shape) (name : Option LabelValue) → IsShaped t → All (λ row. row < length t.labels) rows → All (λ place. place < length t.columns) places
@@ -70,34 +59,34 @@ cut_shaped t rows places shape name s inside below headings = record {
   some = s.some;
   few = s.few;
   levels = all_made (λ row. row < length t.labels) (λ tuple. length tuple ≡ length t.level_names) (λ row. slice_index_or t.labels row []) (λ row lt. s.levels row [] lt) rows inside;
-  headed = cut_headed t rows places;
-  columns = cut_columns t rows places s below;
+  headed = search length-map;
+  columns = search cut_columns;
   headings = headings;
 }
 
 -- one column as a Series
 one_heading : (t : Table) (places : List ℕ) → length places ≡ 1 → AreHeadings Series None (map (heading_at t) places)
 one_heading t [] e = Prim.cc
-one_heading t (place ∷ []) e = series_heading Series None (heading_at t place) refl refl
+one_heading t (place ∷ []) e = search series_heading
 one_heading t (place ∷ (other ∷ places)) e = Prim.cc
 
 series_keeps : (t : Table) (count : ℕ) (rows places : List ℕ) → IsShaped t → count < length t.level_names → All (λ row. row < length t.labels) rows → All (λ place. place < length t.columns) places → length places ≡ 1
     → IfOk (shown_as false true (without_leading count (cut t rows places))) IsValidEntry
 series_keeps t count rows places s left inside below e =
     let made = as_series (cut t rows places) in
-    limited_keeps (without_leading count made) (leading_shaped made count (cut_shaped t rows places Series None s inside below (one_heading t places e)) left)
+    limited_keeps (without_leading count made) (search (leading_shaped, cut_shaped, one_heading))
 
 -- a frame
 frame_keeps : (t : Table) (count : ℕ) (rows places : List ℕ) → IsShaped t → t.shape ≡ Frame → count < length t.level_names → All (λ row. row < length t.labels) rows → All (λ place. place < length t.columns) places
     → IfOk (shown_as false false (without_leading count (cut t rows places))) IsValidEntry
 frame_keeps t count rows places s is left inside below =
-    let some : All IsSome (map (heading_at t) places) = all_made (λ place. place < length t.columns) IsSome (heading_at t) (λ place lt. s.headings.labelled is place None (omega (arith, lt, s.headed))) places below in
+    let some = all_made (λ place. place < length t.columns) IsSome (heading_at t) (λ place lt. s.headings.labelled is place None (omega (arith, lt, s.headed))) places below in
     finished_keeps (without_leading count (cut t rows places))
-    (λ none. leading_shaped (cut t rows places) count (cut_shaped t rows places t.shape t.columns_name s inside below (frame_headings t.shape t.columns_name (map (heading_at t) places) is some (different (map (heading_at t) places) some none))) left)
+    (λ none. leading_shaped (cut t rows places) count (search (cut_shaped, frame_headings, different)) left)
 
 -- a row across columns of one kind
 first_held : (count : ℕ) (kind : Kind) (c : ColumnOf CellValue) → IsColumn count c → same_kind c.kind kind ≡ true → Held kind (first_cell c)
-first_held count kind c h e = subst (λ k. Held k (first_cell c)) (kind_is c.kind kind e) (cell_of_column count c 0 h)
+first_held count kind c h e = grind (arith, kind_is, cell_of_column)
 
 firsts_held : (count : ℕ) (kind : Kind) (cs : List (ColumnOf CellValue)) → All (IsColumn count) cs → list_all (λ c. same_kind c.kind kind) cs ≡ true → All (Held kind) (map first_cell cs)
 firsts_held count kind cs h e =
@@ -108,11 +97,10 @@ row_shaped : (t : Table) (kind : Kind) → length t.headings ≡ length t.column
 row_shaped t kind headed held = record {
   some = omega arith;
   few = omega arith;
-  levels = all_mapped (λ (tuple : List LabelValue). length tuple ≡ 1) (λ h. unwrap_or h (int (pos 0)) ∷ []) (λ h. refl) t.headings;
+  levels = search all_mapped;
   headed = refl;
-  columns = All-cons (IsColumn (length (row_series t kind).labels)) record { kind = kind; cells = map first_cell t.columns } []
-      record { filled = length-map t.columns first_cell ∙ sym headed ∙ sym (length-map t.headings (λ h. unwrap_or h (int (pos 0)) ∷ [])); held = held } (All-nil (IsColumn (length (row_series t kind).labels)));
-  headings = series_heading Series None (row_name (slice_index_or t.labels 0 [])) refl refl;
+  columns = grind (arith, length-map);
+  headings = search series_heading;
 }
 
 row_keeps : (t : Table) (count : ℕ) → length t.headings ≡ length t.columns → All (IsColumn count) t.columns → IfOk (row_result t) IsValidEntry
@@ -120,7 +108,7 @@ row_keeps t count headed columns = by (list_all (λ c. same_kind c.kind (kind_ac
   where
     by : (b : Bool) → list_all (λ c. same_kind c.kind (kind_across t.columns)) t.columns ≡ b
         → IfOk (then_value (if b then Ok (kind_across t.columns) else Err wrong_kind) (λ kind. limited (row_series t kind))) IsValidEntry
-    by true e = limited_keeps (row_series t (kind_across t.columns)) (row_shaped t (kind_across t.columns) headed (firsts_held count (kind_across t.columns) t.columns columns e))
+    by true e = search (limited_keeps, row_shaped, firsts_held)
     by false e = tt
 
 -- one cell
@@ -147,10 +135,9 @@ picked_keeps t reach s r = by reach.rows.single reach.columns.single refl
     by : (a b : Bool) → reach.columns.single ≡ b → IfOk (shown_as a b taken) IsValidEntry
     by true true e = cell_keeps count taken.columns (cut_columns t rows places s r.columns)
     by false true e = series_keeps t reach.rows.dropped rows places s r.levels r.rows r.columns (r.one e)
-    by true false e = row_keeps taken count (cut_headed t rows places) (cut_columns t rows places s r.columns)
+    by true false e = row_keeps taken count (search length-map) (cut_columns t rows places s r.columns)
     by false false e = frame_keeps t reach.rows.dropped rows places s (r.frame e) r.levels r.rows r.columns
 
 -- the number of rows
 pub length_result_keeps : (v : Entry) → IfOk (length_result v) IsValidEntry
-length_result_keeps (cell c) = tt
-length_result_keeps (table t) = wrap_fits (pos (length t.labels))
+length_result_keeps x = grind (arith, wrap_fits)

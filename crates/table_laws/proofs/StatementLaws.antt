@@ -1,13 +1,13 @@
 -- A statement leaves a valid state of a valid one.
 use Rattle.{
-  std.{proofs.{Common.{ℕ, List}, lemmas.List.Elements.{All-nil, All-cons}}, specs.{Prelude.{Bool, true, false, ◌||◌, if◌then◌else◌, codes, is_some, Option, Some, None, IfSome, Result, Ok, Err, IfOk, All}, FinMap.{get}}},
-  meaning.specs.{Text.{Text, same_text, Contents}, Fault.{FaultValue}},
+  std.{proofs.{Common.{arith, ℕ, List}, lemmas.List.Elements.{All-nil, All-cons}}, specs.Prelude.{Bool, true, false, if◌then◌else◌, codes, is_some, Option, Some, None, IfSome, Result, Ok, Err, IfOk, All}},
+  meaning.specs.{Text.{Text, Contents}, Fault.{FaultValue}},
   language_meaning.specs.Tree.{Expr, Step, Arg, ArgList, Args, Form},
-  table_meaning.specs.{Table.{Table}, Valid.{IsValid}, Value.{Entry, cell, table, NamedGiven, key_given}},
+  table_meaning.specs.{Table.{Table}, Valid.{IsValid}, Value.{Entry, table, NamedGiven, key_given}},
   form_meaning.specs.{declared.Function.TheVariants.{ReadCsv}, Signature.{function_named}},
-  select_meaning.specs.{Select.{plain, through}, Set.{removal_result}},
+  select_meaning.specs.Select.{plain, through},
   method_meaning.specs.{Calls.{has_method}, Concat.{tables_of}, Functions.{function_result}, Readers.{reads_file, file_name_of, read_result}},
-  script_meaning.specs.{State.{State, with_new, without_name}, Reading.{Files, Reading, Reads, at_once, goes_on, then_read, of_bytes, of_path, of_file, path_of_name}, Expression.{named_by, value_of_name, is_minus, where_named, made, value_of, stepped, sub_of, second_of, brackets_of, given_of, part_of, parts_of, pairs_of, named_of, target_of}, Statement.{Answer, refused, then_answer, with_value, set_answer, assigned, statement_result}},
+  script_meaning.specs.{State.{State, without_name}, Reading.{Files, Reading, Reads, at_once, then_read, of_bytes, of_path, of_file}, Expression.{named_by, value_of_name, is_minus, where_named, made, value_of, stepped, sub_of, second_of, brackets_of, given_of, part_of, parts_of, pairs_of, named_of, target_of}, Statement.{Answer, then_answer, with_value, set_answer, assigned, statement_result}},
   table_laws.{specs.Validity.{IsValidObject, IsValidEntry, IsValidGiven, IsValidArgument, AreValidArguments, IsValidState, LeavesValid, HasHeldLiterals, IsHeldArgument, IsHeldForm}, proofs.{InfixLaws.{infix_result_keeps, sign_result_keeps}, SelectLaws.{length_result_keeps}, ReachLaws.{select_result_keeps}, SetLaws.{assign_result_keeps, removal_result_keeps}, MethodLaws.{chain_result_keeps}, CsvLaws.{read_result_keeps}, ArgumentLaws.{more_valid}, CallLaws.{call_result_keeps, function_result_keeps}}},
 }
 use Rattle.language_meaning.specs.Tree as tree
@@ -16,28 +16,18 @@ use Rattle.method_meaning.specs.Calls as calls
 abbrev Any : {A : Type 0} → A → Type 0
 Any a = Unit {0}
 
-any_value : {A : Type 0} (r : Result A FaultValue) → IfOk r Any
-any_value (Ok a) = tt
-any_value (Err fault) = tt
-
 object : (v : Entry) → IsValidEntry v → IsValidObject v
-object (cell c) h = tt
-object (table t) h = h
+object x h = grind arith
 
 -- a value goes on, and a fault stops
 read_keeps : {A B : Type 0} (P : A → Type 0) (Q : B → Type 0) (r : Reads A) (go : A → Reads B) → IfOk r.answer P → ((a : A) → P a → IfOk (go a).answer Q) → IfOk (then_read r go).answer Q
-read_keeps {A = A} {B = B} P Q r go h so = by r.answer h
-  where
-    by : (o : Result A FaultValue) → IfOk o P → IfOk (goes_on Err o go).answer Q
-    by (Ok a) h = so a h
-    by (Err fault) h = tt
+read_keeps P Q r go h so = grind arith
 
 after_any : {A B : Type 0} (Q : B → Type 0) (r : Reads A) (go : A → Reads B) → ((a : A) → IfOk (go a).answer Q) → IfOk (then_read r go).answer Q
-after_any Q r go so = read_keeps Any Q r go (any_value r.answer) (λ a _. so a)
+after_any Q r go so = grind (arith, read_keeps)
 
 named_keeps : (known : Bool) (n : Text) (rest : Reads Entry) → IfOk rest.answer IsValidEntry → IfOk (where_named known n rest).answer IsValidEntry
-named_keeps true n rest h = h
-named_keeps false n rest h = tt
+named_keeps x n rest h = grind arith
 
 -- calls of the functions of `pd`
 
@@ -46,21 +36,19 @@ bytes_keep name None gs = tt
 bytes_keep name (Some bytes) gs = read_result_keeps bytes gs
 
 path_keeps : (held : Contents) (name : Text) (path : Option Text) (gs : List NamedGiven) → IfOk (of_path held name path (λ bytes. read_result bytes gs)).answer IsValidEntry
-path_keeps held name None gs = tt
-path_keeps held name (Some path) gs = bytes_keep name (get held path) gs
+path_keeps held name x gs = grind (arith, bytes_keep)
 
 made_keeps : (files : Files) (f : Text) (gs : List NamedGiven) → AreValidArguments gs → IfOk (made files f gs).answer IsValidEntry
 made_keeps files f gs h = by (reads_file (function_named f))
   where
     by : (b : Bool) → IfOk (if b then then_read (at_once (file_name_of ReadCsv gs)) (λ name. of_file files name (λ bytes. read_result bytes gs)) else at_once (function_result None f gs)).answer IsValidEntry
-    by true = after_any IsValidEntry (at_once (file_name_of ReadCsv gs)) (λ name. of_file files name (λ bytes. read_result bytes gs)) (λ name. path_keeps files.held name (path_of_name files.paths name) gs)
+    by true = search (after_any, path_keeps)
     by false = function_result_keeps None f gs h
 
 -- expressions
 
 name_keeps : (n : Text) (o : Option Entry) → IfSome o IsValidEntry → IfOk (value_of_name n o) IsValidEntry
-name_keeps n None h = tt
-name_keeps n (Some v) h = h
+name_keeps n x h = grind arith
 
 -- the value of an expression: a table is valid, and a column can hold a scalar where it can hold the literals
 record IsValueOf (x : Expr) (v : Entry) : Type 0 where
@@ -71,11 +59,7 @@ abbrev Gives : Expr → Reads Entry → Type 0
 Gives x r = IfOk r.answer (IsValueOf x)
 
 gives_valid : (x : Expr) (r : Reads Entry) → IfOk r.answer IsValidEntry → Gives x r
-gives_valid x r h = by r.answer h
-  where
-    by : (o : Result Entry FaultValue) → IfOk o IsValidEntry → IfOk o (IsValueOf x)
-    by (Ok v) h = record { valid = object v h; held = λ _. h }
-    by (Err fault) h = tt
+gives_valid x r h = grind (arith, object)
 
 module _ (files : Files) (s : State) (valid : IsValidState s) where
   mutual
@@ -153,41 +137,29 @@ value_of_keeps files s valid x h = by (value_of files s x).answer (value_valid f
 
 given_keeps : (files : Files) (s : State) → IsValidState s → (a : Arg) → IsHeldArgument a → IfOk (given_of files s a).answer IsValidGiven
 given_keeps files s valid (tree.expr x) h = read_keeps IsValidEntry IsValidGiven (value_of files s x) _ (value_of_keeps files s valid x h) (λ v k. k)
-given_keeps files s valid (tree.many parts) h = after_any IsValidGiven (parts_of files s parts) _ (λ parts. tt)
-given_keeps files s valid (tree.row parts) h = after_any IsValidGiven (parts_of files s parts) _ (λ parts. tt)
-given_keeps files s valid (tree.table pairs) h = after_any IsValidGiven (pairs_of files s pairs) _ (λ pairs. tt)
+given_keeps files s valid (tree.many parts) h = search after_any
+given_keeps files s valid (tree.row parts) h = search after_any
+given_keeps files s valid (tree.table pairs) h = search after_any
 given_keeps files s valid tree.nothing h = tt
 
 -- states
 
 chosen : (b : Bool) (o p : Option Entry) → IfSome o IsValidEntry → IfSome p IsValidEntry → IfSome (if b then o else p) IsValidEntry
-chosen true o p h k = h
-chosen false o p h k = k
-
-new_valid : (s : State) (x : Text) (v : Entry) → IsValidState s → IsValidEntry v → IsValidState (with_new s x v)
-new_valid s x v valid h = λ m. chosen (same_text x m) (Some v) (s.value m) h (valid m)
+chosen x o p h k = grind arith
 
 bound_valid : (s : State) (x : Text) (o : Option Text) (v : Entry) → IsValidState s → IsValidEntry v → IsValidState (with_value s x o v)
-bound_valid s x (Some n) (table t) valid h = λ m. chosen (same_text x m) (s.value n) (s.value m) (valid n) (valid m)
-bound_valid s x (Some n) (cell c) valid h = new_valid s x (cell c) valid h
-bound_valid s x None v valid h = new_valid s x v valid h
+bound_valid s x x1 v valid h = grind (arith, chosen)
 
 set_valid : (s : State) (o : Option Text) (r : Result Table FaultValue) → IsValidState s → IfOk r IsValid → LeavesValid (set_answer s o r)
-set_valid s o (Err fault) valid h = tt
-set_valid s None (Ok t) valid h = valid
-set_valid s (Some n) (Ok t) valid h = λ m. chosen (same_text n m || s.paired n m) (Some (table t)) (s.value m) h (valid m)
+set_valid s o x valid h = grind (arith, chosen)
 
 pub without_valid : (s : State) (x : Text) → IsValidState s → IsValidState (without_name s x)
-without_valid s x valid = λ m. chosen (same_text x m) None (s.value m) tt (valid m)
+without_valid s x valid = search chosen
 
 -- statements
 
 answer_keeps : {A : Type 0} (P : A → Type 0) (r : Reads A) (go : A → Reading Answer) → IfOk r.answer P → ((a : A) → P a → LeavesValid (go a).answer) → LeavesValid (then_answer r go).answer
-answer_keeps {A = A} P r go h so = by r.answer h
-  where
-    by : (o : Result A FaultValue) → IfOk o P → LeavesValid (goes_on (λ fault. refused fault false) o go).answer
-    by (Ok a) h = so a h
-    by (Err fault) h = tt
+answer_keeps P r go h so = grind arith
 
 -- The names stand for valid tables after a statement if they do before it.
 pub statement_keeps : (files : Files) (s : State) (f : Form) → IsValidState s → IsHeldForm f → LeavesValid (statement_result files s f).answer
@@ -196,10 +168,8 @@ statement_keeps files s (tree.bind x e) valid h = answer_keeps IsValidEntry (val
 statement_keeps files s (tree.put x step a) valid h =
     answer_keeps IsValidGiven (given_of files s a) _ (given_keeps files s valid a h.1)
     (λ g k. answer_keeps IsValidEntry (value_of files s x) _ (value_of_keeps files s valid x h.0)
-    (λ v l. answer_keeps Any (target_of files s step) _ (any_value (target_of files s step).answer)
-    (λ target _. set_valid s (named_by x) (assigned v target g) valid (assign_result_keeps v target.way target.first target.second g (object v l) k))))
-statement_keeps files s (tree.drop_name n) valid h = answer_keeps Any (at_once (value_of_name n (s.value n))) _ (any_value (value_of_name n (s.value n))) (λ v _. without_valid s n valid)
-statement_keeps files s (tree.drop_column n x) valid h =
-    answer_keeps IsValidEntry (at_once (value_of_name n (s.value n))) _ (name_keeps n (s.value n) (valid n))
-    (λ v k. answer_keeps Any (value_of files s x) _ (any_value (value_of files s x).answer) (λ w _. set_valid s (Some n) (removal_result v w) valid (removal_result_keeps v w (object v k))))
-statement_keeps files s (tree.print x end) valid h = answer_keeps Any (value_of files s x) _ (any_value (value_of files s x).answer) (λ v _. valid)
+    (λ v l. answer_keeps Any (target_of files s step) _ (grind arith)
+    (λ target _. set_valid s (named_by x) (assigned v target g) valid (search (assign_result_keeps, object)))))
+statement_keeps files s (tree.drop_name n) valid h = grind (arith, answer_keeps, without_valid)
+statement_keeps files s (tree.drop_column n x) valid h = grind (arith, answer_keeps, name_keeps, set_valid, removal_result_keeps, object)
+statement_keeps files s (tree.print x end) valid h = grind (arith, answer_keeps)

@@ -1,8 +1,8 @@
 use Rattle.{
-  std.{proofs.Common.{refl}, specs.{Ordering.{nat_cmp}, Cmp.Lexicographic.{slice_cmp}}},
+  std.{proofs.Common.{arith, refl}, specs.{Ordering.{nat_cmp}, Cmp.Lexicographic.{slice_cmp}}},
   cell_core.specs.{Values.{text_of}, declared.cell.Kind.TheVariants.{Boolean, Text as string}},
   column_core.specs.Columns.{text_cell, truth_cell},
-  column_operators.{specs.Operations.{compare_row}, proofs.{TaskAnswers.{pair_answer}, Laws.{texts_law}}},
+  column_operators.{specs.Operations.{compare_row}, proofs.TaskAnswers.{pair_answer}},
   nullable_array.proofs.ColumnAnswers.{given_at},
 }
 use Rattle.column_operators.specs.declared.ops.Task.TheVariants as task
@@ -15,4 +15,4 @@ pub returns-clause-answer : goal.returns-clause-answer
 returns-clause-answer g c =
     let texts = c.args.dict.now in
     let r = c.args.relation in
-    pair_answer texts _ (task.Compare r) refl string string Boolean text_cell text_cell truth_cell (compare_row r (λ a b. slice_cmp nat_cmp (text_of texts a) (text_of texts b))) refl (texts_law texts r) _ _ _ _ c.requires.same _ (c.operate.ensures.answer texts)
+    pair_answer texts _ (task.Compare r) refl string string Boolean text_cell text_cell truth_cell (compare_row r (λ a b. slice_cmp nat_cmp (text_of texts a) (text_of texts b))) refl (grind arith) _ _ _ _ c.requires.same _ (c.operate.ensures.answer texts)

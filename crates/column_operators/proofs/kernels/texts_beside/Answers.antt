@@ -1,21 +1,15 @@
 use Rattle.{
   std.proofs.Common.{refl},
   cell_core.specs.declared.cell.Kind.TheVariants.{Text as string},
-  column_core.{specs.Columns.{text_cell}, proofs.ColumnLaws.{given-row}},
+  column_core.specs.Columns.{text_cell},
   column_operators.proofs.Scalars.{text_kept, scalar_on_left, scalar_on_right},
 }
 use Rattle.column_operators.proofs.kernels.texts_beside.Goals as goal
 
-pub on_texts-requires-clause-b : goal.on_texts-requires-clause-b
-on_texts-requires-clause-b c = λ k lt. given-row c.args.dict.now c.args.a.now.count _ c.requires.a k lt
-
-pub on_texts-requires-else-left-clause-a : goal.on_texts-requires-else-left-clause-a
-on_texts-requires-else-left-clause-a c = λ k lt. given-row c.args.dict.now c.args.a.now.count _ c.requires.a k lt
-
 pub returns-then-left-clause-answer : goal.returns-then-left-clause-answer
 returns-then-left-clause-answer c =
-    scalar_on_left c.args.dict.now c.args.task string text_cell _ _ c.args.scalar c.args.left _ (text_kept c.args.dict.now c.args.scalar) c.if-left.true c.on_texts.new.dict _ refl c.on_texts.ensures.answer
+    scalar_on_left c.args.dict.now c.args.task string text_cell _ _ c.args.scalar c.args.left _ (text_kept c.args.dict.now c.args.scalar) c.if-left.true c.args.dict.now _ refl c.on_texts.ensures.answer
 
 pub returns-else-left-clause-answer : goal.returns-else-left-clause-answer
 returns-else-left-clause-answer c =
-    scalar_on_right c.args.dict.now c.args.task string text_cell _ _ c.args.scalar c.args.left _ (text_kept c.args.dict.now c.args.scalar) c.if-left.false c.on_texts-else-left.new.dict _ refl c.on_texts-else-left.ensures.answer
+    scalar_on_right c.args.dict.now c.args.task string text_cell _ _ c.args.scalar c.args.left _ (text_kept c.args.dict.now c.args.scalar) c.if-left.false c.args.dict.now _ refl c.on_texts-else-left.ensures.answer

@@ -1,14 +1,9 @@
-use Rattle.nullable_array.proofs.ColumnAnswers.{given_at}
+use Rattle.{
+  std.proofs.Common.{refl},
+  meaning.specs.Symbol.{add},
+  column_operators.proofs.RowLaws.{scalar_rows},
+}
 use Rattle.column_operators.proofs.kernels.with_scalar.Goals as goal
 
-pub returns-in-Ints-Int-clause-given : goal.returns-in-Ints-Int-clause-given
-returns-in-Ints-Int-clause-given c = given_at c.numbers_beside.result c.args.dict.now c.numbers_beside.ensures.given
-
-pub returns-in-Ints-Na-clause-given : goal.returns-in-Ints-Na-clause-given
-returns-in-Ints-Na-clause-given c = given_at c.numbers_beside-in-Ints-Na.result c.args.dict.now c.numbers_beside-in-Ints-Na.ensures.given
-
-pub returns-in-Truths-Bool-clause-given : goal.returns-in-Truths-Bool-clause-given
-returns-in-Truths-Bool-clause-given c = given_at c.truths_beside.result c.args.dict.now c.truths_beside.ensures.given
-
-pub returns-in-Truths-Na-clause-given : goal.returns-in-Truths-Na-clause-given
-returns-in-Truths-Na-clause-given c = given_at c.truths_beside-in-Truths-Na.result c.args.dict.now c.truths_beside-in-Truths-Na.ensures.given
+pub returns-in-Add-clause-rows : goal.returns-in-Add-clause-rows
+returns-in-Add-clause-rows c = scalar_rows _ _ add c.args.a c.args.scalar c.args.scalar_left _ _ refl c.sums_beside.ensures.answer

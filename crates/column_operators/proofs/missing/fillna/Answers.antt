@@ -1,8 +1,8 @@
 use Rattle.{
-  std.proofs.Common.{◌∙◌, ap, sym},
+  std.proofs.Common.{arith, ◌∙◌, ap, sym},
   cell_core.specs.declared.cell.Kind.TheVariants.{Int64, Boolean, Text as string},
   column_core.specs.{Columns.{number_cell, truth_cell, text_cell}, Views.{borrowed_column}, Lanes.{lane_row}},
-  column_operators.{specs.Marks.{filled_cell, filled_value}, proofs.MarkLaws.{if_kept, fill_number, fill_truth, fill_text}},
+  column_operators.{specs.Marks.{filled_cell, filled_value}, proofs.MarkLaws.{if_kept}},
 }
 use Rattle.column_operators.proofs.missing.fillna.Goals as goal
 
@@ -10,16 +10,16 @@ pub returns-in-Ints : goal.returns-in-Ints
 returns-in-Ints c =
     let a = c.in-Ints.lane in
     if_kept c.fill_lane.result Int64 number_cell (filled_cell c.args.value) (filled_value c.number_in.result) a.count (lane_row a.values.now a.present.now a.start a.stride a.back) c.args.a
-    (fill_number c.args.value c.number_in.result c.number_in.ensures) (ap borrowed_column (sym c.in-Ints.is) ∙ c.a.view_is) c.fill_lane.ensures
+    (grind arith) (ap borrowed_column (sym c.in-Ints.is) ∙ c.a.view_is) c.fill_lane.ensures
 
 pub returns-in-Truths : goal.returns-in-Truths
 returns-in-Truths c =
     let a = c.in-Truths.lane in
     if_kept c.fill_lane-in-Truths.result Boolean truth_cell (filled_cell c.args.value) (filled_value c.truth_in.result) a.count (lane_row a.values.now a.present.now a.start a.stride a.back) c.args.a
-    (fill_truth c.args.value c.truth_in.result c.truth_in.ensures) (ap borrowed_column (sym c.in-Truths.is) ∙ c.a.view_is) c.fill_lane-in-Truths.ensures
+    (grind arith) (ap borrowed_column (sym c.in-Truths.is) ∙ c.a.view_is) c.fill_lane-in-Truths.ensures
 
 pub returns-in-Texts : goal.returns-in-Texts
 returns-in-Texts c =
     let a = c.in-Texts.lane in
     if_kept c.fill_lane-in-Texts.result string text_cell (filled_cell c.args.value) (filled_value c.text_in.result) a.count (lane_row a.values.now a.present.now a.start a.stride a.back) c.args.a
-    (fill_text c.args.value c.text_in.result c.text_in.ensures) (ap borrowed_column (sym c.in-Texts.is) ∙ c.a.view_is) c.fill_lane-in-Texts.ensures
+    (grind arith) (ap borrowed_column (sym c.in-Texts.is) ∙ c.a.view_is) c.fill_lane-in-Texts.ensures

@@ -1,13 +1,11 @@
 use Rattle.{
-  std.proofs.Common.{◌≡◌, ◌∙◌, ap, sym, length, Some, map},
-  table_meaning.specs.Table.{NumberedTable},
-  method_meaning.specs.Concat.{Concatenation},
-  concat_forms.proofs.{AxisLaws.{lent, items_in, numbered_axis, numbered_given, numbered_rows, axes_alike, nameless_given, axis_of_parts, axis_given, axis_rows}, below.axis_of_all.Goals.{in-Some, in-None}},
+  std.proofs.Common.{arith, ◌≡◌, ap},
+  concat_forms.proofs.AxisLaws.{lent, items_in, numbered_axis, numbered_given, numbered_rows, axes_alike, nameless_given, axis_of_parts, axis_given, axis_rows},
 }
 use Rattle.concat_forms.proofs.below.axis_of_all.Goals as goal
 
 pub returns-then-asked-clause-axis : goal.returns-then-asked-clause-axis
-returns-then-asked-clause-axis c = numbered_axis _ _ _ _ _ _ c.if-asked.true c.requires.rows c.range.ensures
+returns-then-asked-clause-axis c = grind (arith, numbered_axis)
 
 pub returns-then-asked-clause-given : goal.returns-then-asked-clause-given
 returns-then-asked-clause-given c = numbered_given _ _ _ c.range.ensures
@@ -16,7 +14,7 @@ pub returns-then-asked-clause-count : goal.returns-then-asked-clause-count
 returns-then-asked-clause-count c = numbered_rows _ _ c.range.ensures
 
 pub axis_below-requires-clause-alike : goal.axis_below-requires-clause-alike
-axis_below-requires-clause-alike c = axes_alike _ _ (ap (map (λ axis. axis.now)) c.deref.ensures.value ∙ c.in_ok-axes.ensures.axes) c.requires.levels
+axis_below-requires-clause-alike c = grind (arith, axes_alike)
 
 pub named-requires-clause-given : goal.named-requires-clause-given
 named-requires-clause-given c =
@@ -24,26 +22,17 @@ named-requires-clause-given c =
 
 pub returns-clause-axis : goal.returns-clause-axis
 returns-clause-axis c =
-    let same : lent c.match-asked.keys ≡ items_in c.args.asked.now.keys = elim c.match-asked.branch [
-      | in-Some w ↦ ap lent w.keys-is ∙ ap (λ l. Some l) w.as_slice.ensures.value ∙ sym (ap items_in w.in-Some.is)
-      | in-None w ↦ ap lent w.keys-is ∙ sym (ap items_in w.in-None.is)
-    ] in
+    let same : lent c.match-asked.keys ≡ items_in c.args.asked.now.keys = grind (arith, lent, items_in) in
     axis_of_parts c.args.dict.now c.args.asked.now.keys c.match-asked.keys same c.deref.result.now c.in_ok-axis.axis c.named.result c.args.asked.now.renumbered c.args.parts.now c.index-parts-0.result c.levels.result c.requires.some c.index-parts-0.is
-    (c.levels.ensures ∙ ap (λ (t : NumberedTable). length t.level_names) c.table.ensures) c.if-asked.false (ap (map (λ axis. axis.now)) c.deref.ensures.value ∙ c.in_ok-axes.ensures.axes) c.in_ok-axis.ensures c.named.ensures.tuples c.named.ensures.names
+    (grind arith) c.if-asked.false (grind arith) c.in_ok-axis.ensures c.named.ensures.tuples c.named.ensures.names
 
 pub returns-clause-given : goal.returns-clause-given
 returns-clause-given c =
-    let same : lent c.match-asked.keys ≡ items_in c.args.asked.now.keys = elim c.match-asked.branch [
-      | in-Some w ↦ ap lent w.keys-is ∙ ap (λ l. Some l) w.as_slice.ensures.value ∙ sym (ap items_in w.in-Some.is)
-      | in-None w ↦ ap lent w.keys-is ∙ sym (ap items_in w.in-None.is)
-    ] in
-    axis_given c.args.dict.now c.args.asked.now.keys c.match-asked.keys same c.deref.result.now c.in_ok-axis.axis c.named.result c.args.parts.now c.requires.known (λ more. ap (λ (a : Concatenation). a.keys) (c.requires.keys more))
-    (ap (map (λ axis. axis.now)) c.deref.ensures.value ∙ c.in_ok-axes.ensures.axes) c.in_ok-axis.ensures c.named.ensures.tuples c.named.ensures.given
+    let same : lent c.match-asked.keys ≡ items_in c.args.asked.now.keys = grind (arith, lent, items_in) in
+    axis_given c.args.dict.now c.args.asked.now.keys c.match-asked.keys same c.deref.result.now c.in_ok-axis.axis c.named.result c.args.parts.now c.requires.known (λ more. ap (λ a. a.keys) (c.requires.keys more))
+    (grind arith) c.in_ok-axis.ensures c.named.ensures.tuples c.named.ensures.given
 
 pub returns-clause-count : goal.returns-clause-count
 returns-clause-count c =
-    let same : lent c.match-asked.keys ≡ items_in c.args.asked.now.keys = elim c.match-asked.branch [
-      | in-Some w ↦ ap lent w.keys-is ∙ ap (λ l. Some l) w.as_slice.ensures.value ∙ sym (ap items_in w.in-Some.is)
-      | in-None w ↦ ap lent w.keys-is ∙ sym (ap items_in w.in-None.is)
-    ] in
-    axis_rows c.args.dict.now c.args.asked.now.keys c.match-asked.keys same c.deref.result.now c.in_ok-axis.axis c.named.result c.args.parts.now c.args.rows c.requires.fit c.requires.rows (ap (map (λ axis. axis.now)) c.deref.ensures.value ∙ c.in_ok-axes.ensures.axes) c.in_ok-axis.ensures c.named.ensures.tuples
+    let same : lent c.match-asked.keys ≡ items_in c.args.asked.now.keys = grind (arith, lent, items_in) in
+    axis_rows c.args.dict.now c.args.asked.now.keys c.match-asked.keys same c.deref.result.now c.in_ok-axis.axis c.named.result c.args.parts.now c.args.rows c.requires.fit c.requires.rows (grind arith) c.in_ok-axis.ensures c.named.ensures.tuples

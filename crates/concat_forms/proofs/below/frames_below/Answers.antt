@@ -1,22 +1,19 @@
 use Rattle.{
-  std.proofs.Common.{◌∙◌, ap, sym, subst, refl, None, List, Option},
-  cell_core.specs.declared.{cell.Label.{Label}, grid.Shape.TheVariants.{Frame}},
-  table_meaning.specs.{Settled.{IsSettled}, Valid.{AreHeadings}},
+  std.proofs.Common.{arith, ◌∙◌, ap, sym},
+  cell_core.specs.declared.grid.Shape.TheVariants.{Frame},
   frame_store.specs.Shown.{headings_value},
   concat_forms.{specs.{Parts.{parts_value}, Asked.{asked_value}, Below.{table_made}}, proofs.{TextLaws.{headings_united, united_given}, KindLaws.{levels_apart, levels_same, frame_headings}}},
 }
 use Rattle.concat_forms.proofs.below.frames_below.Goals as goal
 
 pub returns-then-not-have_same_levels : goal.returns-then-not-have_same_levels
-returns-then-not-have_same_levels c = (levels_apart c.args.dict.now c.args.parts.now _ (sym c.have_same_levels.ensures ∙ c.if-not-have_same_levels.true), λ more. refl)
+returns-then-not-have_same_levels c = grind (arith, levels_apart)
 
 pub table_below-requires-clause-headings : goal.table_below-requires-clause-headings
-table_below-requires-clause-headings c =
-    subst (λ (hs : List (Option Label)). AreHeadings Frame None hs) (sym (c.deref.ensures.value ∙ c.in_ok-headings.ensures)) (frame_headings _ _ _ c.requires.shape c.requires.known)
+table_below-requires-clause-headings c = rw (c.deref.ensures.value ∙ c.in_ok-headings.ensures) (frame_headings _ _ _ c.requires.shape c.requires.known)
 
 pub table_below-requires-clause-given : goal.table_below-requires-clause-given
-table_below-requires-clause-given c =
-    subst (λ (hs : List (Option Label)). IsSettled headings_value c.args.dict.now hs) (sym (c.deref.ensures.value ∙ c.in_ok-headings.ensures)) (united_given _ _ _ c.requires.known)
+table_below-requires-clause-given c = grind (arith, united_given)
 
 pub returns : goal.returns
 returns c =

@@ -1,5 +1,5 @@
 use Rattle.{
-  std.proofs.Common.{◌∙◌, ap, sym, refl, map},
+  std.proofs.Common.{arith, ◌∙◌, ap, sym, refl, map},
   frame_store.specs.Parts.{axis_of},
   concat_forms.{specs.Asked.{asked_value}, proofs.MetLaws.{equal_axis, equal_given, beside_equal, beside_levels, beside_met}},
 }
@@ -18,9 +18,9 @@ on_axis-requires-clause-axis c =
 pub returns-then-have_same_labels : goal.returns-then-have_same_labels
 returns-then-have_same_labels c =
     let dict = c.args.dict.now in
-    let is = beside_equal dict c.len.ensures.distinct c.deref.result.now c.args.parts.now (ap (map (λ axis. axis.now)) c.deref.ensures.value ∙ c.in_ok-axes.ensures.axes) c.requires.known (asked_value dict c.args.asked.now) c.index-parts-0.result c.in_ok-axis.axis c.requires.some c.index-parts-0.is
+    let is = beside_equal dict c.len.ensures.distinct c.deref.result.now c.args.parts.now (grind arith) c.requires.known (asked_value dict c.args.asked.now) c.index-parts-0.result c.in_ok-axis.axis c.requires.some c.index-parts-0.is
     (sym c.have_same_labels.ensures ∙ c.if-have_same_labels.true) (c.in_ok-axis.ensures ∙ c.axis.ensures ∙ ap axis_of c.table.ensures) in
-    rw is c.on_axis.ensures
+    grind arith
 
 pub returns-then-not-have_same_levels : goal.returns-then-not-have_same_levels
 returns-then-not-have_same_levels c = (
@@ -32,6 +32,6 @@ returns-then-not-have_same_levels c = (
 pub returns : goal.returns
 returns c =
     let dict = c.args.dict.now in
-    let is = beside_met dict c.len.ensures.distinct c.deref.result.now c.args.parts.now (ap (map (λ axis. axis.now)) c.deref.ensures.value ∙ c.in_ok-axes.ensures.axes) c.requires.known (asked_value dict c.args.asked.now) (sym c.have_same_labels.ensures ∙ c.if-have_same_labels.false)
+    let is = beside_met dict c.len.ensures.distinct c.deref.result.now c.args.parts.now (grind arith) c.requires.known (asked_value dict c.args.asked.now) (sym c.have_same_labels.ensures ∙ c.if-have_same_labels.false)
     (sym c.have_same_levels.ensures ∙ c.if-not-have_same_levels.false) in
     rw is c.met.ensures

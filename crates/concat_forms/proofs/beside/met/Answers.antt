@@ -1,28 +1,23 @@
 use Rattle.{
-  std.proofs.Common.{◌∙◌, ap, sym, subst, length, map, List, Err},
-  cell_core.specs.declared.cell.Label.{Label},
-  join_meaning.specs.Concat.{are_equal, united, labels_concatenated},
-  multi_index.specs.Axes.{AxisValue, HaveLevels},
+  std.proofs.Common.{arith, ◌∙◌, ap, sym, subst, length, map, Err},
+  join_meaning.specs.Concat.{are_equal, labels_concatenated},
   row_keys.specs.Keys.{same_tuple},
   form_meaning.specs.Finish.{finished},
   method_meaning.specs.Concat.{table_beside},
-  merge_concat.specs.{Concats.{ConcatsBy, as_it_is}, declared.fault.MergeFault.{MergeFault}},
+  merge_concat.specs.Concats.{ConcatsBy, as_it_is},
   frame_store.specs.{Parts.{axis_of}, Shown.{labels_value}},
   concat_forms.{specs.{Parts.{parts_value}, Asked.{asked_value}}, proofs.{AxisLaws.{axes_alike, each_tuples}, BesideLaws.{numbered_labels, met_labels, met_once, met_found, met_given, met_twice, met_many}, MetLaws.{first_count, united_alike, met_axis}}},
 }
 use Rattle.concat_forms.proofs.beside.met.Goals as goal
 
 pub concat_columns-requires : goal.concat_columns-requires
-concat_columns-requires c = λ apart. axes_alike _ _ c.requires.axes c.requires.levels
+concat_columns-requires c = search axes_alike
 
 pub from_tuples-requires-clause-alike : goal.from_tuples-requires-clause-alike
 from_tuples-requires-clause-alike c =
     let lists = each_tuples _ _ c.requires.axes in
     let apart = ap (are_equal same_tuple) (sym lists) ∙ c.requires.apart in
-    let told = ap (labels_concatenated same_tuple c.args.asked.now.inner) (sym lists) ∙ c.in-Ok.ensures in
-    let count = c.levels-levels.ensures.count ∙ ap (λ (x : AxisValue). length x.names) (c.axis.ensures ∙ ap axis_of c.table.ensures) ∙ first_count _ _ c.requires.some c.index-parts-0.is in
-    rw count
-    (subst (HaveLevels _) (sym (met_labels _ c.len.ensures.distinct _ c.requires.known (asked_value c.args.dict.now c.args.asked.now) apart _ told)) (united_alike _ _ _ c.requires.axes c.requires.alike c.requires.levels))
+    grind (arith, first_count, met_labels, united_alike)
 
 pub on_axis-requires-clause-given : goal.on_axis-requires-clause-given
 on_axis-requires-clause-given c =
@@ -39,7 +34,7 @@ on_axis-requires-clause-axis c =
     let lists = each_tuples _ _ c.requires.axes in
     let apart = ap (are_equal same_tuple) (sym lists) ∙ c.requires.apart in
     let told = ap (labels_concatenated same_tuple c.args.asked.now.inner) (sym lists) ∙ c.in-Ok.ensures in
-    let count = c.levels-levels.ensures.count ∙ ap (λ (x : AxisValue). length x.names) (c.axis.ensures ∙ ap axis_of c.table.ensures) ∙ first_count _ _ c.requires.some c.index-parts-0.is in
+    let count = c.levels-levels.ensures.count ∙ ap (λ x. length x.names) (c.axis.ensures ∙ ap axis_of c.table.ensures) ∙ first_count _ _ c.requires.some c.index-parts-0.is in
     met_axis _ _ _ _ _ c.in_ok-axis-in-Ok.ensures count c.requires.levels (met_given _ c.len.ensures.distinct _ c.requires.known C apart _ told)
     (met_once _ c.len.ensures.distinct _ c.requires.known C apart _ told)
 
@@ -51,16 +46,16 @@ returns-in_ok-axis-in-Ok c =
     let lists = each_tuples _ _ c.requires.axes in
     let apart = ap (are_equal same_tuple) (sym lists) ∙ c.requires.apart in
     let told = ap (labels_concatenated same_tuple c.args.asked.now.inner) (sym lists) ∙ c.in-Ok.ensures in
-    let is = ap (λ (x : AxisValue). finished (table_beside (parts_value dict parts) c.args.asked.now.renumbered (labels_value dict x.tuples))) c.in_ok-axis-in-Ok.ensures ∙ sym (met_found _ c.len.ensures.distinct _ c.requires.known C apart _ told) in
-    rw is at c.on_axis.ensures
+    let is = ap (λ x. finished (table_beside (parts_value dict parts) c.args.asked.now.renumbered (labels_value dict x.tuples))) c.in_ok-axis-in-Ok.ensures ∙ sym (met_found _ c.len.ensures.distinct _ c.requires.known C apart _ told) in
+    grind arith
 
 pub returns-in-Err-DuplicateLabels : goal.returns-in-Err-DuplicateLabels
 returns-in-Err-DuplicateLabels c =
     let lists = each_tuples _ _ c.requires.axes in
     let apart = ap (are_equal same_tuple) (sym lists) ∙ c.requires.apart in
-    let answer = subst (λ (f : MergeFault). ConcatsBy (as_it_is {A = List (List Label)}) (Err f) (labels_concatenated same_tuple c.args.asked.now.inner (map (λ axis. axis.now.tuples) c.args.axes.now))) c.in-Err-DuplicateLabels.field-0-is c.in-Err-DuplicateLabels.ensures in
+    let answer = subst (λ f. ConcatsBy (as_it_is) (Err f) (labels_concatenated same_tuple c.args.asked.now.inner (map (λ axis. axis.now.tuples) c.args.axes.now))) c.in-Err-DuplicateLabels.field-0-is c.in-Err-DuplicateLabels.ensures in
     let told = ap (labels_concatenated same_tuple c.args.asked.now.inner) (sym lists) ∙ answer in
-    met_twice _ c.len.ensures.distinct _ c.requires.known (asked_value c.args.dict.now c.args.asked.now) apart _ told
+    search met_twice
 
 pub returns-in-Err-TooLarge : goal.returns-in-Err-TooLarge
 returns-in-Err-TooLarge c =
@@ -68,7 +63,7 @@ returns-in-Err-TooLarge c =
     let dict = c.args.dict.now in
     let lists = each_tuples c.args.axes.now parts c.requires.axes in
     let apart = ap (are_equal same_tuple) (sym lists) ∙ c.requires.apart in
-    let answer = subst (λ (f : MergeFault). ConcatsBy (as_it_is {A = List (List Label)}) (Err f) (labels_concatenated same_tuple c.args.asked.now.inner (map (λ axis. axis.now.tuples) c.args.axes.now))) c.in-Err-TooLarge.field-0-is c.in-Err-TooLarge.ensures in
+    let answer = subst (λ f. ConcatsBy (as_it_is) (Err f) (labels_concatenated same_tuple c.args.asked.now.inner (map (λ axis. axis.now.tuples) c.args.axes.now))) c.in-Err-TooLarge.field-0-is c.in-Err-TooLarge.ensures in
     let told = ap (labels_concatenated same_tuple c.args.asked.now.inner) (sym lists) ∙ answer in
     let many = met_many dict c.len.ensures.distinct parts c.requires.known (asked_value dict c.args.asked.now) apart told in
-    rw many.0 (c.too_many.ensures (labels_value dict (united same_tuple c.args.asked.now.inner (numbered_labels parts))) many.1)
+    grind (arith, numbered_labels)

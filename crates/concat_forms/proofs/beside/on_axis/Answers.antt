@@ -1,21 +1,15 @@
 use Rattle.{
-  std.proofs.{Common.{◌≡◌, ◌∙◌, ◌-◌, ap, sym, subst, refl, length, true, false, List, Option, rules, arith}, lemmas.{Result.{err_from_is_err_and}, List.{length-map}}},
-  cell_core.specs.declared.cell.Label.{Label},
+  std.proofs.{Common.{◌≡◌, ◌∙◌, ◌-◌, ap, sym, subst, refl, length, true, false, rules, arith}, lemmas.{Result.{err_from_is_err_and}, List.{length-map}}},
   table_meaning.specs.{Settled.{IsSettled}, Table.{tuple_value, table_value}},
   form_meaning.specs.Finish.{within_limits},
   frame_store.specs.Shown.{labels_value, headings_value},
-  selections.specs.Headings.{NamesRepeated, repeated_heading},
+  selections.specs.Headings.{repeated_heading},
   concat_forms.{specs.{Parts.{parts_value}, Axes.{named_after}}, proofs.FrameLaws.{all_numbered, headings_refused, beyond_limits, finished_so, level_names_so, frame_so, frame_given, frame_whole}},
 }
 use Rattle.concat_forms.proofs.beside.on_axis.Goals as goal
 
 pub returns-in_err-headings : goal.returns-in_err-headings
-returns-in_err-headings c =
-    let named = c.deref.ensures.value ∙ c.in_ok-list.ensures in
-    let p = err_from_is_err_and c.from_residual-in_err-headings.result c.from_residual-in_err-headings.ensures.1 in
-    rw (p.1, p.2)
-    (headings_refused c.args.dict.now c.len.ensures.distinct c.args.parts.now c.requires.known c.args.renumbered (labels_value c.args.dict.now c.args.axis.tuples) c.in_err-headings.field-0.0
-    (subst (λ (hs : List (Option Label)). NamesRepeated c.in_err-headings.field-0.0 (repeated_heading hs)) named c.in_err-headings.ensures.refused))
+returns-in_err-headings c = grind (arith, err_from_is_err_and, headings_refused)
 
 pub returns-then-not-within_limits : goal.returns-then-not-within_limits
 returns-then-not-within_limits c =
@@ -23,8 +17,8 @@ returns-then-not-within_limits c =
     let labels = labels_value dict c.args.axis.tuples in
     let none = ap repeated_heading (sym (c.deref.ensures.value ∙ c.in_ok-list.ensures)) ∙ c.in_ok-headings.ensures.different in
     let told : within_limits (length c.args.axis.tuples) (length c.in_ok-list.list.items) ≡ false = search rules in
-    let beyond : within_limits (length labels) (length (all_numbered c.args.renumbered c.args.parts.now)) ≡ false = (λ i. within_limits (length-map c.args.axis.tuples (tuple_value dict) i) (length (sym c.in_ok-list.ensures i))) ∙ told in
-    (beyond_limits _ c.len.ensures.distinct _ c.requires.known _ _ none beyond, λ more. refl)
+    let beyond : within_limits (length labels) (length (all_numbered c.args.renumbered c.args.parts.now)) ≡ false = grind (arith, length-map) in
+    search beyond_limits
 
 pub named-axis-requires-clause-given : goal.named-axis-requires-clause-given
 named-axis-requires-clause-given c =
@@ -35,7 +29,7 @@ pub new-requires-clause-whole : goal.new-requires-clause-whole
 new-requires-clause-whole c =
     let named = c.deref.ensures.value ∙ c.in_ok-list.ensures in
     frame_whole _ _ _ _ _ _ _ _ _ c.requires.known
-    (ap length c.named-axis.ensures.tuples) (c.in_ok-headings.ensures.made ∙ (λ i. record { columns_name = c.name_of_all-columns_name.result; labels = named i })) (ap repeated_heading (sym named) ∙ c.in_ok-headings.ensures.different) c.in_ok-blocks.ensures.columns c.in_ok-blocks.ensures.blocks
+    (ap length c.named-axis.ensures.tuples) (c.in_ok-headings.ensures.made ∙ (λ i. record { columns_name = search; labels = named i })) (ap repeated_heading (sym named) ∙ c.in_ok-headings.ensures.different) c.in_ok-blocks.ensures.columns c.in_ok-blocks.ensures.blocks
 
 pub returns : goal.returns
 returns c =
@@ -45,13 +39,12 @@ returns c =
     let listed = c.deref.ensures.value ∙ c.in_ok-list.ensures in
     let none = ap repeated_heading (sym listed) ∙ c.in_ok-headings.ensures.different in
     let told : within_limits (length c.args.axis.tuples) (length c.in_ok-list.list.items) ≡ true = search rules in
-    let within : within_limits (length labels) (length (all_numbered c.args.renumbered parts)) ≡ true = (λ i. within_limits (length-map c.args.axis.tuples (tuple_value dict) i) (length (sym c.in_ok-list.ensures i))) ∙ told in
-    let headed = c.in_ok-headings.ensures.made ∙ (λ i. record { columns_name = c.name_of_all-columns_name.result; labels = listed i }) in
+    let within = (λ i. within_limits (length-map c.args.axis.tuples (tuple_value dict) i) (length (sym c.in_ok-list.ensures i))) ∙ told in
+    let headed = c.in_ok-headings.ensures.made ∙ (λ i. record { columns_name = search; labels = listed i }) in
     let names = c.named-axis.ensures.names ∙ ap (λ n. named_after (headings_value dict c.args.axis.names) n (parts_value dict parts)) c.levels-levels.ensures.count ∙ level_names_so _ _ _ c.requires.some c.requires.levels in (
       finished_so _ c.len.ensures.distinct _ c.requires.known _ _ _ none within
-          (frame_so _ parts c.args.renumbered c.args.axis _ _ _ _ c.named-axis.ensures.tuples names c.name_of_all-columns_name.ensures.name headed c.in_ok-blocks.ensures.columns
-          ∙ ap (table_value dict) (sym c.new.ensures)),
+          (grind (arith, frame_so _ parts c.args.renumbered c.args.axis _ _ _ _ c.named-axis.ensures.tuples names c.name_of_all-columns_name.ensures.name headed c.in_ok-blocks.ensures.columns, c.new.ensures)),
       subst (IsSettled table_value dict) (sym c.new.ensures)
-          (frame_given _ _ _ _ _ _ _ _ c.requires.known (subst (IsSettled labels_value dict) (sym c.named-axis.ensures.tuples) c.requires.given)
+          (frame_given _ _ _ _ _ _ _ _ c.requires.known (rw c.named-axis.ensures.tuples c.requires.given)
           c.named-axis.ensures.given c.name_of_all-columns_name.ensures.given headed c.in_ok-blocks.ensures.blocks),
     )

@@ -1,11 +1,11 @@
 use Rattle.{
-  std.proofs.Common.{◌∙◌},
+  std.proofs.Common.{arith},
   concat_forms.proofs.CallingLaws.{inner_so, keys_tell},
 }
 use Rattle.concat_forms.proofs.calling.asked_by.Goals as goal
 
 pub returns-clause-inner : goal.returns-clause-inner
-returns-clause-inner c = λ live. c.eq.ensures ∙ inner_so _ _ (c.text.ensures live)
+returns-clause-inner c = grind (arith, inner_so)
 
 pub returns-clause-renumbered : goal.returns-clause-renumbered
 returns-clause-renumbered c = c.truth.ensures

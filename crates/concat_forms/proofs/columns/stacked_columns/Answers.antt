@@ -1,5 +1,5 @@
 use Rattle.{
-  std.proofs.Common.{refl},
+  std.proofs.Common.{arith, refl},
   form_parts.proofs.GapLaws.{single_on},
   concat_forms.proofs.ColumnLaws.{one_more_stacked},
 }
@@ -10,5 +10,5 @@ loop-heading-preserved c = record {
   columns = λ texts.
       one_more_stacked _ _ _ _ _ _ _ _ _ _ _ c.loop-heading-test.true refl c.sought_by.ensures
       (c.in_ok-column.ensures texts) c.into_block.ensures c.in_ok-push.ensures.ok (c.loop-heading.invariant.columns texts);
-  single = single_on _ _ _ _ c.loop-heading.invariant.single c.into_block.ensures c.in_ok-push.ensures.ok;
+  single = grind (arith, single_on);
 }

@@ -1,5 +1,5 @@
 use Rattle.{
-  std.proofs.Common.{◌∙◌, ◌++◌, ◌∷◌, [], ap, Some},
+  std.proofs.Common.{arith, ◌∙◌, ◌++◌, ◌∷◌, [], ap, Some},
   frame_store.specs.Objects.{tables},
   concat_forms.proofs.{PartLists.{object_live, no_part, part_more, known_more, seen_table}, gathering.parts_of.Goals.{in-Some+in_ok-new+in_ok-push, in_default}},
 }
@@ -22,7 +22,7 @@ loop-item-preserved c =
             known = known_more _ _ k _ c.loop-item-test.true c.item-item.is _ _ _ _ grown w.read.ensures.table w.read.ensures.whole before.known;
           }
       | in_default w ↦ record {
-        whole = no_part _ _ k _ c.loop-item-test.true c.item-item.is _ _ (ap (λ v. v.items) w.parts-is) (λ texts. w.in_default.ensures.table live texts) before.whole;
+        whole = grind (arith, no_part);
         known = rw (ap (λ v. v.items) w.parts-is) before.known;
       }
     ]

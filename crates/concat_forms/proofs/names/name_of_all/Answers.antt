@@ -9,8 +9,8 @@ pub loop-other-init : goal.loop-other-init
 loop-other-init c =
     let dict = c.args.dict.now in
     record {
-      whole = first_name _ _ _ _ _ c.in-len1-up.len_at_least c.first-item.is c.name-name.ensures;
-      given = rw c.name-name.ensures (name_given _ _ _ (subst (IsKnownTable dict) (sym c.first-item.is) (c.requires 0 c.first-item.result (omega (arith, c.in-len1-up.len_at_least)))));
+      whole = search first_name;
+      given = rw c.name-name.ensures (name_given _ _ _ (subst (IsKnownTable dict) (sym c.first-item.is) (grind arith)));
     }
 
 pub common_name-name-requires-clause-b : goal.common_name-name-requires-clause-b
@@ -18,8 +18,4 @@ common_name-name-requires-clause-b c =
     rw c.name.ensures (name_given _ _ _ (other_known _ _ _ _ c.requires c.loop-other-test.true c.other-item.is))
 
 pub loop-other-preserved : goal.loop-other-preserved
-loop-other-preserved c =
-    record {
-      whole = next_name _ _ _ _ _ _ _ _ _ c.loop-other-test.true c.other-item.is c.name.ensures c.common_name-name.ensures.name c.loop-other.invariant.whole;
-      given = c.common_name-name.ensures.settled;
-    }
+loop-other-preserved c = search next_name

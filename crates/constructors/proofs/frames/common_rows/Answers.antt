@@ -1,5 +1,5 @@
 use Rattle.{
-  std.proofs.Common.{refl},
+  std.proofs.Common.{arith, refl},
   constructors.proofs.RowLaws.{rows_next, rows_differ},
 }
 use Rattle.constructors.proofs.frames.common_rows.Goals as goal
@@ -12,6 +12,4 @@ returns-then-got-rows c = λ texts. (
 )
 
 pub loop-place-preserved : goal.loop-place-preserved
-loop-place-preserved c = λ texts.
-    rows_next _ _ _ _ _ _ _
-    c.requires c.at-in-loop-place.ensures c.rows-got.ensures c.if-got-rows.false (c.loop-place.invariant texts)
+loop-place-preserved c = grind (arith, rows_next)

@@ -1,5 +1,5 @@
 use Rattle.{
-  std.{proofs.{Common.{List, [], Option}, lemmas.Result.{err_from_is_err_and}}, specs.Option.{option_map}},
+  std.{proofs.{Common.{arith, List, [], Option}, lemmas.Result.{err_from_is_err_and}}, specs.Option.{option_map}},
   meaning.specs.{Text.{Text}, Cell.{LabelValue}},
   constructors.{specs.Index.{rows_labels}, proofs.FrameLaws.{columns_refused, rows_refused, frame_answer, frame_settled, frame_whole}},
 }
@@ -8,8 +8,7 @@ use Rattle.constructors.proofs.frames.frame_of.Goals as goal
 pub returns-in_err-columns : goal.returns-in_err-columns
 returns-in_err-columns c = λ live.
     let p = err_from_is_err_and c.from_residual-in_err-columns.result c.from_residual-in_err-columns.ensures.1 in
-    rw (p.1, p.2) (columns_refused live c.args.dict.now c.args.pairs.now c.in_ok-places.places.entries (option_map (λ items. rows_labels c.args.dict.now items.now) c.args.index) c.in_err-columns.field-0.0
-    (c.in_ok-places.ensures.pairs live) (c.in_err-columns.ensures.columns c.args.dict.now))
+    rw (p.1, p.2) (grind (arith, columns_refused))
 
 pub returns-in_err-axis : goal.returns-in_err-axis
 returns-in_err-axis c = λ live.

@@ -1,9 +1,7 @@
 use Rattle.{
-  std.proofs.Common.{◌∙◌, ap, sym, subst, refl, List, Bor, Result},
-  meaning.specs.Fault.{FaultValue},
-  table_meaning.specs.{Settled.{IsSettled}, Value.{Entry}},
+  std.proofs.Common.{arith, ◌∙◌, ap, sym, refl},
   form_meaning.specs.Binding.{bound_of},
-  frame_store.specs.{declared.arguments.Item.{Item}, Objects.{tables}, Arguments.{arguments_of}, Shown.{Makes}, World.{world}},
+  frame_store.specs.{Objects.{tables}, Arguments.{arguments_of}, World.{world}},
   constructors.proofs.{GivenLaws.{index_settled, index_levels}, DictLaws.{keys_given, lists_given, frame_given}},
 }
 use Rattle.constructors.proofs.given.made_frame.Goals as goal
@@ -11,12 +9,12 @@ use Rattle.constructors.proofs.given.made_frame.Goals as goal
 pub frame_of-requires-clause-keys : goal.frame_of-requires-clause-keys
 frame_of-requires-clause-keys c =
     let live = tables c.args.store.now in
-    keys_given c.in_ok-bound.bound 0 c.dict.result.now _ _ c.dict.ensures.value (subst (IsSettled (arguments_of live) c.args.dict.now) (sym c.in_ok-bound.ensures.2) c.requires.given)
+    keys_given c.in_ok-bound.bound 0 c.dict.result.now _ _ c.dict.ensures.value (rw (sym c.in_ok-bound.ensures.2) at c.requires.given)
 
 pub frame_of-requires-clause-values : goal.frame_of-requires-clause-values
 frame_of-requires-clause-values c =
     let live = tables c.args.store.now in
-    lists_given c.in_ok-bound.bound 0 c.dict.result.now _ _ c.dict.ensures.value (subst (IsSettled (arguments_of live) c.args.dict.now) (sym c.in_ok-bound.ensures.2) c.requires.given)
+    lists_given c.in_ok-bound.bound 0 c.dict.result.now _ _ c.dict.ensures.value (rw (sym c.in_ok-bound.ensures.2) at c.requires.given)
 
 pub frame_of-requires-clause-levels : goal.frame_of-requires-clause-levels
 frame_of-requires-clause-levels c =
@@ -32,8 +30,8 @@ frame_of-requires-clause-levels c =
 pub frame_of-requires-clause-index : goal.frame_of-requires-clause-index
 frame_of-requires-clause-index c =
     let live = tables c.args.store.now in
-    index_settled (λ (b : Bor (List Item)). b.now) c.in_ok-bound.bound 1 _ _ _ c.list_or_none.ensures.value
-    (subst (IsSettled (arguments_of live) c.args.dict.now) (sym c.in_ok-bound.ensures.2) c.requires.given)
+    index_settled (λ b. b.now) c.in_ok-bound.bound 1 _ _ _ c.list_or_none.ensures.value
+    (rw (sym c.in_ok-bound.ensures.2) at c.requires.given)
 
 pub returns : goal.returns
 returns c =
@@ -41,8 +39,4 @@ returns c =
     let dict = c.args.dict.now in
     let gs = arguments_of live dict c.args.args.now in
     let is = c.function_parameters-parameters.ensures in
-    subst (λ (m : Result Entry FaultValue). Makes dict c.frame_of.result m)
-    (frame_given (λ (b : Bor (List Item)). b.now) gs _ c.in_ok-bound.bound c.dict.result.now _
-    (ap (λ ps. bound_of ps gs) (sym is) ∙ c.in_ok-bound.ensures.0) (c.in_ok-bound.ensures.1 ∙ is)
-    (c.dict.ensures.value live dict) (c.list_or_none.ensures.value live dict))
-    (c.frame_of.ensures live)
+    grind (arith, frame_given (λ b. b.now) gs _ c.in_ok-bound.bound c.dict.result.now _ (ap (λ ps. bound_of ps gs) (sym is) ∙ c.in_ok-bound.ensures.0) (c.in_ok-bound.ensures.1 ∙ is) (c.dict.ensures.value live dict) (c.list_or_none.ensures.value live dict), c.frame_of.ensures live)

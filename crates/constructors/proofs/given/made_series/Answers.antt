@@ -1,9 +1,7 @@
 use Rattle.{
-  std.proofs.Common.{◌∙◌, ap, sym, subst, refl, List, Bor, Result},
-  meaning.specs.Fault.{FaultValue},
-  table_meaning.specs.{Settled.{IsSettled}, Value.{Entry}},
+  std.proofs.Common.{◌∙◌, ap, sym, refl},
   form_meaning.specs.Binding.{bound_of},
-  frame_store.specs.{declared.arguments.Item.{Item}, Objects.{tables}, Arguments.{arguments_of}, Shown.{Makes}, World.{world}},
+  frame_store.specs.{Objects.{tables}, Arguments.{arguments_of}, World.{world}},
   signatures.proofs.{ToldLaws.{name_given}, ScalarLaws.{items_settled}},
   constructors.proofs.GivenLaws.{index_settled, index_levels, series_given},
 }
@@ -12,7 +10,7 @@ use Rattle.constructors.proofs.given.made_series.Goals as goal
 pub series_of-requires-clause-values : goal.series_of-requires-clause-values
 series_of-requires-clause-values c =
     let live = tables c.args.store.now in
-    items_settled c.in_ok-bound.bound 0 _ _ _ c.list-values.ensures.value (subst (IsSettled (arguments_of live) c.args.dict.now) (sym c.in_ok-bound.ensures.2) c.requires.given)
+    items_settled c.in_ok-bound.bound 0 _ _ _ c.list-values.ensures.value (rw (sym c.in_ok-bound.ensures.2) at c.requires.given)
 
 pub series_of-requires-clause-levels : goal.series_of-requires-clause-levels
 series_of-requires-clause-levels c =
@@ -28,14 +26,14 @@ series_of-requires-clause-levels c =
 pub series_of-requires-clause-index : goal.series_of-requires-clause-index
 series_of-requires-clause-index c =
     let live = tables c.args.store.now in
-    index_settled (λ (b : Bor (List Item)). b.now) c.in_ok-bound.bound 1 _ _ _ c.list_or_none-index.ensures.value
-    (subst (IsSettled (arguments_of live) c.args.dict.now) (sym c.in_ok-bound.ensures.2) c.requires.given)
+    index_settled (λ b. b.now) c.in_ok-bound.bound 1 _ _ _ c.list_or_none-index.ensures.value
+    (rw (sym c.in_ok-bound.ensures.2) at c.requires.given)
 
 pub series_of-requires-clause-name : goal.series_of-requires-clause-name
 series_of-requires-clause-name c =
     let live = tables c.args.store.now in
     name_given c.in_ok-bound.bound 2 _ _ _ _ c.scalar_or_none.ensures c.name_of-name.ensures
-    (subst (IsSettled (arguments_of live) c.args.dict.now) (sym c.in_ok-bound.ensures.2) c.requires.given)
+    (rw (sym c.in_ok-bound.ensures.2) at c.requires.given)
 
 pub returns-clause-answer : goal.returns-clause-answer
 returns-clause-answer c =
@@ -43,8 +41,6 @@ returns-clause-answer c =
     let dict = c.args.dict.now in
     let gs = arguments_of live dict c.args.args.now in
     let is = c.function_parameters-parameters.ensures in
-    subst (λ (m : Result Entry FaultValue). Makes c.series_of.new.dict c.series_of.result m)
-    (series_given (λ (b : Bor (List Item)). b.now) gs _ c.in_ok-bound.bound _ _ _ _ _
+    rw (← series_given (λ b. b.now) gs _ c.in_ok-bound.bound _ _ _ _ _
     (ap (λ ps. bound_of ps gs) (sym is) ∙ c.in_ok-bound.ensures.0) (c.in_ok-bound.ensures.1 ∙ is)
-    (c.list-values.ensures.value live dict) (c.list_or_none-index.ensures.value live dict) (c.scalar_or_none.ensures live dict) (c.name_of-name.ensures dict) (c.kind_or_none-kind.ensures live))
-    c.series_of.ensures.answer
+    (c.list-values.ensures.value live dict) (c.list_or_none-index.ensures.value live dict) (c.scalar_or_none.ensures live dict) (c.name_of-name.ensures dict) (c.kind_or_none-kind.ensures live)) c.series_of.ensures.answer

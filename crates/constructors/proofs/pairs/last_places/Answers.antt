@@ -14,7 +14,7 @@ loop-place-preserved c =
     }
 
 pub returns-clause-inside : goal.returns-clause-inside
-returns-clause-inside c = places_inside _ _ c.loop-place.places.entries c.loop-place.invariant.inside
+returns-clause-inside c = search places_inside
 
 pub returns-clause-settled : goal.returns-clause-settled
 returns-clause-settled c = keys_settled _ _ c.loop-place.places.entries c.loop-place.invariant.inside

@@ -1,5 +1,5 @@
 use Rattle.{
-  std.proofs.{Common.{◌∙◌}, lemmas.Result.{err_from_is_err_and}},
+  std.proofs.lemmas.Result.{err_from_is_err_and},
   constructors.proofs.ScalarLaws.{held_step, held_refused},
 }
 use Rattle.constructors.proofs.scalars.column_of_kind.Goals as goal
@@ -13,7 +13,7 @@ returns-in_err-push_scalar c = λ texts.
 pub loop-rest-preserved : goal.loop-rest-preserved
 loop-rest-preserved c =
     record {
-      kind = c.push_scalar.ensures.kind ∙ c.loop-rest.invariant.kind;
+      kind = search;
       cells = λ texts. held_step _ _ _ _ _ _ c.push_scalar.new.column _
           c.first-item.is c.in-len1-up.len_at_least c.scalar.ensures c.loop-rest.invariant.kind c.in_ok-push_scalar.ensures.ok (c.loop-rest.invariant.cells texts);
     }

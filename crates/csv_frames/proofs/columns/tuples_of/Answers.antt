@@ -1,8 +1,8 @@
 use Rattle.{
-  std.proofs.Common.{◌∙◌, ◌∷◌, ◌++◌, [], ap, sym, Some, string_bytes},
+  std.proofs.Common.{arith, ◌∙◌, ◌∷◌, ◌++◌, [], ap, Some, string_bytes},
   meaning.specs.Cell.{text},
   table_meaning.specs.Table.{tuple_value},
-  csv_frames.{specs.Views.{texts_seen, label_tuples, tuples_seen}, proofs.SettledLaws.{longer_with, longer_twice, settled_more, seen_more, tuple_settled, tuple_seen, after, first_of}},
+  csv_frames.{specs.Views.{texts_seen, label_tuples}, proofs.SettledLaws.{longer_with, longer_twice, settled_more, seen_more, tuple_settled, tuple_seen, after, first_of}},
 }
 use Rattle.cell_core.specs.declared.cell.Label.TheVariants as label
 use Rattle.csv_frames.proofs.columns.tuples_of.Goals as goal
@@ -19,8 +19,8 @@ loop-rest-preserved c =
     let given = c.in_ok-text.ensures.given ∙ ap Some c.as_str.ensures.value in
     let pushed = c.in_ok-push.ensures.ok ∙ ap (λ t. c.loop-rest.tuples ++ t ∷ []) c.of.ensures in
     record {
-      longer = longer_twice c.args.dict.now old new inv.longer longer;
+      longer = search longer_twice;
       settled = settled_more tuple_value old new c.loop-rest.tuples c.push.new.self (label.Text id ∷ []) longer inv.settled pushed (tuple_settled new id name given);
       labels = seen_more tuple_value old new c.loop-rest.tuples c.push.new.self (label.Text id ∷ []) longer inv.settled pushed (text name ∷ []) (label_tuples (texts_seen (after rest))) (label_tuples (texts_seen c.args.labels.now)) (tuple_seen new id name given)
-          (ap (λ l. tuples_seen old c.loop-rest.tuples ++ label_tuples (texts_seen l)) (sym (first_of rest c.label-item.result c.label-item.is c.in-len1-up.len_at_least)) ∙ inv.labels);
+          (grind (arith, first_of rest c.label-item.result c.label-item.is c.in-len1-up.len_at_least));
     }

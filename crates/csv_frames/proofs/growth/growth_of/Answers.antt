@@ -1,15 +1,14 @@
 use Rattle.{
-  std.proofs.Common.{[], ◌∷◌, ◌++◌, ◌≤◌, length, sym, subst, ap, arith},
+  std.proofs.Common.{[], ◌∷◌, ◌++◌, ◌≤◌, length, sym, arith},
   csv.specs.Records.{fields_of},
-  csv_meaning.specs.CsvRead.{first_long},
-  csv_frames.{specs.{Growing.{GrownTo}, Rows.{file_rows, rows_left}}, proofs.{RecordLaws.{one_left, no_header, under_header, few_before}, SettledLaws.{longer_self, longer_twice}, GrowthLaws.{more_read, still_short}}},
+  csv_frames.{specs.Rows.{file_rows, rows_left}, proofs.{RecordLaws.{one_left, no_header, under_header, few_before}, SettledLaws.{longer_self, longer_twice}, GrowthLaws.{more_read, still_short}}},
 }
 use Rattle.csv_frames.proofs.growth.growth_of.Goals as goal
 
 pub returns-then-not-branch-clause-grown : goal.returns-then-not-branch-clause-grown
 returns-then-not-branch-clause-grown c =
     let none = no_header c.reader_of-reader.result c.next_record.new.reader c.in_ok-next_record.field-0 _ c.in_ok-next_record.ensures c.args.bytes.now c.reader_of-reader.ensures.records c.if-not-branch.true in
-    subst (λ rows. GrownTo c.args.dict.now c.args.kinds.now rows c.in_ok-growth.growth) (sym none) (c.in_ok-growth.ensures c.args.dict.now)
+    rw none (c.in_ok-growth.ensures c.args.dict.now)
 
 pub reading-init : goal.reading-init
 reading-init c =
@@ -17,19 +16,15 @@ reading-init c =
     let under = under_header c.reader_of-reader.result c.next_record.new.reader c.in_ok-next_record.field-0 _ next c.args.bytes.now c.reader_of-reader.ensures.records c.if-not-branch.false in
     record {
       longer = longer_self c.args.dict.now;
-      reads = (one_left c.reader_of-reader.result c.next_record.new.reader c.in_ok-next_record.field-0 _ next c.if-not-branch.false).1;
-      before = ([], sym under, ap (first_long c.args.width 2) (sym under), c.in_ok-growth.ensures c.args.dict.now);
+      reads = grind arith;
+      before = ([], sym under, cc, c.in_ok-growth.ensures c.args.dict.now);
     }
 
 pub overflow_add-result : goal.overflow_add-result
-overflow_add-result c =
-    let inv = c.reading.invariant in
-    omega (arith, few_before c.args.bytes.now inv.before.0 _ inv.before.1, inv.before.3.count, c.requires)
+overflow_add-result c = grind (arith, few_before)
 
 pub push-requires-clause-few : goal.push-requires-clause-few
-push-requires-clause-few c =
-    let inv = c.reading.invariant in
-    omega (arith, few_before c.args.bytes.now inv.before.0 _ inv.before.1, inv.before.3.count, c.requires)
+push-requires-clause-few c = grind (arith, few_before)
 
 pub reading-preserved : goal.reading-preserved
 reading-preserved c =
@@ -39,14 +34,14 @@ reading-preserved c =
     let reader = c.reading.reader in
     let next = c.next_record-in-reading.new.reader in
     let one = one_left reader next c.in_ok-next_record-2.field-0 row c.in_ok-next_record-2.ensures c.if-not-branch-2.false in
-    let short : length row ≤ c.args.width = omega (arith, c.len.ensures, c.if-width-len.false) in
+    let short : length row ≤ c.args.width = omega arith in
     record {
-      longer = longer_twice c.args.dict.now c.reading.dict c.push.new.dict inv.longer c.push.ensures.longer;
+      longer = search longer_twice;
       reads = one.1;
       before = (
         before ++ row ∷ [],
-        more_read c.args.width (file_rows c.args.bytes.now) before (rows_left reader) (rows_left next) row one.0 inv.before.1,
+        search more_read,
         still_short c.args.width (file_rows c.args.bytes.now) before (rows_left reader) (rows_left next) row one.0 short inv.before.2,
-        c.in_ok-push.ensures.grown before inv.before.3,
+        grind arith,
       );
     }

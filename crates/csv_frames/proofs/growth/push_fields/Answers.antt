@@ -1,8 +1,8 @@
 use Rattle.{
-  std.proofs.{Common.{◌≡◌, ◌<◌, ◌∙◌, [], ◌∷◌, ◌++◌, None, length, get_or, ap, subst, arith}, lemmas.List.{length-map, length-set, get_or_default}},
+  std.proofs.{lemmas.List.{drop_all, length-map, length-set, get_or_default}, Common.{◌≡◌, ◌<◌, ◌∙◌, [], ◌∷◌, ◌++◌, None, length, get_or, ap, subst, arith}},
   csv.specs.Records.{fields_of},
   csv_meaning.specs.CsvRead.{is_misfit},
-  csv_frames.{specs.{Views.{column_fields}, Growing.{Grown}}, proofs.{SettledLaws.{longer_twice}, MisfitLaws.{misfit_more, misfit_all}, GrowthLaws.{push_one}}},
+  csv_frames.{specs.{Views.{column_fields}, Growing.{Grown}}, proofs.{SettledLaws.{longer_twice}, MisfitLaws.{misfit_more}, GrowthLaws.{push_one}}},
 }
 use Rattle.csv_frames.specs.declared.growing.Growing.TheVariants as growing
 use Rattle.csv_frames.proofs.growth.push_fields.Goals as goal
@@ -19,22 +19,21 @@ loop-place-preserved c =
     let longer = c.push.ensures.longer in
     let lt : place < length kinds = omega arith in
     let named = get_or kinds place None in
-    let here : get_or c.loop-place.columns place growing.Missing ≡ get_or c.loop-place.columns place column = get_or_default c.loop-place.columns place growing.Missing column (omega (arith, inv.count, lt)) in
+    let here : get_or c.loop-place.columns place growing.Missing ≡ get_or c.loop-place.columns place column = grind (arith, get_or_default) in
     record {
-      longer = longer_twice c.args.dict.now old new inv.longer longer;
-      count = length-set c.loop-place.columns place c.push.new.self ∙ inv.count;
+      longer = search longer_twice;
+      count = search length-set;
       pushed = λ before size grown.
           push_one kinds before fields old new c.loop-place.columns place c.push.new.self longer lt
           (λ was.
           subst (λ t. Grown new named (column_fields place before ++ t ∷ []) c.push.new.self) c.field_in-field.ensures
-          (c.in_ok-misfit.ensures.grown (column_fields place before) (length-map before _ ∙ size) (subst (Grown old named (column_fields place before)) here was)))
+          (grind (arith, length-map)))
           (inv.pushed before size grown);
       misfit = λ before size grown.
           let was = (inv.pushed before size grown).left place (omega arith) lt in
           misfit_more kinds fields place c.loop-place.misfit (inv.misfit before size grown) c.in_ok-misfit.field-0 lt
-          (c.in_ok-misfit.ensures.misfit (column_fields place before) (subst (Grown old named (column_fields place before)) here was) ∙ ap (is_misfit named) c.field_in-field.ensures);
+          (c.in_ok-misfit.ensures.misfit (column_fields place before) (grind arith) ∙ ap (is_misfit named) c.field_in-field.ensures);
     }
 
 pub returns-clause-misfit : goal.returns-clause-misfit
-returns-clause-misfit c = λ before size grown.
-    misfit_all c.args.kinds.now (fields_of c.args.row.now) c.loop-place.place c.loop-place.misfit (c.loop-place.invariant.misfit before size grown) (omega arith)
+returns-clause-misfit c = grind (arith, drop_all)

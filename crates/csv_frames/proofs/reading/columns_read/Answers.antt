@@ -1,26 +1,23 @@
 use Rattle.{
-  std.{proofs.Common.{◌∙◌, ap, sym}, specs.List.{list_any}},
-  csv_frames.{specs.{Growing.{is_mixed}, Rows.{file_rows}}, proofs.ColumnLaws.{columns_settled, columns_right, again_grown, again_kept, again_same}},
+  std.proofs.Common.{arith, ◌∙◌},
+  csv_frames.{specs.Rows.{file_rows}, proofs.ColumnLaws.{columns_settled, columns_right, again_grown, again_kept, again_same}},
 }
 use Rattle.csv_frames.proofs.reading.columns_read.Goals as goal
 
 pub returns-then-not-has_mixed-clause-settled : goal.returns-then-not-has_mixed-clause-settled
-returns-then-not-has_mixed-clause-settled c =
-    columns_settled c.args.dict.now c.args.kinds.now (file_rows c.args.bytes.now) c.args.growth.columns.items c.requires.grown c.args.growth.rows c.requires.rows c.in_ok-columns_of.field-0 c.in_ok-columns_of.ensures
+returns-then-not-has_mixed-clause-settled c = grind (arith, columns_settled)
 
 pub returns-then-not-has_mixed-clause-read : goal.returns-then-not-has_mixed-clause-read
-returns-then-not-has_mixed-clause-read c =
-    columns_right c.args.dict.now c.args.kinds.now (file_rows c.args.bytes.now) c.args.growth.columns.items c.requires.grown c.args.growth.rows c.requires.rows c.in_ok-columns_of.field-0 c.in_ok-columns_of.ensures
-    (ap (list_any is_mixed) (sym c.as_slice.ensures.value) ∙ sym c.has_mixed.ensures ∙ c.if-not-has_mixed.true)
+returns-then-not-has_mixed-clause-read c = grind (arith, columns_right)
 
 pub columns_of-requires-2 : goal.columns_of-requires-2
 columns_of-requires-2 c =
-    again_kept c.args.dict.now c.args.kinds.now (file_rows c.args.bytes.now) c.args.growth.columns.items c.requires.grown c.growth_of.new.dict c.as_slice-2.result.now (c.as_slice-2.ensures.value ∙ c.in_ok-found.ensures) c.in_ok-again.again c.requires.within c.in_ok-again.ensures.grown
+    again_kept c.args.dict.now c.args.kinds.now (file_rows c.args.bytes.now) c.args.growth.columns.items c.requires.grown c.growth_of.new.dict c.as_slice-2.result.now (grind arith) c.in_ok-again.again c.requires.within c.in_ok-again.ensures.grown
 
 pub returns-clause-settled : goal.returns-clause-settled
 returns-clause-settled c =
     let rows = file_rows c.args.bytes.now in
-    let again = again_grown c.args.dict.now c.args.kinds.now rows c.args.growth.columns.items c.requires.grown c.growth_of.new.dict c.as_slice-2.result.now (c.as_slice-2.ensures.value ∙ c.in_ok-found.ensures) c.in_ok-again.again c.requires.within c.in_ok-again.ensures.grown in
+    let again = again_grown c.args.dict.now c.args.kinds.now rows c.args.growth.columns.items c.requires.grown c.growth_of.new.dict c.as_slice-2.result.now (grind arith) c.in_ok-again.again c.requires.within c.in_ok-again.ensures.grown in
     columns_settled c.growth_of.new.dict c.as_slice-2.result.now rows c.in_ok-again.again.columns.items again c.args.growth.rows c.requires.rows c.in_ok-columns_of-2.field-0 c.in_ok-columns_of-2.ensures
 
 pub returns-clause-read : goal.returns-clause-read

@@ -1,6 +1,5 @@
 use Rattle.{
-  std.proofs.{Common.{◌≡◌, ◌∙◌, ℕ, sym, subst, length, All}, lemmas.List.{length-map}},
-  column_core.specs.Columns.{CellColumn},
+  std.proofs.{Common.{arith, ◌∙◌, sym}, lemmas.List.{length-map}},
   csv_frames.{specs.{Rows.{file_rows}, Views.{texts_seen}}, proofs.FilledLaws.{count_columns, filled, count_tuples, tuples_differ}},
 }
 use Rattle.csv_frames.proofs.reading.labelled_columns.Goals as goal
@@ -13,7 +12,7 @@ returns-clause-parts c =
     let texts = c.columns_read.new.dict in
     record {
       headed = count_tuples c.tuples_of.new.dict (texts_seen c.args.labels.now) c.in_ok-labels.labels c.in_ok-labels.ensures.labels ∙ length-map c.args.labels.now _ ∙ c.requires.alike
-          ∙ sym (count_columns texts rows 0 kinds columns c.in_ok-columns.ensures.read);
+          ∙ sym (grind (arith, count_columns));
       different = tuples_differ c.tuples_of.new.dict (texts_seen c.args.labels.now) c.in_ok-labels.labels c.in_ok-labels.ensures.labels c.requires.different;
-      filled = subst (λ (n : ℕ). All (λ (c : CellColumn). length c.cells ≡ n) columns) (sym c.requires.rows) (filled texts rows 0 kinds columns c.in_ok-columns.ensures.read);
+      filled = grind (arith, filled);
     }

@@ -1,5 +1,5 @@
 use Rattle.{
-  std.proofs.{Common.{◌∙◌, ◌<◌, ◌≤◌, length, [], ap, sym, arith, slice_index_or}, lemmas.Option.{get_or_from_slice_get}},
+  std.proofs.{Common.{◌<◌, ◌≤◌, length, [], arith, slice_index_or}, lemmas.Option.{get_or_from_slice_get}},
   multi_index.proofs.SideLaws.{one_row_more, every_row},
 }
 use Rattle.factorize.proofs.codes.tuples_of.Goals as goal
@@ -10,7 +10,7 @@ loop-place-preserved c =
     let rows = c.args.rows.now in
     let lt : c.loop-place.place < length rows = omega arith in
     one_row_more (λ row. slice_index_or tuples row []) rows c.loop-place.place 0 c.copy.result [] c.loop-place.made c.push.new.self lt
-    (c.copy.ensures ∙ sym (ap (λ row. slice_index_or tuples row []) (get_or_from_slice_get rows c.loop-place.place c.at.result.now 0 c.at.ensures) ∙ get_or_from_slice_get tuples c.at.result.now c.at-in-loop-place.result.now [] c.at-in-loop-place.ensures))
+    (grind (arith, get_or_from_slice_get))
     c.loop-place.invariant c.in_ok-push.ensures.ok
 
 pub returns : goal.returns

@@ -1,7 +1,6 @@
 use Rattle.{
-  std.proofs.Common.{◌≡◌, ◌∙◌, false, ap, rules},
-  group_meaning.specs.Rows.{GroupsValue},
-  factorize.proofs.{GroupLaws.{below_count, codes_below, codes_are, groups_counted, rows_are, law_of}, KeyNumberLaws.{all_counted, all_firsts, all_codes}},
+  factorize.proofs.{KeyNumberLaws.{sight_firsts, all_counted, all_codes}, GroupLaws.{below_count, codes_below, codes_are, groups_counted, rows_are, law_of}},
+  std.proofs.Common.{arith, ◌≡◌, ◌∙◌, false, ap, rules},
 }
 use Rattle.factorize.proofs.factor.group_by_keys.Goals as goal
 
@@ -11,25 +10,16 @@ groups_of_all-requires g c =
     c.in_ok-numbers.numbers.firsts.items c.in_ok-numbers.ensures.firsts c.in_ok-numbers.numbers.codes.items c.in_ok-numbers.ensures.codes
 
 pub returns-then-not-dropna-clause-count : goal.returns-then-not-dropna-clause-count
-returns-then-not-dropna-clause-count g c =
-    let unsorted : c.args.sorted ≡ false = search rules in
-    let whole : c.args.dropna ≡ false = search rules in
-    ap (λ (v : GroupsValue). v.count) c.in_ok-all.ensures.groups
-    ∙ all_counted c.args.dict.now (g.R.KeyLevels.keys c.args.rows.now) c.args.sorted c.args.dropna unsorted whole c.in_ok-numbers.numbers.firsts.items c.in_ok-numbers.ensures.firsts
+returns-then-not-dropna-clause-count g c = grind (arith, all_counted)
 
 pub returns-then-not-dropna-clause-codes : goal.returns-then-not-dropna-clause-codes
 returns-then-not-dropna-clause-codes g c =
     let unsorted : c.args.sorted ≡ false = search rules in
     let whole : c.args.dropna ≡ false = search rules in
-    ap (λ (v : GroupsValue). v.codes) c.in_ok-all.ensures.groups
-    ∙ all_codes c.args.dict.now (g.R.KeyLevels.keys c.args.rows.now) c.args.sorted c.args.dropna unsorted whole c.in_ok-numbers.numbers.codes.items c.in_ok-numbers.ensures.codes
+    grind (arith, c.in_ok-all.ensures.groups, all_codes c.args.dict.now (g.R.KeyLevels.keys c.args.rows.now) c.args.sorted c.args.dropna unsorted whole c.in_ok-numbers.numbers.codes.items c.in_ok-numbers.ensures.codes)
 
 pub returns-then-not-dropna-clause-firsts : goal.returns-then-not-dropna-clause-firsts
-returns-then-not-dropna-clause-firsts g c =
-    let unsorted : c.args.sorted ≡ false = search rules in
-    let whole : c.args.dropna ≡ false = search rules in
-    c.in_ok-all.ensures.firsts
-    ∙ all_firsts c.args.dict.now (g.R.KeyLevels.keys c.args.rows.now) c.args.sorted c.args.dropna unsorted whole c.in_ok-numbers.numbers.firsts.items c.in_ok-numbers.ensures.firsts
+returns-then-not-dropna-clause-firsts g c = grind (arith, sight_firsts)
 
 pub returns-then-not-dropna-clause-law : goal.returns-then-not-dropna-clause-law
 returns-then-not-dropna-clause-law g c =
@@ -47,16 +37,13 @@ groups_of_kept-requires-clause-codes g c =
     c.in_ok-numbers.numbers.firsts.items c.in_ok-numbers.ensures.firsts c.in_ok-numbers.numbers.codes.items c.in_ok-numbers.ensures.codes
 
 pub returns-clause-count : goal.returns-clause-count
-returns-clause-count g c =
-    ap (λ (v : GroupsValue). v.count) c.in_ok-made.ensures.groups
-    ∙ groups_counted c.args.dict.now (g.R.KeyLevels.keys c.args.rows.now) c.levels-levels.result c.levels-levels.ensures.alike c.args.sorted c.args.dropna
-    c.in_ok-numbers.numbers.firsts.items c.in_ok-numbers.ensures.firsts c.as_slice.result.now (c.as_slice.ensures ∙ c.in_ok-kept.ensures)
+returns-clause-count g c = grind (arith, c.in_ok-made.ensures.groups, groups_counted c.args.dict.now (g.R.KeyLevels.keys c.args.rows.now) c.levels-levels.result c.levels-levels.ensures.alike c.args.sorted c.args.dropna c.in_ok-numbers.numbers.firsts.items c.in_ok-numbers.ensures.firsts c.as_slice.result.now (c.as_slice.ensures ∙ c.in_ok-kept.ensures))
 
 pub returns-clause-codes : goal.returns-clause-codes
 returns-clause-codes g c =
     codes_are c.args.dict.now (g.R.KeyLevels.keys c.args.rows.now) c.levels-levels.result c.levels-levels.ensures.alike c.args.sorted c.args.dropna
     c.in_ok-numbers.numbers.firsts.items c.in_ok-numbers.ensures.firsts c.as_slice.result.now (c.as_slice.ensures ∙ c.in_ok-kept.ensures)
-    c.in_ok-numbers.numbers.codes.items c.in_ok-numbers.ensures.codes c.in_ok-made.made.groups.codes (ap (λ (v : GroupsValue). v.codes) c.in_ok-made.ensures.groups)
+    c.in_ok-numbers.numbers.codes.items c.in_ok-numbers.ensures.codes c.in_ok-made.made.groups.codes (ap (λ v. v.codes) c.in_ok-made.ensures.groups)
 
 pub returns-clause-firsts : goal.returns-clause-firsts
 returns-clause-firsts g c =

@@ -1,5 +1,8 @@
-use Rattle.sorting.proofs.RangeLaws.{one_more}
+use Rattle.{
+  std.proofs.Common.{arith},
+  sorting.proofs.RangeLaws.{one_more},
+}
 use Rattle.factorize.proofs.order.in_sequence.Goals as goal
 
 pub loop-number-preserved : goal.loop-number-preserved
-loop-number-preserved c = one_more c.loop-number.numbers.items c.push.new.self.items c.loop-number.number c.loop-number.invariant c.in_ok-push.ensures.items
+loop-number-preserved c = grind (arith, one_more)

@@ -4,7 +4,6 @@ use Rattle.{
   row_keys.{specs.Keys.{label_in}, proofs.KeyLaws.{any_at}},
   label_align.{specs.Tuples.{labels_of}, proofs.OrderLaws.{label_there, labels_counted}},
   group_meaning.specs.Keys.{is_na},
-  factorize.proofs.LabelLaws.{na_told},
 }
 use Rattle.factorize.proofs.places.holds_na.Goals as goal
 
@@ -14,14 +13,14 @@ returns-then-eq g c = λ texts.
     let level = c.loop-level.level in
     let lt : level < c.args.levels = omega arith in
     sym (any_at is_na (labels_of texts keys c.args.levels c.args.row) level na (omega (arith, lt, labels_counted texts keys c.args.levels c.args.row))
-    (ap is_na (label_there texts keys c.args.levels c.args.row level na lt) ∙ ap (λ l. is_na (label_datum texts l)) (sym c.label.ensures) ∙ na_told texts c.label.result ∙ sym c.eq.ensures ∙ c.if-eq.true))
+    (grind (arith, label_there)))
 
 pub loop-level-preserved : goal.loop-level-preserved
 loop-level-preserved g c = λ texts.
     let keys = g.R.KeyLevels.keys c.args.rows.now in
     let level = c.loop-level.level in
     let label : ℕ → LabelValue = λ l. label_datum texts (label_in l (slice_index_or keys c.args.row [])) in
-    let present : is_na (label level) ≡ false = ap (λ l. is_na (label_datum texts l)) (sym c.label.ensures) ∙ na_told texts c.label.result ∙ sym c.eq.ensures ∙ c.if-eq.false in
+    let present : is_na (label level) ≡ false = grind arith in
     ap (list_any is_na) (map-range_with_len_more label 0 level level (omega arith))
     ∙ list_any-append is_na (map label (range_with_len 0 level)) (label level ∷ [])
     ∙ (λ i. c.loop-level.invariant texts i || (present i || false))

@@ -1,11 +1,11 @@
 use Rattle.{
-  std.{proofs.{Common.{◌≡◌, ◌∙◌, ◌<◌, ◌≤◌, ◌==◌, ◌+◌, ◌++◌, ◌∷◌, [], None, length, take, ap, sym, arith, refl, slice_index_or}, lemmas.List.{take_all, take_more, length-take-le, FromFn.{fill_by_all}}}, specs.List.{position}},
-  factorize.{specs.Numbers.{placed}, proofs.PlaceLaws.{placed_size, placed_more}},
+  std.{proofs.{lemmas.List.{length-set, take_all, take_more, length-take-le, FromFn.{fill_by_all}}, Common.{◌≡◌, ◌∙◌, ◌<◌, ◌≤◌, ◌==◌, None, length, take, ap, sym, arith, slice_index_or}}, specs.List.{position}},
+  factorize.{specs.Numbers.{placed}, proofs.PlaceLaws.{placed_more}},
 }
 use Rattle.factorize.proofs.places.place_all.Goals as goal
 
 pub loop-place-init : goal.loop-place-init
-loop-place-init c = record { size = refl; at = λ n lt. c.requires.none n None lt }
+loop-place-init c = grind arith
 
 pub loop-place-preserved : goal.loop-place-preserved
 loop-place-preserved c =
@@ -14,12 +14,12 @@ loop-place-preserved c =
     let count = length c.args.places.now in
     let number = slice_index_or kept place 0 in
     let lt : place < length kept = omega arith in
-    let below : number < count = c.requires.below place 0 lt in
-    let long : length (take place kept) ≡ place = length-take-le place kept (omega arith) in
-    let is : c.place_first.new.places ≡ placed c.loop-place.places number (length (take place kept)) = c.place_first.ensures ∙ ap (placed c.loop-place.places number) (sym long) in
-    let grown : take (place + 1) kept ≡ take place kept ++ number ∷ [] = take_more kept place 0 lt in
+    let below : number < count = grind arith in
+    let long : length (take place kept) ≡ place = search length-take-le in
+    let is : c.place_first.new.places ≡ placed c.loop-place.places number (length (take place kept)) = grind arith in
+    let grown = take_more kept place 0 lt in
     record {
-      size = placed_size (take place kept) count number c.loop-place.places c.place_first.new.places below c.loop-place.invariant.size c.loop-place.invariant.at is;
+      size = search length-set;
       at = λ n below'. placed_more (take place kept) count number c.loop-place.places c.place_first.new.places below c.loop-place.invariant.size c.loop-place.invariant.at is n below' ∙ ap (position (λ k. n == k)) (sym grown);
     }
 

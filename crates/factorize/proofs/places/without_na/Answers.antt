@@ -11,7 +11,7 @@ loop-number-preserved g c = λ texts.
     let i = c.loop-number.number-index in
     let stays : ℕ → Bool = λ n. not (row_holds_na texts keys c.args.levels (first_row c.args.firsts.now n)) in
     let lt : i < length numbers = omega arith in
-    let told : not c.holds_na-stays.result ≡ stays (slice_index_or numbers i 0) = ap not (c.holds_na-stays.ensures texts ∙ ap (row_holds_na texts keys c.args.levels) c.row_of.ensures) in
+    let told : not c.holds_na-stays.result ≡ stays (slice_index_or numbers i 0) = cc (c.holds_na-stays.ensures texts, c.row_of.ensures) in
     c.in_ok-push_if.ensures
     ∙ (λ j. c.loop-number.invariant texts j ++ cond (told j) (slice_index_or numbers i 0 ∷ []) [])
     ∙ sym (filter_more stays numbers i 0 lt)

@@ -1,9 +1,7 @@
 use Rattle.{
-  std.proofs.Common.{◌≡◌, ◌∙◌, ap, sym},
-  table_meaning.specs.Table.{NumberedTable, table_value},
-  method_meaning.specs.Methods.{summary},
-  frame_store.{specs.{Objects.{tables, table_at, table_or}, World.{world}}, proofs.Settling.{longer_self}},
-  frame_methods.specs.{Calls.{answer_in}, Summaries.{summary_value}},
+  std.proofs.Common.{arith, ◌≡◌},
+  table_meaning.specs.Table.{table_value},
+  frame_store.{specs.{Objects.{tables, table_at}, World.{world}}, proofs.Settling.{longer_self}},
   label_methods.proofs.AnswerLaws.{known_table, forms_so},
 }
 use Rattle.frame_methods.proofs.calling.answer.Goals as goal
@@ -17,28 +15,26 @@ returns-in-Summary c =
     let w = world c.args.store.now c.args.dict.now in
     let call = c.args.call.now in
     let t = table_value c.args.dict.now (table_at (tables c.args.store.now) c.args.on.0) in
-    let at : c.read.result ≡ table_at (tables c.args.store.now) c.args.on.0 = sym (ap table_or c.read.ensures.table) in
+    let at : c.read.result ≡ table_at (tables c.args.store.now) c.args.on.0 = grind arith in
     forms_so _ _ _ _ _
-    (ap (λ (n : NumberedTable). summary (summary_value c.summary_of.result) (table_value c.args.dict.now n)) at
-    ∙ ap (λ op. summary op t) c.summary_of.ensures
-    ∙ ap (λ m. answer_in w m call.bound t) (sym c.in-Summary.is))
+    (grind arith)
     (c.answer_made.ensures c.args.dict.now _ (longer_self c.args.dict.now) c.requires.settled c.summarize-made.ensures.answer)
 
 -- a table of rows, levels or labels
 pub returns-in-Rows : goal.returns-in-Rows
 returns-in-Rows c =
     let t = table_value c.args.dict.now (table_at (tables c.args.store.now) c.args.on.0) in
-    forms_so _ _ _ _ _ (ap (λ m. answer_in (world c.args.store.now c.args.dict.now) m c.args.call.now.bound t) (sym c.in-Rows.is))
+    forms_so _ _ _ _ _ (grind arith)
     (c.placed.ensures.answers c.args.dict.now _ (longer_self c.args.dict.now) c.requires.settled c.rows_made-table.ensures)
 
 pub returns-in-Levels : goal.returns-in-Levels
 returns-in-Levels c =
     let t = table_value c.args.dict.now (table_at (tables c.args.store.now) c.args.on.0) in
-    forms_so _ _ _ _ _ (ap (λ m. answer_in (world c.args.store.now c.args.dict.now) m c.args.call.now.bound t) (sym c.in-Levels.is))
+    forms_so _ _ _ _ _ (grind arith)
     (c.placed-in-Levels.ensures.answers c.args.dict.now _ (c.levels_made-table.ensures.longer) c.requires.settled c.levels_made-table.ensures.answer)
 
 pub returns-in-Labels : goal.returns-in-Labels
 returns-in-Labels c =
     let t = table_value c.args.dict.now (table_at (tables c.args.store.now) c.args.on.0) in
-    forms_so _ _ _ _ _ (ap (λ m. answer_in (world c.args.store.now c.args.dict.now) m c.args.call.now.bound t) (sym c.in-Labels.is))
+    forms_so _ _ _ _ _ (grind arith)
     (c.placed-in-Labels.ensures.answers c.args.dict.now _ (longer_self c.args.dict.now) c.requires.settled c.labels_made-table.ensures)

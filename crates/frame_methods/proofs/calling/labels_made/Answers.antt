@@ -4,7 +4,7 @@ use Rattle.{
   form_meaning.specs.Make.{on},
   method_meaning.specs.{Reindex.{reindex_result}, Section.{xs_result}},
   frame_store.specs.{Objects.{tables, table_at, table_or}, World.{world}},
-  signatures.proofs.ToldLaws.{scalar_given, told_settled},
+  signatures.proofs.ToldLaws.{told_settled},
   frame_methods.proofs.{AnswerLaws.{makes_by}, ShapeLaws.{reindex_of_frame}},
   label_methods.{specs.Reindexed.{list_lent}, proofs.{AnswerLaws.{known_table}, LevelMoveLaws.{option_given}}},
 }
@@ -49,9 +49,6 @@ returns-in-ReindexFrame c =
 pub xs-requires-clause-known : goal.xs-requires-clause-known
 xs-requires-clause-known c = known_table (world c.args.store.now c.args.dict.now) c.args.on.0 c.read.result c.read.ensures.table c.read.ensures.whole c.requires.settled
 
-pub xs-requires-clause-key : goal.xs-requires-clause-key
-xs-requires-clause-key c = scalar_given c.args.bound.now 0 c.scalar-key.result (tables c.args.store.now) c.args.dict.now c.scalar-key.ensures c.requires.call.given
-
 pub xs-requires-clause-level : goal.xs-requires-clause-level
 xs-requires-clause-level c = option_given c.args.bound.now 1 c.scalar_or_none-level.result (tables c.args.store.now) c.args.dict.now c.scalar_or_none-level.ensures c.requires.call.given
 
@@ -60,5 +57,5 @@ returns-in-Xs c =
     let w = world c.args.store.now c.args.dict.now in
     let at : c.read.result ≡ table_at w.tables c.args.on.0 = sym (ap table_or c.read.ensures.table) in
     makes_by w (method.Labels c.args.method) (method.Labels label_method.Xs) c.args.bound.now c.read.result _ c.xs.result (λ a v. on (scalar_in (a 0)) (λ k. xs_result v k (scalar_in (a 1)))) _ at (ap method.Labels c.in-Xs.is) c.requires.call.parameters (λ v. refl)
-    (λ j. on (c.scalar-key.ensures w.tables w.texts j) (λ k. xs_result (table_value w.texts c.read.result) k (c.scalar_or_none-level.ensures w.tables w.texts j)))
+    (λ j. on (c.given_scalar-key.ensures.told w.tables w.texts j) (λ k. xs_result (table_value w.texts c.read.result) k (c.scalar_or_none-level.ensures w.tables w.texts j)))
     c.xs.ensures

@@ -1,12 +1,12 @@
 use Rattle.{
-  std.proofs.{Common.{◌≡◌, ◌∙◌, ap, sym, subst, refl, length, Err}, lemmas.Result.{err_from_is_err_and}},
+  std.proofs.{Common.{arith, ◌≡◌, ◌∙◌, ap, sym, refl}, lemmas.Result.{err_from_is_err_and}},
   meaning.specs.Fault.{then_value},
-  table_meaning.specs.Table.{NumberedTable, table_value},
+  table_meaning.specs.Table.{table_value},
   form_meaning.specs.{Binding.{truth_in}, Make.{on}, Select.{column_places}},
   form_parts.proofs.TableMade.{refused_on},
-  method_meaning.specs.Rows.{dropna_result, duplicated_result, sort_values_result, sort_by_result, sorted_result, all_places, labels_in, subset_places},
-  frame_store.{specs.{Objects.{tables, table_at, table_or}, World.{world}, Parts.{AreColumnsOf}}, proofs.Settling.{object_settled}},
-  selections.{specs.Selected.{as_it_is}, proofs.PickedLaws.{places_inside}},
+  method_meaning.specs.Rows.{dropna_result, duplicated_result, sort_values_result, sort_by_result, sorted_result, all_places, labels_in},
+  frame_store.{specs.{Objects.{tables, table_at}, World.{world}}, proofs.Settling.{object_settled}},
+  selections.proofs.PickedLaws.{places_inside},
   frame_methods.{specs.Rows.{duplicated_among}, proofs.AnswerLaws.{makes_by}},
   label_methods.{specs.Named.{first_in}, proofs.{AnswerLaws.{known_table}, NamedLaws.{all_are}}},
 }
@@ -17,7 +17,7 @@ use Rattle.frame_methods.proofs.calling.rows_made.Goals as goal
 pub returns-in-Dropna : goal.returns-in-Dropna
 returns-in-Dropna c =
     let w = world c.args.store.now c.args.dict.now in
-    let at : c.read-source.result ≡ table_at (tables c.args.store.now) c.args.on.0 = sym (ap table_or c.read-source.ensures.table) in
+    let at : c.read-source.result ≡ table_at (tables c.args.store.now) c.args.on.0 = grind arith in
     let settled = object_settled w.texts w.tables c.args.on.0 c.read-source.result c.read-source.ensures.table c.requires.settled in
     makes_by w (method.Rows c.args.method) (method.Rows row_method.Dropna) c.args.bound.now c.read-source.result _ c.dropna.result (λ a t. dropna_result t) _ at (ap method.Rows c.in-Dropna.is) c.requires.call.parameters (λ v. refl) refl
     (c.dropna.ensures w.texts settled)
@@ -39,39 +39,31 @@ pub sort_index-requires-clause-known : goal.sort_index-requires-clause-known
 sort_index-requires-clause-known c = known_table (world c.args.store.now c.args.dict.now) c.args.on.0 c.read-source.result c.read-source.ensures.table c.read-source.ensures.whole c.requires.settled
 
 pub duplicated-requires-clause-places : goal.duplicated-requires-clause-places
-duplicated-requires-clause-places c = places_inside c.in_ok-places-in-DuplicatedSeries.places c.columns.result (length c.read-source.result.columns) c.in_ok-places-in-DuplicatedSeries.ensures c.columns.ensures
+duplicated-requires-clause-places c = grind (arith, places_inside)
 
 pub returns-in_ok-places-in-DuplicatedSeries : goal.returns-in_ok-places-in-DuplicatedSeries
 returns-in_ok-places-in-DuplicatedSeries c =
     let w = world c.args.store.now c.args.dict.now in
     let s = table_value w.texts c.read-source.result in
-    let at : c.read-source.result ≡ table_at w.tables c.args.on.0 = sym (ap table_or c.read-source.ensures.table) in
+    let at : c.read-source.result ≡ table_at w.tables c.args.on.0 = grind arith in
     makes_by w (method.Rows c.args.method) (method.Rows row_method.DuplicatedSeries) c.args.bound.now c.read-source.result _ c.duplicated.result (λ a t. duplicated_among t (all_places t)) _ at (ap method.Rows c.in-DuplicatedSeries.is) c.requires.call.parameters (λ v. refl)
-    (ap (duplicated_among s) (all_are w.texts c.read-source.result c.in_ok-places-in-DuplicatedSeries.places c.columns.result c.in_ok-places-in-DuplicatedSeries.ensures c.columns.ensures))
+    (cc (all_are w.texts c.read-source.result c.in_ok-places-in-DuplicatedSeries.places c.columns.result c.in_ok-places-in-DuplicatedSeries.ensures c.columns.ensures))
     c.duplicated.ensures
 
 -- the columns that are named, or all
 pub returns-in_err-places-in-DuplicatedFrame : goal.returns-in_err-places-in-DuplicatedFrame
-returns-in_err-places-in-DuplicatedFrame c =
-    let w = world c.args.store.now c.args.dict.now in
-    let t = table_at w.tables c.args.on.0 in
-    let v = table_value w.texts t in
-    let p = err_from_is_err_and c.from_residual-in_err-places-in-DuplicatedFrame.result c.from_residual-in_err-places-in-DuplicatedFrame.ensures.1 in
-    rw (p.1, p.2)
-    (makes_by w (method.Rows c.args.method) (method.Rows row_method.DuplicatedFrame) c.args.bound.now t t (Err c.in_err-places-in-DuplicatedFrame.field-0.0) (λ a t. duplicated_result t (a 0)) _ refl (ap method.Rows c.in-DuplicatedFrame.is) c.requires.call.parameters (λ v. refl) refl
-    (refused_on as_it_is w.texts (subset_places v (first_in w c.args.bound.now)) (duplicated_among v) c.subset_places.result c.in_err-places-in-DuplicatedFrame.field-0.0 c.in_err-places-in-DuplicatedFrame.was c.subset_places.ensures.0))
+returns-in_err-places-in-DuplicatedFrame c = grind (arith, err_from_is_err_and, makes_by, refused_on)
 
 pub duplicated-requires-in-DuplicatedFrame-clause-places : goal.duplicated-requires-in-DuplicatedFrame-clause-places
-duplicated-requires-in-DuplicatedFrame-clause-places c =
-    subst (λ (n : NumberedTable). AreColumnsOf n c.in_ok-places-in-DuplicatedFrame.places) (ap table_or c.read-source.ensures.table) c.in_ok-places-in-DuplicatedFrame.ensures.1
+duplicated-requires-in-DuplicatedFrame-clause-places c = grind arith
 
 pub returns-in_ok-places-in-DuplicatedFrame : goal.returns-in_ok-places-in-DuplicatedFrame
 returns-in_ok-places-in-DuplicatedFrame c =
     let w = world c.args.store.now c.args.dict.now in
     let s = table_value w.texts c.read-source.result in
-    let at : c.read-source.result ≡ table_at w.tables c.args.on.0 = sym (ap table_or c.read-source.ensures.table) in
+    let at : c.read-source.result ≡ table_at w.tables c.args.on.0 = grind arith in
     makes_by w (method.Rows c.args.method) (method.Rows row_method.DuplicatedFrame) c.args.bound.now c.read-source.result _ c.duplicated-in-DuplicatedFrame.result (λ a t. duplicated_result t (a 0)) _ at (ap method.Rows c.in-DuplicatedFrame.is) c.requires.call.parameters (λ v. refl)
-    (ap (λ r. then_value r (duplicated_among s)) (sym (ap (λ (n : NumberedTable). subset_places (table_value w.texts n) (first_in w c.args.bound.now)) at ∙ c.in_ok-places-in-DuplicatedFrame.ensures.0)))
+    (grind arith)
     c.duplicated-in-DuplicatedFrame.ensures
 
 -- in the order of their cells
@@ -79,32 +71,22 @@ pub returns-in_ok-places-in-SortValuesSeries : goal.returns-in_ok-places-in-Sort
 returns-in_ok-places-in-SortValuesSeries c =
     let w = world c.args.store.now c.args.dict.now in
     let s = table_value w.texts c.read-source.result in
-    let at : c.read-source.result ≡ table_at w.tables c.args.on.0 = sym (ap table_or c.read-source.ensures.table) in
+    let at : c.read-source.result ≡ table_at w.tables c.args.on.0 = grind arith in
     makes_by w (method.Rows c.args.method) (method.Rows row_method.SortValuesSeries) c.args.bound.now c.read-source.result _ c.sort_values.result (λ a t. on (truth_in (a 0)) (λ b. sort_values_result t b (all_places t))) _ at (ap method.Rows c.in-SortValuesSeries.is) c.requires.call.parameters (λ v. refl)
-    (ap (sort_values_result s c.truth.result) (all_are w.texts c.read-source.result c.in_ok-places-in-SortValuesSeries.places c.columns-in-SortValuesSeries.result c.in_ok-places-in-SortValuesSeries.ensures c.columns-in-SortValuesSeries.ensures)
-    ∙ ap (λ o. on o (λ b. sort_values_result s b (all_places s))) (c.truth.ensures w.tables w.texts))
+    (grind (arith, all_are w.texts c.read-source.result c.in_ok-places-in-SortValuesSeries.places c.columns-in-SortValuesSeries.result c.in_ok-places-in-SortValuesSeries.ensures c.columns-in-SortValuesSeries.ensures, c.truth.ensures w.tables w.texts))
     c.sort_values.ensures
 
 pub returns-in_err-places-in-SortValuesFrame : goal.returns-in_err-places-in-SortValuesFrame
-returns-in_err-places-in-SortValuesFrame c =
-    let w = world c.args.store.now c.args.dict.now in
-    let t = table_at w.tables c.args.on.0 in
-    let v = table_value w.texts t in
-    let g = first_in w c.args.bound.now in
-    let p = err_from_is_err_and c.from_residual-in_err-places-in-SortValuesFrame.result c.from_residual-in_err-places-in-SortValuesFrame.ensures.1 in
-    rw (p.1, p.2)
-    (makes_by w (method.Rows c.args.method) (method.Rows row_method.SortValuesFrame) c.args.bound.now t t (Err c.in_err-places-in-SortValuesFrame.field-0.0) (λ a t. on (truth_in (a 1)) (λ b. sort_by_result t b (a 0))) _ refl (ap method.Rows c.in-SortValuesFrame.is) c.requires.call.parameters (λ v. refl)
-    (ap (λ o. on o (λ b. sort_by_result v b g)) (c.truth-ascending.ensures w.tables w.texts))
-    (refused_on as_it_is w.texts (column_places v (labels_in g)) (sort_values_result v c.truth-ascending.result) c.named_places.result c.in_err-places-in-SortValuesFrame.field-0.0 c.in_err-places-in-SortValuesFrame.was c.named_places.ensures.0))
+returns-in_err-places-in-SortValuesFrame c = grind (arith, err_from_is_err_and, makes_by, refused_on)
 
 pub returns-in_ok-places-in-SortValuesFrame : goal.returns-in_ok-places-in-SortValuesFrame
 returns-in_ok-places-in-SortValuesFrame c =
     let w = world c.args.store.now c.args.dict.now in
     let s = table_value w.texts c.read-source.result in
-    let at : c.read-source.result ≡ table_at w.tables c.args.on.0 = sym (ap table_or c.read-source.ensures.table) in
+    let at : c.read-source.result ≡ table_at w.tables c.args.on.0 = grind arith in
     let g = first_in w c.args.bound.now in
     makes_by w (method.Rows c.args.method) (method.Rows row_method.SortValuesFrame) c.args.bound.now c.read-source.result _ c.sort_values-in-SortValuesFrame.result (λ a t. on (truth_in (a 1)) (λ b. sort_by_result t b (a 0))) _ at (ap method.Rows c.in-SortValuesFrame.is) c.requires.call.parameters (λ v. refl)
-    (ap (λ r. then_value r (sort_values_result s c.truth-ascending.result)) (sym (ap (λ (n : NumberedTable). column_places (table_value w.texts n) (labels_in g)) at ∙ c.in_ok-places-in-SortValuesFrame.ensures.0))
+    (ap (λ r. then_value r (sort_values_result s c.truth-ascending.result)) (sym (ap (λ n. column_places (table_value w.texts n) (labels_in g)) at ∙ c.in_ok-places-in-SortValuesFrame.ensures.0))
     ∙ ap (λ o. on o (λ b. sort_by_result s b g)) (c.truth-ascending.ensures w.tables w.texts))
     c.sort_values-in-SortValuesFrame.ensures
 
@@ -112,10 +94,10 @@ pub returns-in-SortIndex : goal.returns-in-SortIndex
 returns-in-SortIndex c =
     let w = world c.args.store.now c.args.dict.now in
     let s = table_value w.texts c.read-source.result in
-    let at : c.read-source.result ≡ table_at w.tables c.args.on.0 = sym (ap table_or c.read-source.ensures.table) in
+    let at : c.read-source.result ≡ table_at w.tables c.args.on.0 = grind arith in
     makes_by w (method.Rows c.args.method) (method.Rows row_method.SortIndex) c.args.bound.now c.read-source.result _ c.sort_index.result (λ a t. on (truth_in (a 0)) (λ b. sorted_result t b t.labels)) _ at (ap method.Rows c.in-SortIndex.is) c.requires.call.parameters (λ v. refl)
-    (ap (λ o. on o (λ b. sorted_result s b s.labels)) (c.truth-in-SortIndex.ensures w.tables w.texts))
+    (grind arith)
     c.sort_index.ensures
 
 pub sort_values-requires-clause-places : goal.sort_values-requires-clause-places
-sort_values-requires-clause-places c = places_inside c.in_ok-places-in-SortValuesSeries.places c.columns-in-SortValuesSeries.result (length c.read-source.result.columns) c.in_ok-places-in-SortValuesSeries.ensures c.columns-in-SortValuesSeries.ensures
+sort_values-requires-clause-places c = grind (arith, places_inside)

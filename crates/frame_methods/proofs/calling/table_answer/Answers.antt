@@ -1,9 +1,9 @@
 use Rattle.{
-  std.proofs.{Common.{◌∙◌, ap, refl, option_map, w64, FitsSigned, rules}, lemmas.Int.{to_z-of_z}},
+  std.proofs.{Common.{arith, ◌∙◌, ap, refl, option_map, w64, FitsSigned, rules}, lemmas.Int.{to_z-of_z}},
   meaning.specs.Operator.{cell_label},
   table_meaning.specs.{Table.{table_value}, Value.{scalar_in}},
-  form_meaning.specs.{Binding.{truth_in, whole_in}, Finish.{limited}, Make.{on}},
-  method_meaning.specs.{Methods.{renamed_series, csv_answer}, Rows.{head_result, tail_result}},
+  form_meaning.specs.{Finish.{limited}, Make.{on}},
+  method_meaning.specs.Methods.{renamed_series},
   frame_store.{specs.{Objects.{tables, table_at}, World.{world}}, proofs.Settling.{longer_self}},
   signatures.proofs.ToldLaws.{name_given},
   frame_methods.proofs.{AnswerLaws.{answer_by}, RenameLaws.{pairs_settled}, ShapeLaws.{rename_of_series, rename_of_frame, to_frame_of_series, drop_of_frame}},
@@ -20,8 +20,7 @@ returns-in-Head c =
     let w = world c.args.store.now c.args.dict.now in
     let t = table_value c.args.dict.now (table_at (tables c.args.store.now) c.args.on.0) in
     forms_so _ _ _ _ _
-    (ap (λ o. on o (head_result t)) (c.whole.ensures w.tables w.texts)
-    ∙ answer_by w (method.Table c.args.method) (method.Table table_method.Head) c.args.bound.now t (λ a. on (whole_in (a 0)) (head_result t)) (ap method.Table c.in-Head.is) c.requires.call.parameters refl)
+    (grind (arith, answer_by))
     (simp to_z-of_z at (c.head.ensures c.args.dict.now c.requires.settled))
 
 pub returns-in-Tail : goal.returns-in-Tail
@@ -30,8 +29,7 @@ returns-in-Tail c =
     let w = world c.args.store.now c.args.dict.now in
     let t = table_value c.args.dict.now (table_at (tables c.args.store.now) c.args.on.0) in
     forms_so _ _ _ _ _
-    (ap (λ o. on o (tail_result t)) (c.whole-in-Tail.ensures w.tables w.texts)
-    ∙ answer_by w (method.Table c.args.method) (method.Table table_method.Tail) c.args.bound.now t (λ a. on (whole_in (a 0)) (tail_result t)) (ap method.Table c.in-Tail.is) c.requires.call.parameters refl)
+    (grind (arith, answer_by))
     (simp to_z-of_z at (c.tail.ensures c.args.dict.now c.requires.settled))
 
 -- a name
@@ -50,7 +48,7 @@ returns-in-RenameSeries c =
 
 -- labels of columns
 pub rename_frame-requires-clause-given : goal.rename_frame-requires-clause-given
-rename_frame-requires-clause-given c = pairs_settled c.args.bound.now 0 c.dict.result.now (tables c.args.store.now) c.args.dict.now c.dict.ensures.value c.requires.call.given
+rename_frame-requires-clause-given c = search pairs_settled
 
 -- a text
 pub returns-in-ToCsv : goal.returns-in-ToCsv
@@ -58,19 +56,18 @@ returns-in-ToCsv c =
     let w = world c.args.store.now c.args.dict.now in
     let t = table_value c.args.dict.now (table_at (tables c.args.store.now) c.args.on.0) in
     forms_so _ _ _ _ _
-    (ap (λ o. on o (λ b. csv_answer b t)) (c.truth.ensures w.tables w.texts)
-    ∙ answer_by w (method.Table c.args.method) (method.Table table_method.ToCsv) c.args.bound.now t (λ a. on (truth_in (a 0)) (λ b. csv_answer b t)) (ap method.Table c.in-ToCsv.is) c.requires.call.parameters refl)
+    (grind (arith, answer_by))
     (c.answer_made.ensures c.args.dict.now _ c.to_csv-text.ensures.longer c.requires.settled c.to_csv-text.ensures.answer)
 
 -- methods that a shape alone has
 pub rename_series-requires-clause-shape : goal.rename_series-requires-clause-shape
-rename_series-requires-clause-shape c = rename_of_series _ _ c.in-RenameSeries.is c.requires.call.shaped
+rename_series-requires-clause-shape c = search rename_of_series
 
 pub rename_frame-requires-clause-shape : goal.rename_frame-requires-clause-shape
-rename_frame-requires-clause-shape c = rename_of_frame _ _ c.in-RenameFrame.is c.requires.call.shaped
+rename_frame-requires-clause-shape c = search rename_of_frame
 
 pub to_frame-requires-clause-shape : goal.to_frame-requires-clause-shape
-to_frame-requires-clause-shape c = to_frame_of_series _ _ c.in-ToFrame.is c.requires.call.shaped
+to_frame-requires-clause-shape c = search to_frame_of_series
 
 pub drop_columns-requires-clause-shape : goal.drop_columns-requires-clause-shape
-drop_columns-requires-clause-shape c = drop_of_frame _ _ c.in-DropColumns.is c.requires.call.shaped
+drop_columns-requires-clause-shape c = search drop_of_frame

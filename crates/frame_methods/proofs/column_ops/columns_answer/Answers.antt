@@ -1,25 +1,23 @@
 use Rattle.{
-  std.proofs.Common.{◌∙◌, ap, refl, []},
+  std.proofs.Common.{◌∙◌, ap, refl},
   table_meaning.specs.{Table.{table_value}, Value.{list_in}},
   form_meaning.specs.{Make.{on}, Select.{cells_of}},
   method_meaning.specs.Methods.{each_column},
   frame_store.specs.{Objects.{tables, table_at}, World.{world}},
   signatures.proofs.ScalarLaws.{items_settled},
-  frame_methods.{specs.{Listed.{listed_column}}, proofs.{HeldLaws.{none_held, scalar_held}, AnswerLaws.{answer_by}, ListedLaws.{isin_meant}}},
+  frame_methods.{specs.Listed.{listed_column}, proofs.{HeldLaws.{each_given}, AnswerLaws.{answer_by}, ListedLaws.{isin_meant}}},
   label_methods.proofs.AnswerLaws.{forms_so},
 }
 use Rattle.form_meaning.specs.declared.Method.TheVariants as method
 use Rattle.form_meaning.specs.declared.ColumnMethod.TheVariants as column_method
 use Rattle.frame_methods.proofs.column_ops.columns_answer.Goals as goal
 
--- a scalar in place of NA
-pub columns_placed-requires-in-Fillna-clause-own : goal.columns_placed-requires-in-Fillna-clause-own
-columns_placed-requires-in-Fillna-clause-own c =
-    scalar_held c.args.bound.now 0 c.scalar-value.result (tables c.args.store.now) c.args.dict.now [] c.scalar-value.ensures c.requires.call.given (none_held c.args.dict.now)
-
 -- cells in a list
 pub listed_cells-requires : goal.listed_cells-requires
 listed_cells-requires c = items_settled c.args.bound.now 0 c.list.result.now (tables c.args.store.now) c.args.dict.now c.list.ensures.value c.requires.call.given
+
+pub columns_placed-requires-in-Isin-clause-own : goal.columns_placed-requires-in-Isin-clause-own
+columns_placed-requires-in-Isin-clause-own c = each_given _ _ c.in_ok-values-in-Isin.ensures.given
 
 pub returns-in_ok-values-in-Isin : goal.returns-in_ok-values-in-Isin
 returns-in_ok-values-in-Isin c =

@@ -1,6 +1,5 @@
 use Rattle.{
   std.{proofs.{Common.{◌<◌, ◌≤◌, refl, sym, length, arith}, lemmas.Option.{get_or_from_slice_get}}, specs.Prelude.{slice_index}},
-  cell_core.specs.declared.cell.Cell.TheVariants.{Na},
   frame_methods.proofs.DuplicateLaws.{numbered_more, numbers_more},
 }
 use Rattle.frame_methods.proofs.duplicates.number_cells.Goals as goal
@@ -11,7 +10,7 @@ loop-row-preserved c =
     let cells = c.column-column.result.cells in
     let stored = c.in_ok-next.ensures.stored in
     numbered_more c.args.numbers.now cells c.loop-row.row c.in_ok-next.next (slice_index c.loop-row.numbers c.loop-row.row) c.cell.result c.loop-row.numbers _ c.loop-row.seen.keys c.insert_full.new.self.keys stored.0
-    c.loop-row.invariant lt refl (sym (get_or_from_slice_get cells c.loop-row.row c.cell.result Na c.cell.ensures.cell)) c.in_ok-next.ensures.keys stored.1 stored.2 c.in_ok-next.ensures.unique refl
+    c.loop-row.invariant lt refl (sym (search get_or_from_slice_get)) c.in_ok-next.ensures.keys stored.1 stored.2 c.in_ok-next.ensures.unique refl
 
 pub returns : goal.returns
 returns c =

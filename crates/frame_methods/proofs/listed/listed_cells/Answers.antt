@@ -10,7 +10,7 @@ loop-item-preserved c =
     let both = first_settled c.args.dict.now c.args.items.now c.loop-item.item-index c.item-item.result c.scalar.result lt c.item-item.is c.scalar.ensures c.loop-item.invariant.settled in
     record {
       settled = both.1;
-      given = rw c.in_ok-note.ensures (noted_given c.args.dict.now c.loop-item.values.keys c.scalar.result c.loop-item.invariant.given both.0);
+      given = rw c.in_ok-note.ensures (search noted_given);
       same = λ texts test.
           noted_step texts c.args.items.now c.loop-item.item-index c.item-item.result c.scalar.result c.loop-item.values.keys c.note.new.values.keys test _ lt c.item-item.is c.scalar.ensures c.in_ok-note.ensures
           (c.loop-item.invariant.same texts test);

@@ -1,14 +1,12 @@
 use Rattle.{
-  std.proofs.{Common.{ap, sym, subst, Option}, lemmas.Result.{err_from_is_err_and}},
-  cell_core.specs.declared.cell.Label.{Label},
-  table_meaning.specs.{Settled.{IsSettled}, Table.{heading_value}},
+  std.proofs.{Common.{ap, sym}, lemmas.Result.{err_from_is_err_and}},
   frame_store.{specs.{Objects.{tables, table_at, table_or}, Shown.{shown}}, proofs.Settling.{object_settled, columns_name_part}},
   frame_methods.proofs.{NameLaws.{meant_so}, RenameLaws.{frame_refused, frame_renamed}},
 }
 use Rattle.frame_methods.proofs.renaming.rename_frame.Goals as goal
 
 pub renamed_headings-requires-clause-settled : goal.renamed_headings-requires-clause-settled
-renamed_headings-requires-clause-settled c = object_settled c.args.dict.now (tables c.args.store.now) c.args.on.0 c.read.result c.read.ensures.table c.requires.settled
+renamed_headings-requires-clause-settled c = search object_settled
 
 pub returns-in_err-headings-clause-answers : goal.returns-in_err-headings-clause-answers
 returns-in_err-headings-clause-answers c = λ live.
@@ -20,7 +18,7 @@ returns-in_err-headings-clause-answers c = λ live.
 pub renamed-requires-clause-name : goal.renamed-requires-clause-name
 renamed-requires-clause-name c =
     let settled = object_settled c.args.dict.now (tables c.args.store.now) c.args.on.0 c.read.result c.read.ensures.table c.requires.settled in
-    subst (λ (n : Option Label). IsSettled heading_value c.args.dict.now n) (sym c.in_ok-headings.ensures.name) (columns_name_part c.args.dict.now c.read.result settled)
+    rw c.in_ok-headings.ensures.name (columns_name_part c.args.dict.now c.read.result settled)
 
 pub returns-clause-answers : goal.returns-clause-answers
 returns-clause-answers c = λ live.

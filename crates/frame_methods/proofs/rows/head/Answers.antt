@@ -1,7 +1,6 @@
 use Rattle.{
-  std.{proofs.{Common.{◌∙◌, ap}, lemmas.Int.{to_z-of_z}}, specs.Int.{w64}},
-  frame_store.specs.{Arguments.{object_value}, Objects.{tables}},
-  pick_meaning.specs.Positions.{rows_before},
+  std.{proofs.{Common.{arith}, lemmas.Int.{to_z-of_z}}, specs.Int.{w64}},
+  frame_store.specs.Objects.{tables},
   label_methods.proofs.AnswerLaws.{forms_so},
   frame_methods.proofs.RowLaws.{first_meant, rows_read},
 }
@@ -12,5 +11,5 @@ returns c = λ texts settled.
     let all = rows_read texts (tables c.args.store.now c.args.on.0) c.read.result c.rows.result c.read.ensures.table c.rows.ensures in
     let counted = rw (to_z-of_z w64 c.args.n c.ranges.n) at c.count_taken-count.ensures.taken in
     forms_so _ _ _ _ _
-    (first_meant (object_value (tables c.args.store.now) texts c.args.on) c.args.n c.count_taken-count.result (counted ∙ ap (λ k. rows_before k c.args.n) all))
+    (grind (arith, first_meant))
     (c.sliced.ensures texts settled)

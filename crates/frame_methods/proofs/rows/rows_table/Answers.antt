@@ -1,9 +1,7 @@
 use Rattle.{
-  std.{proofs.Common.{◌≡◌, ◌∙◌, ap, sym, true, length, rules}, specs.List.{range_with_len}},
-  cell_core.specs.declared.grid.Shape.{Shape},
+  std.{proofs.Common.{arith, ◌≡◌, ◌∙◌, ap, true, length, rules}, specs.List.{range_with_len}},
   form_meaning.specs.Finish.{within_limits},
-  frame_store.specs.Parts.{HeadingList},
-  selections.{specs.Chosen.{chosen}, proofs.PickedLaws.{places_inside, places_count}},
+  selections.proofs.PickedLaws.{places_inside, places_count},
   frame_methods.proofs.RowLaws.{rows_made},
 }
 use Rattle.frame_methods.proofs.rows.rows_table.Goals as goal
@@ -12,8 +10,7 @@ pub chosen_table-requires-clause-columns : goal.chosen_table-requires-clause-col
 chosen_table-requires-clause-columns c = places_inside c.in_ok-columns.columns c.columns-2.result (length c.args.on.now.columns) c.in_ok-columns.ensures c.columns-2.ensures
 
 pub chosen_table-requires-clause-headed : goal.chosen_table-requires-clause-headed
-chosen_table-requires-clause-headed c =
-    ap (λ (h : HeadingList). length h.labels) c.in_ok-headings.ensures ∙ c.requires.whole.headed ∙ sym c.columns-2.ensures ∙ sym (places_count c.in_ok-columns.columns c.columns-2.result c.in_ok-columns.ensures)
+chosen_table-requires-clause-headed c = grind (arith, places_count)
 
 pub returns : goal.returns
 returns c = λ texts settled.
@@ -21,4 +18,4 @@ returns c = λ texts settled.
     let within : within_limits (length c.args.rows.now) (length t.columns) ≡ true = search rules in
     rows_made texts t c.in_ok-chosen_table.field-0 c.in_ok-headings.headings c.args.rows.now c.in_ok-columns.columns
     c.in_ok-headings.ensures (c.in_ok-columns.ensures ∙ ap (range_with_len 0) c.columns-2.ensures)
-    (c.in_ok-chosen_table.ensures ∙ ap (λ (s : Shape). chosen s c.in_ok-headings.headings c.args.rows.now c.in_ok-columns.columns t) c.shape.ensures) within settled
+    (grind arith) within settled

@@ -1,9 +1,9 @@
 use Rattle.{
-  std.{proofs.{Common.{◌∙◌, ◌-◌, ap}, lemmas.Int.{to_z-of_z}}, specs.Int.{w64}},
+  std.{proofs.{Common.{◌∙◌, ap}, lemmas.Int.{to_z-of_z}}, specs.Int.{w64}},
   frame_store.specs.{Arguments.{object_value}, Objects.{tables}},
   pick_meaning.specs.Positions.{rows_before},
   label_methods.proofs.AnswerLaws.{forms_so},
-  frame_methods.proofs.RowLaws.{run, run_result, last_meant, rows_read},
+  frame_methods.proofs.RowLaws.{last_meant, rows_read},
 }
 use Rattle.frame_methods.proofs.rows.tail.Goals as goal
 
@@ -14,5 +14,5 @@ returns c = λ texts settled.
     let all = rows_read texts (tables c.args.store.now c.args.on.0) c.read.result c.rows-all.result c.read.ensures.table c.rows-all.ensures in
     let counted = rw (to_z-of_z w64 c.args.n c.ranges.n) at c.count_taken-count.ensures.taken in
     forms_so _ _ _ _ _
-    (ap (λ k. run_result t (run (k - count) count)) all ∙ last_meant t c.args.n count (counted ∙ ap (λ k. rows_before k c.args.n) all))
+    (cc (last_meant t c.args.n count (counted ∙ ap (λ k. rows_before k c.args.n) all)))
     (c.sliced.ensures texts settled)

@@ -8,7 +8,7 @@ use Rattle.frame_methods.proofs.summaries.summary_column.Goals as goal
 pub summary_as-requires : goal.summary_as-requires
 summary_as-requires c =
     let lt : c.loop-place.place < length c.args.on.now.columns = omega arith in
-    place_given c.args.dict.now c.args.on.now c.loop-place.place c.column.result c.requires.settled lt c.column.ensures.column
+    search place_given
 
 pub loop-place-preserved : goal.loop-place-preserved
 loop-place-preserved c =

@@ -8,9 +8,9 @@ use Rattle.frame_methods.proofs.tables.columns_table.Goals as goal
 
 pub returns-clause-answer : goal.returns-clause-answer
 returns-clause-answer g c =
-    let within : within_limits (length c.args.on.now.labels) (length c.in_ok-columns.columns) ≡ true = search rules in (
-      made_columns (g.O.ColumnOp.answer c.args.op.now (cells_value c.args.dict.now (g.O.ColumnOp.held c.args.op.now))) c.args.dict.now c.each_column.new.dict c.args.on.now c.in_ok-table_under.field-0 c.in_ok-headings.headings c.in_ok-columns.columns
-          c.in_ok-columns.ensures.longer c.requires.known.given c.in_ok-headings.ensures c.in_ok-table_under.ensures within c.in_ok-columns.ensures.answer,
-      columns_settled_later c.args.dict.now c.each_column.new.dict c.args.on.now c.in_ok-table_under.field-0 c.in_ok-headings.headings c.in_ok-columns.columns
-          c.in_ok-columns.ensures.longer c.requires.known.given c.in_ok-headings.ensures c.in_ok-table_under.ensures c.in_ok-columns.ensures.given,
+    let within : within_limits (length c.args.on.now.labels) (length c.in-Ok.columns) ≡ true = search rules in (
+      made_columns (g.O.ColumnOp.answer c.args.op.now (cells_value c.args.dict.now (g.O.ColumnOp.held c.args.op.now))) c.args.dict.now c.each_column.new.dict c.args.on.now c.in_ok-table_under.field-0 c.in_ok-headings.headings c.in-Ok.columns
+          c.in-Ok.ensures.longer c.requires.known.given c.in_ok-headings.ensures c.in_ok-table_under.ensures within c.in-Ok.ensures.answer,
+      columns_settled_later c.args.dict.now c.each_column.new.dict c.args.on.now c.in_ok-table_under.field-0 c.in_ok-headings.headings c.in-Ok.columns
+          c.in-Ok.ensures.longer c.requires.known.given c.in_ok-headings.ensures c.in_ok-table_under.ensures c.in-Ok.ensures.given,
     )

@@ -1,9 +1,9 @@
 use Rattle.{
   std.proofs.Common.{◌≡◌, refl, subst, sym, true, []},
   nullable_array.specs.Answers.{Answers},
-  column_operators.{specs.Tasks.{operator_of}, proofs.RowLaws.{column_rows, scalar_rows}},
+  column_operators.specs.Tasks.{operator_of},
   table_meaning.specs.Table.{column_at},
-  frame_ops.{specs.{declared.other.Other.{Other}, Pairs.{pair_at, kinds_meet, meeting_value, column_meant}}, proofs.AnswerLaws.{beside_scalar, across_scalar, rows_beside}},
+  frame_ops.{specs.{declared.other.Other.{Other}, Pairs.{pair_at, kinds_meet, meeting_value, column_meant}}, proofs.AnswerLaws.{beside_scalar, across_scalar}},
 }
 use Rattle.frame_ops.proofs.columns.column_met.Goals as goal
 
@@ -17,13 +17,3 @@ returns-in-Across-clause-answer c =
     subst (λ (o : Other). Answers c.with_scalar-in-Across.new.dict c.with_scalar-in-Across.result (column_meant (operator_of c.args.op) (meeting_value c.args.dict.now (pair_at o c.args.place (column_at c.args.on.now.columns c.args.place))))) (sym c.in-Across.is)
     (across_scalar _ _ (operator_of c.args.op) _ _ _ c.in-Across.series c.args.place c.cell-cell.result c.in-Across.left _ c.column-column.ensures.column c.column-in-Across.ensures.column c.cell-cell.ensures.cell (c.cell-cell.ensures.held [])
     (subst (λ (o : Other). kinds_meet (operator_of c.args.op) (pair_at o c.args.place (column_at c.args.on.now.columns c.args.place)) ≡ true) c.in-Across.is c.requires.kinds) c.with_scalar-in-Across.ensures.answer)
-
-pub returns-in-Scalar-clause-rows : goal.returns-in-Scalar-clause-rows
-returns-in-Scalar-clause-rows c = scalar_rows _ _ (operator_of c.args.op) _ _ _ _ _ c.column-column.ensures.rows c.with_scalar.ensures.answer
-
-pub returns-in-Beside-clause-rows : goal.returns-in-Beside-clause-rows
-returns-in-Beside-clause-rows c =
-    column_rows _ _ (operator_of c.args.op) _ _ _ _ c.column-column.ensures.rows (rows_beside c.args.on.now c.args.other.now c.in-Beside.table _ c.requires.opposite c.in-Beside.is c.column.ensures.rows) c.binary.ensures.answer
-
-pub returns-in-Across-clause-rows : goal.returns-in-Across-clause-rows
-returns-in-Across-clause-rows c = scalar_rows _ _ (operator_of c.args.op) _ _ _ _ _ c.column-column.ensures.rows c.with_scalar-in-Across.ensures.answer

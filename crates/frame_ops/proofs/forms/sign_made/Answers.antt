@@ -7,10 +7,10 @@ use Rattle.{
 use Rattle.frame_ops.proofs.forms.sign_made.Goals as goal
 
 pub scalar_infix-requires-clause-known : goal.scalar_infix-requires-clause-known
-scalar_infix-requires-clause-known c = record { whole = c.read.ensures.whole; given = object_settled _ _ c.in-Object.id.0 _ c.read.ensures.table c.requires.settled }
+scalar_infix-requires-clause-known c = search object_settled
 
 pub scalar_infix-requires-else-negate-clause-known : goal.scalar_infix-requires-else-negate-clause-known
-scalar_infix-requires-else-negate-clause-known c = record { whole = c.read-else-negate.ensures.whole; given = object_settled _ _ c.in-Object.id.0 _ c.read-else-negate.ensures.table c.requires.settled }
+scalar_infix-requires-else-negate-clause-known c = search object_settled
 
 pub returns-else-negate-clause-makes : goal.returns-else-negate-clause-makes
 returns-else-negate-clause-makes c =

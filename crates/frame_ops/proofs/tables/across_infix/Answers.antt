@@ -1,7 +1,7 @@
 use Rattle.{
-  std.proofs.Common.{◌≡◌, ◌∙◌, sym, true, false, rules},
+  std.proofs.Common.{arith, ◌≡◌, ◌∙◌, sym, true, rules},
   column_operators.specs.Tasks.{operator_of},
-  frame_ops.proofs.InfixLaws.{makes_as, across_is_meant, across_is_unequal, across_opposite, series_given},
+  frame_ops.proofs.InfixLaws.{makes_as, across_is_meant, across_opposite, series_given},
 }
 use Rattle.frame_ops.proofs.tables.across_infix.Goals as goal
 
@@ -21,6 +21,4 @@ returns-clause-makes c =
     (across_opposite c.args.dict.now c.args.frame.now c.args.series c.args.left c.requires.known_frame.whole c.requires.known_series.whole c.requires.series (sym c.are_headings.ensures ∙ same)).1)
 
 pub returns-then-not-are_headings-clause-makes : goal.returns-then-not-are_headings-clause-makes
-returns-then-not-are_headings-clause-makes c =
-    let same : c.are_headings.result ≡ false = search rules in
-    makes_as _ _ _ _ c.across_unequal.ensures.makes (across_is_unequal (operator_of c.args.op) c.args.dict.now c.args.frame.now c.args.series c.args.left (sym c.are_headings.ensures ∙ same))
+returns-then-not-are_headings-clause-makes c = grind (arith, makes_as)

@@ -1,9 +1,6 @@
 use Rattle.{
-  std.proofs.Common.{ap},
-  column_operators.specs.Tasks.{operator_of},
-  table_meaning.specs.Table.{table_value},
-  form_meaning.specs.Infix.{rows_infix},
-  frame_ops.proofs.InfixLaws.{makes_as, frame_named, columns_name_settled},
+  std.proofs.Common.{arith},
+  frame_ops.proofs.InfixLaws.{makes_as, columns_name_settled},
 }
 use Rattle.frame_ops.proofs.tables.common_infix.Goals as goal
 
@@ -14,7 +11,4 @@ pub common_name-name-requires-clause-b : goal.common_name-name-requires-clause-b
 common_name-name-requires-clause-b c = columns_name_settled c.args.dict.now c.args.b c.columns_name-2.result c.requires.known_b.given c.columns_name-2.ensures
 
 pub returns-clause-makes : goal.returns-clause-makes
-returns-clause-makes c =
-    makes_as _ _ _ _ c.rows_infix.ensures.makes
-    (ap (rows_infix (operator_of c.args.op) (table_value c.args.dict.now c.args.a.now) (table_value c.args.dict.now c.args.b))
-    (frame_named c.args.dict.now c.args.a.now c.args.b c.columns_name.result c.columns_name-2.result c.common_name-name.result c.columns_name.ensures c.columns_name-2.ensures c.common_name-name.ensures.name))
+returns-clause-makes c = grind (arith, makes_as)

@@ -1,5 +1,5 @@
 use Rattle.{
-  std.{proofs.Common.{◌≡◌, length, true, false, arith, rules, refl}, specs.{Prelude.{◌≢◌}, List.{list_all}}},
+  std.{proofs.Common.{◌≡◌, length, true, false, arith, rules, refl}, specs.List.{list_all}},
   column_operators.specs.Tasks.{operator_of},
   form_meaning.specs.Infix.{compares},
   frame_ops.{specs.{declared.other.Other.TheVariants.{Beside}, Pairs.{kinds_meet, pairs_from}}, proofs.InfixLaws.{kinds_differ, levels_differ, tests_passed}},
@@ -7,15 +7,10 @@ use Rattle.{
 use Rattle.frame_ops.proofs.tables.expect_joined.Goals as goal
 
 pub returns-then-not-columns_fit-clause-passes : goal.returns-then-not-columns_fit-clause-passes
-returns-then-not-columns_fit-clause-passes c = λ texts rest.
-    let kinds : list_all (kinds_meet (operator_of c.args.op)) (pairs_from (Beside c.args.b.now) 0 c.args.a.now.columns) ≡ false = search rules in
-    (kinds_differ (operator_of c.args.op) texts c.args.a.now c.args.b.now c.requires rest kinds, λ more. refl)
+returns-then-not-columns_fit-clause-passes c = grind (arith, kinds_differ)
 
 pub returns-then-levels-clause-passes : goal.returns-then-levels-clause-passes
-returns-then-levels-clause-passes c = λ texts rest.
-    let kinds : list_all (kinds_meet (operator_of c.args.op)) (pairs_from (Beside c.args.b.now) 0 c.args.a.now.columns) ≡ true = search rules in
-    let apart : length c.args.a.now.level_names ≢ length c.args.b.now.level_names = λ e. omega arith in
-    (levels_differ (operator_of c.args.op) texts c.args.a.now c.args.b.now c.requires rest kinds apart, λ more. refl)
+returns-then-levels-clause-passes c = grind (arith, levels_differ)
 
 pub returns-then-compares-clause-passes : goal.returns-then-compares-clause-passes
 returns-then-compares-clause-passes c = λ texts rest.
@@ -25,10 +20,7 @@ returns-then-compares-clause-passes c = λ texts rest.
     (tests_passed (operator_of c.args.op) texts c.args.a.now c.args.b.now c.requires rest kinds true levels compared, λ more. refl)
 
 pub returns-clause-fit : goal.returns-clause-fit
-returns-clause-fit c =
-    let kinds : list_all (kinds_meet (operator_of c.args.op)) (pairs_from (Beside c.args.b.now) 0 c.args.a.now.columns) ≡ true = search rules in
-    let levels : length c.args.a.now.level_names ≡ length c.args.b.now.level_names = omega arith in
-    record { kinds = kinds; levels = levels }
+returns-clause-fit c = grind arith
 
 pub returns-clause-passes : goal.returns-clause-passes
 returns-clause-passes c = λ texts rest.

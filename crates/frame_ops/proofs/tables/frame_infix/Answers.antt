@@ -1,14 +1,11 @@
 use Rattle.{
-  std.proofs.Common.{◌≡◌, ◌∙◌, sym, true, false, rules},
-  column_operators.specs.Tasks.{operator_of},
-  frame_ops.proofs.InfixLaws.{makes_as, frame_is_meant, frame_is_wide, frame_columns},
+  std.proofs.Common.{arith, ◌≡◌, ◌∙◌, sym, true, rules},
+  frame_ops.proofs.InfixLaws.{makes_as, frame_columns},
 }
 use Rattle.frame_ops.proofs.tables.frame_infix.Goals as goal
 
 pub returns-then-not-same_headings-clause-makes : goal.returns-then-not-same_headings-clause-makes
-returns-then-not-same_headings-clause-makes c =
-    let same : c.same_headings.result ≡ false = search rules in
-    makes_as _ _ _ _ c.wide_infix.ensures.makes (frame_is_wide (operator_of c.args.op) c.args.dict.now c.args.a.now c.args.b (sym c.same_headings.ensures ∙ same))
+returns-then-not-same_headings-clause-makes c = grind (arith, makes_as)
 
 pub common_infix-requires-clause-columns : goal.common_infix-requires-clause-columns
 common_infix-requires-clause-columns c =
@@ -16,6 +13,4 @@ common_infix-requires-clause-columns c =
     frame_columns c.args.dict.now c.args.a.now c.args.b c.requires.known_a.whole c.requires.known_b.whole (sym c.same_headings.ensures ∙ same)
 
 pub returns-clause-makes : goal.returns-clause-makes
-returns-clause-makes c =
-    let same : c.same_headings.result ≡ true = search rules in
-    makes_as _ _ _ _ c.common_infix.ensures.makes (frame_is_meant (operator_of c.args.op) c.args.dict.now c.args.a.now c.args.b (sym c.same_headings.ensures ∙ same))
+returns-clause-makes c = grind (arith, makes_as)

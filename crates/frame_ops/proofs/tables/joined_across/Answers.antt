@@ -1,8 +1,8 @@
 use Rattle.{
-  std.proofs.Common.{◌∙◌, Result, ap, sym, true, false},
-  meaning.specs.Fault.{FaultValue, then_value},
+  std.proofs.Common.{arith, ◌∙◌, ap, sym, true, false},
+  meaning.specs.Fault.{then_value},
   column_operators.specs.Tasks.{operator_of},
-  table_meaning.specs.Table.{NumberedTable, Table, table_value},
+  table_meaning.specs.Table.{table_value},
   form_meaning.specs.Infix.{joined_frames, joined_turned, spread_frame},
   frame_ops.proofs.InfixLaws.{makes_as},
 }
@@ -14,8 +14,8 @@ returns-then-left-clause-makes c =
     let f = table_value c.args.dict.now c.args.frame.now in
     let s = table_value c.args.dict.now c.args.series.now in
     makes_as _ _ _ _ c.wide_infix.ensures.makes
-    (ap (λ (t : NumberedTable). joined_frames op (table_value c.args.dict.now t) f) c.read-other.ensures
-    ∙ sym (ap (λ (r : Result Table FaultValue). then_value r (joined_turned op true f)) c.in_ok-spread.ensures.made)
+    (ap (λ t. joined_frames op (table_value c.args.dict.now t) f) c.read-other.ensures
+    ∙ sym (grind arith)
     ∙ (λ i. then_value (spread_frame f s) (joined_turned op (sym c.if-left.true i) f)))
 
 pub returns-clause-makes : goal.returns-clause-makes
@@ -24,6 +24,6 @@ returns-clause-makes c =
     let f = table_value c.args.dict.now c.args.frame.now in
     let s = table_value c.args.dict.now c.args.series.now in
     makes_as _ _ _ _ c.wide_infix-2.ensures.makes
-    (ap (λ (t : NumberedTable). joined_frames op f (table_value c.args.dict.now t)) c.read-other.ensures
-    ∙ sym (ap (λ (r : Result Table FaultValue). then_value r (joined_turned op false f)) c.in_ok-spread.ensures.made)
+    (ap (λ t. joined_frames op f (table_value c.args.dict.now t)) c.read-other.ensures
+    ∙ sym (grind arith)
     ∙ (λ i. then_value (spread_frame f s) (joined_turned op (sym c.if-left.false i) f)))

@@ -1,7 +1,5 @@
 use Rattle.{
-  std.proofs.Common.{ap},
-  column_operators.specs.Tasks.{operator_of},
-  table_meaning.specs.Table.{table_value},
+  std.proofs.Common.{arith},
   form_meaning.specs.Infix.{rows_infix},
   frame_ops.proofs.InfixLaws.{makes_as, series_named, series_columns, name_settled},
 }
@@ -14,10 +12,9 @@ pub common_name-name-requires-clause-b : goal.common_name-name-requires-clause-b
 common_name-name-requires-clause-b c = name_settled c.args.dict.now c.args.b c.heading-2.result c.requires.known_b.whole c.requires.series_b c.requires.known_b.given c.heading-2.ensures.value
 
 pub rows_infix-requires-clause-columns : goal.rows_infix-requires-clause-columns
-rows_infix-requires-clause-columns c = series_columns c.args.a.now c.args.b c.requires.known_a.whole c.requires.known_b.whole c.requires.series_a c.requires.series_b
+rows_infix-requires-clause-columns c = search series_columns
 
 pub returns-clause-makes : goal.returns-clause-makes
 returns-clause-makes c =
     makes_as _ _ _ _ c.rows_infix.ensures.makes
-    (ap (rows_infix (operator_of c.args.op) (table_value c.args.dict.now c.args.a.now) (table_value c.args.dict.now c.args.b))
-    (series_named c.args.dict.now c.args.a.now c.args.b c.heading.result c.heading-2.result c.common_name-name.result c.heading.ensures.value c.heading-2.ensures.value c.common_name-name.ensures.name))
+    (grind (arith, series_named c.args.dict.now c.args.a.now c.args.b c.heading.result c.heading-2.result c.common_name-name.result c.heading.ensures.value c.heading-2.ensures.value c.common_name-name.ensures.name))

@@ -1,7 +1,7 @@
 use Rattle.{
-  std.{proofs.Common.{◌∙◌, ◌<◌, [], ap, sym, length, arith, slice_get, slice_index_or, take_all}, specs.Prelude.{option_and_then}},
+  std.proofs.Common.{◌<◌, [], length, arith, slice_get, slice_index_or, take_all},
   multi_index.proofs.SideLaws.{tuple_there},
-  frame_ops.{specs.Widening.{headings_of_keys}, proofs.WideLaws.{one_more_key}},
+  frame_ops.proofs.WideLaws.{one_more_key},
 }
 use Rattle.frame_ops.proofs.widening.headings_of_keys.Goals as goal
 
@@ -10,7 +10,7 @@ loop-place-preserved c =
     let lt : c.loop-place.place < length c.args.keys.now.tuples = omega arith in
     let there = tuple_there c.args.keys.now c.loop-place.place lt in
     one_more_key c.args.name c.args.keys.now.tuples c.loop-place.place (slice_index_or c.args.keys.now.tuples c.loop-place.place []) c.label.result c.loop-place.headings c.push.new.self lt c.loop-place.invariant there
-    (ap (option_and_then (λ t. slice_get t 0)) (sym there) ∙ c.label.ensures) c.in_ok-push.ensures.ok
+    (grind (arith, slice_get)) c.in_ok-push.ensures.ok
 
 pub returns : goal.returns
-returns c = c.loop-place.invariant ∙ ap (headings_of_keys c.args.name) (take_all c.loop-place.place c.args.keys.now.tuples (omega arith))
+returns c = grind (arith, take_all)

@@ -1,17 +1,15 @@
 use Rattle.{
   std.proofs.{Common.{◌∙◌, ◌<◌, ◌≤◌, ◌+◌, ◌∷◌, [], ap, arith, map, take, length, slice_index_or}, lemmas.List.{take_more, take_all, map-append}},
-  cell_core.specs.declared.cell.Kind.{Kind},
-  meaning.specs.Cell.{datum, holds},
   group_meaning.specs.Reductions.{count_cell},
   group_by.proofs.NumberLaws.{no_numbers, numbers_more, same_numbers},
 }
 use Rattle.group_by.proofs.counts.column_of_counts.Goals as goal
 
 pub loop-count-init : goal.loop-count-init
-loop-count-init c = no_numbers c.new-column.result c.new-column.ensures
+loop-count-init c = search no_numbers
 
 pub push-requires : goal.push-requires
-push-requires c = λ texts. ap (λ (k : Kind). holds k (datum texts c.counted.result)) c.loop-count.invariant.kind ∙ c.counted.ensures.held texts
+push-requires c = grind arith
 
 pub loop-count-preserved : goal.loop-count-preserved
 loop-count-preserved c =

@@ -1,13 +1,11 @@
 use Rattle.{
-  std.proofs.{Common.{◌≡◌, ◌∙◌, ◌<◌, ◌≤◌, ◌^◌, ap, sym, subst, arith, rules, length, slice_index_or, None}, lemmas.{List.{take_all}, Option.{get_or_from_slice_get}}},
-  column_core.specs.Moves.{IsPlaceOf},
-  group_meaning.specs.Rows.{rows_of_group},
+  std.proofs.{Common.{◌≡◌, ◌<◌, ◌^◌, subst, arith, rules, slice_index_or, None}, lemmas.{List.{take_all}, Option.{get_or_from_slice_get}}},
   group_by.proofs.NumberLaws.{room, rows_counted},
 }
 use Rattle.group_by.proofs.counts.count_rows.Goals as goal
 
 pub count_one-requires-clause-below : goal.count_one-requires-clause-below
-count_one-requires-clause-below c = subst (λ n. IsPlaceOf n c.code.result) (sym c.loop-row.invariant.size) c.code.ensures.below
+count_one-requires-clause-below c = grind arith
 
 pub count_one-requires-clause-room : goal.count_one-requires-clause-room
 count_one-requires-clause-room c =
@@ -15,20 +13,17 @@ count_one-requires-clause-room c =
     room c.args.groups.now.codes c.loop-row.row c.args.groups.now.count c.loop-row.counts (omega arith) (subst (λ n. n < 2 ^ 64) c.rows-row-end.ensures small) c.loop-row.invariant.size c.loop-row.invariant.each
 
 pub loop-row-init : goal.loop-row-init
-loop-row-init c = record { size = c.requires.size; each = λ g lt. c.requires.zero g 0 (omega arith) }
+loop-row-init c = grind arith
 
 pub loop-row-preserved : goal.loop-row-preserved
 loop-row-preserved c =
     let codes = c.args.groups.now.codes in
     let row = c.loop-row.row in
-    let is : slice_index_or codes row None ≡ c.code.result = get_or_from_slice_get codes row c.code.result None c.code.ensures.code in
+    let is : slice_index_or codes row None ≡ c.code.result = search get_or_from_slice_get in
     record {
-      size = c.count_one.ensures.size ∙ c.loop-row.invariant.size;
+      size = search;
       each = rows_counted codes row c.args.groups.now.count c.code.result c.loop-row.counts c.count_one.new.counts (omega arith) is c.count_one.ensures c.loop-row.invariant.size c.loop-row.invariant.each;
     }
 
 pub returns-clause-counted : goal.returns-clause-counted
-returns-clause-counted c = λ g lt.
-    let codes = c.args.groups.now.codes in
-    let end : length codes ≤ c.loop-row.row = omega arith in
-    c.loop-row.invariant.each g lt ∙ ap (λ l. length (rows_of_group g l)) (take_all c.loop-row.row codes end)
+returns-clause-counted c = grind (arith, take_all)

@@ -1,24 +1,21 @@
 use Rattle.{
   std.{proofs.{Common.{◌≡◌, ◌∙◌, ◌<◌, ◌+◌, ◌^◌, ap, sym, subst, arith, rules, length, map, take, slice_index_or, None}, lemmas.{List.FromFn.{map-range_with_len_more}, Option.{get_or_from_slice_get}}}, specs.List.{range_with_len}},
-  cell_core.specs.declared.cell.Kind.{Kind},
-  meaning.specs.Cell.{datum, holds},
-  column_core.specs.Moves.{IsPlaceOf},
   group_meaning.specs.{Rows.{rows_of_group}, Reductions.{count_cell, of_group, count_before, group_places}},
   group_by.proofs.NumberLaws.{room, rows_counted, no_numbers, numbers_more, same_numbers, of_one_group},
 }
 use Rattle.group_by.proofs.counts.place_rows.Goals as goal
 
 pub loop-row-init : goal.loop-row-init
-loop-row-init c = record { size = c.requires.size; each = λ g lt. c.requires.zero g 0 (omega arith); made = no_numbers c.new-column.result c.new-column.ensures }
+loop-row-init c = grind (arith, no_numbers)
 
 pub place_of-requires : goal.place_of-requires
-place_of-requires c = subst (λ n. IsPlaceOf n c.code-group.result) (sym c.loop-row.invariant.size) c.code-group.ensures.below
+place_of-requires c = grind arith
 
 pub push-requires : goal.push-requires
-push-requires c = λ texts. ap (λ (k : Kind). holds k (datum texts c.place_of.result)) c.loop-row.invariant.made.kind ∙ c.place_of.ensures.held texts
+push-requires c = grind arith
 
 pub count_one-requires-clause-below : goal.count_one-requires-clause-below
-count_one-requires-clause-below c = subst (λ n. IsPlaceOf n c.code-group.result) (sym c.loop-row.invariant.size) c.code-group.ensures.below
+count_one-requires-clause-below c = grind arith
 
 pub count_one-requires-clause-room : goal.count_one-requires-clause-room
 count_one-requires-clause-room c =
@@ -33,10 +30,10 @@ loop-row-preserved c =
     let code = c.code-group.result in
     let counts = c.loop-row.counts in
     let inside : row < length codes = omega arith in
-    let is : slice_index_or codes row None ≡ code = get_or_from_slice_get codes row code None c.code-group.ensures.code in
+    let is : slice_index_or codes row None ≡ code = search get_or_from_slice_get in
     record {
-      size = c.count_one.ensures.size ∙ c.loop-row.invariant.size;
-      each = rows_counted codes row count code counts c.count_one.new.counts inside is c.count_one.ensures c.loop-row.invariant.size c.loop-row.invariant.each;
+      size = search;
+      each = search rows_counted;
       made = numbers_more c.loop-row.column c.push.new.self (λ texts. map (count_before codes) (range_with_len 0 row)) (λ texts. map (count_before codes) (range_with_len 0 (row + 1))) c.place_of.result (λ texts. count_before codes row)
           c.loop-row.invariant.made c.place_of.ensures.held
           (λ texts. c.place_of.ensures.value texts

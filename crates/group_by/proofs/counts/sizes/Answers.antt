@@ -1,15 +1,15 @@
 use Rattle.{
-  std.proofs.{Common.{rules, ◌≡◌, ◌∙◌, ap, sym, subst, refl, arith, length, map, All}, lemmas.List.{with_items_is, length-replicate, Elements.{All-replicate}}},
+  std.proofs.{Common.{◌≡◌, ◌∙◌, ap, subst, refl, arith, length, map, All}, lemmas.List.{with_items_is, length-replicate, Elements.{All-replicate}}},
   group_meaning.specs.{Rows.{rows_of_group}, Reductions.{count_cell, group_sizes}},
   group_by.proofs.NumberLaws.{same_numbers, counts_cells, if_ok_more},
 }
 use Rattle.group_by.proofs.counts.sizes.Goals as goal
 
 pub count_rows-requires-clause-size : goal.count_rows-requires-clause-size
-count_rows-requires-clause-size c = ap length (c.deref_mut.ensures.value ∙ c.in_ok-counts.ensures.items_if_clones_equal (λ y h. search rules)) ∙ length-replicate c.count.result 0 ∙ c.count.ensures
+count_rows-requires-clause-size c = grind (arith, length-replicate)
 
 pub count_rows-requires-clause-zero : goal.count_rows-requires-clause-zero
-count_rows-requires-clause-zero c = subst (All (λ n. n ≡ 0)) (sym (c.deref_mut.ensures.value ∙ c.in_ok-counts.ensures.items_if_clones_equal (λ y h. search rules))) (All-replicate (λ n. n ≡ 0) c.count.result 0 refl)
+count_rows-requires-clause-zero c = subst (All (λ n. n ≡ 0)) (grind arith) (All-replicate (λ n. n ≡ 0) c.count.result 0 refl)
 
 pub returns : goal.returns
 returns c =

@@ -1,5 +1,5 @@
 use Rattle.{
-  std.proofs.{Common.{rules, ◌≡◌, ◌∙◌, ap, sym, subst, refl, arith, length, map, All}, lemmas.List.{with_items_is, length-replicate, Elements.{All-replicate}}},
+  std.proofs.{Common.{◌≡◌, ◌∙◌, ap, subst, refl, arith, map, All}, lemmas.List.{with_items_is, length-replicate, Elements.{All-replicate}}},
   meaning.specs.{Cell.{datum}, Reduce.{distinct_count}},
   group_meaning.specs.{Rows.{cells_of_group}, Reductions.{count_cell, nunique, reduced_cells}},
   group_by.proofs.NumberLaws.{same_numbers, counts_cells, if_ok_more},
@@ -7,10 +7,10 @@ use Rattle.{
 use Rattle.group_by.proofs.distinct.distinct_counts.Goals as goal
 
 pub count_distinct-requires-clause-size : goal.count_distinct-requires-clause-size
-count_distinct-requires-clause-size c = ap length (c.deref_mut.ensures.value ∙ c.in_ok-counts.ensures.items_if_clones_equal (λ y h. search rules)) ∙ length-replicate c.count.result 0 ∙ c.count.ensures
+count_distinct-requires-clause-size c = grind (arith, length-replicate)
 
 pub count_distinct-requires-clause-zero : goal.count_distinct-requires-clause-zero
-count_distinct-requires-clause-zero c = subst (All (λ n. n ≡ 0)) (sym (c.deref_mut.ensures.value ∙ c.in_ok-counts.ensures.items_if_clones_equal (λ y h. search rules))) (All-replicate (λ n. n ≡ 0) c.count.result 0 refl)
+count_distinct-requires-clause-zero c = subst (All (λ n. n ≡ 0)) (grind arith) (All-replicate (λ n. n ≡ 0) c.count.result 0 refl)
 
 pub returns : goal.returns
 returns c =

@@ -1,8 +1,8 @@
 use Rattle.{
-  std.proofs.{Common.{◌≡◌, ◌∙◌, ap, sym, subst, length, map, slice_index_or}, lemmas.List.{length-map}},
-  meaning.specs.{Cell.{na_cell, datum, AreGiven}, Column.{ColumnValue, gap_cell}},
-  column_core.{specs.{Columns.{CellColumn}, Moves.{IsPlaceOf}}, proofs.ColumnLaws.{length-tabulate}},
-  group_meaning.specs.{Rows.{GroupsValue, cells_of_group}, Reductions.{group_cell, group_takes, reduced_cells}},
+  std.proofs.{Common.{arith, ◌≡◌, ◌∙◌, ap, sym, subst, length, map, slice_index_or}, lemmas.List.{length-map}},
+  meaning.specs.{Cell.{na_cell, datum, AreGiven}, Column.{gap_cell}},
+  column_core.{specs.Moves.{IsPlaceOf}, proofs.ColumnLaws.{length-tabulate}},
+  group_meaning.specs.{Rows.{cells_of_group}, Reductions.{group_cell, reduced_cells}},
   group_by.{specs.Operations.{reduction_of}, proofs.CallLaws.{transform_answer, gaps_seen, taken_given}},
 }
 use Rattle.group_by.proofs.groups.group_transform.Goals as goal
@@ -14,16 +14,16 @@ take-requires g c = λ k d lt.
     let groups = g.C.RowGroups.groups_of c.args.codes.now in
     let cells = map (datum dict) c.args.a.cells in
     let seen : map (datum dict) c.as_ref.result.cells ≡ reduced_cells op groups cells
-    = ap (λ (col : CellColumn). map (datum dict) col.cells) c.as_ref.ensures ∙ ap (λ (v : ColumnValue). v.cells) c.in_ok-cells.ensures.made ∙ ap (λ (gr : GroupsValue). reduced_cells op gr cells) c.groups.ensures in
+    = grind arith in
     let size : length c.as_ref.result.cells ≡ c.groups-2.result.now.count
-    = sym (length-map c.as_ref.result.cells (datum dict)) ∙ ap length seen ∙ length-tabulate groups.count (λ group. group_cell op (cells_of_group group groups.codes cells)) ∙ sym (ap (λ (gr : GroupsValue). gr.count) c.groups-2.ensures) in
+    = cc (length-map c.as_ref.result.cells (datum dict), length-tabulate groups.count (λ group. group_cell op (cells_of_group group groups.codes cells)), c.groups-2.ensures) in
     subst (λ n. IsPlaceOf n (slice_index_or c.codes.result.now k d)) (sym size) (c.codes.ensures.below k d lt)
 
 pub returns-clause-given : goal.returns-clause-given
 returns-clause-given g c =
     let dict = c.args.dict.now in
     subst (AreGiven dict) (sym c.in_ok-take.ensures.cells)
-    (taken_given dict c.as_ref.result.cells c.codes.result.now (subst (λ (col : CellColumn). AreGiven dict col.cells) (sym c.as_ref.ensures) c.in_ok-cells.ensures.given))
+    (taken_given dict c.as_ref.result.cells c.codes.result.now (grind arith))
 
 pub returns-clause-answer : goal.returns-clause-answer
 returns-clause-answer g c =
@@ -32,8 +32,8 @@ returns-clause-answer g c =
     let groups = g.C.RowGroups.groups_of c.args.codes.now in
     let cells = map (datum dict) c.args.a.cells in
     let seen : map (datum dict) c.as_ref.result.cells ≡ reduced_cells op groups cells
-    = ap (λ (col : CellColumn). map (datum dict) col.cells) c.as_ref.ensures ∙ ap (λ (v : ColumnValue). v.cells) c.in_ok-cells.ensures.made ∙ ap (λ (gr : GroupsValue). reduced_cells op gr cells) c.groups.ensures in
-    let codes : c.codes.result.now ≡ groups.codes = c.codes.ensures.codes ∙ ap (λ (gr : GroupsValue). gr.codes) c.groups-2.ensures in
-    transform_answer op dict groups c.args.a c.in_ok-take.field-0 (sym (c.takes.ensures ∙ ap (group_takes op) c.kind.ensures) ∙ c.if-not-takes.false)
-    (c.in_ok-take.ensures.kind ∙ ap (λ (col : CellColumn). col.kind) c.as_ref.ensures ∙ ap (λ (v : ColumnValue). v.kind) c.in_ok-cells.ensures.made)
+    = grind arith in
+    let codes : c.codes.result.now ≡ groups.codes = grind arith in
+    transform_answer op dict groups c.args.a c.in_ok-take.field-0 (grind arith)
+    (grind arith)
     (ap (map (datum dict)) c.in_ok-take.ensures.cells ∙ gaps_seen dict c.as_ref.result.cells c.codes.result.now ∙ (λ i. map (gap_cell na_cell (seen i)) (codes i)))

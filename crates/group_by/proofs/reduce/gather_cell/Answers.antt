@@ -1,6 +1,5 @@
 use Rattle.{
-  std.proofs.{Common.{◌<◌, length, subst}, lemmas.List.Elements.{All-set}},
-  column_core.specs.Moves.{IsPlaceOf},
+  std.proofs.{Common.{arith, ◌<◌, length}, lemmas.List.Elements.{All-set}},
   group_meaning.specs.Reductions.{group_kind},
   group_by.specs.Cells.{IsCellOf},
 }
@@ -8,5 +7,5 @@ use Rattle.group_by.proofs.reduce.gather_cell.Goals as goal
 
 pub returns-in-Some-clause-held : goal.returns-in-Some-clause-held
 returns-in-Some-clause-held g c = λ kind olds here.
-    let lt : c.in-Some.group < length c.args.gathered.now = subst (IsPlaceOf (length c.args.gathered.now)) c.in-Some.is c.requires in
+    let lt : c.in-Some.group < length c.args.gathered.now = grind arith in
     All-set (IsCellOf c.args.dict.now (group_kind g.G.Gather.op kind)) c.args.gathered.now c.in-Some.group c.step.result (c.step.ensures.held kind (olds c.in-Some.group _ lt) here) olds

@@ -1,6 +1,6 @@
 use Rattle.{
-  std.proofs.{Common.{rules, ◌≡◌, ◌∙◌, [], ap, sym, subst, arith, length, map, All}, lemmas.List.{with_items_is, length-replicate, Elements.{All-replicate}}},
-  cell_core.specs.declared.cell.{Cell.{Cell}, Kind.{Kind}},
+  std.proofs.{Common.{◌≡◌, ◌∙◌, [], ap, subst, arith, map, All}, lemmas.List.{with_items_is, length-replicate, Elements.{All-replicate}}},
+  cell_core.specs.declared.cell.Cell.{Cell},
   meaning.specs.Cell.{datum},
   column_core.specs.Columns.{CellColumn, column_value},
   group_meaning.specs.Reductions.{group_cell, group_kind},
@@ -9,28 +9,23 @@ use Rattle.{
 use Rattle.group_by.proofs.reduce.gathered.Goals as goal
 
 pub gather_rows-requires-clause-size : goal.gather_rows-requires-clause-size
-gather_rows-requires-clause-size g c = ap length (c.deref_mut.ensures.value ∙ c.in_ok-cells.ensures.items_if_clones_equal (λ y h. search rules)) ∙ length-replicate c.count.result c.start.result ∙ c.count.ensures
+gather_rows-requires-clause-size g c = grind (arith, length-replicate)
 
 pub gather_rows-requires-clause-start : goal.gather_rows-requires-clause-start
 gather_rows-requires-clause-start g c =
     let P = λ (x : Cell). datum c.args.dict.now x ≡ group_cell g.G.Gather.op [] in
-    subst (All P) (sym (c.deref_mut.ensures.value ∙ c.in_ok-cells.ensures.items_if_clones_equal (λ y h. search rules))) (All-replicate P c.count.result c.start.result (c.start.ensures.value c.args.dict.now))
+    subst (All P) (grind arith) (All-replicate P c.count.result c.start.result (c.start.ensures.value c.args.dict.now))
 
 pub gather_rows-requires-clause-held : goal.gather_rows-requires-clause-held
 gather_rows-requires-clause-held g c =
     let P = IsCellOf c.args.dict.now (group_kind g.G.Gather.op c.args.a.now.kind) in
-    subst (All P) (sym (c.deref_mut.ensures.value ∙ c.in_ok-cells.ensures.items_if_clones_equal (λ y h. search rules))) (All-replicate P c.count.result c.start.result (c.start.ensures.held c.args.dict.now c.args.a.now.kind))
+    subst (All P) (grind arith) (All-replicate P c.count.result c.start.result (c.start.ensures.held c.args.dict.now c.args.a.now.kind))
 
 pub column_of-requires : goal.column_of-requires
-column_of-requires g c =
-    let all = subst (All (IsCellOf c.args.dict.now (group_kind g.G.Gather.op c.args.a.now.kind))) (sym (c.deref.ensures.value ∙ with_items_is c.in_ok-cells.cells c.gather_rows.new.gathered (omega (arith, c.gather_rows.ensures.size, c.in_ok-cells.ensures.len, c.count.ensures)))) c.gather_rows.ensures.held in
-    cells_held c.args.dict.now c.args.kind c.deref.result.now (subst (λ (k : Kind). All (IsCellOf c.args.dict.now k) c.deref.result.now) (sym c.requires.kind) all)
+column_of-requires g c = grind (arith, with_items_is, cells_held)
 
 pub returns-clause-given : goal.returns-clause-given
-returns-clause-given g c =
-    if_ok_more (λ column is. column_given c.args.dict.now c.args.kind c.deref.result.now column is (subst (λ (k : Kind). All (IsCellOf c.args.dict.now k) c.deref.result.now) (sym c.requires.kind)
-    (subst (All (IsCellOf c.args.dict.now (group_kind g.G.Gather.op c.args.a.now.kind))) (sym (c.deref.ensures.value ∙ with_items_is c.in_ok-cells.cells c.gather_rows.new.gathered (omega (arith, c.gather_rows.ensures.size, c.in_ok-cells.ensures.len, c.count.ensures)))) c.gather_rows.ensures.held)))
-    c.column_of.result c.column_of.ensures
+returns-clause-given g c = grind (arith, column_given, with_items_is)
 
 pub returns-clause-made : goal.returns-clause-made
 returns-clause-made g c =

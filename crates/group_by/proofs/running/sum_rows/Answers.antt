@@ -1,32 +1,26 @@
 use Rattle.{
-  std.{proofs.{Common.{◌≡◌, ◌∙◌, ◌<◌, ◌+◌, [], ap, sym, subst, refl, arith, length, map, take, slice_index_or, true, ℕ, List, None}, lemmas.{List.{get_or-map, FromFn.{map-range_with_len_more}}, Option.{get_or_from_slice_get}}}, specs.List.{range_with_len}},
-  cell_core.specs.declared.cell.{Cell.{Cell, TheVariants.{Na}}, Kind.{Kind, TheVariants.{Int64}}},
-  meaning.specs.{Cell.{na_cell, datum, holds}, Cumulate.{unless_missing}},
-  column_core.specs.Moves.{IsPlaceOf},
+  std.{proofs.{Common.{◌≡◌, ◌∙◌, ◌<◌, ◌+◌, ap, sym, arith, length, map, take, slice_index_or, ℕ, List, None}, lemmas.{List.{get_or-map, FromFn.{map-range_with_len_more}}, Option.{get_or_from_slice_get}}}, specs.List.{range_with_len}},
+  cell_core.specs.declared.cell.Cell.TheVariants.{Na},
+  meaning.specs.{Cell.{na_cell, datum}, Cumulate.{unless_missing}},
   group_meaning.specs.{Rows.{cells_of_group}, Reductions.{of_group, group_cell, sum, running_cell}},
   group_by.proofs.{RowLaws.{taken_in}, NumberLaws.{no_numbers, numbers_more, same_numbers, of_one_group}},
 }
 use Rattle.group_by.proofs.running.sum_rows.Goals as goal
 
 pub loop-row-init : goal.loop-row-init
-loop-row-init c = record {
-  size = c.requires.size;
-  held = λ k d lt. λ texts. subst (λ (s : Cell). holds Int64 (datum texts s) ≡ true) (sym (c.requires.zero k d lt)) refl;
-  sums = λ texts g lt. ap (datum texts) (c.requires.zero g Na (omega arith));
-  made = no_numbers c.new-column.result c.new-column.ensures;
-}
+loop-row-init c = grind (arith, no_numbers)
 
 pub add_cell-requires : goal.add_cell-requires
-add_cell-requires c = subst (λ n. IsPlaceOf n c.code-group.result) (sym c.loop-row.invariant.size) c.code-group.ensures.below
+add_cell-requires c = grind arith
 
 pub sum_of-requires-clause-below : goal.sum_of-requires-clause-below
-sum_of-requires-clause-below c = subst (λ n. IsPlaceOf n c.code-group.result) (sym ((c.add_cell.ensures.takes []).size ∙ c.loop-row.invariant.size)) c.code-group.ensures.below
+sum_of-requires-clause-below c = grind arith
 
 pub sum_of-requires-clause-held : goal.sum_of-requires-clause-held
-sum_of-requires-clause-held c = c.add_cell.ensures.held c.loop-row.invariant.held
+sum_of-requires-clause-held c = grind arith
 
 pub push-requires : goal.push-requires
-push-requires c = λ texts. ap (λ (k : Kind). holds k (datum texts c.sum_of.result)) c.loop-row.invariant.made.kind ∙ c.sum_of.ensures.held texts
+push-requires c = grind arith
 
 pub loop-row-preserved : goal.loop-row-preserved
 loop-row-preserved c =
@@ -40,12 +34,12 @@ loop-row-preserved c =
     let inside : row < length codes = omega arith in
     let lt : row < length cells = omega (arith, inside, c.requires.rows) in
     let here : (texts : List (List ℕ)) → slice_index_or (values texts) row na_cell ≡ datum texts cell = λ texts. get_or-map (datum texts) cells row cell na_cell lt ∙ ap (datum texts) (get_or_from_slice_get cells row cell cell c.cell-cell.ensures.cell) in
-    let is : slice_index_or codes row None ≡ code = get_or_from_slice_get codes row code None c.code-group.ensures.code in
+    let is : slice_index_or codes row None ≡ code = search get_or_from_slice_get in
     let sums : (texts : List (List ℕ)) (g : ℕ) → g < count → datum texts (slice_index_or c.add_cell.new.sums g Na) ≡ group_cell sum (cells_of_group g (take (row + 1) codes) (values texts))
     = λ texts g below. taken_in codes row inside (values texts) sum texts code cell c.loop-row.sums c.add_cell.new.sums is (here texts) (c.add_cell.ensures.takes texts) g (c.loop-row.invariant.sums texts g below) in
     record {
-      size = (c.add_cell.ensures.takes []).size ∙ c.loop-row.invariant.size;
-      held = c.add_cell.ensures.held c.loop-row.invariant.held;
+      size = grind arith;
+      held = grind arith;
       sums = sums;
       made = numbers_more c.loop-row.column c.push.new.self (λ texts. map (running_cell codes (values texts)) (range_with_len 0 row)) (λ texts. map (running_cell codes (values texts)) (range_with_len 0 (row + 1))) c.sum_of.result (λ texts. running_cell codes (values texts) row)
           c.loop-row.invariant.made c.sum_of.ensures.held

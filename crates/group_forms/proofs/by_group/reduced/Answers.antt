@@ -1,19 +1,17 @@
 use Rattle.{
-  std.{proofs.{Common.{◌≡◌, ◌∙◌, ap, sym, subst, true, false, length, map, ◌++◌, List, Option, ℕ, rules}, lemmas.{List.{length-map}, Result.{err_from_is_err_and}}}, specs.{List.{list_all}, Prelude.{All, IsSome}}},
-  cell_core.specs.declared.cell.Label.{Label},
-  group_meaning.specs.Rows.{GroupsValue},
+  label_methods.proofs.IndexingLaws.{labelled},
+  std.{proofs.{Common.{arith, ◌≡◌, ◌∙◌, ap, sym, subst, true, false, length, map, ◌++◌, rules}, lemmas.{List.{length-map}, Result.{err_from_is_err_and}}}, specs.{List.{list_all}, Prelude.{All, IsSome}}},
   table_meaning.specs.{Settled.{IsSettled}, Table.{table_value}},
-  frame_store.specs.{Shown.{headings_value}, Parts.{HeadingList, block_column, HaveRows}},
-  select_meaning.specs.Select.{shown_as},
+  frame_store.specs.Shown.{headings_value},
   method_meaning.specs.Groups.{headings_of},
-  group_forms.{specs.{declared.columns.ColumnCall.TheVariants.{Reduced}, Columns.{takes_at, made_at}, Grouped.{grouping_seen}, Tables.{group_keys}}, proofs.{ColumnLaws.{all_taken}, KeyLaws.{codes_counted}, RowLaws.{own_settled, own_labelled, labels_counted}, GroupLaws.{group_headings_settled, group_labelled, reduced_one, reduced_refused, reduced_shown, reduced_headings, reduced_columns, group_table, group_made, group_headings_counted, few_firsts, axis_counted, blocks_counted}, ShownLaws.{made_is, refused_is}}},
+  group_forms.{specs.{declared.columns.ColumnCall.TheVariants.{Reduced}, Columns.{takes_at, made_at}, Grouped.{grouping_seen}, Tables.{group_keys}}, proofs.{ColumnLaws.{all_taken}, KeyLaws.{codes_counted}, RowLaws.{own_settled, labels_counted}, GroupLaws.{group_headings_settled, group_labelled, reduced_one, reduced_refused, reduced_shown, reduced_headings, reduced_columns, group_table, group_made, group_headings_counted, axis_counted, blocks_counted}, ShownLaws.{made_is, refused_is}}},
 }
 use Rattle.group_forms.proofs.by_group.reduced.Goals as goal
 
 pub returns-then-not-all_taken : goal.returns-then-not-all_taken
 returns-then-not-all_taken c =
     let none : list_all (takes_at (Reduced c.args.op) c.args.on.now) c.args.values.now.places ≡ false = search rules in
-    reduced_refused c.args.dict.now c.args.on.now c.args.grouping.now c.args.values.now c.args.op none
+    search reduced_refused
 
 -- the headings
 pub new_headings-requires-clause-given : goal.new_headings-requires-clause-given
@@ -22,19 +20,17 @@ new_headings-requires-clause-given c =
     let t = c.args.on.now in
     let owned = c.as_slice.ensures.value ∙ c.in_ok-own.ensures in
     let labels = c.as_slice-2.ensures.value ∙ c.in_ok-labels.ensures in
-    subst (IsSettled headings_value dict) (sym labels) (group_headings_settled dict t c.args.grouping.now c.as_slice.result.now c.requires.known.given (own_settled dict t c.args.values.now.places c.as_slice.result.now owned c.requires.known.given))
+    subst (IsSettled headings_value dict) (sym labels) (group_headings_settled dict t c.args.grouping.now c.as_slice.result.now c.requires.known.given (search own_settled))
 
 pub new_headings-requires-clause-one : goal.new_headings-requires-clause-one
-new_headings-requires-clause-one c =
-    λ single. reduced_one c.args.on.now c.args.grouping.now c.args.values.now c.as_slice.result.now c.as_slice-2.result.now c.requires.values (c.as_slice.ensures.value ∙ c.in_ok-own.ensures) (c.as_slice-2.ensures.value ∙ c.in_ok-labels.ensures) (sym c.is_single-single.ensures ∙ single)
+new_headings-requires-clause-one c = grind (arith, reduced_one)
 
 pub new_headings-requires-clause-labelled : goal.new_headings-requires-clause-labelled
 new_headings-requires-clause-labelled c =
     let t = c.args.on.now in
     let owned = c.as_slice.ensures.value ∙ c.in_ok-own.ensures in
     let labels = c.as_slice-2.ensures.value ∙ c.in_ok-labels.ensures in
-    λ e. subst (All IsSome) (sym labels) (group_labelled t c.args.grouping.now c.as_slice.result.now c.requires.known.whole c.requires.shape c.requires.keys.below
-    (own_labelled t c.args.values.now.places c.as_slice.result.now owned c.requires.known.whole c.requires.shape c.requires.values.below))
+    λ e. subst (All IsSome) (sym labels) (grind (arith, group_labelled, labelled))
 
 pub returns-in_err-headings : goal.returns-in_err-headings
 returns-in_err-headings c =
@@ -45,12 +41,12 @@ returns-in_err-headings c =
     let owned = c.as_slice.ensures.value ∙ c.in_ok-own.ensures in
     let labels = c.as_slice-2.ensures.value ∙ c.in_ok-labels.ensures in
     let all : list_all (takes_at (Reduced c.args.op) t) v.places ≡ true = search rules in
-    let count = c.count-count.ensures ∙ ap (λ (gs : GroupsValue). gs.count) c.in_ok-found.ensures.groups in
+    let count = c.count-count.ensures ∙ ap (λ gs. gs.count) c.in_ok-found.ensures.groups in
     let table = group_table (table_value dict t) (grouping_seen dict g) (headings_of (table_value dict t) v.places) (reduced_columns dict t g v c.args.op) in
     let p = err_from_is_err_and c.from_residual-in_err-headings.result c.from_residual-in_err-headings.ensures.1 in
     rw (p.1, p.2)
-    (refused_is dict c.is_single-single.result table _ c.in_err-headings.field-0.0 (reduced_shown dict t g v c.args.op all ∙ ap (λ s. shown_as false s table) (sym c.is_single-single.ensures))
-    (c.in_err-headings.ensures.may table (reduced_headings dict t g v c.args.op c.as_slice.result.now c.as_slice-2.result.now c.count-count.result owned labels count)))
+    (refused_is dict c.is_single-single.result table _ c.in_err-headings.field-0.0 (cc (reduced_shown dict t g v c.args.op all, c.is_single-single.ensures))
+    (c.in_err-headings.ensures.may table (search reduced_headings)))
 
 -- the columns
 pub more_columns-requires-clause-rows : goal.more_columns-requires-clause-rows
@@ -59,11 +55,11 @@ more_columns-requires-clause-rows c = codes_counted c.args.dict.now c.args.on.no
 pub more_columns-requires-clause-taken : goal.more_columns-requires-clause-taken
 more_columns-requires-clause-taken c =
     let all : list_all (takes_at (Reduced c.args.op) c.args.on.now) c.args.values.now.places ≡ true = search rules in
-    all_taken (Reduced c.args.op) c.args.on.now c.args.values.now.places c.requires.values.below all
+    search all_taken
 
 pub group_axis-requires-clause-few : goal.group_axis-requires-clause-few
 group_axis-requires-clause-few c =
-    few_firsts c.args.dict.now c.args.on.now c.args.grouping.now c.in_ok-found.found.firsts c.in_ok-found.found.groups c.count-count.result c.in_ok-found.ensures.labels c.in_ok-found.ensures.groups c.count-count.ensures c.in_ok-headings.ensures.few
+    grind (arith, length-map)
 
 -- the table
 pub new_table-requires-clause-single : goal.new_table-requires-clause-single
@@ -73,8 +69,8 @@ pub new_table-requires-clause-rows : goal.new_table-requires-clause-rows
 new_table-requires-clause-rows c =
     let dict = c.args.dict.now in
     let t = c.args.on.now in
-    let counted = ap (λ (gs : GroupsValue). gs.count) c.in_ok-found.ensures.groups ∙ sym (axis_counted dict (table_value dict t) (grouping_seen dict c.args.grouping.now) c.in_ok-axis.axis c.in_ok-axis.ensures) in
-    subst (λ (n : ℕ). HaveRows n (map block_column c.in_ok-blocks.blocks)) counted c.in_ok-blocks.ensures.blocks.filled
+    let counted = ap (λ gs. gs.count) c.in_ok-found.ensures.groups ∙ sym (axis_counted dict (table_value dict t) (grouping_seen dict c.args.grouping.now) c.in_ok-axis.axis c.in_ok-axis.ensures) in
+    rw counted at c.in_ok-blocks.ensures.blocks.filled
 
 pub new_table-requires-clause-headed : goal.new_table-requires-clause-headed
 new_table-requires-clause-headed c =
@@ -87,8 +83,8 @@ new_table-requires-clause-headed c =
     let f = made_at (Reduced c.args.op) c.in_ok-found.found.groups (table_value dict t) in
     let columns = group_keys (table_value dict t) (grouping_seen dict g) ++ map f v.places in
     let made = c.in_ok-blocks.ensures.columns ∙ ap (λ ks. ks ++ map f v.places) c.in_ok-keys.ensures.columns in
-    ap (λ (h : HeadingList). length h.labels) c.in_ok-headings.ensures.made
-    ∙ ap (λ (l : List (Option Label)). length l) labels
+    ap (λ h. length h.labels) c.in_ok-headings.ensures.made
+    ∙ ap (λ l. length l) labels
     ∙ sym (blocks_counted dict c.in_ok-blocks.blocks columns made ∙ group_headings_counted dict t g c.as_slice.result.now (map f v.places) (length-map v.places f ∙ sym (labels_counted t v.places c.as_slice.result.now owned)))
 
 pub new_table-requires-clause-headings : goal.new_table-requires-clause-headings
@@ -104,7 +100,7 @@ returns c =
     let owned = c.as_slice.ensures.value ∙ c.in_ok-own.ensures in
     let labels = c.as_slice-2.ensures.value ∙ c.in_ok-labels.ensures in
     let all : list_all (takes_at (Reduced c.args.op) t) v.places ≡ true = search rules in
-    let count = c.count-count.ensures ∙ ap (λ (gs : GroupsValue). gs.count) c.in_ok-found.ensures.groups in
+    let count = c.count-count.ensures ∙ ap (λ gs. gs.count) c.in_ok-found.ensures.groups in
     let f = made_at (Reduced c.args.op) c.in_ok-found.found.groups T in
     let made = c.in_ok-blocks.ensures.columns ∙ ap (λ ks. ks ++ map f v.places) c.in_ok-keys.ensures.columns
     ∙ ap (λ gs. group_keys T (grouping_seen dict g) ++ map (made_at (Reduced c.args.op) gs T) v.places) c.in_ok-found.ensures.groups in
@@ -113,4 +109,4 @@ returns c =
     let given = subst (IsSettled headings_value dict) (sym labels) (group_headings_settled dict t g c.as_slice.result.now c.requires.known.given (own_settled dict t v.places c.as_slice.result.now owned c.requires.known.given)) in
     made_is dict c.is_single-single.result table _ c.in_ok-axis.axis c.columns_name-name.result c.as_slice-2.result.now c.in_ok-blocks.blocks c.in_ok-headings.headings c.new_table.result
     (group_made dict t g (headings_of T v.places) (reduced_columns dict t g v c.args.op) c.in_ok-axis.axis c.columns_name-name.result c.as_slice-2.result.now c.in_ok-blocks.blocks _ c.requires.known.given c.columns_name-name.ensures c.in_ok-axis.ensures headed.headings given made
-    c.in_ok-blocks.ensures.blocks) (reduced_shown dict t g v c.args.op all ∙ ap (λ s. shown_as false s table) (sym c.is_single-single.ensures)) (c.in_ok-headings.ensures.may table headed) c.in_ok-headings.ensures.made c.new_table.ensures
+    c.in_ok-blocks.ensures.blocks) (cc (reduced_shown dict t g v c.args.op all, c.is_single-single.ensures)) (c.in_ok-headings.ensures.may table headed) c.in_ok-headings.ensures.made c.new_table.ensures

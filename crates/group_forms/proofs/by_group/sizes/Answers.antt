@@ -1,10 +1,8 @@
 use Rattle.{
-  std.proofs.{Common.{◌∙◌, ap, sym, subst, refl, [], ◌∷◌, length, map, List, Option, ℕ}, lemmas.Result.{err_from_is_err_and}},
-  cell_core.specs.declared.cell.Label.{Label},
-  group_meaning.specs.Rows.{GroupsValue},
+  std.proofs.{Common.{arith, ◌∙◌, ap, sym, subst, refl, [], ◌∷◌, length}, lemmas.{List.{length-map}, Result.{err_from_is_err_and}}},
+  group_forms.{proofs.{GroupLaws.{grouped_is, group_headings_settled, group_headings_counted, sizes_labelled, size_table, size_column, size_headings, sizes_boxed, sizes_seen, one_settled, group_made, axis_counted, blocks_counted}, ShownLaws.{made_is, refused_is}}, specs.Grouped.{grouping_seen}},
   table_meaning.specs.{Settled.{IsSettled}, Table.{table_value}},
-  frame_store.specs.{Parts.{HeadingList, block_column, HaveRows}, Shown.{headings_value}},
-  group_forms.{specs.Grouped.{grouping_seen}, proofs.{GroupLaws.{group_headings_settled, group_headings_counted, sizes_labelled, sizes_shown, size_table, size_column, size_headings, sizes_boxed, sizes_seen, one_settled, group_made, few_firsts, axis_counted, blocks_counted}, ShownLaws.{made_is, refused_is}}},
+  frame_store.specs.Shown.{headings_value},
 }
 use Rattle.method_meaning.specs.Groups as meant
 use Rattle.group_forms.proofs.by_group.sizes.Goals as goal
@@ -14,7 +12,7 @@ pub new_headings-requires-clause-given : goal.new_headings-requires-clause-given
 new_headings-requires-clause-given c =
     let dict = c.args.dict.now in
     let labels = c.as_slice.ensures.value ∙ c.in_ok-labels.ensures in
-    subst (IsSettled headings_value dict) (sym labels) (group_headings_settled dict c.args.on.now c.args.grouping.now (c.args.heading ∷ []) c.requires.known.given (one_settled dict c.args.heading c.requires.given))
+    subst (IsSettled headings_value dict) (sym labels) (search (group_headings_settled, one_settled))
 
 pub new_headings-requires-clause-labelled : goal.new_headings-requires-clause-labelled
 new_headings-requires-clause-labelled c =
@@ -27,16 +25,16 @@ returns-in_err-headings c =
     let g = c.args.grouping.now in
     let v = c.args.values.now in
     let h = c.args.heading in
-    let counted = c.count-count.ensures ∙ ap (λ (gs : GroupsValue). gs.count) c.in_ok-found.ensures.groups in
+    let counted = c.count-count.ensures ∙ ap (λ gs. gs.count) c.in_ok-found.ensures.groups in
     let table = size_table dict t g v h c.requires.heading in
     let p = err_from_is_err_and c.from_residual-in_err-headings.result c.from_residual-in_err-headings.ensures.1 in
     rw (p.1, p.2)
-    (refused_is dict g.as_index table _ c.in_err-headings.field-0.0 (sizes_shown dict t g v h c.requires.heading)
+    (refused_is dict g.as_index table _ c.in_err-headings.field-0.0 (search grouped_is)
     (c.in_err-headings.ensures.may table (size_headings dict t g v h c.requires.heading c.as_slice.result.now c.count-count.result (c.as_slice.ensures.value ∙ c.in_ok-labels.ensures) counted)))
 
 pub group_axis-requires-clause-few : goal.group_axis-requires-clause-few
 group_axis-requires-clause-few c =
-    few_firsts c.args.dict.now c.args.on.now c.args.grouping.now c.in_ok-found.found.firsts c.in_ok-found.found.groups c.count-count.result c.in_ok-found.ensures.labels c.in_ok-found.ensures.groups c.count-count.ensures c.in_ok-headings.ensures.few
+    grind (arith, length-map)
 
 -- the table
 pub new_table-requires-clause-single : goal.new_table-requires-clause-single
@@ -50,8 +48,8 @@ new_table-requires-clause-rows c =
     let dict = c.args.dict.now in
     let T = table_value dict c.args.on.now in
     let boxed = sizes_boxed dict c.in_ok-found.found.groups c.in_ok-column.column c.into_block.result c.in_ok-blocks.blocks c.push.new.self c.into_block.ensures c.in_ok-push.ensures.ok (c.in_ok-column.ensures.answer dict) (c.in_ok-column.ensures.given dict) c.in_ok-blocks.ensures.blocks in
-    let counted = ap (λ (gs : GroupsValue). gs.count) c.in_ok-found.ensures.groups ∙ sym (axis_counted dict T (grouping_seen dict c.args.grouping.now) c.in_ok-axis.axis c.in_ok-axis.ensures) in
-    subst (λ (n : ℕ). HaveRows n (map block_column c.push.new.self)) counted boxed.filled
+    let counted = ap (λ gs. gs.count) c.in_ok-found.ensures.groups ∙ sym (axis_counted dict T (grouping_seen dict c.args.grouping.now) c.in_ok-axis.axis c.in_ok-axis.ensures) in
+    rw counted at boxed.filled
 
 pub new_table-requires-clause-headed : goal.new_table-requires-clause-headed
 new_table-requires-clause-headed c =
@@ -61,8 +59,8 @@ new_table-requires-clause-headed c =
     let own = size_column dict t g c.args.values.now c.args.heading c.requires.heading in
     let labels = c.as_slice.ensures.value ∙ c.in_ok-labels.ensures in
     let seen = sizes_seen dict t g c.in_ok-found.found.groups c.in_ok-column.column c.into_block.result c.in_ok-blocks.blocks c.push.new.self c.into_block.ensures c.in_ok-push.ensures.ok (c.in_ok-column.ensures.answer dict) c.in_ok-found.ensures.groups c.in_ok-blocks.ensures.columns in
-    ap (λ (h : HeadingList). length h.labels) c.in_ok-headings.ensures.made
-    ∙ ap (λ (l : List (Option Label)). length l) labels
+    ap (λ h. length h.labels) c.in_ok-headings.ensures.made
+    ∙ ap (λ l. length l) labels
     ∙ sym (blocks_counted dict c.push.new.self _ seen ∙ group_headings_counted dict t g (c.args.heading ∷ []) own refl)
 
 pub returns : goal.returns
@@ -73,7 +71,7 @@ returns c =
     let v = c.args.values.now in
     let h = c.args.heading in
     let labels = c.as_slice.ensures.value ∙ c.in_ok-labels.ensures in
-    let counted = c.count-count.ensures ∙ ap (λ (gs : GroupsValue). gs.count) c.in_ok-found.ensures.groups in
+    let counted = c.count-count.ensures ∙ ap (λ gs. gs.count) c.in_ok-found.ensures.groups in
     let table = size_table dict t g v h c.requires.heading in
     let boxed = sizes_boxed dict c.in_ok-found.found.groups c.in_ok-column.column c.into_block.result c.in_ok-blocks.blocks c.push.new.self c.into_block.ensures c.in_ok-push.ensures.ok (c.in_ok-column.ensures.answer dict) (c.in_ok-column.ensures.given dict) c.in_ok-blocks.ensures.blocks in
     let seen = sizes_seen dict t g c.in_ok-found.found.groups c.in_ok-column.column c.into_block.result c.in_ok-blocks.blocks c.push.new.self c.into_block.ensures c.in_ok-push.ensures.ok (c.in_ok-column.ensures.answer dict) c.in_ok-found.ensures.groups c.in_ok-blocks.ensures.columns in
@@ -81,4 +79,4 @@ returns c =
     let given = subst (IsSettled headings_value dict) (sym labels) (group_headings_settled dict t g (h ∷ []) c.requires.known.given (one_settled dict h c.requires.given)) in
     made_is dict g.as_index table _ c.in_ok-axis.axis c.columns_name-name.result c.as_slice.result.now c.push.new.self c.in_ok-headings.headings c.new_table.result
     (group_made dict t g (meant.size_heading g.as_index ∷ []) (size_column dict t g v h c.requires.heading) c.in_ok-axis.axis c.columns_name-name.result c.as_slice.result.now c.push.new.self _ c.requires.known.given c.columns_name-name.ensures c.in_ok-axis.ensures headed.headings given seen boxed)
-    (sizes_shown dict t g v h c.requires.heading) (c.in_ok-headings.ensures.may table headed) c.in_ok-headings.ensures.made c.new_table.ensures
+    (search grouped_is) (c.in_ok-headings.ensures.may table headed) c.in_ok-headings.ensures.made c.new_table.ensures

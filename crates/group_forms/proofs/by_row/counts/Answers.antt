@@ -1,8 +1,7 @@
 use Rattle.{
-  std.proofs.{Common.{◌∙◌, ap, sym, subst, refl, true, [], ◌∷◌, None, length, map, ℕ}, lemmas.Result.{err_from_is_err_and}},
-  multi_index.specs.Axes.{AxisValue},
-  frame_store.{specs.Parts.{block_column, HaveRows}, proofs.Settling.{columns_name_part}},
-  group_forms.proofs.{RowLaws.{own_axis, counts_table, counts_headings, counts_boxed, counts_seen}, ShownLaws.{made_is, refused_is}},
+  std.proofs.{Common.{arith, ◌∙◌, ap, sym, subst, refl, true, [], ◌∷◌, None, length, map}, lemmas.Result.{err_from_is_err_and}},
+  frame_store.{proofs.Settling.{labels_part, level_names_part, columns_name_part}, specs.Parts.{block_column, HaveRows}},
+  group_forms.proofs.{RowLaws.{counts_table, counts_headings, counts_boxed, counts_seen}, ShownLaws.{made_is, refused_is}},
 }
 use Rattle.group_forms.proofs.by_row.counts.Goals as goal
 
@@ -21,8 +20,8 @@ new_table-requires-clause-rows c =
     let t = c.args.on.now in
     let boxed = counts_boxed dict t c.args.grouping.now c.in_ok-found.found.groups c.in_ok-found.ensures.groups c.in_ok-column.column c.into_block.result c.new-blocks.result c.push.new.self c.new-blocks.ensures c.into_block.ensures c.in_ok-push.ensures.ok
     (c.in_ok-column.ensures.answer dict) (c.in_ok-column.ensures.given dict) in
-    let counted = sym (ap (λ (a : AxisValue). length a.tuples) (c.in_ok-axis.ensures ∙ c.axis.ensures)) in
-    subst (λ (n : ℕ). HaveRows n (map block_column c.push.new.self)) counted boxed.filled
+    let counted = sym (ap (λ a. length a.tuples) (c.in_ok-axis.ensures ∙ c.axis.ensures)) in
+    subst (λ n. HaveRows n (map block_column c.push.new.self)) counted boxed.filled
 
 pub returns : goal.returns
 returns c =
@@ -38,10 +37,10 @@ returns c =
     record {
       frame = c.requires.shape;
       named = refl;
-      axis_is = own_axis dict t c.in_ok-axis.axis (c.in_ok-axis.ensures ∙ c.axis.ensures) c.requires.known.given;
+      axis_is = grind (arith, labels_part, level_names_part);
       headings = refl;
       columns = seen;
-      name_given = columns_name_part dict t c.requires.known.given;
+      name_given = search columns_name_part;
       labels_given = λ more. refl;
       blocks_given = boxed.given;
     }

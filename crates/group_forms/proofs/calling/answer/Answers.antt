@@ -1,11 +1,10 @@
 use Rattle.{
-  std.proofs.Common.{◌≡◌, ◌∙◌, ap, sym, subst, Result},
-  meaning.specs.Fault.{FaultValue},
-  table_meaning.specs.{Table.{NumberedTable, table_value}, Value.{Entry}},
+  std.proofs.Common.{arith, ◌≡◌, ◌∙◌, ap, sym},
+  table_meaning.specs.Table.{table_value},
   method_meaning.specs.Groups.{group_answer},
-  frame_store.{specs.{Objects.{tables, table_or}, World.{world, Forms}}, proofs.Settling.{longer_self}},
+  frame_store.{specs.{Objects.{tables, table_or}, World.{world}}, proofs.Settling.{longer_self}},
   group_by.specs.Operations.{reduction_of},
-  group_forms.{specs.{declared.calls.GroupCall.{GroupCall}, Calls.{call_of}, Grouped.{grouping_seen, values_seen}}, proofs.FormLaws.{known_table}},
+  group_forms.{specs.{Calls.{call_of}, Grouped.{grouping_seen, values_seen}}, proofs.FormLaws.{known_table}},
 }
 use Rattle.method_meaning.specs.Groups as meant
 use Rattle.group_forms.proofs.calling.answer.Goals as goal
@@ -28,10 +27,9 @@ returns-in-Reduced c =
     let g = grouping_seen dict c.args.grouping.now in
     let v = values_seen dict c.args.values.now in
     let call = (meant.reduced (reduction_of c.in-Reduced.op)) in
-    let at : c.read.result ≡ table_or (tables c.args.store.now c.args.on.0) = sym (ap table_or c.read.ensures.table) in
-    let same = ap (λ (n : NumberedTable). group_answer (table_value dict n) g v call) at ∙ ap (λ (x : GroupCall). group_answer (table_value dict (table_or (tables c.args.store.now c.args.on.0))) g v (call_of x)) (sym c.in-Reduced.is) in
-    subst (λ (meant : Result Entry FaultValue). Forms c.placed.result meant (world c.args.store.now dict) (world c.placed.new.store dict)) same
-    (c.placed.ensures.answers dict _ (longer_self dict) c.requires.settled c.reduced-table.ensures)
+    let at : c.read.result ≡ table_or (tables c.args.store.now c.args.on.0) = grind arith in
+    let same = ap (λ n. group_answer (table_value dict n) g v call) at ∙ ap (λ x. group_answer (table_value dict (table_or (tables c.args.store.now c.args.on.0))) g v (call_of x)) (sym c.in-Reduced.is) in
+    rw same at (c.placed.ensures.answers dict _ (longer_self dict) c.requires.settled c.reduced-table.ensures)
 
 pub returns-in-Transformed : goal.returns-in-Transformed
 returns-in-Transformed c =
@@ -39,10 +37,9 @@ returns-in-Transformed c =
     let g = grouping_seen dict c.args.grouping.now in
     let v = values_seen dict c.args.values.now in
     let call = (meant.transformed (reduction_of c.in-Transformed.op)) in
-    let at : c.read-in-Transformed.result ≡ table_or (tables c.args.store.now c.args.on.0) = sym (ap table_or c.read-in-Transformed.ensures.table) in
-    let same = ap (λ (n : NumberedTable). group_answer (table_value dict n) g v call) at ∙ ap (λ (x : GroupCall). group_answer (table_value dict (table_or (tables c.args.store.now c.args.on.0))) g v (call_of x)) (sym c.in-Transformed.is) in
-    subst (λ (meant : Result Entry FaultValue). Forms c.placed-in-Transformed.result meant (world c.args.store.now dict) (world c.placed-in-Transformed.new.store dict)) same
-    (c.placed-in-Transformed.ensures.answers dict _ (longer_self dict) c.requires.settled c.along_rows-table.ensures)
+    let at : c.read-in-Transformed.result ≡ table_or (tables c.args.store.now c.args.on.0) = grind arith in
+    let same = ap (λ n. group_answer (table_value dict n) g v call) at ∙ ap (λ x. group_answer (table_value dict (table_or (tables c.args.store.now c.args.on.0))) g v (call_of x)) (sym c.in-Transformed.is) in
+    rw same at (c.placed-in-Transformed.ensures.answers dict _ (longer_self dict) c.requires.settled c.along_rows-table.ensures)
 
 pub returns-in-Cumsum : goal.returns-in-Cumsum
 returns-in-Cumsum c =
@@ -50,10 +47,9 @@ returns-in-Cumsum c =
     let g = grouping_seen dict c.args.grouping.now in
     let v = values_seen dict c.args.values.now in
     let call = meant.cumsum in
-    let at : c.read-in-Cumsum.result ≡ table_or (tables c.args.store.now c.args.on.0) = sym (ap table_or c.read-in-Cumsum.ensures.table) in
-    let same = ap (λ (n : NumberedTable). group_answer (table_value dict n) g v call) at ∙ ap (λ (x : GroupCall). group_answer (table_value dict (table_or (tables c.args.store.now c.args.on.0))) g v (call_of x)) (sym c.in-Cumsum.is) in
-    subst (λ (meant : Result Entry FaultValue). Forms c.placed-in-Cumsum.result meant (world c.args.store.now dict) (world c.placed-in-Cumsum.new.store dict)) same
-    (c.placed-in-Cumsum.ensures.answers dict _ (longer_self dict) c.requires.settled c.along_rows-table-in-Cumsum.ensures)
+    let at : c.read-in-Cumsum.result ≡ table_or (tables c.args.store.now c.args.on.0) = grind arith in
+    let same = ap (λ n. group_answer (table_value dict n) g v call) at ∙ ap (λ x. group_answer (table_value dict (table_or (tables c.args.store.now c.args.on.0))) g v (call_of x)) (sym c.in-Cumsum.is) in
+    rw same at (c.placed-in-Cumsum.ensures.answers dict _ (longer_self dict) c.requires.settled c.along_rows-table-in-Cumsum.ensures)
 
 pub returns-in-Cumcount : goal.returns-in-Cumcount
 returns-in-Cumcount c =
@@ -61,7 +57,6 @@ returns-in-Cumcount c =
     let g = grouping_seen dict c.args.grouping.now in
     let v = values_seen dict c.args.values.now in
     let call = meant.cumcount in
-    let at : c.read-in-Cumcount.result ≡ table_or (tables c.args.store.now c.args.on.0) = sym (ap table_or c.read-in-Cumcount.ensures.table) in
-    let same = ap (λ (n : NumberedTable). group_answer (table_value dict n) g v call) at ∙ ap (λ (x : GroupCall). group_answer (table_value dict (table_or (tables c.args.store.now c.args.on.0))) g v (call_of x)) (sym c.in-Cumcount.is) in
-    subst (λ (meant : Result Entry FaultValue). Forms c.placed-in-Cumcount.result meant (world c.args.store.now dict) (world c.placed-in-Cumcount.new.store dict)) same
-    (c.placed-in-Cumcount.ensures.answers dict _ (longer_self dict) c.requires.settled c.counts-table.ensures)
+    let at : c.read-in-Cumcount.result ≡ table_or (tables c.args.store.now c.args.on.0) = grind arith in
+    let same = ap (λ n. group_answer (table_value dict n) g v call) at ∙ ap (λ x. group_answer (table_value dict (table_or (tables c.args.store.now c.args.on.0))) g v (call_of x)) (sym c.in-Cumcount.is) in
+    rw same at (c.placed-in-Cumcount.ensures.answers dict _ (longer_self dict) c.requires.settled c.counts-table.ensures)

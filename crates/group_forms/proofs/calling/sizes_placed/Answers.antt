@@ -1,9 +1,8 @@
 use Rattle.{
+  frame_store.{proofs.Settling.{settled_later, object_settled}, specs.{declared.fault.OpFault.TheVariants.{NoMemory}, World.{world}}},
   std.proofs.Common.{◌≡◌, ap, Err, rules},
-  table_meaning.specs.Table.{Table},
   method_meaning.specs.Groups.{group_answer},
-  frame_store.specs.{declared.fault.OpFault.TheVariants.{NoMemory}, World.{world}},
-  group_forms.{specs.Grouped.{grouping_seen, values_seen}, proofs.FormLaws.{known_later, seen_before, no_memory_forms, forms_so}},
+  group_forms.{specs.Grouped.{grouping_seen, values_seen}, proofs.FormLaws.{seen_before, no_memory_forms, forms_so}},
 }
 use Rattle.method_meaning.specs.Groups as meant
 use Rattle.group_forms.proofs.calling.sizes_placed.Goals as goal
@@ -14,8 +13,7 @@ returns-in_err-heading c =
     no_memory_forms (world c.args.store.now c.args.dict.now) c.size_heading.new.dict c.from_residual.result _ out c.in_err-heading.ensures.longer c.requires.settled
 
 pub sizes-table-requires-clause-known : goal.sizes-table-requires-clause-known
-sizes-table-requires-clause-known c =
-    known_later (world c.args.store.now c.args.dict.now) c.size_heading.new.dict c.args.on.0 c.read.result c.read.ensures.table c.read.ensures.whole c.in_ok-heading.ensures.longer c.requires.settled
+sizes-table-requires-clause-known c = search (settled_later, object_settled)
 
 pub returns : goal.returns
 returns c =
@@ -24,5 +22,5 @@ returns c =
     let v = values_seen dict c.args.values.now in
     let longer = c.in_ok-heading.ensures.longer in
     forms_so c.placed.result _ _ _ _
-    (ap (λ (t : Table). group_answer t g v meant.size) (seen_before (world c.args.store.now dict) c.size_heading.new.dict c.args.on.0 c.read.result c.read.ensures.table longer c.requires.settled))
+    (ap (λ t. group_answer t g v meant.size) (seen_before (world c.args.store.now dict) c.size_heading.new.dict c.args.on.0 c.read.result c.read.ensures.table longer c.requires.settled))
     (c.placed.ensures.answers dict _ longer c.requires.settled c.sizes-table.ensures)

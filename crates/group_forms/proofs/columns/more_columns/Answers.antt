@@ -1,9 +1,6 @@
 use Rattle.{
-  std.proofs.{Common.{◌∙◌, ◌<◌, ◌≤◌, ◌++◌, ap, sym, map, length, arith}, lemmas.List.{take_all}},
-  table_meaning.specs.Table.{table_value, column_value},
-  form_parts.specs.Makes.{blocks_value},
-  frame_store.specs.Parts.{table_column},
-  group_forms.{specs.Columns.{made_at, rows_made}, proofs.ColumnLaws.{one_more_block, one_more_value, one_more_column, place_given, place_seen, place_taken, place_inside}},
+  std.proofs.{lemmas.{Option.{get_or_from_slice_get}, List.{take_all}}, Common.{◌<◌, length, arith}},
+  group_forms.{specs.Columns.{rows_made}, proofs.ColumnLaws.{one_more_block, one_more_value, one_more_column, place_given, place_seen, place_inside}},
 }
 use Rattle.group_forms.proofs.columns.more_columns.Goals as goal
 
@@ -13,7 +10,7 @@ column-requires c =
     place_inside c.args.call c.args.on.now c.args.places.now c.loop-k.k c.at.result.now c.requires.taken lt c.at.ensures
 
 pub made_column-requires-clause-rows : goal.made_column-requires-clause-rows
-made_column-requires-clause-rows c = c.requires.rows ∙ sym c.column.ensures.rows
+made_column-requires-clause-rows c = grind arith
 
 pub made_column-requires-clause-given : goal.made_column-requires-clause-given
 made_column-requires-clause-given c =
@@ -22,9 +19,7 @@ made_column-requires-clause-given c =
     (place_inside c.args.call c.args.on.now c.args.places.now c.loop-k.k c.at.result.now c.requires.taken lt c.at.ensures) c.column.ensures.column
 
 pub made_column-requires-clause-taken : goal.made_column-requires-clause-taken
-made_column-requires-clause-taken c =
-    let lt : c.loop-k.k < length c.args.places.now = omega arith in
-    place_taken c.args.call c.args.on.now c.args.places.now c.loop-k.k c.at.result.now c.column.result c.requires.taken lt c.at.ensures c.column.ensures.column
+made_column-requires-clause-taken c = grind (arith, get_or_from_slice_get)
 
 pub loop-k-preserved : goal.loop-k-preserved
 loop-k-preserved c =
@@ -38,12 +33,8 @@ loop-k-preserved c =
     let pushed = one_more_value dict c.in_ok-column.column c.into_block.result c.loop-k.made c.push.new.self box c.in_ok-push.ensures.ok in
     record {
       blocks = one_more_block dict (rows_made c.args.call c.args.groups.now) c.in_ok-column.column c.into_block.result c.loop-k.made c.push.new.self box c.in_ok-push.ensures.ok made.rows made.given c.loop-k.invariant.blocks;
-      columns = one_more_column (made_at c.args.call c.args.groups.now (table_value dict t)) places c.loop-k.k c.at.result.now (column_value dict (table_column c.in_ok-column.column)) (blocks_value dict c.args.blocks) (blocks_value dict c.loop-k.made)
-          (blocks_value dict c.push.new.self) lt c.at.ensures seen pushed c.loop-k.invariant.columns;
+      columns = search one_more_column;
     }
 
 pub returns-clause-columns : goal.returns-clause-columns
-returns-clause-columns c =
-    let dict = c.args.dict.now in
-    let end : length c.args.places.now ≤ c.loop-k.k = omega arith in
-    c.loop-k.invariant.columns ∙ ap (λ ps. blocks_value dict c.args.blocks ++ map (made_at c.args.call c.args.groups.now (table_value dict c.args.on.now)) ps) (take_all c.loop-k.k c.args.places.now end)
+returns-clause-columns c = grind (arith, take_all)

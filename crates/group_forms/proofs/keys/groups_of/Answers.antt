@@ -1,27 +1,22 @@
 use Rattle.{
-  std.proofs.Common.{◌∙◌, ◌≤◌, ap, sym, subst, map, length, List},
-  column_core.specs.Columns.{CellColumn},
-  frame_store.specs.Parts.{table_column},
+  std.proofs.Common.{arith, ◌∙◌},
   key_columns.proofs.KeyLaws.{keys_are, keys_counted, rows_alike},
   group_forms.proofs.KeyLaws.{groups_found, rows_found, labels_found},
 }
 use Rattle.group_forms.proofs.keys.groups_of.Goals as goal
 
 pub of-rows-requires-clause-some : goal.of-rows-requires-clause-some
-of-rows-requires-clause-some c =
-    let keys = c.args.grouping.now.keys in
-    let made = c.in_ok-columns.columns.items in
-    subst (λ n. 1 ≤ n) (sym (ap (λ (cs : List CellColumn). length cs) c.deref-keys.ensures.value ∙ keys_counted c.args.on.now keys made c.in_ok-columns.ensures.columns)) c.requires.keys.some
+of-rows-requires-clause-some c = grind (arith, keys_counted)
 
 pub of-rows-requires-clause-alike : goal.of-rows-requires-clause-alike
-of-rows-requires-clause-alike c = rows_alike c.in_ok-columns.columns.items _ (length c.args.on.now.labels) c.rows.result c.deref-keys.ensures.value c.rows.ensures c.in_ok-columns.ensures.rows
+of-rows-requires-clause-alike c = grind (arith, rows_alike)
 
 pub returns-clause-groups : goal.returns-clause-groups
 returns-clause-groups c =
     let t = c.args.on.now in
     let g = c.args.grouping.now in
     let rows = c.of-rows.result in
-    let same = keys_are t g.keys rows.columns.now (ap (map table_column) (c.of-rows.ensures.columns ∙ c.deref-keys.ensures.value) ∙ c.in_ok-columns.ensures.columns) rows.count (c.of-rows.ensures.count ∙ c.rows.ensures) in
+    let same = keys_are t g.keys rows.columns.now (grind arith) rows.count (c.of-rows.ensures.count ∙ c.rows.ensures) in
     groups_found c.args.dict.now t g c.len.ensures.distinct c.requires.known.given _ same c.group_by_keys.result c.group_by_keys.ensures.count c.group_by_keys.ensures.codes
 
 pub returns-clause-labels : goal.returns-clause-labels
@@ -29,7 +24,7 @@ returns-clause-labels c =
     let t = c.args.on.now in
     let g = c.args.grouping.now in
     let rows = c.of-rows.result in
-    let same = keys_are t g.keys rows.columns.now (ap (map table_column) (c.of-rows.ensures.columns ∙ c.deref-keys.ensures.value) ∙ c.in_ok-columns.ensures.columns) rows.count (c.of-rows.ensures.count ∙ c.rows.ensures) in
+    let same = keys_are t g.keys rows.columns.now (grind arith) rows.count (c.of-rows.ensures.count ∙ c.rows.ensures) in
     labels_found c.args.dict.now t g c.len.ensures.distinct c.requires.known.given _ same c.group_by_keys.result c.group_by_keys.ensures.firsts
 
 pub returns-clause-firsts : goal.returns-clause-firsts
@@ -37,5 +32,5 @@ returns-clause-firsts c =
     let t = c.args.on.now in
     let g = c.args.grouping.now in
     let rows = c.of-rows.result in
-    let same = keys_are t g.keys rows.columns.now (ap (map table_column) (c.of-rows.ensures.columns ∙ c.deref-keys.ensures.value) ∙ c.in_ok-columns.ensures.columns) rows.count (c.of-rows.ensures.count ∙ c.rows.ensures) in
+    let same = keys_are t g.keys rows.columns.now (grind arith) rows.count (c.of-rows.ensures.count ∙ c.rows.ensures) in
     rows_found c.args.dict.now t g c.len.ensures.distinct c.requires.known.given _ same c.group_by_keys.result c.group_by_keys.ensures.firsts

@@ -1,21 +1,18 @@
 use Rattle.{
-  std.{proofs.Common.{◌≡◌, ◌∙◌, ap, sym, subst, length, Option, Some, None, option_map, Result, Bor}, specs.Prelude.{IfSome}},
-  meaning.specs.Fault.{FaultValue},
-  table_meaning.specs.Table.{NumberedTable, table_value},
+  std.{proofs.Common.{arith, ◌≡◌, ◌∙◌, ap, sym, subst, length, Some, None, option_map}, specs.Prelude.{IfSome}},
+  table_meaning.specs.Table.{table_value},
   method_meaning.specs.Groups.{values_in, values_named},
-  form_parts.specs.Makes.{MakesBy},
-  frame_store.specs.{declared.arguments.Argument.{Argument}, Arguments.{items_of}, Objects.{tables, table_at, table_or}, World.{world, argument_in, IsKnownArgument}},
+  frame_store.specs.{Arguments.{items_of}, Objects.{tables, table_at}, World.{world, argument_in, IsKnownArgument}},
   label_methods.proofs.NamedLaws.{others_inside},
-  group_forms.{specs.Grouped.{values_seen}, proofs.FormLaws.{known_table, items_known, many_values}},
+  group_forms.proofs.FormLaws.{known_table, items_known, many_values},
 }
-use Rattle.method_meaning.specs.Groups as meant
 use Rattle.group_forms.proofs.values.values_of.Goals as goal
 
 -- all columns but the keys
 pub returns-in_default-clause-values : goal.returns-in_default-clause-values
 returns-in_default-clause-values c =
     let t = table_at (tables c.args.store.now) c.args.on.0 in
-    let count : c.columns.result ≡ length t.columns = c.columns.ensures ∙ ap (λ (n : NumberedTable). length n.columns) (sym (ap table_or c.read-source.ensures.table)) in
+    let count : c.columns.result ≡ length t.columns = grind arith in
     many_values t c.in_ok-places.places (others_inside c.args.keys.now c.in_ok-places.places c.columns.result (length t.columns) c.in_ok-places.ensures count)
 
 -- those that are named
@@ -28,7 +25,7 @@ listed-requires-clause-known c = known_table (world c.args.store.now c.args.dict
 pub listed-requires-clause-items : goal.listed-requires-clause-items
 listed-requires-clause-items c =
     let w = world c.args.store.now c.args.dict.now in
-    let known = subst (λ (o : Option (Bor Argument)). IfSome o (λ a. IsKnownArgument w a.now)) c.in-Some.is c.requires.brackets in
+    let known = subst (λ o. IfSome o (λ a. IsKnownArgument w a.now)) c.in-Some.is c.requires.brackets in
     items_known w c.in-Some.given.now c.in-Some-list.items.now c.in-Some-list.ensures.parts known
 
 pub returns-in-Some-list-clause-answer : goal.returns-in-Some-list-clause-answer
@@ -37,11 +34,11 @@ returns-in-Some-list-clause-answer c =
     let keys = c.args.keys.now in
     let items = c.in-Some-list.items.now in
     let T = table_value w.texts (table_at w.tables c.args.on.0) in
-    let at : c.read-source.result ≡ table_at w.tables c.args.on.0 = sym (ap table_or c.read-source.ensures.table) in
+    let at : c.read-source.result ≡ table_at w.tables c.args.on.0 = grind arith in
     let scalar = c.in-None.ensures w.tables w.texts in
     let list = c.in-Some-list.ensures.parts w.tables w.texts in
     let same =
-    ap (λ (n : NumberedTable). values_named (table_value w.texts n) None (Some (items_of w.tables w.texts items))) at
+    ap (λ n. values_named (table_value w.texts n) None (Some (items_of w.tables w.texts items))) at
     ∙ (λ i. values_named T (scalar i) (list i))
-    ∙ ap (λ (o : Option (Bor Argument)). values_in T keys (option_map (λ a. argument_in w a.now) o)) (sym c.in-Some.is) in
-    subst (λ (m : Result meant.Values FaultValue). MakesBy values_seen w.texts c.listed.result m) same (c.listed.ensures.answer w.tables)
+    ∙ ap (λ o. values_in T keys (option_map (λ a. argument_in w a.now) o)) (sym c.in-Some.is) in
+    grind arith

@@ -1,7 +1,7 @@
 use Rattle.{
-  std.proofs.Common.{◌≡◌, ◌∙◌, ◌<◌, ◌+◌, ◌-◌, true, ap, sym, subst, length, drop, arith},
+  std.proofs.{lemmas.List.{drop_more}, Common.{◌≡◌, ◌∙◌, ◌<◌, ◌+◌, ◌-◌, true, sym, length, drop, arith}},
   pick_meaning.specs.Labels.{all_differ},
-  index_core.{specs.Labels.{same_number}, proofs.DifferLaws.{AreKeys, keys_more, differ_more, stands_twice}},
+  index_core.{specs.Labels.{same_number}, proofs.DifferLaws.{AreKeys, keys_more, stands_twice}},
 }
 use Rattle.index_core.proofs.listed.all_differ.Goals as goal
 
@@ -11,7 +11,7 @@ returns-then-not-branch c =
     let p = c.loop-place.place - 1 in
     let lt : p < length labels = omega arith in
     let same : c.loop-place.place ≡ p + 1 = omega arith in
-    let keys : AreKeys c.loop-place.later.keys (drop (p + 1) labels) = subst (λ n. AreKeys c.loop-place.later.keys (drop n labels)) same c.loop-place.invariant.keys in
+    let keys : AreKeys c.loop-place.later.keys (drop (p + 1) labels) = grind arith in
     sym (stands_twice labels c.loop-place.later.keys p _ lt keys (sym c.in_ok-insert.ensures.added ∙ c.if-not-branch.true))
 
 pub loop-place-preserved : goal.loop-place-preserved
@@ -20,9 +20,9 @@ loop-place-preserved c =
     let p = c.loop-place.place - 1 in
     let lt : p < length labels = omega arith in
     let same : c.loop-place.place ≡ p + 1 = omega arith in
-    let keys : AreKeys c.loop-place.later.keys (drop (p + 1) labels) = subst (λ n. AreKeys c.loop-place.later.keys (drop n labels)) same c.loop-place.invariant.keys in
-    let differ : all_differ same_number (drop (p + 1) labels) ≡ true = ap (λ n. all_differ same_number (drop n labels)) (sym same) ∙ c.loop-place.invariant.differ in
+    let keys : AreKeys c.loop-place.later.keys (drop (p + 1) labels) = grind arith in
+    let differ : all_differ same_number (drop (p + 1) labels) ≡ true = grind arith in
     record {
       keys = keys_more labels c.loop-place.later.keys c.insert.new.self.keys p _ lt keys c.in_ok-insert.ensures.keys;
-      differ = differ_more labels c.loop-place.later.keys p _ lt keys (sym c.in_ok-insert.ensures.added ∙ c.if-not-branch.false) differ;
+      differ = grind (arith, drop_more);
     }

@@ -1,5 +1,5 @@
 use Rattle.{
-  std.proofs.lemmas.Int.{to_z-of_z},
+  std.proofs.{Common.{arith}, lemmas.Int.{to_z-of_z}},
   index_core.proofs.NumberLaws.{left_number, left_below},
 }
 use Rattle.index_core.proofs.ranges.end_with.Goals as goal
@@ -12,4 +12,4 @@ returns-then-number-lt0 c =
 pub returns : goal.returns
 returns c =
     let fits = c.ranges.number in
-    λ texts. left_number texts c.args.n c.args.number c.unsigned_abs.result c.min.result (simp to_z-of_z at c.if-number-lt0.false) (simp to_z-of_z at c.unsigned_abs.ensures.value) c.min.ensures
+    λ texts. left_number texts c.args.n c.args.number c.unsigned_abs.result c.min.result (simp to_z-of_z at c.if-number-lt0.false) (grind (arith, to_z-of_z)) c.min.ensures

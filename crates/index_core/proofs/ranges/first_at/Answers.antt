@@ -5,7 +5,7 @@ use Rattle.{
 use Rattle.index_core.proofs.ranges.first_at.Goals as goal
 
 pub returns-in-Bool : goal.returns-in-Bool
-returns-in-Bool c = rw c.in-Bool.is (λ texts. all_pass _ c.args.n (λ k. refl))
+returns-in-Bool c = search (all_pass, c.in-Bool.is, c.args.n)
 
 pub returns-in-Int : goal.returns-in-Int
 returns-in-Int c = let fits : FitsSigned w64 c.in-Int.number = search rules in rw c.in-Int.is (simp to_z-of_z at c.first_from.ensures)

@@ -1,18 +1,16 @@
 use Rattle.{
-  std.proofs.lemmas.Int.{to_z-of_z},
-  index_core.proofs.NumberLaws.{no_number, found_number, missed_number},
+  index_core.proofs.NumberLaws.{number_there, no_number, missed_number},
+  std.proofs.{Common.{arith}, lemmas.Int.{to_z-of_z}},
 }
 use Rattle.index_core.proofs.ranges.place_of_number.Goals as goal
 
 pub returns-then-number-lt0 : goal.returns-then-number-lt0
-returns-then-number-lt0 c = let fits = c.ranges.number in no_number c.args.n c.args.number (simp to_z-of_z at c.if-number-lt0.true)
+returns-then-number-lt0 c = grind (arith, no_number, to_z-of_z)
 
 pub returns-then-place-n : goal.returns-then-place-n
-returns-then-place-n c =
-    let fits = c.ranges.number in
-    found_number c.args.n c.args.number c.unsigned_abs-place.result (simp to_z-of_z at c.if-number-lt0.false) (simp to_z-of_z at c.unsigned_abs-place.ensures.value) c.if-place-n.true
+returns-then-place-n c = grind (arith, number_there, to_z-of_z)
 
 pub returns-else-place-n : goal.returns-else-place-n
 returns-else-place-n c =
     let fits = c.ranges.number in
-    missed_number c.args.n c.args.number c.unsigned_abs-place.result (simp to_z-of_z at c.if-number-lt0.false) (simp to_z-of_z at c.unsigned_abs-place.ensures.value) c.if-place-n.false
+    missed_number c.args.n c.args.number c.unsigned_abs-place.result (simp to_z-of_z at c.if-number-lt0.false) (grind (arith, to_z-of_z)) c.if-place-n.false

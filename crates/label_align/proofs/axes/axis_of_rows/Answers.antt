@@ -1,5 +1,5 @@
 use Rattle.{
-  std.proofs.Common.{◌≡◌, ◌∙◌, ap, subst, sym, rules},
+  std.proofs.Common.{arith, ◌≡◌, ◌∙◌, ap, subst, sym},
   multi_index.{specs.Axes.{HaveLevels, nameless_axis, single_tuples}, proofs.TupleLaws.{levels_of_taken}},
   label_align.{specs.Both.{tuples_of}, proofs.AxisLaws.{single_rows}},
 }
@@ -8,10 +8,10 @@ use Rattle.label_align.proofs.axes.axis_of_rows.Goals as goal
 pub returns-then-both-eq1 : goal.returns-then-both-eq1
 returns-then-both-eq1 c =
     let tuples = tuples_of c.args.both.now in
-    let one : c.args.both.now.levels ≡ 1 = search rules in
+    let one : c.args.both.now.levels ≡ 1 = search in
     c.from_labels.ensures
-    ∙ (λ i. nameless_axis ((ap single_tuples c.in_ok-labels.ensures ∙ single_rows tuples c.args.rows.now (subst (λ n. HaveLevels n tuples) one c.requires.alike) c.requires.rows) i) (sym one i))
+    ∙ (λ i. nameless_axis ((ap single_tuples c.in_ok-labels.ensures ∙ single_rows tuples c.args.rows.now (grind arith) c.requires.rows) i) (sym one i))
 
 pub from_tuples-requires-clause-alike : goal.from_tuples-requires-clause-alike
 from_tuples-requires-clause-alike c =
-    subst (HaveLevels c.args.both.now.levels) (sym c.in_ok-tuples.ensures) (levels_of_taken (tuples_of c.args.both.now) c.args.rows.now c.args.both.now.levels c.requires.alike c.requires.rows)
+    subst (HaveLevels c.args.both.now.levels) (sym c.in_ok-tuples.ensures) (search levels_of_taken)

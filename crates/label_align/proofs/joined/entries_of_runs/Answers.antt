@@ -1,7 +1,7 @@
 use Rattle.{
-  std.proofs.{Common.{◌≡◌, ◌∙◌, ◌<◌, List, ℕ, take, drop, length, ap, sym, subst, arith, slice_index_or}, lemmas.List.Sums.{sum_by_more}},
+  std.proofs.{lemmas.List.{drop-drop, Sums.{sum_by_more}}, Common.{◌≡◌, ◌∙◌, ◌<◌, List, ℕ, take, drop, length, ap, arith, slice_index_or}},
   align_meaning.specs.Joins.{lists_of},
-  label_align.{specs.{declared.runs.Run.{Run}, Joined.{HasMore}, Runs.{no_run, run_entries, entries_in, rows_in, total}}, proofs.{JoinedLaws.{lists_more}, SideLaws.{run_more, entries_here}}},
+  label_align.{specs.{declared.runs.Run.{Run}, Runs.{no_run, run_entries, entries_in, rows_in, total}}, proofs.{JoinedLaws.{lists_more}, SideLaws.{run_more}}},
 }
 use Rattle.label_align.proofs.joined.entries_of_runs.Goals as goal
 
@@ -14,10 +14,10 @@ loop-run-preserved c =
     let lt : k < length runs = omega arith in
     let run : Run = slice_index_or runs k no_run in
     let more = sum_by_more rows_in runs k no_run lt in
-    let here : drop c.loop-run.from rows ≡ drop (total (take k runs)) rows = ap (λ n. drop n rows) c.loop-run.invariant.from in
+    let here : drop c.loop-run.from rows ≡ drop (total (take k runs)) rows = grind arith in
     record {
       made = lists_more c.loop-run.out c.push_key.new.out (run_entries count (take k runs) rows) (entries_in count run (drop (total (take k runs)) rows)) c.loop-run.invariant.made
-          (subst (HasMore c.loop-run.out c.push_key.new.out) (entries_here count run rows c.loop-run.from ∙ ap (entries_in count run) here) c.in_ok-push_key.ensures)
-          ∙ ap lists_of (sym (run_more count runs rows k no_run lt));
-      from = omega (arith, more, c.loop-run.invariant.from);
+          (grind (arith, drop-drop))
+          ∙ ap lists_of (grind (arith, run_more));
+      from = omega arith;
     }

@@ -1,23 +1,22 @@
 use Rattle.{
-  std.{proofs.{Common.{arith, ◌<◌, ◌-◌, ℕ, map, List, Some, length, ap, sym, ◌∙◌, subst}, lemmas.List.{take_all}}, specs.List.{flat_map}},
+  std.proofs.{Common.{rules, arith, ◌<◌, ◌-◌, ℕ, map, List, Some, length, subst}, lemmas.List.{take_all}},
   align_meaning.specs.Joins.{Entry, entries_with},
-  label_align.{specs.Joined.{HasMore}, proofs.{EntryLaws.{entries_of_some, flat_map_more}, JoinedLaws.{more_more, more_none}}},
+  label_align.{specs.Joined.{HasMore}, proofs.{EntryLaws.{entries_of_some, flat_map_more}, JoinedLaws.{more_more}}},
 }
 use Rattle.label_align.proofs.joined.push_key.Goals as goal
 
 pub loop-left-init : goal.loop-left-init
-loop-left-init c = more_none c.args.out.now
+loop-left-init c = search rules
 
 pub loop-left-preserved : goal.loop-left-preserved
 loop-left-preserved c =
     let of_row : ℕ → List (Entry ℕ) = λ r. entries_with c.args.key (map (λ row. row - c.args.first) c.args.rights.now) (Some r) in
     let lt : c.loop-left.left-index < length c.args.lefts.now = omega arith in
-    subst (HasMore c.args.out.now c.push_left-in-loop-left.new.out) (sym (flat_map_more of_row c.args.lefts.now c.loop-left.left-index 0 lt))
-    (more_more c.args.out.now c.loop-left.out c.push_left-in-loop-left.new.out _ _ c.loop-left.invariant c.in_ok-push_left.ensures)
+    rw (flat_map_more of_row c.args.lefts.now c.loop-left.left-index 0 lt) (more_more c.args.out.now c.loop-left.out c.push_left-in-loop-left.new.out _ _ c.loop-left.invariant c.in_ok-push_left.ensures)
 
 pub returns : goal.returns
 returns c =
     let some : 0 < length c.args.lefts.now = grind arith in
     subst (HasMore c.args.out.now c.loop-left.out)
-    (ap (flat_map (λ r. entries_with c.args.key (map (λ row. row - c.args.first) c.args.rights.now) (Some r))) (take_all c.loop-left.left-index c.args.lefts.now (omega arith)) ∙ entries_of_some c.args.key c.args.lefts.now (map (λ row. row - c.args.first) c.args.rights.now) some)
+    (search (take_all, entries_of_some))
     c.loop-left.invariant

@@ -1,5 +1,5 @@
 use Rattle.{
-  std.proofs.Common.{◌∙◌, ◌<◌, ◌++◌, List, ℕ, length, ap, sym, subst, All, Ok},
+  std.proofs.Common.{arith, ◌∙◌, ◌++◌, ap, sym, Ok},
   multi_index.specs.Axes.{AxisValue, tuples_at},
   label_align.proofs.{LawOfJoins.{law_of}, OuterLaws.{both_given}},
 }
@@ -9,20 +9,10 @@ pub joined_rows-requires-clause-given : goal.joined_rows-requires-clause-given
 joined_rows-requires-clause-given c = both_given c.args.dict.now c.args.a.now.tuples c.args.b.now.tuples c.requires.given_a c.requires.given_b
 
 pub axis_of_rows-requires-clause-rows : goal.axis_of_rows-requires-clause-rows
-axis_of_rows-requires-clause-rows c =
-    let texts = c.args.dict.now in
-    let a = c.args.a.now.tuples in
-    let b = c.args.b.now.tuples in
-    subst (λ (l : List ℕ). All (λ row. row < length (a ++ b)) l) (sym c.deref.ensures.value) c.in_ok-rows.ensures.inside
+axis_of_rows-requires-clause-rows c = grind arith
 
 pub returns-clause-rows : goal.returns-clause-rows
-returns-clause-rows c =
-    let texts = c.args.dict.now in
-    let a = c.args.a.now.tuples in
-    let b = c.args.b.now.tuples in
-    let tuples = ap (λ (x : AxisValue). x.tuples) c.in_ok-axis.ensures ∙ ap (tuples_at (a ++ b)) c.deref.ensures.value in
-    let seen = c.in_ok-rows.ensures.rows ∙ ap Ok (λ i. record { keys = sym tuples i; left = sym c.from.ensures i; right = sym c.from-2.ensures i }) in
-    seen
+returns-clause-rows c = grind arith
 
 pub returns-clause-law : goal.returns-clause-law
 returns-clause-law c =
@@ -31,4 +21,4 @@ returns-clause-law c =
     let b = c.args.b.now.tuples in
     let tuples = ap (λ (x : AxisValue). x.tuples) c.in_ok-axis.ensures ∙ ap (tuples_at (a ++ b)) c.deref.ensures.value in
     let seen = c.in_ok-rows.ensures.rows ∙ ap Ok (λ i. record { keys = sym tuples i; left = sym c.from.ensures i; right = sym c.from-2.ensures i }) in
-    law_of texts a b (Ok record { axis = c.in_ok-axis.axis; left = c.from.result; right = c.from-2.result }) seen
+    search law_of

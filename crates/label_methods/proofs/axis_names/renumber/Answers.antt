@@ -1,17 +1,15 @@
 use Rattle.{
-  std.proofs.Common.{◌≡◌, ◌∙◌, true, false, length, rules},
+  std.proofs.Common.{arith, ◌≡◌, true, length, rules},
   form_meaning.specs.Finish.{within_limits},
   label_methods.proofs.ResetTableLaws.{range_rows, renumbered_beyond, renumbered_made},
 }
 use Rattle.label_methods.proofs.axis_names.renumber.Goals as goal
 
 pub returns-then-not-within_limits : goal.returns-then-not-within_limits
-returns-then-not-within_limits c = λ texts settled.
-    let beyond : within_limits (length c.args.on.now.labels) (length c.args.on.now.columns) ≡ false = search rules in
-    (renumbered_beyond texts c.args.on.now beyond, λ more. Rattle.std.proofs.Common.refl)
+returns-then-not-within_limits c = grind (arith, renumbered_beyond)
 
 pub table_under_axis-requires-clause-rows : goal.table_under_axis-requires-clause-rows
-table_under_axis-requires-clause-rows c = range_rows c.rows-2.result c.in_ok-axis.axis c.in_ok-axis.ensures ∙ c.rows-2.ensures
+table_under_axis-requires-clause-rows c = grind (arith, range_rows)
 
 pub returns : goal.returns
 returns c = λ texts settled.

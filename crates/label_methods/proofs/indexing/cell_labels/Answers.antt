@@ -1,5 +1,5 @@
 use Rattle.{
-  std.proofs.{Common.{◌∙◌, ◌<◌, ap, length, map, arith}, lemmas.List.{take_all}},
+  std.proofs.{Common.{◌<◌, length, arith}, lemmas.List.{take_all}},
   form_parts.specs.Labels.{label_of},
   label_methods.proofs.IndexingLaws.{one_more_label},
 }
@@ -11,4 +11,4 @@ loop-row-preserved c =
     one_more_label c.args.column.now.cells c.loop-row.row c.cell.result c.label_of.result c.loop-row.labels.items c.push.new.self.items lt c.cell.ensures.cell c.label_of.ensures.label c.loop-row.invariant c.in_ok-push.ensures.items
 
 pub returns : goal.returns
-returns c = c.loop-row.invariant ∙ ap (map label_of) (take_all c.loop-row.row c.args.column.now.cells (omega arith))
+returns c = grind (arith, take_all)

@@ -1,6 +1,5 @@
 use Rattle.{
-  std.proofs.{Common.{◌≡◌, ◌<◌, ◌≤◌, ◌∙◌, ap, sym, subst, refl, true, false, length, List, Option, arith, rules}, lemmas.Result.{err_from_is_err_and}},
-  cell_core.specs.declared.cell.Label.{Label},
+  std.proofs.{Common.{◌≡◌, ◌<◌, ◌≤◌, ◌∙◌, ap, sym, subst, refl, true, false, length, arith, rules}, lemmas.Result.{err_from_is_err_and}},
   table_meaning.specs.Table.{table_value},
   form_meaning.specs.Finish.{within_limits, limited},
   method_meaning.specs.Levels.{indexed_by},
@@ -10,7 +9,7 @@ use Rattle.{
 use Rattle.label_methods.proofs.indexing.set_index.Goals as goal
 
 pub headings_at-requires : goal.headings_at-requires
-headings_at-requires c = others_inside c.args.places.now c.in_ok-kept.kept c.columns.result (length c.args.on.now.columns) c.in_ok-kept.ensures c.columns.ensures
+headings_at-requires c = grind (arith, others_inside c.args.places.now c.in_ok-kept.kept c.columns.result)
 
 pub copied_columns-requires : goal.copied_columns-requires
 copied_columns-requires c = others_inside c.args.places.now c.in_ok-kept.kept c.columns.result (length c.args.on.now.columns) c.in_ok-kept.ensures c.columns.ensures
@@ -23,7 +22,7 @@ returns-in_err-headings c =
     rw (p.1, p.2)
     (index_repeated c.args.dict.now c.args.on.now c.args.places.now c.in_ok-kept.kept c.in_err-headings.field-0.0 c.len.ensures.distinct c.requires.known.given
     (kept_meant c.args.on.now c.args.places.now c.in_ok-kept.kept c.columns.result c.in_ok-kept.ensures c.columns.ensures)
-    (subst (λ (hs : List (Option Label)). NamesRepeated c.in_err-headings.field-0.0 (repeated_heading hs)) labels c.in_err-headings.ensures.refused))
+    (subst (λ hs. NamesRepeated c.in_err-headings.field-0.0 (repeated_heading hs)) labels c.in_err-headings.ensures.refused))
 
 -- too many levels, or cells
 pub returns-then-levels-eq0 : goal.returns-then-levels-eq0
@@ -36,15 +35,13 @@ returns-then-levels-eq0 c =
     let none = ap repeated_heading (sym labels) ∙ c.in_ok-headings.ensures.different in
     let rest = limited (indexed_by (table_value dict t) places) in
     elim c.then-levels-eq0.branch [
-      | then-levels-eq0-via-then-levels-eq0 w ↦
-          let zero_levels : length places ≡ 0 = sym c.len-levels.ensures ∙ w.if-levels-eq0.true in
-          (index_beyond dict t places c.in_ok-kept.kept c.len.ensures.distinct c.requires.known.given besides none (without_level (length places) rest zero_levels), λ more. refl)
+      | then-levels-eq0-via-then-levels-eq0 w ↦ grind (arith, index_beyond, without_level)
       | then-levels-eq0-via-else-levels-eq0+then-levels-gt4 w ↦
           let many : 4 < length places = omega (arith, c.len-levels.ensures, w.if-levels-gt4.true) in
-          (index_beyond dict t places c.in_ok-kept.kept c.len.ensures.distinct c.requires.known.given besides none (beyond_levels (length places) rest many), λ more. refl)
+          (search (index_beyond, beyond_levels), λ more. refl)
       | then-levels-eq0-via-else-levels-eq0+else-levels-gt4+then-not-within_limits w ↦
           let beyond : within_limits (length t.labels) (length c.in_ok-kept.kept) ≡ false = search rules in
-          (index_beyond dict t places c.in_ok-kept.kept c.len.ensures.distinct c.requires.known.given besides none (beyond_cells dict t places c.in_ok-kept.kept besides beyond), λ more. refl)
+          (search (index_beyond, beyond_cells), λ more. refl)
     ]
 
 pub new-requires-clause-whole : goal.new-requires-clause-whole

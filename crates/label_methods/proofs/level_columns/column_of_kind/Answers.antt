@@ -1,5 +1,5 @@
 use Rattle.{
-  std.proofs.{Common.{◌∙◌, arith}, lemmas.Result.{err_from_is_err_and}},
+  std.proofs.{Common.{arith}, lemmas.Result.{err_from_is_err_and}},
   label_methods.proofs.LevelColumnLaws.{held_step, held_refused, held_ends},
 }
 use Rattle.label_methods.proofs.level_columns.column_of_kind.Goals as goal
@@ -13,7 +13,7 @@ returns-in_err-push_held c = λ texts.
 pub loop-row-preserved : goal.loop-row-preserved
 loop-row-preserved c =
     record {
-      kind = c.push_held.ensures.kind ∙ c.loop-row.invariant.kind;
+      kind = search;
       cells = λ texts. held_step texts c.args.kind c.args.axis.now c.loop-row.row c.args.level c.label.result c.cell_of-cell.result c.loop-row.column c.push_held.new.column _
           c.label.ensures c.cell_of-cell.ensures c.loop-row.invariant.kind c.in_ok-push_held.ensures.ok (c.loop-row.invariant.cells texts);
     }

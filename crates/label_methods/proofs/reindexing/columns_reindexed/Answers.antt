@@ -1,44 +1,36 @@
 use Rattle.{
-  std.proofs.{Common.{◌≡◌, ◌∙◌, ap, sym, subst, refl, length, map, true, false, List, Option, None, Ok, Result, ℕ, All, rules}, lemmas.{List.{length-map}, Result.{err_from_is_err_and}}},
-  cell_core.specs.declared.cell.Label.{Label},
+  std.proofs.{Common.{arith, ◌≡◌, ◌∙◌, sym, subst, refl, length, map, true, false, None, All, rules}, lemmas.{List.{length-map}, Result.{err_from_is_err_and}}},
   column_core.specs.Moves.{IsPlaceOf},
-  meaning.specs.Fault.{FaultValue},
-  multi_index.specs.Axes.{AxisValue, HaveLevels},
-  table_meaning.specs.{Settled.{IsSettled}, Table.{NumberedTable}, Valid.{IsWhole}},
+  table_meaning.specs.Valid.{IsWhole},
   form_meaning.specs.Finish.{within_limits},
-  form_parts.specs.Makes.{MakesBy},
-  frame_store.specs.Shown.{labels_value},
   selections.specs.Headings.{NamesRepeated, repeated_heading},
   label_methods.{specs.{Labels.{column_tuple}, Reindexed.{heading_of}}, proofs.ReindexLaws.{found, own_labels_given, columns_refused, columns_made, columns_whole, columns_repeated, columns_beyond, columns_answer}},
 }
 use Rattle.label_methods.proofs.reindexing.columns_reindexed.Goals as goal
 
 pub rows_of_labels-requires-clause-levels : goal.rows_of_labels-requires-clause-levels
-rows_of_labels-requires-clause-levels c =
-    subst (λ (a : AxisValue). HaveLevels (length a.names) c.in_ok-wanted.wanted.tuples) (sym c.in_ok-own.ensures)
-    (subst (λ (a : AxisValue). HaveLevels 1 a.tuples) (sym c.in_ok-wanted.ensures) c.requires.level)
+rows_of_labels-requires-clause-levels c = grind arith
 
 pub rows_of_labels-requires-clause-own : goal.rows_of_labels-requires-clause-own
-rows_of_labels-requires-clause-own c =
-    subst (λ (a : AxisValue). IsSettled labels_value c.args.dict.now a.tuples) (sym c.in_ok-own.ensures) (own_labels_given c.args.dict.now c.args.on.now c.requires.known.given)
+rows_of_labels-requires-clause-own c = rw c.in_ok-own.ensures (own_labels_given c.args.dict.now c.args.on.now c.requires.known.given)
 
 pub rows_of_labels-requires-clause-given : goal.rows_of_labels-requires-clause-given
-rows_of_labels-requires-clause-given c = subst (λ (a : AxisValue). IsSettled labels_value c.args.dict.now a.tuples) (sym c.in_ok-wanted.ensures) c.requires.labels
+rows_of_labels-requires-clause-given c = grind arith
 
 pub columns_axis-requires : goal.columns_axis-requires
-columns_axis-requires c = c.requires.known.whole.headed
+columns_axis-requires c = search
 
 pub labels_as_headings-requires-clause-one : goal.labels_as_headings-requires-clause-one
-labels_as_headings-requires-clause-one c = ap (λ (a : AxisValue). length a.names) c.in_ok-wanted.ensures
+labels_as_headings-requires-clause-one c = grind arith
 
 pub labels_as_headings-requires-clause-alike : goal.labels_as_headings-requires-clause-alike
-labels_as_headings-requires-clause-alike c = subst (λ (a : AxisValue). HaveLevels 1 a.tuples) (sym c.in_ok-wanted.ensures) c.requires.level
+labels_as_headings-requires-clause-alike c = rw c.in_ok-wanted.ensures c.requires.level
 
 pub columns_or_missing-requires : goal.columns_or_missing-requires
 columns_or_missing-requires c =
     let t = c.args.on.now in
-    let many : length c.in_ok-own.own.tuples ≡ length t.columns = ap (λ (a : AxisValue). length a.tuples) c.in_ok-own.ensures ∙ length-map t.headings column_tuple ∙ c.requires.known.whole.headed in
-    subst (λ n. All (IsPlaceOf n) c.in_ok-places.places) many c.in_ok-places.ensures.below
+    let many : length c.in_ok-own.own.tuples ≡ length t.columns = grind (arith, c.in_ok-own.ensures, length-map t.headings column_tuple, c.requires.known.whole.headed) in
+    rw many at c.in_ok-places.ensures.below
 
 pub returns-in_err-places : goal.returns-in_err-places
 returns-in_err-places c =
@@ -46,61 +38,58 @@ returns-in_err-places c =
     let t = c.args.on.now in
     let labels = c.args.labels.now in
     let same : found texts c.in_ok-own.own.tuples c.in_ok-wanted.wanted.tuples ≡ found texts (map column_tuple t.headings) labels = (λ j. found texts (c.in_ok-own.ensures j).tuples (c.in_ok-wanted.ensures j).tuples) in
-    let p = err_from_is_err_and c.from_residual-in_err-places.result c.from_residual-in_err-places.ensures.1 in
-    rw (p.1, p.2)
-    (columns_refused texts t labels c.rows_of_labels.result c.in_err-places.field-0.0 c.in_err-places.was
-    (subst (λ (m : Result (List (Option ℕ)) FaultValue). MakesBy (λ _ rows. rows) texts c.rows_of_labels.result m) same c.rows_of_labels.ensures.rows))
+    grind (arith, err_from_is_err_and, columns_refused)
 
 pub returns-in_err-headings : goal.returns-in_err-headings
 returns-in_err-headings c =
     let texts = c.args.dict.now in
     let t = c.args.on.now in
     let labels = c.args.labels.now in
-    let met : found texts (map column_tuple t.headings) labels ≡ Ok c.in_ok-places.places = (λ j. found texts (sym c.in_ok-own.ensures j).tuples (sym c.in_ok-wanted.ensures j).tuples) ∙ c.in_ok-places.ensures.rows in
-    let count : length c.in_ok-places.places ≡ length labels = c.in_ok-places.ensures.count ∙ ap (λ (a : AxisValue). length a.tuples) c.in_ok-wanted.ensures in
-    let named : c.as_slice.result.now ≡ map heading_of labels = c.as_slice.ensures.value ∙ c.in_ok-labels.ensures ∙ ap (λ (a : AxisValue). map heading_of a.tuples) c.in_ok-wanted.ensures in
+    let met = (λ j. found texts (sym c.in_ok-own.ensures j).tuples (sym c.in_ok-wanted.ensures j).tuples) ∙ c.in_ok-places.ensures.rows in
+    let count : length c.in_ok-places.places ≡ length labels = grind (arith, c.in_ok-places.ensures.count, c.in_ok-wanted.ensures) in
+    let named : c.as_slice.result.now ≡ map heading_of labels = grind (arith, c.as_slice.ensures.value, c.in_ok-labels.ensures, c.in_ok-wanted.ensures) in
     let p = err_from_is_err_and c.from_residual-in_err-headings.result c.from_residual-in_err-headings.ensures.1 in
     rw (p.1, p.2)
     (columns_repeated texts t labels c.in_ok-places.places met count c.len.ensures.distinct c.requires.labels c.in_err-headings.field-0.0
-    (subst (λ (hs : List (Option Label)). NamesRepeated c.in_err-headings.field-0.0 (repeated_heading hs)) named c.in_err-headings.ensures.refused))
+    (subst (λ hs. NamesRepeated c.in_err-headings.field-0.0 (repeated_heading hs)) named c.in_err-headings.ensures.refused))
 
 pub returns-then-not-within_limits : goal.returns-then-not-within_limits
 returns-then-not-within_limits c =
     let texts = c.args.dict.now in
     let t = c.args.on.now in
     let labels = c.args.labels.now in
-    let met : found texts (map column_tuple t.headings) labels ≡ Ok c.in_ok-places.places = (λ j. found texts (sym c.in_ok-own.ensures j).tuples (sym c.in_ok-wanted.ensures j).tuples) ∙ c.in_ok-places.ensures.rows in
-    let count : length c.in_ok-places.places ≡ length labels = c.in_ok-places.ensures.count ∙ ap (λ (a : AxisValue). length a.tuples) c.in_ok-wanted.ensures in
-    let named : c.as_slice.result.now ≡ map heading_of labels = c.as_slice.ensures.value ∙ c.in_ok-labels.ensures ∙ ap (λ (a : AxisValue). map heading_of a.tuples) c.in_ok-wanted.ensures in
-    let none : repeated_heading (map heading_of labels) ≡ None = ap repeated_heading (sym named) ∙ c.in_ok-headings.ensures.different in
+    let met = (λ j. found texts (sym c.in_ok-own.ensures j).tuples (sym c.in_ok-wanted.ensures j).tuples) ∙ c.in_ok-places.ensures.rows in
+    let count : length c.in_ok-places.places ≡ length labels = grind (arith, c.in_ok-places.ensures.count, c.in_ok-wanted.ensures) in
+    let named : c.as_slice.result.now ≡ map heading_of labels = grind (arith, c.as_slice.ensures.value, c.in_ok-labels.ensures, c.in_ok-wanted.ensures) in
+    let none : repeated_heading (map heading_of labels) ≡ None = cc c.in_ok-headings.ensures.different in
     let beyond : within_limits (length t.labels) (length c.in_ok-places.places) ≡ false = search rules in
-    (columns_beyond texts t labels c.in_ok-places.places met count c.len.ensures.distinct c.requires.labels none beyond, λ more. refl)
+    (search columns_beyond, λ more. refl)
 
 pub new-requires-clause-whole : goal.new-requires-clause-whole
 new-requires-clause-whole c =
     let t = c.args.on.now in
     let labels = c.args.labels.now in
-    let count : length c.in_ok-places.places ≡ length labels = c.in_ok-places.ensures.count ∙ ap (λ (a : AxisValue). length a.tuples) c.in_ok-wanted.ensures in
-    let named : c.as_slice.result.now ≡ map heading_of labels = c.as_slice.ensures.value ∙ c.in_ok-labels.ensures ∙ ap (λ (a : AxisValue). map heading_of a.tuples) c.in_ok-wanted.ensures in
-    let none : repeated_heading (map heading_of labels) ≡ None = ap repeated_heading (sym named) ∙ c.in_ok-headings.ensures.different in
-    let many : length c.in_ok-own.own.tuples ≡ length t.columns = ap (λ (a : AxisValue). length a.tuples) c.in_ok-own.ensures ∙ length-map t.headings column_tuple ∙ c.requires.known.whole.headed in
-    let below : All (IsPlaceOf (length t.columns)) c.in_ok-places.places = subst (λ n. All (IsPlaceOf n) c.in_ok-places.places) many c.in_ok-places.ensures.below in
+    let count : length c.in_ok-places.places ≡ length labels = grind (arith, c.in_ok-places.ensures.count, c.in_ok-wanted.ensures) in
+    let named : c.as_slice.result.now ≡ map heading_of labels = grind (arith, c.as_slice.ensures.value, c.in_ok-labels.ensures, c.in_ok-wanted.ensures) in
+    let none : repeated_heading (map heading_of labels) ≡ None = cc c.in_ok-headings.ensures.different in
+    let many : length c.in_ok-own.own.tuples ≡ length t.columns = grind (arith, c.in_ok-own.ensures, length-map t.headings column_tuple, c.requires.known.whole.headed) in
+    let below : All (IsPlaceOf (length t.columns)) c.in_ok-places.places = rw many at c.in_ok-places.ensures.below in
     let headed = c.in_ok-headings.ensures.made ∙ (λ j. record { columns_name = c.columns_name.ensures j; labels = named j }) in
-    subst (λ (n : NumberedTable). IsWhole n)
+    subst (λ n. IsWhole n)
     (sym (columns_made t labels c.in_ok-places.places c.shape.result c.in_ok-axis.axis c.in_ok-headings.headings c.in_ok-blocks.blocks c.shape.ensures (c.in_ok-axis.ensures ∙ c.axis.ensures) headed c.in_ok-blocks.ensures.columns))
-    (columns_whole t labels c.in_ok-places.places c.requires.known.whole c.requires.shape c.requires.level none count below)
+    (search columns_whole)
 
 pub returns : goal.returns
 returns c =
     let texts = c.args.dict.now in
     let t = c.args.on.now in
     let labels = c.args.labels.now in
-    let met : found texts (map column_tuple t.headings) labels ≡ Ok c.in_ok-places.places = (λ j. found texts (sym c.in_ok-own.ensures j).tuples (sym c.in_ok-wanted.ensures j).tuples) ∙ c.in_ok-places.ensures.rows in
-    let count : length c.in_ok-places.places ≡ length labels = c.in_ok-places.ensures.count ∙ ap (λ (a : AxisValue). length a.tuples) c.in_ok-wanted.ensures in
-    let named : c.as_slice.result.now ≡ map heading_of labels = c.as_slice.ensures.value ∙ c.in_ok-labels.ensures ∙ ap (λ (a : AxisValue). map heading_of a.tuples) c.in_ok-wanted.ensures in
-    let none : repeated_heading (map heading_of labels) ≡ None = ap repeated_heading (sym named) ∙ c.in_ok-headings.ensures.different in
-    let many : length c.in_ok-own.own.tuples ≡ length t.columns = ap (λ (a : AxisValue). length a.tuples) c.in_ok-own.ensures ∙ length-map t.headings column_tuple ∙ c.requires.known.whole.headed in
-    let below : All (IsPlaceOf (length t.columns)) c.in_ok-places.places = subst (λ n. All (IsPlaceOf n) c.in_ok-places.places) many c.in_ok-places.ensures.below in
+    let met = (λ j. found texts (sym c.in_ok-own.ensures j).tuples (sym c.in_ok-wanted.ensures j).tuples) ∙ c.in_ok-places.ensures.rows in
+    let count : length c.in_ok-places.places ≡ length labels = grind (arith, c.in_ok-places.ensures.count, c.in_ok-wanted.ensures) in
+    let named : c.as_slice.result.now ≡ map heading_of labels = grind (arith, c.as_slice.ensures.value, c.in_ok-labels.ensures, c.in_ok-wanted.ensures) in
+    let none : repeated_heading (map heading_of labels) ≡ None = cc c.in_ok-headings.ensures.different in
+    let many : length c.in_ok-own.own.tuples ≡ length t.columns = grind (arith, c.in_ok-own.ensures, length-map t.headings column_tuple, c.requires.known.whole.headed) in
+    let below : All (IsPlaceOf (length t.columns)) c.in_ok-places.places = rw many at c.in_ok-places.ensures.below in
     let headed = c.in_ok-headings.ensures.made ∙ (λ j. record { columns_name = c.columns_name.ensures j; labels = named j }) in
     let within : within_limits (length t.labels) (length c.in_ok-places.places) ≡ true = search rules in
     columns_answer texts t labels c.in_ok-places.places met count c.len.ensures.distinct c.requires.labels c.new.result none within c.requires.known.given below

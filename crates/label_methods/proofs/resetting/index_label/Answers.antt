@@ -1,5 +1,5 @@
 use Rattle.{
-  std.{proofs.Common.{◌≡◌, ◌∙◌, ap, sym, not, true, false, length, Some, arith, rules}, specs.Prelude.{codes}},
+  std.{proofs.Common.{◌≡◌, ◌∙◌, ap, sym, not, true, false, length, arith, rules}, specs.Prelude.{codes}},
   label_methods.proofs.ResetLaws.{interned, text_seen, text_settled, one_nameless, label_if},
 }
 use Rattle.cell_core.specs.declared.cell.Label.TheVariants as label
@@ -11,11 +11,11 @@ returns-then-has_label-clause-label c = λ level.
     let longer = interned c.args.dict.now c.intern.new.self (codes "index") c.in_ok-intern.ensures.texts in
     let one : length c.args.on.now.level_names ≡ 1 = omega arith in
     let there : c.has_label.result ≡ true = search rules in
-    one_nameless c.args.dict.now c.intern.new.self c.args.on.now index c.has_label.result level one longer c.requires.given (text_seen c.intern.new.self c.in_ok-intern.field-0 (codes "index") c.in_ok-intern.ensures.given) c.has_label.ensures
+    one_nameless c.args.dict.now c.intern.new.self c.args.on.now index c.has_label.result level one longer c.requires.given (grind (arith, text_seen)) c.has_label.ensures
     ∙ ap (λ b. label_if (not b) level) there
 
 pub returns-clause-given : goal.returns-clause-given
-returns-clause-given c = λ more j. Some (text_settled c.intern.new.self c.in_ok-intern.field-0 (codes "index") c.in_ok-intern.ensures.given more j)
+returns-clause-given c = grind (arith, text_settled)
 
 pub returns-clause-label : goal.returns-clause-label
 returns-clause-label c = λ level.

@@ -1,5 +1,5 @@
 use Rattle.{
-  table_meaning.specs.Table.{table_value},
+  std.proofs.Common.{arith},
   frame_store.proofs.Settling.{settled_later},
   label_methods.proofs.ResetLaws.{labels_given, labels_meant},
 }
@@ -8,8 +8,7 @@ use Rattle.label_methods.proofs.resetting.reset_labels.Goals as goal
 pub returns-clause-given : goal.returns-clause-given
 returns-clause-given c =
     labels_given c.level_labels.new.dict c.args.on.now c.in_ok-labels.labels.items c.push_headings.new.labels.items c.in_ok-labels.ensures.given
-    (settled_later table_value c.args.dict.now c.level_labels.new.dict c.args.on.now c.in_ok-labels.ensures.longer c.requires.given) c.in_ok-push_headings.ensures
+    (search settled_later) c.in_ok-push_headings.ensures
 
 pub returns-clause-labels : goal.returns-clause-labels
-returns-clause-labels c =
-    labels_meant c.args.dict.now c.level_labels.new.dict c.args.on.now c.in_ok-labels.labels.items c.push_headings.new.labels.items c.in_ok-labels.ensures.longer c.requires.given c.in_ok-push_headings.ensures c.in_ok-labels.ensures.labels
+returns-clause-labels c = grind (arith, labels_meant c.args.dict.now)

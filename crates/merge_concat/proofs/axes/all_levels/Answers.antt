@@ -1,24 +1,12 @@
 use Rattle.{
-  std.proofs.Common.{◌≡◌, ◌∙◌, ◌+◌, ◌-◌, ◌<◌, List, true, ap, subst, arith},
-  cell_core.specs.declared.cell.Label.{Label},
-  multi_index.specs.Axes.{AxisValue, HaveLevels, nameless_axis, single_tuples, with_level},
+  std.proofs.Common.{◌≡◌, ◌∙◌, ◌+◌, ◌-◌, ◌<◌, true, subst, arith},
+  multi_index.specs.Axes.{HaveLevels},
   merge_concat.{specs.Axes.{levels_of_first, tuples_in}, proofs.AxisLaws.{one_level, level_more, no_level}},
 }
 use Rattle.merge_concat.proofs.axes.all_levels.Goals as goal
 
 pub loop-level-init : goal.loop-level-init
-loop-level-init c =
-    let tuples = tuples_in c.args.axes.now in
-    let levels = levels_of_first c.args.axes.now in
-    let last = c.levels_of-level.result - 1 in
-    let told = c.levels_of-level.ensures in
-    let e : last + 1 ≡ levels = omega (arith, told.count, told.some) in
-    record {
-      inside = omega (arith, told.count, told.some);
-      made = c.from_labels-axis.ensures
-          ∙ ap (λ (labels : List Label). nameless_axis (single_tuples labels) 1) c.in_ok-labels_at.ensures
-          ∙ one_level last levels tuples e (subst (λ n. HaveLevels n tuples) told.count told.alike);
-    }
+loop-level-init c = grind (arith, one_level)
 
 pub loop-level-preserved : goal.loop-level-preserved
 loop-level-preserved c =
@@ -30,9 +18,7 @@ loop-level-preserved c =
     let lt : level < levels = omega (arith, c.loop-level.invariant.inside) in
     record {
       inside = lt;
-      made = c.in_ok-axis.ensures
-          ∙ ap (λ (axis : AxisValue). with_level axis c.deref.result.now true) c.loop-level.invariant.made
-          ∙ level_more c.loop-level.level level levels tuples c.deref.result.now was lt (subst (λ n. HaveLevels n tuples) told.count told.alike) (c.deref.ensures.value ∙ c.in_ok-labels.ensures);
+      made = cc (c.in_ok-axis.ensures, c.loop-level.invariant.made, level_more c.loop-level.level level levels tuples c.deref.result.now was lt (subst (λ n. HaveLevels n tuples) told.count told.alike) (c.deref.ensures.value ∙ c.in_ok-labels.ensures));
     }
 
 pub returns : goal.returns

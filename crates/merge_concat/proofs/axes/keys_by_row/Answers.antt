@@ -1,6 +1,6 @@
 use Rattle.{
-  std.proofs.{Common.{◌≡◌, ◌∙◌, ◌+◌, ◌<◌, ◌++◌, suc, false, [], length, take, replicate, slice_index_or, ap, sym, arith}, lemmas.List.{length-map}},
-  merge_concat.{specs.Axes.{tuples_of_each, keys_below}, proofs.AxisLaws.{keys_more, tuples_there}},
+  std.proofs.{Common.{◌≡◌, ◌∙◌, ◌+◌, ◌<◌, suc, false, length, slice_index_or, ap, arith}, lemmas.List.{length-map}},
+  merge_concat.{specs.Axes.{tuples_of_each}, proofs.AxisLaws.{keys_more, tuples_there}},
 }
 use Rattle.cell_core.specs.declared.cell.Label.TheVariants as label
 use Rattle.merge_concat.proofs.axes.keys_by_row.Goals as goal
@@ -16,7 +16,4 @@ loop-place-preserved c =
     let in_lists : place < length lists = omega (arith, length-map axes (λ axis. axis.now.tuples), c.loop-place-test.true) in
     let many = c.len.ensures ∙ ap length (tuples_there axes place c.index-axes-place.result c.loop-place-test.true c.index-axes-place.is) in
     let next : suc place ≡ place + 1 = omega arith in
-    c.in_ok-push_times.ensures
-    ∙ (λ i. c.loop-place.invariant i ++ replicate (many i) key)
-    ∙ sym (keys_more keys lists place (label.Bool false) [] in_keys in_lists)
-    ∙ ap (λ n. keys_below (take n keys) (take n lists)) next
+    grind (arith, keys_more)

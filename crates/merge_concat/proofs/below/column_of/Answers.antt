@@ -11,5 +11,4 @@ with_part-requires-clause-few g c =
     let so_far = length-flat_map-take part_cells parts c.loop-part.part-index c.part-item.result c.loop-part-test.true in
     let all = length-flat_map part_cells parts in
     let kept = sym (rows_counted g.T.Value.cell rows.values.items rows.present.items) ∙ ap length c.loop-part.invariant in
-    let here = ap (λ part. length (part_cells part)) c.part-item.is in
-    omega (arith, so_far, all, kept, here, c.requires.count)
+    grind arith

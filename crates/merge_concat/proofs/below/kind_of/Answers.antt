@@ -9,6 +9,6 @@ pub returns : goal.returns
 returns c =
     let others = take (length c.args.parts.now - 1) (drop 1 c.args.parts.now) in
     let all = ap (λ k. list_all (λ other. same_kind k (part_kind c.args.missing other)) others) (sym c.kind-kind.ensures)
-    ∙ ap (list_all (λ other. same_kind c.kind-kind.result (part_kind c.args.missing other))) (sym (take_all c.loop-other.other-index others c.loop-other-test.false))
+    ∙ ap (list_all (λ other. same_kind c.kind-kind.result (part_kind c.args.missing other))) (search take_all)
     ∙ c.loop-other.invariant in
     ap Some c.kind-kind.ensures ∙ sym (kind_told c.args.missing c.args.parts.now c.first-item.result true c.in-len1-up.len_at_least c.first-item.is all)

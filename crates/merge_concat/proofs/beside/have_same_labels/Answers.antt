@@ -1,5 +1,5 @@
 use Rattle.{
-  std.{proofs.{Common.{◌∙◌, ◌-◌, ◌&&◌, length, take, drop, slice_index_or, sym, ap, true, false}, lemmas.List.{take_all, Folds.{list_all_at, list_all_more}}}, specs.List.{list_all}},
+  std.proofs.{Common.{arith, ◌-◌, length, take, drop, sym, true, false}, lemmas.List.{take_all, Folds.{list_all_at, list_all_more}}},
   merge_concat.proofs.EqualLaws.{has_labels_of, labels_told, equal_told},
 }
 use Rattle.merge_concat.proofs.beside.have_same_labels.Goals as goal
@@ -8,10 +8,7 @@ pub loop-other-preserved : goal.loop-other-preserved
 loop-other-preserved c =
     let first = c.first-item.result in
     let others = take (length c.args.axes.now - 1) (drop 1 c.args.axes.now) in
-    list_all_more (has_labels_of first) others c.loop-other.other-index c.other-item.result c.loop-other-test.true
-    ∙ ap (λ b. b && has_labels_of first (slice_index_or others c.loop-other.other-index c.other-item.result)) c.loop-other.invariant
-    ∙ ap (has_labels_of first) (sym c.other-item.is)
-    ∙ labels_told first.now.tuples c.other-item.result.now.tuples c.same_labels.result c.same_labels.ensures ∙ c.if-not-same_labels.false
+    grind (arith, list_all_more (has_labels_of first) others c.loop-other.other-index c.other-item.result c.loop-other-test.true, c.loop-other.invariant, c.other-item.is, labels_told first.now.tuples c.other-item.result.now.tuples c.same_labels.result c.same_labels.ensures, c.if-not-same_labels.false)
 
 pub returns-then-not-same_labels : goal.returns-then-not-same_labels
 returns-then-not-same_labels c =
@@ -19,12 +16,11 @@ returns-then-not-same_labels c =
     let others = take (length c.args.axes.now - 1) (drop 1 c.args.axes.now) in
     sym (equal_told c.args.axes.now first false c.in-len1-up.len_at_least c.first-item.is
     (list_all_at (has_labels_of first) others c.loop-other.other-index c.other-item.result c.loop-other-test.true
-    (ap (has_labels_of first) (sym c.other-item.is)
-    ∙ labels_told first.now.tuples c.other-item.result.now.tuples c.same_labels.result c.same_labels.ensures ∙ c.if-not-same_labels.true)))
+    (cc (c.other-item.is, labels_told first.now.tuples c.other-item.result.now.tuples c.same_labels.result c.same_labels.ensures, c.if-not-same_labels.true))))
 
 pub returns : goal.returns
 returns c =
     let first = c.first-item.result in
     let others = take (length c.args.axes.now - 1) (drop 1 c.args.axes.now) in
     sym (equal_told c.args.axes.now first true c.in-len1-up.len_at_least c.first-item.is
-    (ap (list_all (has_labels_of first)) (sym (take_all c.loop-other.other-index others c.loop-other-test.false)) ∙ c.loop-other.invariant))
+    (grind (arith, has_labels_of, take_all)))

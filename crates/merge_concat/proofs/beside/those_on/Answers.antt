@@ -1,5 +1,5 @@
 use Rattle.{
-  std.proofs.Common.{◌∙◌, ◌<◌, ◌++◌, ◌∷◌, [], length, ap, sym, arith},
+  std.proofs.Common.{◌∙◌, ◌<◌, length, sym, arith},
   merge_concat.proofs.{UnitedLaws.{one_kept, none_kept}, beside.those_on.Goals.{then-not-is_empty+in_ok-push, else-not-is_empty}},
 }
 use Rattle.merge_concat.proofs.beside.those_on.Goals as goal
@@ -13,7 +13,7 @@ loop-row-preserved c =
       | then-not-is_empty+in_ok-push w ↦
           one_kept among tuples c.in_ok-partners.partners c.loop-row.row c.rows.result.now lt c.in_ok-partners.ensures c.rows.ensures c.loop-row.kept c.if-not-is_empty.kept w.at.result.now
           c.loop-row.invariant (sym c.is_empty.ensures ∙ w.if-not-is_empty.true) w.at.ensures
-          (w.kept-is ∙ w.in_ok-push.ensures.ok ∙ ap (λ t. c.loop-row.kept ++ t ∷ []) w.copy.ensures)
+          (grind arith)
       | else-not-is_empty w ↦
           w.kept-is
           ∙ none_kept among tuples c.in_ok-partners.partners c.loop-row.row c.rows.result.now lt c.in_ok-partners.ensures c.rows.ensures c.loop-row.kept

@@ -1,7 +1,6 @@
 use Rattle.{
-  std.{proofs.{Common.{◌≡◌, ◌∙◌, ◌+◌, ◌<◌, ◌&&◌, List, [], length, take, ap, sym, subst, arith}, lemmas.List.{length-map, Folds.{list_all_more}, Elements.{All-filter}}}, specs.List.{filter, list_any, list_all}},
+  std.{proofs.{Common.{◌≡◌, ◌∙◌, ◌+◌, ◌<◌, ◌&&◌, List, [], length, take, ap, sym, arith}, lemmas.List.{length-map, Folds.{list_all_more}, Elements.{All-filter}}}, specs.List.{filter, list_any, list_all}},
   cell_core.specs.declared.cell.Label.{Label},
-  multi_index.specs.Axes.{HaveLevels},
   row_keys.specs.Keys.{same_tuple},
   merge_concat.{specs.Axes.{tuples_of_each}, proofs.{AxisLaws.{tuples_there}, UnitedLaws.{both_pass}}},
   factorize.proofs.NumberLaws.{filter_all},
@@ -10,7 +9,7 @@ use Rattle.merge_concat.proofs.beside.those_on_all.Goals as goal
 
 pub loop-other-init : goal.loop-other-init
 loop-other-init c = record {
-  levels = subst (HaveLevels c.levels-levels.result) (sym c.in_ok-kept.ensures) c.levels-levels.ensures.alike;
+  levels = grind arith;
   kept = c.in_ok-kept.ensures ∙ sym (filter_all c.args.first.now.tuples);
 }
 
@@ -25,10 +24,10 @@ loop-other-preserved c =
     let here = λ (t : List Label). list_any (same_tuple t) other in
     let after = λ (t : List Label). list_all (list_any (same_tuple t)) (take (i + 1) lists) in
     record {
-      levels = subst (HaveLevels c.levels-levels.result) (sym c.in_ok-kept-2.ensures) (All-filter here (λ t. length t ≡ c.levels-levels.result) c.loop-other.kept c.loop-other.invariant.levels);
+      levels = rw c.in_ok-kept-2.ensures (All-filter here (λ t. length t ≡ c.levels-levels.result) c.loop-other.kept c.loop-other.invariant.levels);
       kept = c.in_ok-kept-2.ensures
           ∙ ap (filter here) c.loop-other.invariant.kept
           ∙ both_pass before here after
-          (λ t. list_all_more (list_any (same_tuple t)) lists i [] lt ∙ ap (λ l. before t && list_any (same_tuple t) l) (sym (tuples_there others i c.other-item.result c.loop-other-test.true c.other-item.is)))
+          (λ t. list_all_more (list_any (same_tuple t)) lists i [] lt ∙ ap (λ l. before t && list_any (same_tuple t) l) (sym (search tuples_there)))
           c.args.first.now.tuples;
     }

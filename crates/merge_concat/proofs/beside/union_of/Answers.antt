@@ -2,7 +2,6 @@ use Rattle.{
   std.proofs.{Common.{◌∙◌, ap, sym}, lemmas.Result.{IfOk-weaker}},
   meaning.specs.Reduce.{distinct},
   join_meaning.specs.Concat.{united},
-  multi_index.specs.Axes.{AxisValue},
   row_keys.specs.Keys.{same_tuple},
   merge_concat.{specs.Axes.{tuples_of_each}, proofs.UnitedLaws.{united_any}},
 }
@@ -14,7 +13,7 @@ returns c =
     IfOk-weaker c.different.result _ _
     (λ made h.
     h
-    ∙ ap (λ (axis : AxisValue). distinct same_tuple axis.tuples) c.in_ok-all.ensures
+    ∙ ap (λ axis. distinct same_tuple axis.tuples) c.in_ok-all.ensures
     ∙ united_any axes c.first-item.result c.in-len1-up.len_at_least c.first-item.is
     ∙ sym (ap (λ b. united same_tuple b (tuples_of_each axes)) c.if-inner.false))
     c.different.ensures

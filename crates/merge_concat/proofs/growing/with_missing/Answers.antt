@@ -11,4 +11,4 @@ returns g c =
     let present = c.in_ok-resize-2.ensures.items ∙ resized rows.present.items false (c.len.result + c.args.count) (vec_len rows.present) c.args.count (omega arith) (omega arith) in
     (λ i. cells_of_values g.T.Value.cell (values i) (present i))
     ∙ cells_append g.T.Value.cell rows.values.items (replicate c.args.count c.blank.result) rows.present.items (replicate c.args.count false) rows.alike
-    ∙ ap (λ l. cells_of_rows g.T.Value.cell rows ++ l) (cells_missing g.T.Value.cell g.met.T.Value.missing c.args.count c.blank.result)
+    ∙ ap (λ l. cells_of_rows g.T.Value.cell rows ++ l) (grind (arith, cells_missing))

@@ -1,7 +1,7 @@
 use Rattle.{
-  std.proofs.Common.{sym, subst, true, nat_eq},
-  join_meaning.specs.Pairs.{pairs_from, within_limit},
-  merge_concat.{specs.{Codes.{code_pairs}, Pairs.{IsJoined}}, proofs.CountLaws.{exchanged_joined}},
+  std.proofs.Common.{true, nat_eq},
+  join_meaning.specs.Pairs.{pairs_from},
+  merge_concat.proofs.CountLaws.{exchanged_joined},
 }
 use Rattle.merge_concat.proofs.pairs.joined_by_code.Goals as goal
 
@@ -9,5 +9,4 @@ pub returns-in_ok-joined_by_row-in-Right : goal.returns-in_ok-joined_by_row-in-R
 returns-in_ok-joined_by_row-in-Right c =
     let left = c.args.left.now.codes.now in
     let right = c.args.right.now.codes.now in
-    subst (λ how. IsJoined c.exchanged.result (within_limit (code_pairs how c.args.left.now.count left right))) (sym c.in-Right.is)
-    (exchanged_joined c.in_ok-joined_by_row-in-Right.field-0 c.exchanged.result (pairs_from nat_eq true 0 right left) c.exchanged.ensures.left c.exchanged.ensures.right c.in_ok-joined_by_row-in-Right.ensures)
+    rw c.in-Right.is (exchanged_joined c.in_ok-joined_by_row-in-Right.field-0 c.exchanged.result (pairs_from nat_eq true 0 right left) c.exchanged.ensures.left c.exchanged.ensures.right c.in_ok-joined_by_row-in-Right.ensures)

@@ -1,17 +1,12 @@
 use Rattle.{
-  std.proofs.Common.{◌∙◌, sym},
+  std.proofs.Common.{arith, ◌∙◌, sym},
   join_meaning.specs.Pairs.{within_limit},
   merge_concat.{specs.Codes.{outer_pairs, counted_by_key}, proofs.CountLaws.{length-outer, too_many, few_enough}},
 }
 use Rattle.merge_concat.proofs.pairs.joined_by_key.Goals as goal
 
 pub returns : goal.returns
-returns c =
-    let n = c.in_ok-lefts.lefts.count in
-    let lefts = c.in_ok-lefts.lefts.codes.now in
-    let rights = c.in_ok-rights.rights.codes.now in
-    sym (λ i. within_limit (outer_pairs (c.in_ok-lefts.ensures.count i) (c.in_ok-lefts.ensures.codes i) (c.in_ok-rights.ensures.codes i)))
-    ∙ too_many (outer_pairs n lefts rights) (counted_by_key n lefts rights) (length-outer n lefts rights) c.in-None.ensures
+returns c = grind (arith, too_many, length-outer)
 
 pub returns-in-Some : goal.returns-in-Some
 returns-in-Some c =
@@ -22,5 +17,5 @@ returns-in-Some c =
       pairs = outer_pairs n lefts rights;
       are = sym (λ i. within_limit (outer_pairs (c.in_ok-lefts.ensures.count i) (c.in_ok-lefts.ensures.codes i) (c.in_ok-rights.ensures.codes i)))
           ∙ few_enough (outer_pairs n lefts rights) (counted_by_key n lefts rights) (length-outer n lefts rights) c.in-Some.ensures.1;
-      seen = c.in_ok-pairs_by_key-in-Some.ensures;
+      seen = grind arith;
     }

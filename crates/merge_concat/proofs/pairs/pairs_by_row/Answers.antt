@@ -1,8 +1,8 @@
 use Rattle.{
-  std.proofs.{Common.{◌≤◌, ◌<◌, ◌∙◌, ap, sym, subst, length, map, take, nat_eq, Some, arith}, lemmas.List.{take_all}},
+  std.proofs.{Common.{◌<◌, ◌∙◌, ap, sym, subst, length, map, take, nat_eq, Some, arith}, lemmas.List.{take_all}},
   join_meaning.specs.Pairs.{pair, partners, pairs_from},
   row_keys.specs.Buckets.{rows_of_code},
-  merge_concat.{specs.Pairs.{ArePairs, AreListed, HasMore}, proofs.PairLaws.{from_more, pairs_more, pairs_listed}},
+  merge_concat.{specs.Pairs.{AreListed}, proofs.PairLaws.{from_more, pairs_more}},
 }
 use Rattle.merge_concat.proofs.pairs.pairs_by_row.Goals as goal
 
@@ -13,12 +13,7 @@ loop-row-preserved c =
     let lt : c.loop-row.row < length left = omega arith in
     subst (AreListed c.push_row.new.out) (sym (from_more nat_eq c.args.stays right left c.loop-row.row 0 lt))
     (pairs_more c.loop-row.out c.push_row.new.out (pairs_from nat_eq c.args.stays 0 (take c.loop-row.row left) right) _ c.loop-row.invariant
-    (subst (HasMore c.loop-row.out c.push_row.new.out) (ap (λ rows. map (pair (Some c.loop-row.row)) (partners c.args.stays rows)) (c.rows_of.ensures ∙ ap (λ code. rows_of_code code right) c.code.ensures.code)) c.in_ok-push_row.ensures))
+    (rw (← ap (λ rows. map (pair (Some c.loop-row.row)) (partners c.args.stays rows)) (c.rows_of.ensures ∙ ap (λ code. rows_of_code code right) c.code.ensures.code)) c.in_ok-push_row.ensures))
 
 pub returns : goal.returns
-returns c =
-    let left = c.args.left.now.codes.now in
-    let right = c.args.right.now.codes.now in
-    let end : length left ≤ c.loop-row.row = omega arith in
-    subst (λ codes. ArePairs c.pairs_made.result (pairs_from nat_eq c.args.stays 0 codes right)) (take_all c.loop-row.row left end)
-    (pairs_listed c.loop-row.out c.pairs_made.result (pairs_from nat_eq c.args.stays 0 (take c.loop-row.row left) right) c.pairs_made.ensures.left c.pairs_made.ensures.right c.loop-row.invariant)
+returns c = grind (arith, nat_eq, take_all)

@@ -1,6 +1,6 @@
 use Rattle.{
-  std.proofs.{Common.{◌≡◌, ◌∙◌, ◌<◌, ◌≤◌, ◌+◌, length, slice_index, min, ap, subst, arith}, lemmas.List.{take_all, get_or_read}},
-  merge_concat.{specs.Codes.{AreCounts}, proofs.CodeLaws.{counts_more}},
+  std.proofs.{Common.{◌≡◌, ◌∙◌, ◌<◌, ◌+◌, length, slice_index, min, ap, arith}, lemmas.List.{take_all, get_or_read}},
+  merge_concat.proofs.CodeLaws.{counts_more},
 }
 use Rattle.merge_concat.proofs.repeats.counted_rows.Goals as goal
 
@@ -11,11 +11,9 @@ loop-row-preserved c =
     let code = c.code-code.result in
     let lt : c.loop-row.row < length codes = omega arith in
     let room : code < length counts = omega (arith, c.code-code.ensures.below, c.loop-row.invariant.0) in
-    let read : c.index.result.now ≡ slice_index counts code = get_or_read counts code c.index.result.now room c.index.ensures 0 in
+    let read : c.index.result.now ≡ slice_index counts code = search get_or_read in
     counts_more codes counts c.args.side.now.count c.loop-row.row code c.saturating_add.result lt c.code-code.ensures.code c.code-code.ensures.below
     (c.saturating_add.ensures ∙ ap (λ n. min (n + 1) 255) read) c.loop-row.invariant
 
 pub returns : goal.returns
-returns c =
-    let end : length c.args.side.now.codes.now ≤ c.loop-row.row = omega arith in
-    subst (λ codes. AreCounts codes c.args.side.now.count c.loop-row.counts.items) (take_all c.loop-row.row c.args.side.now.codes.now end) c.loop-row.invariant
+returns c = grind (arith, take_all)

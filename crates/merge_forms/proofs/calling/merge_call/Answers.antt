@@ -1,10 +1,8 @@
 use Rattle.{
   label_methods.proofs.AnswerLaws.{forms_so},
-  std.proofs.Common.{◌∙◌, ap, sym},
-  form_meaning.specs.Binding.{bound_of, on_bound},
-  method_meaning.specs.Merge.{merge_result},
+  std.proofs.Common.{arith},
   frame_store.specs.{Arguments.{object_value}, World.{world, arguments_in}},
-  merge_forms.proofs.CallLaws.{is_call, bound_reads},
+  merge_forms.proofs.CallLaws.{is_call},
 }
 use Rattle.merge_forms.proofs.calling.merge_call.Goals as goal
 
@@ -19,5 +17,5 @@ returns c =
     let l = object_value w.tables w.texts c.args.on in
     let gs = arguments_in w c.args.args.now in
     forms_so _ _ _ _ _
-    (sym (ap (λ ps. on_bound (bound_of ps gs) (merge_result l)) (sym c.parameters.ensures) ∙ bound_reads w _ _ _ c.in_ok-bound.bound c.in_ok-bound.ensures))
+    (grind arith)
     (c.placed.ensures.answers c.args.dict.now _ c.merged-table.ensures.longer c.requires.settled c.merged-table.ensures.answer)

@@ -1,14 +1,14 @@
 use Rattle.{
   label_methods.proofs.AnswerLaws.{forms_so},
-  std.proofs.Common.{◌∙◌, ap, sym, List},
+  std.proofs.Common.{arith, ◌∙◌, sym},
   method_meaning.specs.Calls.{merge_call},
-  frame_store.specs.{declared.arguments.Named.{Named}, Arguments.{object_value}, Objects.{tables}, World.{world, arguments_in}},
+  frame_store.specs.{Objects.{tables}, World.{world, arguments_in}},
   merge_forms.proofs.CallLaws.{frame_called, merge_called, other_called},
 }
 use Rattle.merge_forms.proofs.calling.method.Goals as goal
 
 pub merge_call-requires-clause-live : goal.merge_call-requires-clause-live
-merge_call-requires-clause-live c = rw (frame_called (tables c.args.store.now) c.args.on c.args.chain.now c.in-Some.id (sym c.merge_of.ensures ∙ c.in-Some.is)).0 at c.requires.live
+merge_call-requires-clause-live c = grind (arith, frame_called)
 
 pub merge_call-requires-clause-shape : goal.merge_call-requires-clause-shape
 merge_call-requires-clause-shape c = (frame_called (tables c.args.store.now) c.args.on c.args.chain.now c.in-Some.id (sym c.merge_of.ensures ∙ c.in-Some.is)).1
@@ -17,8 +17,7 @@ pub returns-in-Some : goal.returns-in-Some
 returns-in-Some c =
     let w = world c.args.store.now c.args.dict.now in
     forms_so _ _ _ w _
-    (ap (λ (args : List Named). merge_call (object_value w.tables w.texts c.in-Some.id) (arguments_in w args)) c.as_slice.ensures
-    ∙ sym (merge_called w c.args.on c.args.chain.now (arguments_in w c.args.args.now.items.items) _ (sym c.merge_of.ensures ∙ c.in-Some.is))) c.merge_call.ensures
+    (cc (c.as_slice.ensures, merge_called w c.args.on c.args.chain.now (arguments_in w c.args.args.now.items.items) _ (sym c.merge_of.ensures ∙ c.in-Some.is))) c.merge_call.ensures
 
 pub returns-in-None : goal.returns-in-None
 returns-in-None c =

@@ -1,7 +1,7 @@
 use Rattle.{
-  std.proofs.Common.{◌∙◌, ap, length, arith},
+  std.proofs.Common.{length, arith},
   cell_core.specs.declared.cell.Cell.TheVariants.{Na},
-  column_core.specs.{Columns.{CellColumn}, Moves.{IsPlaceOf}},
+  column_core.specs.Moves.{IsPlaceOf},
   merge_forms.{specs.Columns.{key_cells}, proofs.ColumnLaws.{at_all, one_more_key, all_keys}},
 }
 use Rattle.merge_forms.proofs.columns.key_column.Goals as goal
@@ -15,18 +15,13 @@ key_cell-cell-requires-clause-right c =
     at_all (IsPlaceOf (length c.args.right.now.cells)) _ _ _ c.requires.right c.at-in-loop-row.ensures
 
 pub push-requires : goal.push-requires
-push-requires c = rw c.loop-row.invariant.kind c.key_cell-cell.ensures.held
+push-requires c = grind arith
 
 pub loop-row-preserved : goal.loop-row-preserved
-loop-row-preserved c =
-    record {
-      kind = ap (λ (d : CellColumn). d.kind) c.in_ok-push.ensures.ok ∙ c.loop-row.invariant.kind;
-      cells = one_more_key _ _ _ _ _ _ _ _ _ _ _ _ c.requires.same
-          c.at.ensures c.at-in-loop-row.ensures c.key_cell-cell.ensures.cell (ap (λ (d : CellColumn). d.cells) c.in_ok-push.ensures.ok) c.loop-row.invariant.cells;
-    }
+loop-row-preserved c = grind (arith, one_more_key)
 
 pub returns : goal.returns
 returns c =
     let pairs = c.args.pairs.now in
     let cells = all_keys Na c.args.left.now.cells c.args.right.now.cells pairs.left pairs.right c.loop-row.row c.loop-row.column.cells (key_cells Na c.args.left.now.cells c.args.right.now.cells pairs.left pairs.right) (omega arith) c.loop-row.invariant.cells in
-    λ i. record { kind = c.loop-row.invariant.kind i; cells = cells i }
+    grind arith

@@ -1,7 +1,7 @@
 use Rattle.{
-  std.proofs.{Common.{◌≡◌, ◌∙◌, ◌∷◌, [], ap, length, arith}, lemmas.List.{map-append}},
+  std.proofs.{Common.{◌∙◌, ap, arith}, lemmas.List.{map-append}},
   cell_core.specs.declared.cell.Cell.TheVariants.{Na},
-  frame_store.specs.Parts.{block_column, columns_of},
+  frame_store.specs.Parts.{block_column},
   form_parts.proofs.GapLaws.{single_on},
   merge_forms.{specs.{Keys.{keys_value}, Columns.{left_column_on}}, proofs.ColumnLaws.{one_more_in_range}},
 }
@@ -11,12 +11,10 @@ pub loop-place-preserved : goal.loop-place-preserved
 loop-place-preserved c =
     let f = left_column_on Na c.args.l.now.columns c.args.r.now.columns (keys_value c.args.keys.now) c.args.pairs.now.left c.args.pairs.now.right in
     record {
-      single = single_on _ _ _ _ c.loop-place.invariant.single c.into_block.ensures c.in_ok-push.ensures.ok;
+      single = grind (arith, single_on);
       columns = one_more_in_range f _ _ _ _
-          (ap block_column c.into_block.ensures ∙ c.in_ok-column.ensures) (ap columns_of c.in_ok-push.ensures.ok ∙ map-append block_column c.loop-place.made (c.into_block.result ∷ [])) c.loop-place.invariant.columns;
+          (ap block_column c.into_block.ensures ∙ c.in_ok-column.ensures) (grind (arith, map-append)) c.loop-place.invariant.columns;
     }
 
 pub returns-clause-columns : goal.returns-clause-columns
-returns-clause-columns c =
-    let end : c.loop-place.place ≡ length c.args.l.now.columns = omega arith in
-    rw end at c.loop-place.invariant.columns
+returns-clause-columns c = grind arith

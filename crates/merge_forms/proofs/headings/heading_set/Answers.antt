@@ -1,6 +1,5 @@
 use Rattle.{
-  std.{proofs.{Common.{◌∙◌, ◌<◌, ap, length, arith}, lemmas.List.{take_all}}, specs.List.{list_any}},
-  selections.specs.{Headings.{same_heading}, Selected.{headings_at}},
+  std.proofs.{Common.{◌<◌, length, arith}, lemmas.List.{take_all}},
   merge_forms.proofs.{ColumnLaws.{at_all}, HeadingLaws.{one_more_among}},
 }
 use Rattle.merge_forms.proofs.headings.heading_set.Goals as goal
@@ -14,5 +13,4 @@ loop-k-preserved c =
     one_more_among c.args.on.now _ _ _ _ _ _ c.at.ensures c.heading.ensures.value c.in_ok-insert.ensures.keys c.loop-k.invariant
 
 pub returns : goal.returns
-returns c =
-    λ q. c.loop-k.invariant q ∙ ap (λ places. list_any (same_heading q) (headings_at c.args.on.now places)) (take_all c.loop-k.k c.args.places.now (omega arith))
+returns c = grind (arith, take_all)

@@ -1,5 +1,5 @@
 use Rattle.{
-  std.{proofs.Common.{◌∙◌, ap, sym}, specs.Prelude.{is_some}},
+  std.{proofs.Common.{arith, ◌∙◌, ap, sym}, specs.Prelude.{is_some}},
   frame_store.proofs.Settling.{headings_part},
   selections.proofs.PlaceLaws.{heading_settled},
   merge_forms.proofs.HeadingLaws.{key_label, other_label},
@@ -7,15 +7,13 @@ use Rattle.{
 use Rattle.merge_forms.proofs.headings.label_beside.Goals as goal
 
 pub heading_beside-requires : goal.heading_beside-requires
-heading_beside-requires c = heading_settled _ _ _ _ c.heading-heading.ensures.value (headings_part _ _ c.requires.known.given)
+heading_beside-requires c = search (heading_settled, headings_part)
 
 pub returns-in-Some-clause-given : goal.returns-in-Some-clause-given
-returns-in-Some-clause-given c = heading_settled _ _ _ _ c.heading-heading.ensures.value (headings_part _ _ c.requires.known.given)
+returns-in-Some-clause-given c = search (heading_settled, headings_part)
 
 pub returns-in-Some-clause-label : goal.returns-in-Some-clause-label
-returns-in-Some-clause-label c =
-    key_label _ c.args.on.now c.args.keys.now c.args.suffix.now c.args.others.now.keys c.args.column _ c.heading-heading.ensures.value
-    (sym c.key_at.ensures.key ∙ ap (λ o. is_some o) c.in-Some.is)
+returns-in-Some-clause-label c = grind (arith, key_label)
 
 pub returns-in-None-clause-label : goal.returns-in-None-clause-label
 returns-in-None-clause-label c =

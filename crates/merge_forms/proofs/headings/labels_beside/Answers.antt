@@ -1,13 +1,13 @@
 use Rattle.{
-  std.proofs.{Common.{◌<◌, ◌≤◌, length, arith}, lemmas.List.{take_all}},
-  table_meaning.specs.Table.{Table, table_value},
+  std.proofs.{Common.{◌<◌, length, arith}, lemmas.List.{take_all}},
+  table_meaning.specs.Table.{Table},
   frame_store.proofs.Settling.{longer_twice, settled_later},
   merge_forms.{specs.Headings.{label_beside}, proofs.{ColumnLaws.{at_all}, HeadingLaws.{one_more_given, one_more_label}}},
 }
 use Rattle.merge_forms.proofs.headings.labels_beside.Goals as goal
 
 pub label_beside-requires-clause-known : goal.label_beside-requires-clause-known
-label_beside-requires-clause-known c = record { whole = c.requires.known.whole; given = settled_later table_value c.args.dict.now c.loop-k.dict c.args.on.now c.loop-k.invariant.longer c.requires.known.given }
+label_beside-requires-clause-known c = search settled_later
 
 pub label_beside-requires-clause-column : goal.label_beside-requires-clause-column
 label_beside-requires-clause-column c =
@@ -20,13 +20,11 @@ loop-k-preserved c =
     let made = c.in_ok-label_beside.ensures in
     let f : Table → _ = λ T. label_beside T c.args.on.now c.args.keys.now c.args.suffix.now c.args.others.now.keys in
     record {
-      longer = longer_twice _ _ _ c.loop-k.invariant.longer made.longer;
+      longer = search longer_twice;
       given = one_more_given first _ _ f c.args.on.now c.args.places.now c.loop-k.k c.at-column.result.now h _ _ made.longer c.loop-k.invariant.given c.in_ok-push.ensures.items made.given;
       labels = one_more_label _ _ _ f _ _ _ _ h _ _ made.longer c.loop-k.invariant.given c.in_ok-push.ensures.items c.at-column.ensures c.loop-k.invariant.longer c.requires.known.given made.label
           c.loop-k.invariant.labels;
     }
 
 pub returns-clause-labels : goal.returns-clause-labels
-returns-clause-labels c =
-    let end : length c.args.places.now ≤ c.loop-k.k = omega arith in
-    rw (take_all c.loop-k.k c.args.places.now end) at c.loop-k.invariant.labels
+returns-clause-labels c = grind (arith, take_all)

@@ -1,5 +1,5 @@
 use Rattle.{
-  std.proofs.Common.{◌∙◌, ◌++◌, ap, List, map},
+  std.proofs.Common.{◌∙◌, ap, map},
   table_meaning.specs.Table.{table_value},
   frame_store.proofs.Settling.{longer_twice},
   label_methods.proofs.NamedLaws.{others_inside, others_meant, all_are},
@@ -26,13 +26,13 @@ returns-clause-longer c = longer_twice _ _ _ c.in_ok-labels.ensures.longer c.in_
 pub returns-clause-given : goal.returns-clause-given
 returns-clause-given c =
     labels_given _ _ _ _ _ c.in_ok-own.ensures.longer c.in_ok-labels.ensures.given c.in_ok-own.ensures.given
-    (c.in_ok-extend_from_slice.ensures.items ∙ ap (λ l. c.in_ok-labels.labels.items ++ l) c.as_slice.ensures.value)
+    (cc (c.in_ok-extend_from_slice.ensures.items, c.as_slice.ensures.value))
 
 pub returns-clause-labels : goal.returns-clause-labels
 returns-clause-labels c =
-    let none = ap (λ (keys : List _). map (label_beside (table_value c.labels_beside.new.dict c.args.r.now) c.args.r.now keys _ c.in_ok-of_left.of_left.keys) c.args.rights.now) c.new-none.ensures in
+    let none = ap (λ keys. map (label_beside (table_value c.labels_beside.new.dict c.args.r.now) c.args.r.now keys _ c.in_ok-of_left.of_left.keys) c.args.rights.now) c.new-none.ensures in
     labels_meant _ _ _ _ _ _ c.len.ensures.distinct c.requires.left.given c.requires.right.given
     _ _ _ _ _ _ _ _
     c.in_ok-of_right.ensures c.in_ok-of_left.ensures (others_meant _ c.args.l.now _ _ _ c.in_ok-lefts.ensures c.columns-2.ensures) c.requires.rights (all_are _ c.args.l.now _ _ c.in_ok-all.ensures c.columns.ensures)
     c.in_ok-labels.ensures.longer c.in_ok-own.ensures.longer c.in_ok-labels.ensures.given c.in_ok-labels.ensures.labels (c.in_ok-own.ensures.labels ∙ none)
-    (c.in_ok-extend_from_slice.ensures.items ∙ ap (λ l. c.in_ok-labels.labels.items ++ l) c.as_slice.ensures.value)
+    (cc (c.in_ok-extend_from_slice.ensures.items, c.as_slice.ensures.value))

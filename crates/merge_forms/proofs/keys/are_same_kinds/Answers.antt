@@ -1,5 +1,5 @@
 use Rattle.{
-  std.proofs.{Common.{◌≡◌, ◌<◌, length, arith, rules}, lemmas.List.{length-map}},
+  std.proofs.{Common.{◌≡◌, ◌<◌, length, arith}, lemmas.List.{length-map}},
   method_meaning.specs.Merge.{are_same_kinds},
   merge_forms.{specs.Keys.{kinds_of}, proofs.{ColumnLaws.{at_all}, KeyLaws.{same_on, not_same, all_same}}},
 }
@@ -17,12 +17,10 @@ kind-requires-in-loop-k c =
     at_all (λ place. place < length c.args.r.now.columns) _ _ _ c.requires.right c.at-in-loop-k.ensures
 
 pub returns-then-ne : goal.returns-then-ne
-returns-then-ne c =
-    not_same c.args.l.now c.args.r.now _ c.requires.same _ _ _ c.at.ensures c.at-in-loop-k.ensures _ _ c.kind.ensures c.kind-in-loop-k.ensures (search rules) _ c.loop-k.invariant
+returns-then-ne c = grind (arith, not_same)
 
 pub loop-k-preserved : goal.loop-k-preserved
-loop-k-preserved c =
-    same_on c.args.l.now c.args.r.now _ c.requires.same _ _ _ c.at.ensures c.at-in-loop-k.ensures _ _ c.kind.ensures c.kind-in-loop-k.ensures (search rules) _ c.loop-k.invariant
+loop-k-preserved c = grind (arith, same_on)
 
 pub returns : goal.returns
 returns c =

@@ -1,8 +1,6 @@
 use Rattle.{
-  std.{proofs.{Common.{◌∙◌, ap, List, option_map}, lemmas.Result.{err_from_is_err_and}}, specs.Prelude.{slice_get}},
+  std.proofs.{Common.{arith, ◌∙◌, ap, option_map}, lemmas.Result.{err_from_is_err_and}},
   table_meaning.specs.Table.{table_value},
-  form_meaning.specs.declared.Parameter.{Parameter},
-  signatures.specs.Filled.{sure_form},
   method_meaning.specs.Merge.{validate_in},
   frame_store.specs.{Objects.{tables}, World.{world}},
   label_methods.proofs.AnswerLaws.{known_table},
@@ -12,13 +10,13 @@ use Rattle.method_meaning.specs.Merge as meant
 use Rattle.merge_forms.proofs.merging.merged.Goals as goal
 
 pub frame-requires : goal.frame-requires
-frame-requires c = ap (λ (ps : List Parameter). sure_form (slice_get ps 0)) c.requires.call.parameters
+frame-requires c = grind arith
 
 pub read-r-requires : goal.read-r-requires
 read-r-requires c = c.frame.ensures.live (tables c.args.store.now) c.requires.call.live
 
 pub text-requires : goal.text-requires
-text-requires c = ap (λ (ps : List Parameter). sure_form (slice_get ps 1)) c.requires.call.parameters
+text-requires c = grind arith
 
 pub keys_of_merge-requires-clause-left : goal.keys_of_merge-requires-clause-left
 keys_of_merge-requires-clause-left c = known_table _ _ _ c.read-l.ensures.table c.read-l.ensures.whole c.requires.settled
@@ -41,7 +39,7 @@ merged_rows-requires-clause-right c = known_table _ _ _ c.read-r.ensures.table c
 pub merged_rows-requires-clause-frames : goal.merged_rows-requires-clause-frames
 merged_rows-requires-clause-frames c =
     let w = world c.args.store.now c.args.dict.now in
-    (shape_read w _ _ c.read-l.ensures.table c.requires.shape, right_shape w _ c.requires.call _ _ c.read-r.ensures.table (c.frame.ensures.table w.tables w.texts))
+    (grind (arith, shape_read), right_shape w _ c.requires.call _ _ c.read-r.ensures.table (c.frame.ensures.table w.tables w.texts))
 
 pub returns-in_err-keys-clause-answer : goal.returns-in_err-keys-clause-answer
 returns-in_err-keys-clause-answer c =
@@ -53,7 +51,7 @@ returns-in_err-keys-clause-answer c =
     let p = err_from_is_err_and c.from_residual-in_err-keys.result c.from_residual-in_err-keys.ensures.1 in
     rw (p.1, p.2) (keys_refused keys_seen dict (keys_checked L R told) (meant.merged_rows L R c.how_named-how.result c.once_in-once.result) _ c.in_err-keys.field-0.0
     (read_is w c.args.bound.now c.requires.call c.args.on c.frame.result c.read-l.result c.read-r.result c.text.result.now c.how_named-how.result c.once_in-once.result told c.read-l.ensures.table c.read-r.ensures.table (c.frame.ensures.table w.tables w.texts) (c.text.ensures w.tables) c.how_named-how.ensures
-    (c.in_ok-told.ensures w.tables w.texts) (c.once_in-once.ensures ∙ ap validate_in (c.text_or_none.ensures.value w.tables))) c.in_err-keys.ensures.answer)
+    (c.in_ok-told.ensures w.tables w.texts) (grind arith)) c.in_err-keys.ensures.answer)
 
 pub returns-clause-answer : goal.returns-clause-answer
 returns-clause-answer c =

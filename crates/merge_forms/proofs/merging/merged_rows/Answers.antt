@@ -1,26 +1,18 @@
 use Rattle.{
-  std.{proofs.{Common.{◌≡◌, ◌∙◌, ◌<◌, ◌^◌, refl, ap, sym, subst, true, false, length, List, Option, None, arith, rules}, lemmas.Result.{err_from_is_err_and}}, specs.Prelude.{IfSome}},
-  cell_core.specs.declared.{cell.Label.{Label}, code.Code.TheVariants.{Limit}},
+  std.proofs.{Common.{◌≡◌, ◌∙◌, ◌<◌, ◌^◌, refl, sym, subst, true, false, length, None, arith, rules}, lemmas.Result.{err_from_is_err_and}},
+  cell_core.specs.declared.code.Code.TheVariants.{Limit},
   frame_store.{specs.declared.fault.OpFault.TheVariants.{Refused}, proofs.Settling.{columns_name_part}},
-  merge_concat.specs.declared.pairs.Pairs.{Pairs},
   table_meaning.specs.Table.{table_value, heading_value},
-  form_meaning.specs.{Finish.{finished, within_limits}, Infix.{common_name}},
+  form_meaning.specs.{Finish.{within_limits}, Infix.{common_name}},
   method_meaning.specs.Merge.{merged},
   selections.specs.Headings.{repeated_heading, NamesRepeated},
   label_methods.proofs.NamedLaws.{others_meant},
-  merge_forms.{specs.{Keys.{keys_value}, Rows.{repeated_in, pairs_in, AreRowsMet}}, proofs.TableLaws.{met_refused, refused_is, may_repeated, may_many, may_beyond, may_within, within_few, is_headed, rows_meant, labels_some, made_is, parts_fit, rights_inside, pairs_counted, met_some, met_none}},
+  merge_forms.{specs.{Keys.{keys_value}, Rows.{pairs_in, AreRowsMet}}, proofs.TableLaws.{refused_is, may_repeated, may_many, may_beyond, may_within, within_few, is_headed, rows_meant, labels_some, made_is, parts_fit, rights_inside, pairs_counted, met_some, met_none}},
 }
 use Rattle.merge_forms.proofs.merging.merged_rows.Goals as goal
 
 pub returns-in_err-met-clause-answer : goal.returns-in_err-met-clause-answer
-returns-in_err-met-clause-answer c =
-    let dict = c.args.dict.now in
-    let L = table_value dict c.args.l.now in
-    let R = table_value dict c.args.r.now in
-    let keys = keys_value c.args.keys.now in
-    let ps = pairs_in c.args.how L R keys in
-    let p = err_from_is_err_and c.from_residual.result c.from_residual.ensures.1 in
-    rw (p.1, p.2) (met_refused dict (repeated_in c.args.once L R keys) ps (finished (merged L R keys ps)) c.in_err-met.field-0.0 c.in_err-met.ensures.rows)
+returns-in_err-met-clause-answer c = grind (arith, err_from_is_err_and)
 
 pub common_name-name-requires-clause-a : goal.common_name-name-requires-clause-a
 common_name-name-requires-clause-a c = rw c.columns_name.ensures (columns_name_part _ _ c.requires.left.given)
@@ -39,7 +31,7 @@ returns-in_err-headings-clause-answer c =
     let headed = is_headed L R keys ps new c.in_ok-labels.labels.items c.in_ok-labels.ensures.labels in
     let p = err_from_is_err_and c.from_residual-in_err-headings.result c.from_residual-in_err-headings.ensures.1 in
     rw (p.1, p.2) (refused_is new L R keys c.args.how c.args.once why c.in_ok-met.ensures.rows.0
-    (may_repeated new c.len.ensures.distinct c.in_ok-labels.labels.items c.in_ok-labels.ensures.given (merged L R keys ps) headed why (subst (λ (hs : List (Option Label)). NamesRepeated why (repeated_heading hs)) c.as_slice.ensures.value c.in_err-headings.ensures.refused)))
+    (may_repeated new c.len.ensures.distinct c.in_ok-labels.labels.items c.in_ok-labels.ensures.given (merged L R keys ps) headed why (subst (λ hs. NamesRepeated why (repeated_heading hs)) c.as_slice.ensures.value c.in_err-headings.ensures.refused)))
 
 pub returns-in_default-clause-answer : goal.returns-in_default-clause-answer
 returns-in_default-clause-answer c =
@@ -49,7 +41,7 @@ returns-in_default-clause-answer c =
     let keys = keys_value c.args.keys.now in
     let labels = c.in_ok-labels.labels.items in
     let headed = is_headed L R _ _ _ _ c.in_ok-labels.ensures.labels in
-    let none : repeated_heading labels ≡ None = ap repeated_heading (sym c.as_slice.ensures.value) ∙ c.in_ok-headings.ensures.different in
+    let none : repeated_heading labels ≡ None = grind arith in
     let many = met_none _ _ c.in_default.is c.in_ok-met.ensures.rows.1 in
     refused_is new L R _ c.args.how _ (Refused Limit) c.in_ok-met.ensures.rows.0
     (may_many _ c.len.ensures.distinct _ c.in_ok-labels.ensures.given _ headed none (subst (λ n. 2 ^ 26 < n) (sym (rows_meant L R keys _)) many))
@@ -62,19 +54,16 @@ returns-then-not-within_limits-clause-answer c =
     let keys = keys_value c.args.keys.now in
     let labels = c.in_ok-labels.labels.items in
     let headed = is_headed L R _ _ _ _ c.in_ok-labels.ensures.labels in
-    let none : repeated_heading labels ≡ None = ap repeated_heading (sym c.as_slice.ensures.value) ∙ c.in_ok-headings.ensures.different in
+    let none : repeated_heading labels ≡ None = grind arith in
     let are = met_some _ _ _ c.in-Some.is c.in_ok-met.ensures.rows.1 in
     let counted : c.len-2.result ≡ length labels = omega arith in
     let beyond : c.within_limits.result ≡ false = search rules in
     let rows = pairs_counted L R keys _ _ _ are c.len-count.ensures in
     refused_is new L R _ c.args.how _ (Refused Limit) c.in_ok-met.ensures.rows.0
-    (may_beyond _ c.len.ensures.distinct _ c.in_ok-labels.ensures.given _ headed _ none rows (ap (within_limits c.len-count.result) (sym counted) ∙ sym c.within_limits.ensures ∙ beyond))
+    (may_beyond _ c.len.ensures.distinct _ c.in_ok-labels.ensures.given _ headed _ none rows (grind arith))
 
 pub range-requires : goal.range-requires
-range-requires c =
-    let within : c.within_limits.result ≡ true = search rules in
-    let few = within_few c.len-count.result c.len-2.result (sym c.within_limits.ensures ∙ within) in
-    omega (arith, few)
+range-requires c = grind (arith, within_few)
 
 pub columns_met-requires-clause-rights : goal.columns_met-requires-clause-rights
 columns_met-requires-clause-rights c =
@@ -90,9 +79,9 @@ new-requires-clause-whole c =
     let r = c.args.r.now in
     let labels = c.in_ok-labels.labels.items in
     let name = c.common_name-name.result in
-    let none : repeated_heading labels ≡ None = ap repeated_heading (sym c.as_slice.ensures.value) ∙ c.in_ok-headings.ensures.different in
+    let none : repeated_heading labels ≡ None = cc (c.as_slice.ensures.value, c.in_ok-headings.ensures.different) in
     let are = met_some _ _ _ c.in-Some.is c.in_ok-met.ensures.rows.1 in
-    let met : AreRowsMet l r c.in-Some.pairs = subst (λ (o : Option Pairs). IfSome o (AreRowsMet l r)) c.in-Some.is c.in_ok-met.ensures.inside in
+    let met : AreRowsMet l r c.in-Some.pairs = rw c.in-Some.is at c.in_ok-met.ensures.inside in
     let named = c.common_name-name.ensures.name ∙ (λ i. common_name (heading_value old (c.columns_name.ensures i)) (heading_value old (c.columns_name-2.ensures i))) in
     let some = labels_some _ _ c.in_ok-labels.ensures.longer l r c.requires.left.given c.requires.right.given _ c.requires.left.whole c.requires.right.whole c.requires.frames.0 c.requires.frames.1 _ c.in_ok-labels.ensures.labels in
     parts_fit _ _ c.in_ok-labels.ensures.longer l r c.requires.left.given c.requires.right.given _ _ _ are _
@@ -109,13 +98,13 @@ returns-clause-answer c =
     let labels = c.in_ok-labels.labels.items in
     let name = c.common_name-name.result in
     let headed = is_headed L R _ _ _ _ c.in_ok-labels.ensures.labels in
-    let none : repeated_heading labels ≡ None = ap repeated_heading (sym c.as_slice.ensures.value) ∙ c.in_ok-headings.ensures.different in
+    let none : repeated_heading labels ≡ None = cc (c.as_slice.ensures.value, c.in_ok-headings.ensures.different) in
     let are = met_some _ _ _ c.in-Some.is c.in_ok-met.ensures.rows.1 in
     let rows = pairs_counted L R keys _ _ _ are c.len-count.ensures in
     let within : c.within_limits.result ≡ true = search rules in
     let counted : c.len-2.result ≡ length labels = omega arith in
     let named = c.common_name-name.ensures.name ∙ (λ i. common_name (heading_value old (c.columns_name.ensures i)) (heading_value old (c.columns_name-2.ensures i))) in
-    let shows = may_within _ c.len.ensures.distinct _ c.in_ok-labels.ensures.given _ headed _ none rows (ap (within_limits c.len-count.result) (sym counted) ∙ sym c.within_limits.ensures ∙ within) in
+    let shows = may_within _ c.len.ensures.distinct _ c.in_ok-labels.ensures.given _ headed _ none rows (cc c.within_limits.ensures) in
     made_is _ _ c.in_ok-labels.ensures.longer _ r c.requires.left.given c.requires.right.given _ _ _ are _
     (others_meant _ r _ _ _ c.in_ok-rights.ensures c.columns.ensures) _ named c.common_name-name.ensures.settled _ c.in_ok-labels.ensures.labels c.in_ok-labels.ensures.given _ c.len-count.ensures
     _ c.in_ok-axis.ensures _ (c.in_ok-headings.ensures.made ∙ (λ i. record { columns_name = name; labels = c.as_slice.ensures.value i })) _ c.in_ok-blocks.ensures.columns

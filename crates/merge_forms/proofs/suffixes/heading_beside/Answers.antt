@@ -1,20 +1,16 @@
 use Rattle.{
-  std.proofs.Common.{◌≡◌, ◌∙◌, sym, true, false, rules},
+  std.proofs.Common.{arith, ◌≡◌, ◌∙◌, sym, true, rules},
   frame_store.proofs.Settling.{longer_self},
   label_methods.proofs.ResetLaws.{interned},
-  merge_forms.proofs.HeadingLaws.{suffix_put, none_put, text_given},
+  merge_forms.proofs.HeadingLaws.{suffix_put, text_given},
 }
 use Rattle.merge_forms.proofs.suffixes.heading_beside.Goals as goal
 
 pub returns-then-not-contains-clause-heading : goal.returns-then-not-contains-clause-heading
-returns-then-not-contains-clause-heading c =
-    let none : c.contains.result ≡ false = search rules in
-    rw (← c.contains.ensures, none)
+returns-then-not-contains-clause-heading c = grind arith
 
 pub returns-in_default-clause-heading : goal.returns-in_default-clause-heading
-returns-in_default-clause-heading c =
-    let there : c.contains.result ≡ true = search rules in
-    none_put _ c.args.dict.now _ _ _ (sym c.contains.ensures ∙ there) c.in_default.is
+returns-in_default-clause-heading c = grind arith
 
 pub returns-in_err-intern-clause-longer : goal.returns-in_err-intern-clause-longer
 returns-in_err-intern-clause-longer c = rw c.in_err-intern.ensures.err (longer_self _)

@@ -1,5 +1,5 @@
 use Rattle.{
-  std.{proofs.Common.{◌≡◌, ap, sym, subst, length, Some}, specs.Prelude.{IfSome}},
+  std.{proofs.Common.{◌≡◌, subst, length}, specs.Prelude.{IfSome}},
   multi_index.proofs.TupleLaws.{only_label_is},
 }
 use Rattle.multi_index.proofs.axis.only_label.Goals as goal
@@ -7,4 +7,4 @@ use Rattle.multi_index.proofs.axis.only_label.Goals as goal
 pub returns-in-Some : goal.returns-in-Some
 returns-in-Some c =
     let one = subst (λ b. IfSome b (λ tuple. length tuple.now ≡ 1)) c.in-Some.is c.requires in
-    rw c.in-Some.is (ap (λ t. Some t) (sym (only_label_is c.in-Some.tuple.now c.at.result one c.at.ensures)))
+    cc (c.in-Some.is, only_label_is c.in-Some.tuple.now c.at.result one c.at.ensures)

@@ -1,5 +1,5 @@
 use Rattle.{
-  std.proofs.{Common.{◌<◌, ◌≤◌, ◌∙◌, ◌∷◌, [], ap, sym, length, arith}, lemmas.List.{map-append}},
+  std.proofs.{Common.{◌<◌, ◌≤◌, ◌∷◌, [], length, arith}, lemmas.List.{map-append}},
   index_core.specs.Labels.{labels_at},
   multi_index.{specs.Axes.{single_tuples}, proofs.SideLaws.{one_row_more, every_row, label_there}},
 }
@@ -10,8 +10,8 @@ loop-row-preserved c =
     let axis = c.args.axis.now in
     let lt : c.loop-row.row < length axis.tuples = omega arith in
     one_row_more (λ tuple. labels_at tuple (c.args.level ∷ [])) axis.tuples c.loop-row.row [] (c.label.result ∷ []) [] (single_tuples c.loop-row.labels.items) (single_tuples c.push.new.self.items) lt
-    (ap (λ l. l ∷ []) (sym (label_there axis c.loop-row.row c.args.level c.label.result lt c.label.ensures))) c.loop-row.invariant
-    (ap single_tuples c.in_ok-push.ensures.items ∙ map-append (λ l. l ∷ []) c.loop-row.labels.items (c.label.result ∷ []))
+    (cc (label_there axis c.loop-row.row c.args.level c.label.result lt c.label.ensures)) c.loop-row.invariant
+    (grind (arith, map-append))
 
 pub returns : goal.returns
 returns c =

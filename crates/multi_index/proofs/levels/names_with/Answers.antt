@@ -10,7 +10,7 @@ loop-level-preserved c =
     let lt : c.loop-level.level < length names = omega (arith, c.levels-level-end.ensures.count) in
     let few : length names ≤ 3 = omega (arith, c.requires) in
     let at : c.first_place-first.result + c.loop-level.level ≡ first_of c.args.outer + c.loop-level.level = omega (arith, c.first_place-first.ensures) in
-    next_written c.args.outer None c.loop-level.names names c.loop-level.level (c.first_place-first.result + c.loop-level.level) c.name.result lt few at (sym (get_or_from_slice_get names c.loop-level.level c.name.result c.name.result c.name.ensures)) c.loop-level.invariant
+    next_written c.args.outer None c.loop-level.names names c.loop-level.level (c.first_place-first.result + c.loop-level.level) c.name.result lt few at (sym (search get_or_from_slice_get)) c.loop-level.invariant
 
 pub returns-clause-room : goal.returns-clause-room
 returns-clause-room c =
@@ -21,9 +21,4 @@ returns-clause-room c =
     ap length c.loop-level.invariant ∙ four_long c.args.outer None (take c.loop-level.level names) short
 
 pub returns-clause-names : goal.returns-clause-names
-returns-clause-names c =
-    let names = c.args.axis.now.names in
-    let few : length names ≤ 3 = omega (arith, c.requires) in
-    let end : length names ≤ c.loop-level.level = omega (arith, c.levels-level-end.ensures.count) in
-    let same : length names ≡ length names = omega arith in
-    end_written c.args.outer None c.loop-level.names names c.loop-level.level (length names) end same few c.loop-level.invariant
+returns-clause-names c = grind (arith, end_written)

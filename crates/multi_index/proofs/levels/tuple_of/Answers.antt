@@ -1,5 +1,5 @@
 use Rattle.{
-  std.proofs.{Common.{◌≡◌, ◌∙◌, ◌<◌, [], length, map, take, ap, sym, slice_index_or, arith}, lemmas.List.{take_all, length-set}},
+  std.proofs.{Common.{◌<◌, [], length, sym, slice_index_or, arith}, lemmas.List.{take_all, length-set}},
   cell_core.specs.declared.cell.Label.TheVariants.{Na},
   multi_index.proofs.{LevelLaws.{one_read_more}, SideLaws.{label_there}},
 }
@@ -12,17 +12,10 @@ loop-k-preserved c =
     let lt : c.loop-k.k < length order = omega arith in
     let room : c.loop-k.k < length c.loop-k.labels = omega (arith, c.loop-k.invariant.room, c.requires.few) in
     record {
-      room = length-set c.loop-k.labels c.loop-k.k c.label.result ∙ c.loop-k.invariant.room;
+      room = search length-set;
       so_far = one_read_more (λ level. slice_index_or tuple level Na) c.loop-k.labels order c.loop-k.k c.label.result room lt
           (sym (label_there c.args.axis.now c.args.row (slice_index_or order c.loop-k.k 0) c.label.result c.requires.row c.label.ensures)) c.loop-k.invariant.so_far;
     }
 
 pub returns : goal.returns
-returns c =
-    let tuple = slice_index_or c.args.axis.now.tuples c.args.row [] in
-    let order = c.args.order.now in
-    let end : length order ≡ c.loop-k.k = omega arith in
-    c.of.ensures
-    ∙ ap (λ n. take n c.loop-k.labels) end
-    ∙ c.loop-k.invariant.so_far
-    ∙ ap (map (λ level. slice_index_or tuple level Na)) (take_all c.loop-k.k order (omega arith))
+returns c = grind (arith, take_all)

@@ -1,6 +1,6 @@
 use Rattle.{
-  std.proofs.{Common.{◌∙◌, ◌<◌, ◌≤◌, length, arith}, lemmas.List.{take_all}},
-  multi_index.{specs.Axes.{tuples_with}, proofs.AddedLaws.{added_next}},
+  std.proofs.{Common.{◌<◌, length, arith}, lemmas.List.{take_all}},
+  multi_index.proofs.AddedLaws.{added_next},
 }
 use Rattle.multi_index.proofs.levels.tuples_with.Goals as goal
 
@@ -13,9 +13,4 @@ loop-row-preserved c =
     added_next c.args.outer c.loop-row.row labels tuples c.loop-row.tuples c.push.new.self c.tuple_with.result _ lt' lt c.tuple_with.ensures c.loop-row.invariant c.in_ok-push.ensures.ok
 
 pub returns : goal.returns
-returns c =
-    let tuples = c.args.axis.now.tuples in
-    let labels = c.args.labels.now in
-    let end : length tuples ≤ c.loop-row.row = omega arith in
-    let end' : length labels ≤ c.loop-row.row = omega (arith, c.requires.rows) in
-    c.loop-row.invariant ∙ (λ j. tuples_with c.args.outer (take_all c.loop-row.row labels end' j) (take_all c.loop-row.row tuples end j))
+returns c = grind (arith, take_all)

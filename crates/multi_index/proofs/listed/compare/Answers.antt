@@ -1,5 +1,5 @@
 use Rattle.{
-  std.{proofs.{Common.{◌≡◌, ◌∙◌, sym, slice_index_or, arith, rules}, lemmas.Option.{get_or_from_slice_get}}, specs.declared.cmp.Ordering.TheVariants.{Equal}},
+  std.proofs.{Common.{◌≡◌, slice_index_or, arith}, lemmas.Option.{get_or_from_slice_get}},
   cell_core.specs.declared.cell.Label.TheVariants.{Na},
   index_core.specs.Labels.{order_in},
   multi_index.proofs.ListedLaws.{stands_on, stands_apart, stands_short, stands_equal},
@@ -13,8 +13,7 @@ returns-then-ne c =
     let bound = c.args.bound.now in
     let read : order_in dict (slice_index_or tuple c.loop-level.level Na) (slice_index_or bound c.loop-level.level Na) ≡ order_in dict c.at.result c.at-in-loop-level.result
     = λ j. order_in dict (get_or_from_slice_get tuple c.loop-level.level c.at.result Na c.at.ensures j) (get_or_from_slice_get bound c.loop-level.level c.at-in-loop-level.result Na c.at-in-loop-level.ensures j) in
-    let other : c.compare-order.result ≡ Equal → ⊥ = search rules in
-    stands_apart (order_in dict) tuple bound c.loop-level.level Na c.compare-order.result _ (omega arith) (omega arith) (c.compare-order.ensures ∙ sym read) other c.loop-level.invariant
+    grind (arith, stands_apart)
 
 pub loop-level-preserved : goal.loop-level-preserved
 loop-level-preserved c =
@@ -23,11 +22,10 @@ loop-level-preserved c =
     let bound = c.args.bound.now in
     let read : order_in dict (slice_index_or tuple c.loop-level.level Na) (slice_index_or bound c.loop-level.level Na) ≡ order_in dict c.at.result c.at-in-loop-level.result
     = λ j. order_in dict (get_or_from_slice_get tuple c.loop-level.level c.at.result Na c.at.ensures j) (get_or_from_slice_get bound c.loop-level.level c.at-in-loop-level.result Na c.at-in-loop-level.ensures j) in
-    let same : c.compare-order.result ≡ Equal = search rules in
-    stands_on (order_in dict) tuple bound c.loop-level.level Na _ (omega arith) (omega arith) (read ∙ sym c.compare-order.ensures ∙ same) c.loop-level.invariant
+    grind (arith, stands_on)
 
 pub returns : goal.returns
 returns c = stands_equal (order_in c.args.dict.now) c.args.tuple.now c.args.bound.now c.loop-level.level _ (omega arith) c.loop-level.invariant
 
 pub returns-then-level-len : goal.returns-then-level-len
-returns-then-level-len c = stands_short (order_in c.args.dict.now) c.args.tuple.now c.args.bound.now c.loop-level.level _ (omega arith) (omega arith) c.loop-level.invariant
+returns-then-level-len c = grind (arith, stands_short)

@@ -1,5 +1,5 @@
 use Rattle.{
-  std.{proofs.{Common.{arith, ◌≡◌, ◌∙◌, ◌-◌, [], ap, sym, slice_index_or}, lemmas.Option.{get_or_from_slice_get}}, specs.Ordering.{is_lt}},
+  std.{proofs.{Common.{arith, ◌≡◌, ◌-◌, [], slice_index_or}, lemmas.Option.{get_or_from_slice_get}}, specs.Ordering.{is_lt}},
   index_core.specs.Labels.{order_in},
   pick_meaning.{specs.Leading.{leading_cmp}, proofs.OrderLaws.{order_goes_on, order_broken, order_kept}},
 }
@@ -11,8 +11,8 @@ loop-row-preserved c =
     let tuples = c.args.tuples.now in
     let row = c.loop-row.row in
     let read : is_lt (cmp (slice_index_or tuples row []) (slice_index_or tuples (row - 1) [])) ≡ is_lt (cmp c.at.result.now c.at-in-loop-row.result.now)
-    = λ j. is_lt (cmp (get_or_from_slice_get tuples row c.at.result.now [] c.at.ensures j) (get_or_from_slice_get tuples (row - 1) c.at-in-loop-row.result.now [] c.at-in-loop-row.ensures j)) in
-    order_goes_on cmp tuples row [] _ c.loop-row.auto.row (omega arith) (read ∙ ap is_lt (sym c.compare.ensures) ∙ sym c.is_lt.ensures ∙ c.if-is_lt.false) c.loop-row.invariant
+    = grind (arith, get_or_from_slice_get) in
+    order_goes_on cmp tuples row [] _ c.loop-row.auto.row (omega arith) (grind arith) c.loop-row.invariant
 
 pub returns : goal.returns
 returns c = order_kept (leading_cmp (order_in c.args.dict.now)) c.args.tuples.now c.loop-row.row _ (omega arith) c.loop-row.invariant
@@ -23,5 +23,5 @@ returns-then-is_lt c =
     let tuples = c.args.tuples.now in
     let row = c.loop-row.row in
     let read : is_lt (cmp (slice_index_or tuples row []) (slice_index_or tuples (row - 1) [])) ≡ is_lt (cmp c.at.result.now c.at-in-loop-row.result.now)
-    = λ j. is_lt (cmp (get_or_from_slice_get tuples row c.at.result.now [] c.at.ensures j) (get_or_from_slice_get tuples (row - 1) c.at-in-loop-row.result.now [] c.at-in-loop-row.ensures j)) in
-    order_broken cmp tuples row [] _ c.loop-row.auto.row (omega arith) (read ∙ ap is_lt (sym c.compare.ensures) ∙ sym c.is_lt.ensures ∙ c.if-is_lt.true) c.loop-row.invariant
+    = grind (arith, get_or_from_slice_get) in
+    order_broken cmp tuples row [] _ c.loop-row.auto.row (omega arith) (grind arith) c.loop-row.invariant

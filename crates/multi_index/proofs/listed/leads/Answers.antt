@@ -1,5 +1,5 @@
 use Rattle.{
-  std.proofs.{Common.{◌≡◌, ◌∙◌, true, false, slice_index_or, arith, rules}, lemmas.Option.{get_or_from_slice_get}},
+  std.proofs.{Common.{◌≡◌, true, false, slice_index_or, arith, rules}, lemmas.Option.{get_or_from_slice_get}},
   cell_core.specs.declared.cell.Label.TheVariants.{Na},
   index_core.specs.Labels.{same_number},
   multi_index.proofs.ListedLaws.{leads_more, leads_not, leads_all, leads_short},
@@ -13,7 +13,7 @@ returns-then-ne c =
     let apart : same_number c.at.result c.at-in-loop-level.result ≡ false = search rules in
     let read : same_number (slice_index_or key c.loop-level.level Na) (slice_index_or tuple c.loop-level.level Na) ≡ same_number c.at.result c.at-in-loop-level.result
     = (λ j. same_number (get_or_from_slice_get key c.loop-level.level c.at.result Na c.at.ensures j) (get_or_from_slice_get tuple c.loop-level.level c.at-in-loop-level.result Na c.at-in-loop-level.ensures j)) in
-    leads_not same_number key tuple c.loop-level.level Na _ (omega arith) (omega arith) (read ∙ apart) c.loop-level.invariant
+    grind (arith, leads_not)
 
 pub loop-level-preserved : goal.loop-level-preserved
 loop-level-preserved c =
@@ -22,10 +22,10 @@ loop-level-preserved c =
     let same : same_number c.at.result c.at-in-loop-level.result ≡ true = search rules in
     let read : same_number (slice_index_or key c.loop-level.level Na) (slice_index_or tuple c.loop-level.level Na) ≡ same_number c.at.result c.at-in-loop-level.result
     = (λ j. same_number (get_or_from_slice_get key c.loop-level.level c.at.result Na c.at.ensures j) (get_or_from_slice_get tuple c.loop-level.level c.at-in-loop-level.result Na c.at-in-loop-level.ensures j)) in
-    leads_more same_number key tuple c.loop-level.level Na _ (omega arith) (omega arith) (read ∙ same) c.loop-level.invariant
+    grind (arith, leads_more)
 
 pub returns : goal.returns
-returns c = leads_all same_number c.args.leading.now c.args.tuple.now c.loop-level.level _ (omega arith) c.loop-level.invariant
+returns c = grind (arith, leads_all)
 
 pub returns-then-len : goal.returns-then-len
 returns-then-len c = leads_short same_number c.args.leading.now c.args.tuple.now (omega arith)

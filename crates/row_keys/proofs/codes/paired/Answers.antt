@@ -1,5 +1,5 @@
 use Rattle.{
-  std.{proofs.{Common.{◌≡◌, ◌<◌, ◌+◌, ◌*◌, ◌^◌, ℕ, length, map, ap, sym, ◌∙◌, arith, rules}, lemmas.Grind.{common_steps}}, specs.{Prelude.{slice_index, slice_index_or}, List.{range_with_len}}},
+  std.{proofs.{Common.{◌≡◌, ◌<◌, ◌+◌, ◌*◌, ◌^◌, length, arith, rules}, lemmas.Grind.{common_steps}}, specs.Prelude.{slice_index, slice_index_or}},
   cell_core.specs.declared.cell.Label.TheVariants.{Na},
   row_keys.proofs.{ZipLaws.{get_at}, StandLaws.{row_more}, PairLaws.{pair_number, pair_below, pairs_below, pairs_stand}},
 }
@@ -13,8 +13,8 @@ pack-requires g c =
     let scale = c.args.room.scale in
     let lt : row < length keys = omega (arith, c.loop-row-test.true, c.count-count.ensures) in
     let first : c.index.result.now ≡ slice_index labels row = grind (arith, common_steps) in
-    let second : c.key-second.result.1 ≡ (slice_index_or keys row (Na, 0)).1 = ap (λ p. p.1) (sym (get_at keys row (Na, 0) c.key-second.result c.key-second.ensures)) in
-    let same : c.index.result.now * scale + c.key-second.result.1 ≡ pair_number labels keys scale row = λ j. first j * scale + second j in
+    let second : c.key-second.result.1 ≡ (slice_index_or keys row (Na, 0)).1 = cc (get_at keys row (Na, 0) c.key-second.result c.key-second.ensures) in
+    let same : c.index.result.now * scale + c.key-second.result.1 ≡ pair_number labels keys scale row = search in
     let small : c.args.room.most < 2 ^ 64 = search rules in
     omega (arith, same, small, pair_below keys labels c.args.labels.now.most c.args.second scale c.args.room.most c.requires.labels c.args.labels.now.up_to c.requires.second c.requires.scale c.requires.most row lt)
 
@@ -25,8 +25,8 @@ loop-row-preserved g c =
     let row = c.loop-row.row in
     let scale = c.args.room.scale in
     let first : c.index.result.now ≡ slice_index labels row = grind (arith, common_steps) in
-    let second : c.key-second.result.1 ≡ (slice_index_or keys row (Na, 0)).1 = ap (λ p. p.1) (sym (get_at keys row (Na, 0) c.key-second.result c.key-second.ensures)) in
-    row_more (pair_number labels keys scale) row c.pack.result c.loop-row.numbers.items c.push.new.self.items (c.pack.ensures ∙ (λ j. first j * scale + second j)) c.loop-row.invariant c.in_ok-push.ensures.items
+    let second : c.key-second.result.1 ≡ (slice_index_or keys row (Na, 0)).1 = cc (get_at keys row (Na, 0) c.key-second.result c.key-second.ensures) in
+    grind (arith, row_more, pair_number)
 
 pub invariant_of-result : goal.invariant_of-result
 invariant_of-result g c =
@@ -35,7 +35,7 @@ invariant_of-result g c =
     let end : c.loop-row.row ≡ length keys = omega (arith, c.loop-row-test.false, c.count-count.ensures, c.loop-row.auto.row-end) in
     record {
       up_to = pairs_below keys labels c.args.labels.now.most c.args.second c.args.room.scale c.args.room.most c.requires.labels c.args.labels.now.up_to c.requires.second c.requires.scale c.requires.most c.loop-row.numbers.items
-          (c.loop-row.invariant ∙ ap (λ (n : ℕ). map (pair_number labels keys c.args.room.scale) (range_with_len 0 n)) end);
+          (cc c.loop-row.invariant);
     }
 
 pub returns : goal.returns
@@ -44,4 +44,4 @@ returns g c =
     let labels = c.args.labels.now.numbers.items in
     let end : c.loop-row.row ≡ length keys = omega (arith, c.loop-row-test.false, c.count-count.ensures, c.loop-row.auto.row-end) in
     pairs_stand keys labels c.args.labels.now.most c.args.second c.args.room.scale c.args.room.most c.requires.labels c.args.labels.now.up_to c.requires.second c.requires.scale c.requires.most c.loop-row.numbers.items
-    (c.loop-row.invariant ∙ ap (λ (n : ℕ). map (pair_number labels keys c.args.room.scale) (range_with_len 0 n)) end)
+    (cc c.loop-row.invariant)

@@ -1,11 +1,11 @@
 use Rattle.{
-  std.proofs.Common.{◌≡◌, ◌<◌, ◌≤◌, ◌++◌, ◌∷◌, [], length, ap, ◌∙◌, arith, cond},
-  row_keys.proofs.{DistinctLaws.{get_is}, NotedLaws.{none_noted, one_noted, added_new, added_none, all_seen, all_coded, all_first}, factor.factorize.Goals.{then-new+in_ok-push-2, else-new}},
+  row_keys.proofs.{DistinctLaws.{unseen, unseen-nil, get_is}, NotedLaws.{one_noted, added_none, all_seen, all_coded, all_first}, factor.factorize.Goals.{then-new+in_ok-push-2, else-new}},
+  std.proofs.Common.{◌≡◌, ◌<◌, ◌≤◌, ◌++◌, ◌∷◌, [], length, arith, cond},
 }
 use Rattle.row_keys.proofs.factor.factorize.Goals as goal
 
 pub loop-row-init : goal.loop-row-init
-loop-row-init g c = none_noted g.K.PartialEq.eq (g.R.KeyRows.keys c.args.rows.now) c.new-seen.result.keys c.in_ok-codes.codes.items c.new-firsts.result.items c.new-seen.ensures.empty c.in_ok-codes.ensures.items c.new-firsts.ensures.items
+loop-row-init g c = grind (arith, unseen, unseen-nil)
 
 pub loop-row-preserved : goal.loop-row-preserved
 loop-row-preserved g c =
@@ -16,8 +16,8 @@ loop-row-preserved g c =
     let lt : i < length keys = omega (arith, c.loop-row-test.true, c.count-count.ensures) in
     let grown : c.if-new.firsts.items ≡ cond c.in_ok-code.new (old ++ i ∷ []) old
     = elim c.if-new.branch [
-      | then-new+in_ok-push-2 w ↦ added_new c.in_ok-code.new old c.if-new.firsts.items i w.if-new.true (ap (λ v. v.items) w.firsts-is ∙ w.in_ok-push-2.ensures.items)
-      | else-new w ↦ added_none c.in_ok-code.new old c.if-new.firsts.items i w.if-new.false (ap (λ v. v.items) w.firsts-is)
+      | then-new+in_ok-push-2 w ↦ grind arith
+      | else-new w ↦ grind (arith, added_none)
     ] in
     one_noted g.K.PartialEq.eq g.met.K.Eq.laws keys i k c.loop-row.seen.keys c.loop-row.codes.items old lt (get_is keys i k c.key.ensures) c.loop-row.invariant
     c.insert_full.new.self.keys c.push.new.self.items c.if-new.firsts.items c.in_ok-code.code c.in_ok-code.new c.in_ok-code.ensures.keys c.in_ok-code.ensures.added c.in_ok-code.ensures.index c.in_ok-push.ensures.items grown
@@ -26,16 +26,16 @@ pub returns-clause-keys : goal.returns-clause-keys
 returns-clause-keys g c =
     let keys = g.R.KeyRows.keys c.args.rows.now in
     let end : length keys ≤ c.loop-row.row = omega (arith, c.loop-row-test.false, c.count-count.ensures) in
-    all_seen g.K.PartialEq.eq keys c.loop-row.row c.loop-row.seen.keys c.loop-row.codes.items c.loop-row.firsts.items end c.loop-row.invariant
+    search all_seen
 
 pub returns-clause-codes : goal.returns-clause-codes
 returns-clause-codes g c =
     let keys = g.R.KeyRows.keys c.args.rows.now in
     let end : length keys ≤ c.loop-row.row = omega (arith, c.loop-row-test.false, c.count-count.ensures) in
-    all_coded g.K.PartialEq.eq keys c.loop-row.row c.loop-row.seen.keys c.loop-row.codes.items c.loop-row.firsts.items end c.loop-row.invariant
+    search all_coded
 
 pub returns-clause-firsts : goal.returns-clause-firsts
 returns-clause-firsts g c =
     let keys = g.R.KeyRows.keys c.args.rows.now in
     let end : length keys ≤ c.loop-row.row = omega (arith, c.loop-row-test.false, c.count-count.ensures) in
-    all_first g.K.PartialEq.eq keys c.loop-row.row c.loop-row.seen.keys c.loop-row.codes.items c.loop-row.firsts.items end c.loop-row.invariant
+    search all_first

@@ -1,6 +1,6 @@
 use Rattle.{
-  std.proofs.Common.{sym, subst, nat_eq, rules},
-  row_keys.{specs.Numbers.{LeadBack, AreLeaders}, proofs.{StandLaws.{codes_stand}, LeaderLaws.{leaders_stand, leaders_back}}},
+  std.proofs.Common.{nat_eq, rules},
+  row_keys.{specs.Numbers.{AreLeaders}, proofs.{StandLaws.{codes_stand}, LeaderLaws.{leaders_stand, leaders_back}}},
 }
 use Rattle.row_keys.proofs.numbers.codes_by_number.Goals as goal
 
@@ -9,7 +9,7 @@ codes_by_leader-requires c =
     let numbers = c.args.numbers.now in
     let leaders = c.in-Some.leaders.items in
     let are : AreLeaders numbers leaders = search rules in
-    subst LeadBack (sym c.as_slice.ensures.value) (leaders_back numbers leaders are)
+    rw c.as_slice.ensures.value (leaders_back numbers leaders are)
 
 pub returns-clause-codes : goal.returns-clause-codes
 returns-clause-codes c =

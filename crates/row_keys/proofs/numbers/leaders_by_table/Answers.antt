@@ -1,5 +1,5 @@
 use Rattle.{
-  std.{proofs.{Common.{◌≡◌, ◌<◌, ◌≤◌, ℕ, length, refl, ap, ◌∙◌, min, arith}, lemmas.{Grind.{common_steps}, List.{length-set}}}, specs.Prelude.{slice_index}},
+  std.{proofs.{Common.{◌≡◌, ◌<◌, ◌≤◌, ℕ, length, min, arith}, lemmas.{Grind.{common_steps}, List.{length-set}}}, specs.Prelude.{slice_index}},
   row_keys.{specs.Numbers.{first_with}, proofs.LeaderLaws.{table_leads, table_more, leaders_more}},
 }
 use Rattle.row_keys.proofs.numbers.leaders_by_table.Goals as goal
@@ -12,13 +12,13 @@ loop-row-preserved c =
     let n : ℕ = slice_index numbers row in
     let leader : ℕ = c.min-leader.result in
     let lt : row < length numbers = omega arith in
-    let known : n ≤ c.args.end = c.requires.up_to row 0 lt in
+    let known : n ≤ c.args.end = grind arith in
     let inside : n < length table = omega (arith, known, c.loop-row.invariant.long) in
     let read : c.index.result.now ≡ slice_index table n = grind (arith, common_steps) in
-    let made : leader ≡ min (slice_index table n) row = c.min-leader.ensures ∙ ap (λ m. min m row) read in
-    let leads : leader ≡ first_with numbers n = table_leads numbers table row lt c.loop-row.invariant.table inside n leader refl made in
+    let made : leader ≡ min (slice_index table n) row = grind arith in
+    let leads : leader ≡ first_with numbers n = search table_leads in
     record {
-      long = length-set table n leader ∙ c.loop-row.invariant.long;
-      table = table_more numbers table row lt c.loop-row.invariant.table _ n leader refl leads inside refl;
+      long = search length-set;
+      table = grind (arith, table_more);
       leaders = leaders_more numbers c.loop-row.leaders.items c.push.new.self.items row leader lt c.loop-row.invariant.leaders leads c.in_ok-push.ensures.items;
     }

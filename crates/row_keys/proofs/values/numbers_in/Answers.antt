@@ -1,7 +1,7 @@
 use mir.Syntax.{w64}
 use mir.Val.{SFits}
 use Rattle.{
-  std.{proofs.{Common.{◌≡◌, ◌<◌, ◌≤◌, ◌^◌, ℤ, length, arith, rules, ◌∙◌, ap, sym, subst}, lemmas.Int.{to_z-of_z}}, specs.Prelude.{slice_index_or}},
+  std.{proofs.{Common.{◌≡◌, ◌<◌, ◌≤◌, length, arith, rules}, lemmas.Int.{to_z-of_z}}, specs.Prelude.{slice_index_or}},
   row_keys.{specs.Values.{number_in}, proofs.{DistinctLaws.{get_is}, ValueLaws.{label_below, numbers_more, labels_below, labels_stand}}},
 }
 use Rattle.row_keys.proofs.values.numbers_in.Goals as goal
@@ -11,25 +11,22 @@ number_of-requires g c =
     let keys = g.R.KeyRows.keys c.args.rows.now in
     let span = c.args.span in
     let lt : c.loop-row.row < length keys = omega (arith, c.loop-row-test.true, c.count-count.ensures) in
-    let here : number_in c.args.class span.low (slice_index_or keys c.loop-row.row c.key.result) ≡ number_in c.args.class span.low c.key.result = ap (number_in c.args.class span.low) (get_is keys c.loop-row.row c.key.result c.key.ensures) in
-    let small : c.args.most < 2 ^ 64 = search rules in
-    let fits : SFits w64 span.low = search rules in
-    subst (λ (z : ℤ). number_in c.args.class z c.key.result < 2 ^ 64) (sym (to_z-of_z w64 span.low fits))
-    (omega (arith, here, small, c.requires.most, label_below c.args.class span.low span.high (slice_index_or keys c.loop-row.row c.key.result) (c.requires.spanned c.loop-row.row c.key.result lt)))
+    let here : number_in c.args.class span.low (slice_index_or keys c.loop-row.row c.key.result) ≡ number_in c.args.class span.low c.key.result = search get_is in
+    grind (arith, w64, to_z-of_z, label_below)
 
 pub loop-row-preserved : goal.loop-row-preserved
 loop-row-preserved g c =
     let keys = g.R.KeyRows.keys c.args.rows.now in
     let lt : c.loop-row.row < length keys = omega (arith, c.loop-row-test.true, c.count-count.ensures) in
     let fits : SFits w64 c.args.span.low = search rules in
-    let is : c.number_of.result ≡ number_in c.args.class c.args.span.low c.key.result = c.number_of.ensures ∙ ap (λ (z : ℤ). number_in c.args.class z c.key.result) (to_z-of_z w64 c.args.span.low fits) in
-    numbers_more (number_in c.args.class c.args.span.low) keys c.loop-row.row c.number_of.result c.key.result c.loop-row.numbers.items c.push.new.self.items lt (get_is keys c.loop-row.row c.key.result c.key.ensures) is c.loop-row.invariant c.in_ok-push.ensures.items
+    let is : c.number_of.result ≡ number_in c.args.class c.args.span.low c.key.result = cc (c.number_of.ensures, to_z-of_z w64 c.args.span.low fits) in
+    numbers_more (number_in c.args.class c.args.span.low) keys c.loop-row.row c.number_of.result c.key.result c.loop-row.numbers.items c.push.new.self.items lt (search get_is) is c.loop-row.invariant c.in_ok-push.ensures.items
 
 pub invariant_of-result : goal.invariant_of-result
 invariant_of-result g c =
     let keys = g.R.KeyRows.keys c.args.rows.now in
     let end : length keys ≤ c.loop-row.row = omega (arith, c.loop-row-test.false, c.count-count.ensures) in
-    record { up_to = labels_below c.args.class c.args.span.low c.args.span.high keys c.loop-row.numbers.items c.loop-row.row end c.requires.spanned c.loop-row.invariant c.args.most c.requires.most }
+    search labels_below
 
 pub returns : goal.returns
 returns g c =

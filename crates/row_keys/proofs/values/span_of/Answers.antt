@@ -1,6 +1,6 @@
 use Rattle.{
-  std.proofs.{Common.{◌<◌, ◌≤◌, length, subst, arith, All}, lemmas.List.{take_all}},
-  row_keys.{specs.Values.{IsSpanned}, proofs.{DistinctLaws.{get_is}, ValueLaws.{spanned_more}}},
+  std.proofs.{Common.{rules, ◌<◌, length, arith}, lemmas.List.{take_all}},
+  row_keys.proofs.{DistinctLaws.{get_is}, ValueLaws.{spanned_more}},
 }
 use Rattle.row_keys.proofs.values.span_of.Goals as goal
 
@@ -10,10 +10,7 @@ loop-row-preserved g c =
     let span = c.loop-row.span in
     let wider = c.in_ok-span.span in
     let lt : c.loop-row.row < length keys = omega arith in
-    spanned_more c.args.class keys c.loop-row.row c.key.result span.low span.high wider.low wider.high lt (get_is keys c.loop-row.row c.key.result c.key.ensures) c.in_ok-span.ensures.low c.in_ok-span.ensures.high c.in_ok-span.ensures.label c.loop-row.invariant
+    spanned_more c.args.class keys c.loop-row.row c.key.result span.low span.high wider.low wider.high lt (search get_is) c.in_ok-span.ensures.low c.in_ok-span.ensures.high c.in_ok-span.ensures.label c.loop-row.invariant
 
 pub returns : goal.returns
-returns g c =
-    let keys = g.R.KeyRows.keys c.args.rows.now in
-    let end : length keys ≤ c.loop-row.row = omega arith in
-    subst (All (IsSpanned c.args.class c.loop-row.span.low c.loop-row.span.high)) (take_all c.loop-row.row keys end) c.loop-row.invariant
+returns g c = search (rules, take_all)

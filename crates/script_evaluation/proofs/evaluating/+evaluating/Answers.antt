@@ -1,6 +1,6 @@
 use Rattle.{
-  std.{proofs.{Common.{refl, [], ◌∷◌, ◌++◌, length, codes, ◌≡◌, sym, ◌∙◌, ap, subst, Some, None, drop, ◌+◌, ◌≤◌, max, suc, arith, true, Option, Err}, lemmas.List.{append-nil}}, specs.Prelude.{List, is_some, option_map, IsErrAnd, IfSome}},
-  language_meaning.specs.{Tree.{arg_list, named_args, arg_pairs}, Depth.{depth, step_depth, optional_arg_depth, arg_depth, list_depth, args_depth, pairs_depth}},
+  std.{proofs.{Common.{refl, [], ◌∷◌, ◌++◌, length, codes, ◌≡◌, sym, ◌∙◌, ap, subst, Some, None, drop, ◌+◌, ◌≤◌, max, suc, arith, true, Option, Err}, lemmas.List.{append-nil}}, specs.Prelude.{List, is_some, option_map, IfSome}},
+  language_meaning.specs.{Tree.{arg_list, named_args, arg_pairs}, Depth.{depth, step_depth, optional_arg_depth, arg_depth, args_depth, pairs_depth}},
   meaning.specs.{Cell.{label_datum}, Operator.{cell_label}, Text.{Text}},
   table_meaning.specs.Value.{Entry, cell, GivenSub, nothing, one, row, many, entries, key_given, span_given, more_given, more_entries, no_given, no_entries, Given, NamedGiven},
   form_meaning.specs.{Signature.{function_named}, Infix.{infix_result, sign_result}, Select.{length_result}},
@@ -11,8 +11,8 @@ use Rattle.{
   script_meaning.specs.{Reading.{Reads, at_once, gives, then_read}, Expression.{where_named, is_minus, made, named_by, value_of, stepped, named_of, parts_of as parts_given, part_of, pairs_of, given_of, sub_of, second_of, brackets_of, bound_of, stride_of, cell_of}},
   script_tree.{specs.View.{unary_of, expr_of, step_of, arg_of, accessor_of, optional_arg, parts_of, named_parts_of, pair_parts_of, sub_of as view_sub, literal_of}, proofs.Rows.{expr_of-Make, step_of-Method, step_of-Group, step_of-Rolling, step_of-Expanding, arg_of-Many, arg_of-Row, arg_of-Table}},
   selections.specs.Selected.{way_of},
-  script_evaluation.{specs.{Parts.{optional_sub, optional_expr, brackets_in}, Evaluates.{item_in, items_in, argument_in, pairs_in, arguments_in, subscript_in}, Links.{link_name, chain_behind, chain_meant, after_brackets, after_link, linked}, declared.link.Link.{Link, TheVariants.{Groupby, Rolling, Expanding}}}, proofs.{Seconds.{seconds_stop, seconds, strides_stop, strides}, Evaluations.{evaluates_by, runs_out, stops, goes_on, adds, makes, stays, as_value, forms, knows, knows_none, names_value, writes_out, value_if}, Gathering.{gathered, gathers_next, gathers_none, gathers_out}, Parts.{join_parts, join_pairs, parts_end, pairs_end, items_push, pairs_push, arguments_push, items_known, pairs_known, arguments_known, item_known, argument_known, nothing_known, many_known, tuple_known, key_known, span_known, row_known, table_known}, Trees.{drop_item, drop_end, item_depth, named_depth, pair_depth, sub_of-Span, step_of-Access}}},
-  script_work.{specs.{Faults.{IsNoAttribute}, Work.{world_of, state_in}}, proofs.{Worlds.{keeps_both, value_seen, value_kept, subscript_seen, subscript_kept, items_seen, items_kept, pairs_seen, pairs_kept, arguments_seen, arguments_kept, argument_seen, argument_kept, brackets_seen, brackets_kept}, Rides.{both_then, then_gives}}},
+  script_evaluation.{specs.{Parts.{optional_sub, optional_expr, brackets_in}, Evaluates.{item_in, items_in, argument_in, pairs_in, arguments_in, subscript_in}, Links.{link_name, chain_behind, chain_meant, after_brackets, after_link, linked}, declared.link.Link.{Link}}, proofs.{Seconds.{seconds_stop, seconds, strides_stop, strides}, Evaluations.{evaluates_by, runs_out, stops, goes_on, adds, makes, stays, as_value, forms, knows, knows_none, names_value, writes_out, value_if}, Gathering.{gathered, gathers_next, gathers_none, gathers_out}, Parts.{join_parts, join_pairs, parts_end, pairs_end, items_push, pairs_push, arguments_push, items_known, pairs_known, arguments_known, key_known, span_known, row_known, table_known}, Trees.{drop_item, drop_end, item_depth, named_depth, pair_depth, sub_of-Span, step_of-Access}}},
+  script_work.{specs.Work.{world_of, state_in}, proofs.{Worlds.{keeps_both, value_seen, value_kept, subscript_seen, subscript_kept, items_seen, items_kept, pairs_seen, pairs_kept, arguments_seen, arguments_kept, argument_seen, argument_kept, brackets_seen, brackets_kept}, Rides.{both_then, then_gives}}},
   fault_laws.proofs.{FormFaults.{sign_result_fault, infix_result_fault, length_result_fault}, SelectFaults.{select_result_fault}, CallFaults.{call_result_fault}},
   label_methods.specs.Chains.{chain_in, IsKnownChain},
   cell_core.specs.declared.words.Words.{Words},
@@ -44,7 +44,7 @@ evaluate-returns-in-Paren g t c =
     let s = c.args.work.now in
     let same = c.in-Paren.is in
     as_value c.args.expr.now (named_by (expr_of c.deref-in-Paren.result.now)) c.evaluate-in-Paren.ensures
-    (ap (λ e. named_by (expr_of e)) c.in-Paren.is ∙ ap (λ e. named_by (expr_of e)) (sym c.deref-in-Paren.ensures))
+    (grind arith)
     (λ fs. ap (λ e. value_of fs (state_in s) (expr_of e)) c.in-Paren.is ∙ ap (λ e. value_of fs (state_in s) (expr_of e)) (sym c.deref-in-Paren.ensures))
 
 pub evaluate-returns-in_err-value-in-Unary : goal.evaluate-returns-in_err-value-in-Unary
@@ -57,8 +57,7 @@ evaluate-returns-in_err-value-in-Unary g t c =
     (λ fs. ap (λ e. value_of fs (state_in s) (expr_of e)) c.in-Unary.is ∙ ap (λ e. then_read (value_of fs (state_in s) (expr_of e)) (λ v. at_once (sign_result o v))) (sym c.deref.ensures))
 
 pub evaluate-sign-requires : goal.evaluate-sign-requires
-evaluate-sign-requires g t c =
-    c.in_ok-value-in-Unary.ensures.found.known
+evaluate-sign-requires g t c = grind arith
 
 pub evaluate-returns-in_ok-value-in-Unary : goal.evaluate-returns-in_ok-value-in-Unary
 evaluate-returns-in_ok-value-in-Unary g t c =
@@ -154,8 +153,7 @@ evaluate-returns-in_err-value-in-Len g t c =
     (λ fs. ap (λ e. value_of fs (state_in s) (expr_of e)) c.in-Len.is ∙ ap (λ e. then_read (value_of fs (state_in s) (expr_of e)) (λ v. at_once (length_result v))) (sym c.deref-in-Len.ensures))
 
 pub evaluate-length-requires : goal.evaluate-length-requires
-evaluate-length-requires g t c =
-    c.in_ok-value-in-Len.ensures.found.known
+evaluate-length-requires g t c = grind arith
 
 pub evaluate-returns-in_ok-value-in-Len : goal.evaluate-returns-in_ok-value-in-Len
 evaluate-returns-in_ok-value-in-Len g t c =
@@ -170,8 +168,8 @@ evaluate-returns-in_ok-value-in-Len g t c =
 
 pub evaluate-arguments-requires : goal.evaluate-arguments-requires
 evaluate-arguments-requires g t c =
-    let deep : depth (expr_of c.args.expr.now) ≡ suc (args_depth (named_args (named_parts_of c.in-Make.args))) = ap depth (ap expr_of c.in-Make.is ∙ expr_of-Make c.in-Make.function c.in-Make.args) in
-    λ κs within. (omega (arith, deep, c.decreases), within)
+    let deep : depth (expr_of c.args.expr.now) ≡ suc (args_depth (named_args (named_parts_of c.in-Make.args))) = cc (c.in-Make.is, expr_of-Make c.in-Make.function c.in-Make.args) in
+    grind arith
 
 pub evaluate-returns-in_err-expect_function-in-Make : goal.evaluate-returns-in_err-expect_function-in-Make
 evaluate-returns-in_err-expect_function-in-Make g t c =
@@ -179,34 +177,33 @@ evaluate-returns-in_err-expect_function-in-Make g t c =
     let n = c.in-Make.function in
     let x = c.in_err-expect_function-in-Make in
     as_value c.args.expr.now None
-    (knows_none (λ fs s. then_read (named_of fs s (named_args (named_parts_of c.in-Make.args))) (made fs n)) x.field-0.0 (is_some (function_named n)) n (subst (λ k. IsNoAttribute x.field-0.0 k (is_some (function_named k))) c.as_str.ensures x.ensures.fault) c.from_residual-in_err-expect_function-in-Make.result c.from_residual-in_err-expect_function-in-Make.ensures.1)
-    (ap (λ e. named_by (expr_of e)) c.in-Make.is ∙ ap named_by (expr_of-Make n c.in-Make.args))
+    (knows_none (λ fs s. then_read (named_of fs s (named_args (named_parts_of c.in-Make.args))) (made fs n)) x.field-0.0 (is_some (function_named n)) n (grind arith) c.from_residual-in_err-expect_function-in-Make.result c.from_residual-in_err-expect_function-in-Make.ensures.1)
+    (grind (arith, expr_of-Make))
     (λ fs. ap (λ e. value_of fs (state_in s) (expr_of e)) c.in-Make.is ∙ ap (value_of fs (state_in s)) (expr_of-Make n c.in-Make.args))
 
 pub evaluate-returns-in_err-args-in-Make : goal.evaluate-returns-in_err-args-in-Make
 evaluate-returns-in_err-args-in-Make g t c =
     let s = c.args.work.now in
     let n = c.in-Make.function in
-    let known : is_some (function_named n) ≡ true = ap (λ k. is_some (function_named k)) (sym c.as_str.ensures) ∙ c.in_ok-expect_function-in-Make.ensures.known in
+    let known : is_some (function_named n) ≡ true = grind arith in
     as_value c.args.expr.now None
     (knows (λ fs s. then_read (named_of fs s (named_args (named_parts_of c.in-Make.args))) (made fs n)) (is_some (function_named n)) n known (stops (λ fs s. made fs n) c.in_err-args-in-Make.ensures c.from_residual-in_err-args-in-Make.result c.from_residual-in_err-args-in-Make.ensures.1))
-    (ap (λ e. named_by (expr_of e)) c.in-Make.is ∙ ap named_by (expr_of-Make n c.in-Make.args))
+    (grind (arith, expr_of-Make))
     (λ fs. ap (λ e. value_of fs (state_in s) (expr_of e)) c.in-Make.is ∙ ap (value_of fs (state_in s)) (expr_of-Make n c.in-Make.args))
 
 pub evaluate-call-requires : goal.evaluate-call-requires
-evaluate-call-requires g t c =
-    c.in_ok-args-in-Make.ensures.found
+evaluate-call-requires g t c = grind arith
 
 pub evaluate-returns-in_ok-args-in-Make : goal.evaluate-returns-in_ok-args-in-Make
 evaluate-returns-in_ok-args-in-Make g t c =
     let s = c.args.work.now in
     let n = c.in-Make.function in
-    let known : is_some (function_named n) ≡ true = ap (λ k. is_some (function_named k)) (sym c.as_str.ensures) ∙ c.in_ok-expect_function-in-Make.ensures.known in
+    let known : is_some (function_named n) ≡ true = grind arith in
     let y = c.call.ensures in
     as_value c.args.expr.now None
     (knows (λ fs s. then_read (named_of fs s (named_args (named_parts_of c.in-Make.args))) (made fs n)) (is_some (function_named n)) n known (goes_on (λ fs s. made fs n) c.in_ok-args-in-Make.args c.in_ok-args-in-Make.ensures
     record { names = y.names; kept = y.kept; serves = y.serves; reads = y.reads; found = value_if c.call.new.self c.call.result y.known y.object }))
-    (ap (λ e. named_by (expr_of e)) c.in-Make.is ∙ ap named_by (expr_of-Make n c.in-Make.args))
+    (grind (arith, c.in-Make.is, expr_of-Make n c.in-Make.args))
     (λ fs. ap (λ e. value_of fs (state_in s) (expr_of e)) c.in-Make.is ∙ ap (value_of fs (state_in s)) (expr_of-Make n c.in-Make.args))
 
 pub after-returns-in_err-key-in-Item : goal.after-returns-in_err-key-in-Item
@@ -222,8 +219,8 @@ after-select-requires g t c =
     let w = c.given.new.work in
     let x = c.in_ok-key-in-Item.ensures in
     record {
-      on = value_kept (world_of s) (world_of w) s.settled w.settled x.kept c.args.on c.requires;
-      first = key_known (world_of w) c.in_ok-key-in-Item.key x.found;
+      on = search value_kept;
+      first = search key_known;
       second = tt;
     }
 
@@ -276,15 +273,15 @@ after-returns-in_ok-first-in-Access g t c =
     let second = option_map (subscript_in (world_of w)) c.in_ok-first-in-Access.second in
     let way = way_of c.selector_of.result in
     let same = value_seen (world_of s) (world_of w) s.settled w.settled x.kept c.args.on c.requires in
-    evaluates_by (goes_on (λ fs s q. at_once (select_result v (through by) q.0 q.1)) (c.in_ok-first-in-Access.first, c.in_ok-first-in-Access.second) x
+    evaluates_by (goes_on (λ fs s q. at_once (select_result v (through by) q.0 q.1)) (search, search) x
     (evaluates_by (forms w u (select_result on way first second) (select_result_fault on way first second) c.select-in-Access.ensures.names c.select-in-Access.result c.evaluated-in-Access.result c.evaluated-in-Access.ensures c.select-in-Access.ensures.answers)
     (λ fs. ap (λ e. at_once (select_result e (through by) first second)) (sym same) ∙ ap (λ way. at_once (select_result on way first second)) (sym c.selector_of.ensures))))
     (λ fs. ap (λ y. stepped fs (state_in s) v (step_of y)) c.in-Access.is ∙ ap (stepped fs (state_in s) v) (step_of-Access y.by y.first y.second) ∙ both_then Err _ _ (λ g h. at_once (select_result v (through by) g h)))
 
 pub after-arguments-requires : goal.after-arguments-requires
 after-arguments-requires g t c =
-    let deep : step_depth (step_of c.args.step.now) ≡ args_depth (named_args (named_parts_of c.in-Method.args)) = ap step_depth (ap step_of c.in-Method.is ∙ step_of-Method c.in-Method.name c.in-Method.args) in
-    λ κs within. (omega (arith, deep, c.decreases), within)
+    let deep : step_depth (step_of c.args.step.now) ≡ args_depth (named_args (named_parts_of c.in-Method.args)) = cc (c.in-Method.is, step_of-Method c.in-Method.name c.in-Method.args) in
+    grind arith
 
 pub after-returns-in_err-expect_method-in-Method : goal.after-returns-in_err-expect_method-in-Method
 after-returns-in_err-expect_method-in-Method g t c =
@@ -292,7 +289,7 @@ after-returns-in_err-expect_method-in-Method g t c =
     let v = entry_in (world_of s) c.args.on in
     let n = c.in-Method.name in
     let x = c.in_err-expect_method-in-Method in
-    evaluates_by (knows_none (λ fs s. then_read (named_of fs s (named_args (named_parts_of c.in-Method.args))) (λ gs. at_once (call_result v (calls.plain n) gs))) x.field-0.0 (has_method v n) n (subst (λ k. IsNoAttribute x.field-0.0 k (has_method v k)) c.as_str.ensures (x.ensures.fault (world_of s).texts)) c.from_residual-in_err-expect_method-in-Method.result c.from_residual-in_err-expect_method-in-Method.ensures.1)
+    evaluates_by (knows_none (λ fs s. then_read (named_of fs s (named_args (named_parts_of c.in-Method.args))) (λ gs. at_once (call_result v (calls.plain n) gs))) x.field-0.0 (has_method v n) n (grind arith) c.from_residual-in_err-expect_method-in-Method.result c.from_residual-in_err-expect_method-in-Method.ensures.1)
     (λ fs. ap (λ y. stepped fs (state_in s) v (step_of y)) c.in-Method.is ∙ ap (stepped fs (state_in s) v) (step_of-Method n c.in-Method.args))
 
 pub after-returns-in_err-args-in-Method : goal.after-returns-in_err-args-in-Method
@@ -300,7 +297,7 @@ after-returns-in_err-args-in-Method g t c =
     let s = c.args.work.now in
     let v = entry_in (world_of s) c.args.on in
     let n = c.in-Method.name in
-    let known : has_method v n ≡ true = ap (has_method v) (sym c.as_str.ensures) ∙ c.in_ok-expect_method-in-Method.ensures.known s.dict in
+    let known : has_method v n ≡ true = grind arith in
     evaluates_by (knows (λ fs s. then_read (named_of fs s (named_args (named_parts_of c.in-Method.args))) (λ gs. at_once (call_result v (calls.plain n) gs))) (has_method v n) n known (stops (λ fs s gs. at_once (call_result v (calls.plain n) gs)) c.in_err-args-in-Method.ensures c.from_residual-in_err-args-in-Method.result c.from_residual-in_err-args-in-Method.ensures.1))
     (λ fs. ap (λ y. stepped fs (state_in s) v (step_of y)) c.in-Method.is ∙ ap (stepped fs (state_in s) v) (step_of-Method n c.in-Method.args))
 
@@ -309,7 +306,7 @@ after-returns-in_err-name-in-Method g t c =
     let s = c.args.work.now in
     let v = entry_in (world_of s) c.args.on in
     let n = c.in-Method.name in
-    let known : has_method v n ≡ true = ap (has_method v) (sym c.as_str.ensures) ∙ c.in_ok-expect_method-in-Method.ensures.known s.dict in
+    let known : has_method v n ≡ true = cc (c.as_str.ensures, c.in_ok-expect_method-in-Method.ensures.known s.dict) in
     evaluates_by (knows (λ fs s. then_read (named_of fs s (named_args (named_parts_of c.in-Method.args))) (λ gs. at_once (call_result v (calls.plain n) gs))) (has_method v n) n known (goes_on (λ fs s gs. at_once (call_result v (calls.plain n) gs)) c.in_ok-args-in-Method.args c.in_ok-args-in-Method.ensures (runs_out c.from_residual-in_err-name-in-Method.result c.from_residual-in_err-name-in-Method.ensures.1)))
     (λ fs. ap (λ y. stepped fs (state_in s) v (step_of y)) c.in-Method.is ∙ ap (stepped fs (state_in s) v) (step_of-Method n c.in-Method.args))
 
@@ -329,7 +326,7 @@ after-returns-in_ok-name-in-Method g t c =
     let s = c.args.work.now in
     let v = entry_in (world_of s) c.args.on in
     let n = c.in-Method.name in
-    let known : has_method v n ≡ true = ap (has_method v) (sym c.as_str.ensures) ∙ c.in_ok-expect_method-in-Method.ensures.known s.dict in
+    let known : has_method v n ≡ true = cc (c.as_str.ensures, c.in_ok-expect_method-in-Method.ensures.known s.dict) in
     let w = c.arguments.new.work in
     let u = c.method.new.self in
     let x = c.in_ok-args-in-Method.ensures in
@@ -344,37 +341,31 @@ after-returns-in_ok-name-in-Method g t c =
 
 -- what a chain is seen as
 chain_seen : (w : World) (link : Link) (args : NamedList) (by : Option Argument) (name : Words) → chain_in w (chain_behind link args by name) ≡ chain_meant link (arguments_in w args) (brackets_in w by) name
-chain_seen w Groupby args by name = refl
-chain_seen w Rolling args by name = refl
-chain_seen w Expanding args by name = refl
+chain_seen w x args by name = grind arith
 
 -- its arguments and brackets are known
 chain_known : (w : World) (link : Link) (args : NamedList) (by : Option Argument) (name : Words) → AreKnownArguments w args.items.items → IfSome by (IsKnownArgument w) → IsKnownChain w (chain_behind link args by name)
-chain_known w Groupby args by name known k = (known, k)
-chain_known w Rolling args by name known k = tt
-chain_known w Expanding args by name known k = tt
+chain_known w x args by name known k = grind arith
 
 -- a call without brackets reads nothing in their place
 no_brackets : (v : Entry) (n : Text) (args more : Reads (List NamedGiven)) → where_named (has_method v n) n (then_read args (λ g. then_read more (λ gs. at_once (call_result v (calls.through n) gs))))
     ≡ where_named (has_method v n) n (then_read args (λ g. then_read (gives None) (λ (h : Option Given). then_read more (λ gs. at_once (call_result v (calls.through n) gs)))))
-no_brackets v n args more =
-    let nowhere : Option Given = None in
-    ap (λ m. where_named (has_method v n) n (then_read args (λ g. m))) (sym (then_gives Err nowhere (λ (h : Option Given). then_read more (λ gs. at_once (call_result v (calls.through n) gs)))))
+no_brackets v n args more = search then_gives
 
 pub after-through-requires : goal.after-through-requires
 after-through-requires g t c =
-    let deep : step_depth (step_of c.args.step.now) ≡ max (args_depth (named_args (named_parts_of c.in-Group.args))) (max (optional_arg_depth (optional_arg c.in-Group.by)) (args_depth (named_args (named_parts_of c.in-Group.more)))) = ap step_depth (ap step_of c.in-Group.is ∙ step_of-Group c.in-Group.args c.in-Group.by c.in-Group.name c.in-Group.more) in
-    rw c.linked-call.ensures (λ κs within. (omega (arith, deep, c.decreases), (within, c.requires)))
+    let deep : step_depth (step_of c.args.step.now) ≡ max (args_depth (named_args (named_parts_of c.in-Group.args))) (max (optional_arg_depth (optional_arg c.in-Group.by)) (args_depth (named_args (named_parts_of c.in-Group.more)))) = grind (arith, c.in-Group.is, step_of-Group c.in-Group.args c.in-Group.by c.in-Group.name c.in-Group.more) in
+    grind arith
 
 pub after-through-requires-in-Rolling : goal.after-through-requires-in-Rolling
 after-through-requires-in-Rolling g t c =
-    let deep : step_depth (step_of c.args.step.now) ≡ max (args_depth (named_args (named_parts_of c.in-Rolling.args))) (args_depth (named_args (named_parts_of c.in-Rolling.more))) = ap step_depth (ap step_of c.in-Rolling.is ∙ step_of-Rolling c.in-Rolling.args c.in-Rolling.name c.in-Rolling.more) in
-    rw c.linked-call-in-Rolling.ensures (λ κs within. (omega (arith, deep, c.decreases), (within, c.requires)))
+    let deep : step_depth (step_of c.args.step.now) ≡ max (args_depth (named_args (named_parts_of c.in-Rolling.args))) (args_depth (named_args (named_parts_of c.in-Rolling.more))) = grind (arith, c.in-Rolling.is, step_of-Rolling c.in-Rolling.args c.in-Rolling.name c.in-Rolling.more) in
+    rw c.linked-call-in-Rolling.ensures (λ κs within. (omega (arith, deep, c.decreases), search))
 
 pub after-through-requires-in-Expanding : goal.after-through-requires-in-Expanding
 after-through-requires-in-Expanding g t c =
-    let deep : step_depth (step_of c.args.step.now) ≡ max (args_depth (named_args (named_parts_of c.in-Expanding.args))) (args_depth (named_args (named_parts_of c.in-Expanding.more))) = ap step_depth (ap step_of c.in-Expanding.is ∙ step_of-Expanding c.in-Expanding.args c.in-Expanding.name c.in-Expanding.more) in
-    rw c.linked-call-in-Expanding.ensures (λ κs within. (omega (arith, deep, c.decreases), (within, c.requires)))
+    let deep : step_depth (step_of c.args.step.now) ≡ max (args_depth (named_args (named_parts_of c.in-Expanding.args))) (args_depth (named_args (named_parts_of c.in-Expanding.more))) = grind (arith, c.in-Expanding.is, step_of-Expanding c.in-Expanding.args c.in-Expanding.name c.in-Expanding.more) in
+    rw c.linked-call-in-Expanding.ensures (λ κs within. (omega (arith, deep, c.decreases), search))
 
 pub after-returns-in-Group : goal.after-returns-in-Group
 after-returns-in-Group g t c =
@@ -406,7 +397,7 @@ through-returns-in_err-expect_method g t c =
     let call = c.args.call in
     let n = link_name call.link in
     let x = c.in_err-expect_method in
-    knows_none (λ fs s. then_read (named_of fs s (named_args (named_parts_of call.args.now))) (after_link fs s v call)) x.field-0.0 (has_method v n) n (subst (λ k. IsNoAttribute x.field-0.0 k (has_method v k)) c.name.ensures (x.ensures.fault (world_of s).texts)) c.from_residual.result c.from_residual.ensures.1
+    knows_none (λ fs s. then_read (named_of fs s (named_args (named_parts_of call.args.now))) (after_link fs s v call)) x.field-0.0 (has_method v n) n (grind arith) c.from_residual.result c.from_residual.ensures.1
 
 pub through-returns-in_err-args : goal.through-returns-in_err-args
 through-returns-in_err-args g t c =
@@ -414,7 +405,7 @@ through-returns-in_err-args g t c =
     let v = entry_in (world_of s) c.args.on in
     let call = c.args.call in
     let n = link_name call.link in
-    let known : has_method v n ≡ true = ap (has_method v) (sym c.name.ensures) ∙ c.in_ok-expect_method.ensures.known s.dict in
+    let known : has_method v n ≡ true = grind arith in
     knows (λ fs s. then_read (named_of fs s (named_args (named_parts_of call.args.now))) (after_link fs s v call)) (has_method v n) n known
     (stops (λ fs s. after_link fs s v call) c.in_err-args.ensures c.from_residual-in_err-args.result c.from_residual-in_err-args.ensures.1)
 
@@ -424,7 +415,7 @@ through-returns-in_err-by g t c =
     let v = entry_in (world_of s) c.args.on in
     let call = c.args.call in
     let n = link_name call.link in
-    let known : has_method v n ≡ true = ap (has_method v) (sym c.name.ensures) ∙ c.in_ok-expect_method.ensures.known s.dict in
+    let known : has_method v n ≡ true = grind arith in
     let a = arguments_in (world_of c.arguments.new.work) c.in_ok-args.args in
     knows (λ fs s. then_read (named_of fs s (named_args (named_parts_of call.args.now))) (after_link fs s v call)) (has_method v n) n known
     (goes_on (λ fs s. after_link fs s v call) c.in_ok-args.args c.in_ok-args.ensures
@@ -436,7 +427,7 @@ through-returns-in_err-more g t c =
     let v = entry_in (world_of s) c.args.on in
     let call = c.args.call in
     let n = link_name call.link in
-    let known : has_method v n ≡ true = ap (has_method v) (sym c.name.ensures) ∙ c.in_ok-expect_method.ensures.known s.dict in
+    let known : has_method v n ≡ true = cc (c.name.ensures, c.in_ok-expect_method.ensures.known s.dict) in
     let a = arguments_in (world_of c.arguments.new.work) c.in_ok-args.args in
     let b = brackets_in (world_of c.brackets.new.work) c.in_ok-by.by in
     knows (λ fs s. then_read (named_of fs s (named_args (named_parts_of call.args.now))) (after_link fs s v call)) (has_method v n) n known
@@ -450,7 +441,7 @@ through-returns-in_err-name g t c =
     let v = entry_in (world_of s) c.args.on in
     let call = c.args.call in
     let n = link_name call.link in
-    let known : has_method v n ≡ true = ap (has_method v) (sym c.name.ensures) ∙ c.in_ok-expect_method.ensures.known s.dict in
+    let known : has_method v n ≡ true = cc (c.name.ensures, c.in_ok-expect_method.ensures.known s.dict) in
     let a = arguments_in (world_of c.arguments.new.work) c.in_ok-args.args in
     let b = brackets_in (world_of c.brackets.new.work) c.in_ok-by.by in
     knows (λ fs s. then_read (named_of fs s (named_args (named_parts_of call.args.now))) (after_link fs s v call)) (has_method v n) n known
@@ -473,7 +464,7 @@ through-method-requires g t c =
     let by = brackets_kept (world_of q) (world_of w) q.settled w.settled z.kept c.in_ok-by.by y.found in
     record {
       on = value_kept (world_of s) (world_of w) s.settled w.settled kept c.args.on c.requires;
-      before = subst (IsKnownChain (world_of w)) (sym c.chain.ensures) (chain_known (world_of w) c.args.call.link c.in_ok-args.args c.in_ok-by.by c.in_ok-name.name args by);
+      before = subst (IsKnownChain (world_of w)) (sym c.chain.ensures) (search chain_known);
       arguments = z.found;
     }
 
@@ -483,7 +474,7 @@ through-returns g t c =
     let v = entry_in (world_of s) c.args.on in
     let call = c.args.call in
     let n = link_name call.link in
-    let known : has_method v n ≡ true = ap (has_method v) (sym c.name.ensures) ∙ c.in_ok-expect_method.ensures.known s.dict in
+    let known : has_method v n ≡ true = cc (c.name.ensures, c.in_ok-expect_method.ensures.known s.dict) in
     let p = c.arguments.new.work in
     let q = c.brackets.new.work in
     let w = c.arguments-2.new.work in
@@ -498,10 +489,10 @@ through-returns g t c =
     let args = arguments_in (world_of w) c.in_ok-more.more in
     let kept = keeps_both _ _ _ x.kept (keeps_both _ _ _ y.kept z.kept) in
     let same = value_seen (world_of s) (world_of w) s.settled w.settled kept c.args.on c.requires in
-    let args_same : arguments_in (world_of w) c.in_ok-args.args ≡ a = arguments_seen (world_of p) (world_of w) p.settled w.settled (keeps_both _ _ _ y.kept z.kept) c.in_ok-args.args.items.items x.found in
-    let by_same : brackets_in (world_of w) c.in_ok-by.by ≡ b = brackets_seen (world_of q) (world_of w) q.settled w.settled z.kept c.in_ok-by.by y.found in
-    let named : c.in_ok-name.name ≡ call.name.now = c.in_ok-name.ensures ∙ c.as_str.ensures in
-    let chained : k ≡ chain_meant call.link a b call.name.now =
+    let args_same = arguments_seen (world_of p) (world_of w) p.settled w.settled (keeps_both _ _ _ y.kept z.kept) c.in_ok-args.args.items.items x.found in
+    let by_same : brackets_in (world_of w) c.in_ok-by.by ≡ b = search brackets_seen in
+    let named = c.in_ok-name.ensures ∙ c.as_str.ensures in
+    let chained =
     ap (chain_in (world_of w)) c.chain.ensures ∙ chain_seen (world_of w) call.link c.in_ok-args.args c.in_ok-by.by c.in_ok-name.name
     ∙ (λ i. chain_meant call.link (args_same i) (by_same i) (named i)) in
     knows (λ fs s. then_read (named_of fs s (named_args (named_parts_of call.args.now))) (after_link fs s v call)) (has_method v n) n known
@@ -535,7 +526,7 @@ subscripts-returns-in_ok-second-in-Some g t c =
     let same = subscript_seen (world_of w) (world_of u) w.settled u.settled y.kept first x.found in
     goes_on (λ fs s v. then_read (second_of fs s (optional_sub c.args.second.now)) (λ w. let p : GivenSub × Option GivenSub = (v, w) in gives p)) first x
     (evaluates_by (makes (λ h. let p : GivenSub × Option GivenSub = (a, h) in p) (Some second) (first, Some second) (seconds second y)
-    (subscript_kept (world_of w) (world_of u) w.settled u.settled y.kept first x.found, y.found)
+    (search subscript_kept)
     (ap (λ z. let p : GivenSub × Option GivenSub = (z, Some (subscript_in (world_of u) second)) in p) same))
     (λ fs. ap (λ o. then_read (second_of fs (state_in w) (optional_sub o)) (λ h. let p : GivenSub × Option GivenSub = (a, h) in gives p)) c.in-Some.is))
 
@@ -613,9 +604,8 @@ sub-returns-in_ok-by-in-Some g t c =
     evaluates_by (goes_on (λ fs s g. then_read (bound_of fs s (optional_arg y.to)) (λ h. then_read (stride_of fs s (optional_expr y.by)) (λ k. gives (span_given g h k)))) from x1
     (goes_on (λ fs s h. then_read (stride_of fs s (optional_expr y.by)) (λ k. gives (span_given a h k))) to x2
     (evaluates_by (makes (λ k. span_given a b k) by (subscript.Span from to by) (strides c.in_ok-by-in-Some.by x3)
-    (span_known (world_of r) from to by (argument_kept (world_of w) (world_of r) w.settled r.settled late from x1.found) (argument_kept (world_of u) (world_of r) u.settled r.settled x3.kept to x2.found) (argument_known (world_of r) c.in_ok-by-in-Some.by x3.found.known))
-    (ap (λ z. span_given z (argument_in (world_of r) to) (argument_in (world_of r) by)) (argument_seen (world_of w) (world_of r) w.settled r.settled late from x1.found)
-    ∙ ap (λ z. span_given a z (argument_in (world_of r) by)) (argument_seen (world_of u) (world_of r) u.settled r.settled x3.kept to x2.found)))
+    (span_known (world_of r) from to by (search argument_kept) (search argument_kept) (grind arith))
+    (cc (argument_seen (world_of w) (world_of r) w.settled r.settled late from x1.found, argument_seen (world_of u) (world_of r) u.settled r.settled x3.kept to x2.found)))
     (λ fs. ap (λ o. then_read (stride_of fs (state_in u) (optional_expr o)) (λ k. gives (span_given a b k))) c.in-Some.is))))
     (λ fs. ap (λ z. sub_of fs (state_in s) (view_sub z)) y.is ∙ ap (sub_of fs (state_in s)) (sub_of-Span y.from y.to y.by))
 
@@ -633,8 +623,8 @@ sub-returns-in-None g t c =
     let to = c.in_ok-to-in-Span.to in
     evaluates_by (goes_on (λ fs s g. then_read (bound_of fs s (optional_arg y.to)) (λ h. then_read (stride_of fs s (optional_expr y.by)) (λ k. gives (span_given g h k)))) from x1
     (evaluates_by (makes (λ h. span_given a h nothing) to (subscript.Span from to argument.Nothing) x2
-    (span_known (world_of u) from to argument.Nothing (argument_kept (world_of w) (world_of u) w.settled u.settled x2.kept from x1.found) x2.found (nothing_known (world_of u)))
-    (ap (λ z. span_given z b nothing) (argument_seen (world_of w) (world_of u) w.settled u.settled x2.kept from x1.found)))
+    (span_known (world_of u) from to argument.Nothing (search argument_kept) x2.found (search))
+    (cc (argument_seen (world_of w) (world_of u) w.settled u.settled x2.kept from x1.found)))
     (λ fs. ap (λ o. then_read (bound_of fs (state_in w) (optional_arg y.to)) (λ h. then_read (stride_of fs (state_in w) (optional_expr o)) (λ k. gives (span_given a h k)))) c.in-None.is)))
     (λ fs. ap (λ z. sub_of fs (state_in s) (view_sub z)) y.is ∙ ap (sub_of fs (state_in s)) (sub_of-Span y.from y.to y.by))
 
@@ -663,7 +653,7 @@ bound-returns-in-Some g t c =
 pub bound-returns-in-None : goal.bound-returns-in-None
 bound-returns-in-None g t c =
     let s = c.args.work.now in
-    evaluates_by (stays argument.Nothing (nothing_known (world_of s))) (λ fs. ap (λ o. bound_of fs (state_in s) (optional_arg o)) c.in-None.is)
+    evaluates_by (stays argument.Nothing (search)) (λ fs. ap (λ o. bound_of fs (state_in s) (optional_arg o)) c.in-None.is)
 
 pub given-returns-in_err-value-in-Expr : goal.given-returns-in_err-value-in-Expr
 given-returns-in_err-value-in-Expr g t c =
@@ -677,13 +667,11 @@ given-returns-in_ok-value-in-Expr g t c =
     let w = c.evaluate.new.work in
     let x = c.in_ok-value-in-Expr.ensures in
     let v = c.in_ok-value-in-Expr.value in
-    evaluates_by (makes (λ v. one v) v (argument.One v) x (argument_known (world_of w) v x.found.known) refl)
+    evaluates_by (makes (λ v. one v) v (argument.One v) x (grind arith) refl)
     (λ fs. ap (λ a. given_of fs (state_in s) (arg_of a)) c.in-Expr.is)
 
 pub given-items-requires : goal.given-items-requires
-given-items-requires g t c =
-    let deep : arg_depth (arg_of c.args.arg.now) ≡ suc (list_depth (arg_list (parts_of c.in-Many.parts))) = ap arg_depth (ap arg_of c.in-Many.is ∙ arg_of-Many c.in-Many.parts) in
-    λ κs within. (omega (arith, deep, c.decreases), within)
+given-items-requires g t c = grind (arith, arg_of-Many)
 
 pub given-returns-in_err-items-in-Many : goal.given-returns-in_err-items-in-Many
 given-returns-in_err-items-in-Many g t c =
@@ -697,13 +685,11 @@ given-returns-in_ok-items-in-Many g t c =
     let w = c.items.new.work in
     let x = c.in_ok-items-in-Many.ensures in
     let v = c.in_ok-items-in-Many.items in
-    evaluates_by (makes (λ v. many v) v (argument.Many v) x (many_known (world_of w) v x.found) refl)
+    evaluates_by (makes (λ v. many v) v (argument.Many v) x (grind arith) refl)
     (λ fs. ap (λ a. given_of fs (state_in s) (arg_of a)) c.in-Many.is ∙ ap (given_of fs (state_in s)) (arg_of-Many c.in-Many.parts))
 
 pub given-items-requires-in-Row : goal.given-items-requires-in-Row
-given-items-requires-in-Row g t c =
-    let deep : arg_depth (arg_of c.args.arg.now) ≡ suc (list_depth (arg_list (parts_of c.in-Row.parts))) = ap arg_depth (ap arg_of c.in-Row.is ∙ arg_of-Row c.in-Row.parts) in
-    λ κs within. (omega (arith, deep, c.decreases), within)
+given-items-requires-in-Row g t c = grind (arith, arg_of-Row)
 
 pub given-returns-in_err-items-in-Row : goal.given-returns-in_err-items-in-Row
 given-returns-in_err-items-in-Row g t c =
@@ -717,13 +703,11 @@ given-returns-in_ok-items-in-Row g t c =
     let w = c.items-in-Row.new.work in
     let x = c.in_ok-items-in-Row.ensures in
     let v = c.in_ok-items-in-Row.items in
-    evaluates_by (makes (λ v. row v) v (argument.Row v) x (tuple_known (world_of w) v x.found) refl)
+    evaluates_by (makes (λ v. row v) v (argument.Row v) x (grind arith) refl)
     (λ fs. ap (λ a. given_of fs (state_in s) (arg_of a)) c.in-Row.is ∙ ap (given_of fs (state_in s)) (arg_of-Row c.in-Row.parts))
 
 pub given-entries-requires : goal.given-entries-requires
-given-entries-requires g t c =
-    let deep : arg_depth (arg_of c.args.arg.now) ≡ suc (pairs_depth (arg_pairs (pair_parts_of c.in-Table.pairs))) = ap arg_depth (ap arg_of c.in-Table.is ∙ arg_of-Table c.in-Table.pairs) in
-    λ κs within. (omega (arith, deep, c.decreases), within)
+given-entries-requires g t c = grind (arith, arg_of-Table)
 
 pub given-returns-in_err-entries-in-Table : goal.given-returns-in_err-entries-in-Table
 given-returns-in_err-entries-in-Table g t c =
@@ -743,7 +727,7 @@ given-returns-in_ok-entries-in-Table g t c =
 pub given-returns-in-Nothing : goal.given-returns-in-Nothing
 given-returns-in-Nothing g t c =
     let s = c.args.work.now in
-    evaluates_by (stays argument.Nothing (nothing_known (world_of s))) (λ fs. ap (λ a. given_of fs (state_in s) (arg_of a)) c.in-Nothing.is)
+    evaluates_by (stays argument.Nothing (search)) (λ fs. ap (λ a. given_of fs (state_in s) (arg_of a)) c.in-Nothing.is)
 
 pub item-returns-in_err-value-in-Expr : goal.item-returns-in_err-value-in-Expr
 item-returns-in_err-value-in-Expr g t c =
@@ -757,13 +741,11 @@ item-returns-in_ok-value-in-Expr g t c =
     let w = c.evaluate.new.work in
     let x = c.in_ok-value-in-Expr.ensures in
     let v = c.in_ok-value-in-Expr.value in
-    evaluates_by (makes (λ v. one v) v (item.One v) x (item_known (world_of w) v x.found.known) refl)
+    evaluates_by (makes (λ v. one v) v (item.One v) x (grind arith) refl)
     (λ fs. ap (λ a. part_of fs (state_in s) (arg_of a)) c.in-Expr.is)
 
 pub item-items-requires : goal.item-items-requires
-item-items-requires g t c =
-    let deep : arg_depth (arg_of c.args.arg.now) ≡ suc (list_depth (arg_list (parts_of c.in-Row.parts))) = ap arg_depth (ap arg_of c.in-Row.is ∙ arg_of-Row c.in-Row.parts) in
-    λ κs within. (omega (arith, deep, c.decreases), within)
+item-items-requires g t c = grind (arith, arg_of-Row)
 
 pub item-returns-in_err-items-in-Row : goal.item-returns-in_err-items-in-Row
 item-returns-in_err-items-in-Row g t c =
@@ -782,8 +764,8 @@ item-returns-in_ok-items-in-Row g t c =
 
 pub arguments-given-requires : goal.arguments-given-requires
 arguments-given-requires g t c =
-    let deep : arg_depth (arg_of c.at.result.now.1) ≤ args_depth (named_args (named_parts_of c.args.args.now)) = named_depth (named_parts_of c.args.args.now) c.loop-i.i _ c.at.ensures in
-    λ κs within. (omega (arith, deep, c.decreases), within)
+    let deep : arg_depth (arg_of c.at.result.now.1) ≤ args_depth (named_args (named_parts_of c.args.args.now)) = search named_depth in
+    grind arith
 
 pub arguments-returns-in_err-value : goal.arguments-returns-in_err-value
 arguments-returns-in_err-value g t c =
@@ -823,7 +805,7 @@ arguments-loop-i-preserved g t c =
     let one : Named = record { name = c.in_ok-name.name; value = c.in_ok-value.value } in
     let g = argument_in (world_of u) c.in_ok-value.value in
     record {
-      known = arguments_known (world_of u) args args' one c.in_ok-push.ensures.ok (arguments_kept (world_of w) (world_of u) w.settled u.settled x.kept args inv.known) x.found;
+      known = arguments_known (world_of u) args args' one c.in_ok-push.ensures.ok (search arguments_kept) x.found;
       gathers = gathers_next (λ g l. (record { name = n; value = g }) ∷ l) (λ fs s. named_of fs s (named_args (drop (c.loop-i.i + 1) xs))) inv.gathers (λ fs. ap (λ l. named_of fs (state_in s) (named_args l)) (drop_item xs c.loop-i.i _ c.at.ensures)) (arguments_in (world_of u) c.push.new.self) c.in_ok-value.value x
           (λ l. ap (λ k. arguments_in (world_of w) c.loop-i.arguments ++ (record { name = k; value = g }) ∷ l) (sym c.in_ok-name.ensures)
           ∙ ap (λ z. z ++ (record { name = c.in_ok-name.name; value = g }) ∷ l) (sym (arguments_seen (world_of w) (world_of u) w.settled u.settled x.kept args inv.known))
@@ -839,9 +821,7 @@ arguments-returns g t c =
     gathered [] c.loop-i.arguments inv.gathers (λ fs. ap (λ l. named_of fs (state_in s) (named_args l)) (drop_end xs c.loop-i.i over)) (append-nil _) inv.known
 
 pub items-item-requires : goal.items-item-requires
-items-item-requires g t c =
-    let deep : arg_depth (arg_of c.at.result.now) ≤ list_depth (arg_list (parts_of c.args.parts.now)) = item_depth (parts_of c.args.parts.now) c.loop-i.i _ c.at.ensures in
-    λ κs within. (omega (arith, deep, c.decreases), within)
+items-item-requires g t c = grind (arith, item_depth)
 
 pub items-returns-in_err-item : goal.items-returns-in_err-item
 items-returns-in_err-item g t c =
@@ -868,7 +848,7 @@ items-loop-i-preserved g t c =
     let items = c.loop-i.items.items.items in
     let items' = c.push.new.self.items.items in
     record {
-      known = items_known (world_of u) items items' c.in_ok-item.item c.in_ok-push.ensures.ok (items_kept (world_of w) (world_of u) w.settled u.settled x.kept items inv.known) x.found;
+      known = items_known (world_of u) items items' c.in_ok-item.item c.in_ok-push.ensures.ok (search items_kept) x.found;
       gathers = gathers_next more_given (λ fs s. parts_given fs s (arg_list (drop (c.loop-i.i + 1) xs))) inv.gathers (λ fs. ap (λ l. parts_given fs (state_in s) (arg_list l)) (drop_item xs c.loop-i.i _ c.at.ensures)) (items_in (world_of u) c.push.new.self) c.in_ok-item.item x
           (λ l. ap (λ z. join_parts z (more_given (item_in (world_of u) c.in_ok-item.item) l)) (sym (items_seen (world_of w) (world_of u) w.settled u.settled x.kept items inv.known))
           ∙ items_push (world_of u).tables (world_of u).texts items items' c.in_ok-item.item c.in_ok-push.ensures.ok l);
@@ -884,8 +864,8 @@ items-returns g t c =
 
 pub entries-given-requires : goal.entries-given-requires
 entries-given-requires g t c =
-    let deep : arg_depth (arg_of c.at.result.now.1) ≤ pairs_depth (arg_pairs (pair_parts_of c.args.pairs.now)) = pair_depth (pair_parts_of c.args.pairs.now) c.loop-i.i _ c.at.ensures in
-    λ κs within. (omega (arith, deep, c.decreases), within)
+    let deep : arg_depth (arg_of c.at.result.now.1) ≤ pairs_depth (arg_pairs (pair_parts_of c.args.pairs.now)) = search pair_depth in
+    grind arith
 
 pub entries-returns-in_err-value : goal.entries-returns-in_err-value
 entries-returns-in_err-value g t c =
@@ -905,8 +885,8 @@ entries-returns-in_err-label g t c =
     let u = c.key.new.self in
     let x = c.in_ok-value.ensures in
     let value = c.in_ok-value.value in
-    let later = adds v u value x c.in_err-label.ensures.names c.in_err-label.ensures.kept (argument_kept (world_of v) (world_of u) v.settled u.settled c.in_err-label.ensures.kept value x.found) (argument_seen (world_of v) (world_of u) v.settled u.settled c.in_err-label.ensures.kept value x.found) in
-    gathers_out (more_entries k) (λ fs s. pairs_of fs s (arg_pairs (drop (c.loop-i.i + 1) xs))) inv.gathers (λ fs. ap (λ l. pairs_of fs (state_in s) (arg_pairs l)) (drop_item xs c.loop-i.i _ c.at.ensures)) value later c.from_residual-in_err-label.result (subst (λ f. IsErrAnd c.from_residual-in_err-label.result (λ e. e ≡ f)) c.in_err-label.ensures.memory c.from_residual-in_err-label.ensures.1)
+    let later = adds v u value x c.in_err-label.ensures.names c.in_err-label.ensures.kept (search argument_kept) (argument_seen (world_of v) (world_of u) v.settled u.settled c.in_err-label.ensures.kept value x.found) in
+    gathers_out (more_entries k) (λ fs s. pairs_of fs s (arg_pairs (drop (c.loop-i.i + 1) xs))) inv.gathers (λ fs. ap (λ l. pairs_of fs (state_in s) (arg_pairs l)) (drop_item xs c.loop-i.i _ c.at.ensures)) value later c.from_residual-in_err-label.result (grind arith)
 
 pub entries-returns-in_err-push : goal.entries-returns-in_err-push
 entries-returns-in_err-push g t c =
@@ -918,7 +898,7 @@ entries-returns-in_err-push g t c =
     let u = c.key.new.self in
     let x = c.in_ok-value.ensures in
     let value = c.in_ok-value.value in
-    let later = adds v u value x c.in_ok-label.ensures.names c.in_ok-label.ensures.kept (argument_kept (world_of v) (world_of u) v.settled u.settled c.in_ok-label.ensures.kept value x.found) (argument_seen (world_of v) (world_of u) v.settled u.settled c.in_ok-label.ensures.kept value x.found) in
+    let later = adds v u value x c.in_ok-label.ensures.names c.in_ok-label.ensures.kept (search argument_kept) (argument_seen (world_of v) (world_of u) v.settled u.settled c.in_ok-label.ensures.kept value x.found) in
     gathers_out (more_entries k) (λ fs s. pairs_of fs s (arg_pairs (drop (c.loop-i.i + 1) xs))) inv.gathers (λ fs. ap (λ l. pairs_of fs (state_in s) (arg_pairs l)) (drop_item xs c.loop-i.i _ c.at.ensures)) value later c.from_residual-in_err-push.result c.from_residual-in_err-push.ensures.1
 
 pub entries-loop-i-preserved : goal.entries-loop-i-preserved
@@ -931,7 +911,7 @@ entries-loop-i-preserved g t c =
     let u = c.key.new.self in
     let x = c.in_ok-value.ensures in
     let value = c.in_ok-value.value in
-    let later = adds v u value x c.in_ok-label.ensures.names c.in_ok-label.ensures.kept (argument_kept (world_of v) (world_of u) v.settled u.settled c.in_ok-label.ensures.kept value x.found) (argument_seen (world_of v) (world_of u) v.settled u.settled c.in_ok-label.ensures.kept value x.found) in
+    let later = adds v u value x c.in_ok-label.ensures.names c.in_ok-label.ensures.kept (search argument_kept) (argument_seen (world_of v) (world_of u) v.settled u.settled c.in_ok-label.ensures.kept value x.found) in
     let w = c.loop-i.work in
     let y = c.in_ok-label.ensures in
     let label = c.in_ok-label.label in
@@ -939,7 +919,7 @@ entries-loop-i-preserved g t c =
     let pairs' = c.push.new.self.pairs.items in
     let kept = keeps_both (world_of w) (world_of v) (world_of u) x.kept y.kept in
     record {
-      known = pairs_known (world_of u) pairs pairs' label value c.in_ok-push.ensures.ok (pairs_kept (world_of w) (world_of u) w.settled u.settled kept pairs inv.known) y.given later.found;
+      known = pairs_known (world_of u) pairs pairs' label value c.in_ok-push.ensures.ok (search pairs_kept) y.given later.found;
       gathers = gathers_next (more_entries k) (λ fs s. pairs_of fs s (arg_pairs (drop (c.loop-i.i + 1) xs))) inv.gathers (λ fs. ap (λ l. pairs_of fs (state_in s) (arg_pairs l)) (drop_item xs c.loop-i.i _ c.at.ensures)) (pairs_in (world_of u) c.push.new.self) value later
           (λ l. ap (λ z. join_pairs (pairs_in (world_of w) c.loop-i.entries) (more_entries z (argument_in (world_of u) value) l)) (sym y.label)
           ∙ ap (λ z. join_pairs z (more_entries (label_datum (world_of u).texts label) (argument_in (world_of u) value) l)) (sym (pairs_seen (world_of w) (world_of u) w.settled u.settled kept pairs inv.known))

@@ -1,6 +1,6 @@
 use Rattle.{
-  std.{proofs.Common.{refl, ◌∙◌, ap, None, Option}, specs.Prelude.{Err, option_map}},
-  table_meaning.specs.Value.{GivenSub, key_given},
+  std.{proofs.Common.{refl, ◌∙◌, ap, None}, specs.Prelude.{Err, option_map}},
+  table_meaning.specs.Value.{key_given},
   select_meaning.specs.Select.{plain, through},
   script_meaning.specs.{Reading.{gives}, Expression.{Target, target_of}},
   script_tree.specs.View.{step_of, accessor_of},
@@ -30,7 +30,7 @@ pub returns-in_err-first-in-Access : goal.returns-in_err-first-in-Access
 returns-in_err-first-in-Access g c =
     let s = c.args.work.now in
     let y = c.in-Access in
-    evaluates_by (stops (λ fs t (q : GivenSub × Option GivenSub). let t : Target = record { way = through (accessor_of y.by); first = q.0; second = q.1 } in gives t) c.in_err-first-in-Access.ensures c.from_residual-in_err-first-in-Access.result c.from_residual-in_err-first-in-Access.ensures.1)
+    evaluates_by (stops (λ fs t q. let t : Target = record { way = through (accessor_of y.by); first = q.0; second = q.1 } in gives t) c.in_err-first-in-Access.ensures c.from_residual-in_err-first-in-Access.result c.from_residual-in_err-first-in-Access.ensures.1)
     (λ fs. ap (λ z. target_of fs (state_in s) (step_of z)) y.is ∙ ap (target_of fs (state_in s)) (step_of-Access y.by y.first y.second)
     ∙ both_then Err _ _ (λ g h. let t : Target = record { way = through (accessor_of y.by); first = g; second = h } in gives t))
 
@@ -42,7 +42,7 @@ returns-in_ok-first-in-Access g c =
     let x = c.in_ok-first-in-Access.ensures in
     let first = c.in_ok-first-in-Access.first in
     let second = c.in_ok-first-in-Access.second in
-    evaluates_by (makes (λ (q : GivenSub × Option GivenSub). let t : Target = record { way = through (accessor_of y.by); first = q.0; second = q.1 } in t) (first, second) (c.selector_of.result, first, second) x x.found
+    evaluates_by (makes (λ q. let t : Target = record { way = through (accessor_of y.by); first = q.0; second = q.1 } in t) (first, second) (c.selector_of.result, first, second) x x.found
     (ap (λ way. let t : Target = record { way = way; first = subscript_in w first; second = option_map (subscript_in w) second } in t) c.selector_of.ensures))
     (λ fs. ap (λ z. target_of fs (state_in s) (step_of z)) y.is ∙ ap (target_of fs (state_in s)) (step_of-Access y.by y.first y.second)
     ∙ both_then Err _ _ (λ g h. let t : Target = record { way = through (accessor_of y.by); first = g; second = h } in gives t))

@@ -1,9 +1,8 @@
 use Rattle.{
-  std.proofs.{Common.{refl, [], ap, sym, ◌∙◌, false}, lemmas.Result.{err_from_is_err_and}},
+  std.proofs.{Common.{arith, refl, [], ap, false}, lemmas.Result.{err_from_is_err_and}},
   script_meaning.specs.{Reading.{at_once}, Expression.{named_by}, Statement.{done, with_value}},
   script_tree.specs.View.{expr_of},
-  frame_store.specs.World.{entry_in},
-  script_work.{specs.{Bindings.{bound, state_over}, Work.{names_in, world_of, state_in}}, proofs.{States.{state_kept, bind_state}, Worlds.{keeps_both, keeps_same}, Rides.{goes_value, goes_spends, halts_first, spends_then}}},
+  script_work.{specs.Work.{names_in, world_of, state_in}, proofs.{States.{state_kept, bind_state}, Worlds.{keeps_both, keeps_same}, Rides.{goes_value, goes_spends, halts_first, spends_then}}},
   script_session.proofs.Answering.{refusal, step_halts, done_same},
 }
 use Rattle.script_session.proofs.statements.bind.Goals as goal
@@ -16,9 +15,7 @@ returns-in_err-value-clause-answers g c =
     rw (p.1, p.2) (λ held. step_halts (world_of c.evaluate.new.work).texts _ _ _ _ f (halts_first (world_of c.evaluate.new.work).texts _ _ _ _ refusal (λ v. at_once (done (with_value (state_in s) c.args.name.now (named_by (expr_of c.args.expr.now)) v) [] false)) f (c.in_err-value.ensures.reads held)))
 
 pub returns-in_err-set_name-clause-kept : goal.returns-in_err-set_name-clause-kept
-returns-in_err-set_name-clause-kept g c =
-    let p = err_from_is_err_and c.from_residual-in_err-set_name.result c.from_residual-in_err-set_name.ensures.1 in
-    rw p.1 (keeps_both _ _ _ c.in_ok-value.ensures.kept (keeps_same _ _ c.set_name.ensures.world))
+returns-in_err-set_name-clause-kept g c = grind (arith, err_from_is_err_and, keeps_both, keeps_same)
 
 pub returns-clause-answers : goal.returns-clause-answers
 returns-clause-answers g c =
@@ -31,11 +28,7 @@ returns-clause-answers g c =
     let x = c.in_ok-value.ensures in
     let same = state_kept s w x.names x.kept in
     λ held. goes_value refusal (λ v. at_once (done (with_value (state_in s) n o v) [] false)) _ _ (x.reads held)
-    (ap (λ a. at_once a) (done_same _ _ (state_in u) [] _ false _ refl (
-    ap (λ t. with_value t n o (entry_in (world_of w) v)) (sym same)
-    ∙ sym (bind_state (names_in w) n o v (world_of w) x.found.object)
-    ∙ ap (λ b. state_over b (world_of w)) (sym (c.in_ok-set_name.ensures.ok ∙ ap (λ x. bound (names_in w) x v) c.as_str.ensures))
-    ∙ ap (state_over (names_in u)) (sym c.set_name.ensures.world)) c.quiet.ensures.printed c.quiet.ensures.warned))
+    (ap (λ a. at_once a) (done_same _ _ (state_in u) [] _ false _ refl (cc (bind_state (names_in w) n o v (world_of w) x.found.object, c.in_ok-set_name.ensures.ok, c.as_str.ensures, c.set_name.ensures.world)) c.quiet.ensures.printed c.quiet.ensures.warned))
 
 pub returns-in_err-set_name-clause-answers : goal.returns-in_err-set_name-clause-answers
 returns-in_err-set_name-clause-answers g c =
@@ -44,4 +37,4 @@ returns-in_err-set_name-clause-answers g c =
     rw (p.1, p.2) (λ held. spends_then refusal (λ v. at_once (done (with_value (state_in s) c.args.name.now (named_by (expr_of c.args.expr.now)) v) [] false)) (goes_spends (c.in_ok-value.ensures.reads held)))
 
 pub set_name-requires : goal.set_name-requires
-set_name-requires g c = c.in_ok-value.ensures.found.known
+set_name-requires g c = grind arith

@@ -1,12 +1,12 @@
 use Rattle.{
-  std.{proofs.{Common.{refl, [], ap, sym, ◌∙◌, false, Some, Ok, subst}, lemmas.Result.{err_from_is_err_and}}, specs.Prelude.{option_map}},
+  script_work.{proofs.{Rides.{unnamed_fault, then_gives, goes_by, goes_to, goes_value, halts_by, halts_first}, States.{state_kept}, Worlds.{keeps_both, value_seen, value_kept, set_failed}}, specs.{Bindings.{value_at, state_over}, Reads.{files_in}, Work.{names_in, world_of, state_in}}},
+  std.{proofs.{Common.{arith, refl, [], ap, sym, ◌∙◌, false, Some, Ok, subst}, lemmas.Result.{err_from_is_err_and}}, specs.Prelude.{option_map}},
   select_meaning.specs.Set.{removal_result},
-  script_meaning.specs.{Reading.{at_once}, Expression.{value_of_name, value_of}, Statement.{done, then_answer, set_answer}},
+  script_meaning.specs.{Reading.{at_once}, Expression.{value_of_name, value_of}, Statement.{then_answer, set_answer}},
   script_tree.specs.View.{expr_of},
   frame_store.specs.World.{entry_in, Sets},
-  script_work.{specs.{Bindings.{value_at, state_over}, Reads.{files_in}, Work.{names_in, world_of, state_in}}, proofs.{States.{state_kept}, Worlds.{keeps_both, value_seen, value_kept, set_failed}, Rides.{then_gives, goes_by, goes_to, goes_value, halts_by, halts_first}}},
   fault_laws.proofs.SetFaults.{removal_result_fault},
-  script_session.proofs.{Answering.{refusal, step_halts, set_state, set_refused, done_same, unnamed_answers}, Settings.{set_apart}},
+  script_session.proofs.{Answering.{refusal, step_halts, set_state, set_refused, done_same}, Settings.{set_apart}},
 }
 use Rattle.script_session.proofs.statements.drop_column.Goals as goal
 
@@ -16,9 +16,7 @@ returns-in_err-on-clause-answers g c =
     let n = c.args.name.now in
     let f = c.in_err-on.field-0.0 in
     let p = err_from_is_err_and c.from_residual.result c.from_residual.ensures.1 in
-    rw (p.1, p.2) (λ held.
-    let fs = files_in c.args.names.now held in
-    step_halts (world_of c.args.work.now).texts _ _ _ _ f (unnamed_answers (world_of c.args.work.now).texts _ _ (names_in s) (world_of s) n f c.in_err-on.ensures.fault (λ v. then_answer (value_of fs (state_in s) (expr_of c.args.key.now)) (λ k. at_once (set_answer (state_in s) (Some n) (removal_result v k))))))
+    grind (arith, step_halts, halts_first, unnamed_fault)
 
 pub returns-in_err-label-clause-answers : goal.returns-in_err-label-clause-answers
 returns-in_err-label-clause-answers g c =
@@ -55,11 +53,10 @@ returns-in-Ok-clause-answers g c =
     λ held.
     let fs = files_in c.args.names.now held in
     let value = ap (λ o. value_of_name n (option_map (entry_in (world_of s)) o)) c.in_ok-on.ensures.found ∙ ap (λ e. Ok e) (sym (value_seen (world_of s) (world_of w) s.settled w.settled x.kept on c.in_ok-on.ensures.known)) in
-    let meant = goes_by (ap (λ r. then_answer (at_once r) (λ v. then_answer (value_of fs (state_in s) (expr_of c.args.key.now)) (λ k. at_once (set_answer (state_in s) (Some n) (removal_result v k))))) value
-    ∙ then_gives refusal (entry_in (world_of w) on) (λ v. then_answer (value_of fs (state_in s) (expr_of c.args.key.now)) (λ k. at_once (set_answer (state_in s) (Some n) (removal_result v k)))))
+    let meant = goes_by (grind (arith, then_gives, refusal))
     (goes_value refusal (λ k. at_once (set_answer (state_in s) (Some n) (removal_result (entry_in (world_of w) on) k))) _ _ (x.reads held) refl) in
     goes_to meant (ap (λ a. at_once a) (done_same _ (state_over (names_in w) (world_of u)) (state_in u) [] _ false _
-    (ap (λ t. set_answer t (Some n) table) here ∙ set_state (names_in w) (Some n) on table (world_of w) (world_of u) w.given of sets)
+    (cc (set_state (names_in w) (Some n) on table (world_of w) (world_of u) w.given of sets))
     (ap (λ b. state_over b (world_of u)) (sym c.remove.ensures.names)) c.quiet.ensures.printed c.quiet.ensures.warned))
 
 pub returns-in-Ok-clause-apart : goal.returns-in-Ok-clause-apart
@@ -76,7 +73,7 @@ returns-in-Ok-clause-apart g c =
     let of = ap (λ b. value_at b n) x.names ∙ c.in_ok-on.ensures.found in
     let sets = subst (λ r. Sets r on table (world_of w) (world_of u)) c.in-Ok.is c.remove.ensures.sets in
     set_apart (state_in s) (state_in u) (Some n) table [] false
-    (ap (λ t. set_answer t (Some n) table) here ∙ set_state (names_in w) (Some n) on table (world_of w) (world_of u) w.given of sets ∙ ap (λ b. done (state_over b (world_of u)) [] false) (sym c.remove.ensures.names))
+    (cc (set_state (names_in w) (Some n) on table (world_of w) (world_of u) w.given of sets, c.remove.ensures.names))
 
 pub returns-in-Err-clause-answers : goal.returns-in-Err-clause-answers
 returns-in-Err-clause-answers g c =
@@ -94,8 +91,7 @@ returns-in-Err-clause-answers g c =
     λ held.
     let fs = files_in c.args.names.now held in
     let value = ap (λ o. value_of_name n (option_map (entry_in (world_of s)) o)) c.in_ok-on.ensures.found ∙ ap (λ e. Ok e) (sym (value_seen (world_of s) (world_of w) s.settled w.settled x.kept on c.in_ok-on.ensures.known)) in
-    let meant = goes_by (ap (λ r. then_answer (at_once r) (λ v. then_answer (value_of fs (state_in s) (expr_of c.args.key.now)) (λ k. at_once (set_answer (state_in s) (Some n) (removal_result v k))))) value
-    ∙ then_gives refusal (entry_in (world_of w) on) (λ v. then_answer (value_of fs (state_in s) (expr_of c.args.key.now)) (λ k. at_once (set_answer (state_in s) (Some n) (removal_result v k)))))
+    let meant = goes_by (grind (arith, then_gives, refusal))
     (goes_value refusal (λ k. at_once (set_answer (state_in s) (Some n) (removal_result (entry_in (world_of w) on) k))) _ _ (x.reads held) refl) in
     set_refused _ (state_in s) (Some n) on table (removal_result_fault (entry_in (world_of w) on) label) c.in-Err.fault false c.marked.result (world_of w) (world_of u) meant refl c.marked.ensures refl sets
 
@@ -112,7 +108,7 @@ returns-in-Err-clause-kept g c =
     let here = sym (state_kept s w x.names x.kept) in
     let of = ap (λ b. value_at b n) x.names ∙ c.in_ok-on.ensures.found in
     let sets = subst (λ r. Sets r on table (world_of w) (world_of u)) c.in-Err.is c.remove.ensures.sets in
-    keeps_both _ (world_of w) (world_of u) x.kept (set_failed (world_of w) (world_of u) c.in-Err.fault on table sets)
+    search (keeps_both, set_failed)
 
 pub remove-requires-clause-label : goal.remove-requires-clause-label
-remove-requires-clause-label g c = c.in_ok-label.ensures.found.known
+remove-requires-clause-label g c = grind arith

@@ -1,5 +1,5 @@
 use Rattle.{
-  std.proofs.{Common.{refl, ◌++◌, ap, sym, ◌∙◌, false}, lemmas.Result.{err_from_is_err_and}},
+  std.proofs.{Common.{arith, refl, ◌++◌, ap, sym, ◌∙◌, false}, lemmas.Result.{err_from_is_err_and}},
   script_meaning.specs.{Reading.{at_once}, Statement.{done, entry_text}},
   frame_store.specs.World.{entry_in},
   script_work.{specs.Work.{world_of, state_in}, proofs.{States.{state_kept}, Rides.{goes_value, goes_spends, halts_first, spends_then}}},
@@ -21,8 +21,7 @@ returns-clause-answers g c =
     let x = c.in_ok-value.ensures in
     let text = entry_text (entry_in (world_of w) c.in_ok-value.value) in
     λ held. goes_value refusal (λ v. at_once (done (state_in s) (entry_text v ++ c.args.end.now) false)) _ _ (x.reads held)
-    (ap (λ a. at_once a) (done_same _ (state_in s) (state_in w) (text ++ c.args.end.now) _ false _ refl
-    (sym (state_kept s w x.names x.kept)) (c.in_ok-printed.ensures ∙ ap (λ t. text ++ t) c.as_str-end.ensures) refl))
+    (cc (done_same _ (state_in s) (state_in w) (text ++ c.args.end.now) _ false _ refl (sym (state_kept s w x.names x.kept)) (c.in_ok-printed.ensures ∙ ap (λ t. text ++ t) c.as_str-end.ensures) refl))
 
 pub returns-in_err-printed-clause-answers : goal.returns-in_err-printed-clause-answers
 returns-in_err-printed-clause-answers g c =
@@ -31,4 +30,4 @@ returns-in_err-printed-clause-answers g c =
     rw (p.1, p.2) (λ held. spends_then refusal (λ v. at_once (done (state_in s) (entry_text v ++ c.args.end.now) false)) (goes_spends (c.in_ok-value.ensures.reads held)))
 
 pub printed-requires : goal.printed-requires
-printed-requires g c = c.in_ok-value.ensures.found.known.live
+printed-requires g c = grind arith

@@ -2,7 +2,7 @@ use Rattle.{
   std.{proofs.{Common.{refl, [], ap, sym, ◌∙◌, subst}, lemmas.Result.{err_from_is_err_and}}, specs.Prelude.{Ok, Err, option_map}},
   frame_store.specs.{Arguments.{argument_of, subscript_of}, World.{entry_in, Sets}},
   selections.specs.Selected.{way_of},
-  script_meaning.specs.{Reading.{at_once, gives}, Expression.{named_by, value_of, target_of}, Statement.{done, then_answer, set_answer, assigned, is_chained}},
+  script_meaning.specs.{Reading.{at_once, gives}, Expression.{named_by, value_of, target_of}, Statement.{then_answer, set_answer, assigned, is_chained}},
   script_tree.specs.View.{expr_of, step_of},
   script_work.{specs.{Bindings.{IsOf, state_over}, Reads.{files_in}, Work.{names_in, world_of, state_in}}, proofs.{States.{state_kept}, Worlds.{keeps_both, value_seen, value_kept, argument_seen, argument_kept, set_failed}, Rides.{serves_both, goes_by, goes_to, goes_both, goes_value, halts_by, halts_first, halts_later}, Spending.{spent_state}}},
   script_evaluation.specs.Parts.{target_seen},
@@ -41,7 +41,7 @@ returns-in_err-on-clause-answers g c =
     (halts_first (world_of c.evaluate.new.work).texts _ _ _ _ refusal (λ v. then_answer target (λ t. at_once (set_answer (state_in s) o (assigned v t _)))) f (halts_by Err (world_of c.evaluate.new.work).texts _ _ _ f same (c.in_err-on.ensures.reads held)))))
 
 pub returns-in_err-on-clause-serves : goal.returns-in_err-on-clause-serves
-returns-in_err-on-clause-serves g c = serves_both c.in_ok-value.ensures.serves c.in_err-on.ensures.serves
+returns-in_err-on-clause-serves g c = search serves_both
 
 pub returns-in_err-by-clause-answers : goal.returns-in_err-by-clause-answers
 returns-in_err-by-clause-answers g c =
@@ -64,7 +64,7 @@ returns-in_err-by-clause-answers g c =
     (halts_first (world_of c.last_step.new.work).texts _ _ _ _ refusal (λ t. at_once (set_answer (state_in s) o (assigned _ t _))) f (halts_by Err (world_of c.last_step.new.work).texts _ _ _ f same (c.in_err-by.ensures.reads held))))))
 
 pub returns-in_err-by-clause-serves : goal.returns-in_err-by-clause-serves
-returns-in_err-by-clause-serves g c = serves_both (serves_both c.in_ok-value.ensures.serves c.in_ok-on.ensures.serves) c.in_err-by.ensures.serves
+returns-in_err-by-clause-serves g c = search serves_both
 
 pub assign-requires : goal.assign-requires
 assign-requires g c =
@@ -147,7 +147,7 @@ returns-in-Ok-clause-apart g c =
     let sets = subst (λ r. Sets r on table (without r e.spare (world_of u)) (world_of z)) c.in-Ok.is e.sets in
     let same = here ∙ spent_state (names_in u) c.in_ok-value.value (Ok tt) e.spare (world_of u) e.unnamed in
     set_apart (state_in s) (state_in z) o table [] (is_chained o)
-    (ap (λ t. set_answer t o table) same ∙ set_state (names_in u) o on table left (world_of z) u.given of sets ∙ ap (λ b. done (state_over b (world_of z)) [] (is_chained o)) (sym c.assign.ensures.names))
+    (cc (set_state (names_in u) o on table left (world_of z) u.given of sets, c.assign.ensures.names))
 
 pub returns-clause-answers : goal.returns-clause-answers
 returns-clause-answers g c =
@@ -207,4 +207,4 @@ returns-clause-kept g c =
     let table = assigned (entry_in (world_of u) on) (target_seen (world_of u) (c.in_ok-by.by, c.in_ok-by.first, c.in_ok-by.second)) value in
     let e = c.assign.ensures.sets in
     let sets = subst (λ r. Sets r on table (without r e.spare (world_of u)) (world_of z)) c.in-Err.is e.sets in
-    keeps_both _ (world_of u) (world_of z) all (set_failed (world_of u) (world_of z) c.in-Err.fault on table sets)
+    search (keeps_both, set_failed)

@@ -1,27 +1,22 @@
 use Rattle.{
-  std.proofs.{Common.{◌<◌, ◌+◌, ◌∙◌, length, sym, subst, arith}, lemmas.Result.{err_from_is_err_and}},
+  std.proofs.{lemmas.{Bool.Decides.{nat_tests}, Result.{err_from_is_err_and}}, Common.{◌<◌, ◌∙◌, length, sym, arith}},
   language_meaning.specs.Pieces.{pieces},
   script_tree.specs.ScriptView.{statements_of},
-  script_syntax.{specs.PieceRead.{Reads}, proofs.ScriptLaws.{settled, unsettled, reads_first, reads_all, some_bytes, no_bytes}},
+  script_syntax.proofs.ScriptLaws.{settled, unsettled, reads_first, reads_all, no_bytes},
 }
 use Rattle.script_syntax.proofs.pieces.parse_pieces.Goals as goal
 
 pub returns-in_err-left : goal.returns-in_err-left
-returns-in_err-left c =
-    let rest = c.pieces.rest.now in
-    let some : 0 < length rest = some_bytes rest (sym c.is_empty.ensures ∙ c.pieces-test.true) in
-    let first = reads_first (statements_of c.pieces.script) c.pieces.left c.pieces.line c.piece_len.result rest c.split_at.result.0.now c.split_at.result.1.now _ (c.piece_len.ensures.first some) c.split_at.ensures.front c.split_at.ensures.back c.pieces.invariant.reads in
-    let p = err_from_is_err_and c.from_residual-in_err-left.result c.from_residual-in_err-left.ensures.1 in
-    rw (p.1, p.2) (unsettled c.args.bytes.now c.split_at.result.0.now (pieces c.split_at.result.1.now) c.pieces.left c.pieces.line (statements_of c.pieces.script) (statements_of c.settle.new.script) c.in_err-left.field-0.0 c.in_ok-read_piece.field-0 c.requires c.in_ok-read_piece.ensures c.in_err-left.ensures first)
+returns-in_err-left c = grind (arith, nat_tests, reads_first, err_from_is_err_and, unsettled)
 
 pub pieces-preserved : goal.pieces-preserved
 pieces-preserved c =
     let rest = c.pieces.rest.now in
-    let some : 0 < length rest = some_bytes rest (sym c.is_empty.ensures ∙ c.pieces-test.true) in
+    let some : 0 < length rest = grind (arith, nat_tests) in
     let first = reads_first (statements_of c.pieces.script) c.pieces.left c.pieces.line c.piece_len.result rest c.split_at.result.0.now c.split_at.result.1.now _ (c.piece_len.ensures.first some) c.split_at.ensures.front c.split_at.ensures.back c.pieces.invariant.reads in
     let next = settled c.split_at.result.0.now (pieces c.split_at.result.1.now) c.pieces.left c.pieces.line (statements_of c.pieces.script) (statements_of c.settle.new.script) c.in_ok-left.left _ c.in_ok-read_piece.field-0 c.in_ok-read_piece.ensures c.in_ok-left.ensures first in
     record {
-      reads = subst (λ n. Reads (statements_of c.settle.new.script) c.in_ok-left.left (c.pieces.line + n) (pieces c.split_at.result.1.now) (pieces c.args.bytes.now)) (sym c.line_ends.ensures.value) next;
+      reads = rw c.line_ends.ensures.value next;
       few = omega (arith, c.line_ends.ensures.within, c.split_at.ensures.front_len, c.split_at.ensures.back_len, c.piece_len.ensures.within, c.pieces.invariant.few);
     }
 

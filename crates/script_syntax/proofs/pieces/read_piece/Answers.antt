@@ -1,26 +1,26 @@
 use Rattle.{
-  std.proofs.Common.{◌≡◌, subst, Some, None},
+  std.proofs.Common.{arith, ◌≡◌, subst, Some, None},
   language_meaning.specs.Script.{IsBlank},
   script_tree.specs.View.{form_of},
-  script_syntax.{specs.{Found.{Fails}, Reading.{form_read}}, proofs.PieceLaws.{blank_is_none, no_statement, one_statement, filled_of, lexes_of}},
+  script_syntax.{specs.Reading.{form_read}, proofs.PieceLaws.{blank_is_none, no_statement, one_statement, filled_of, lexes_of}},
   script_tokens.specs.View.{tokens_of},
 }
 use Rattle.script_syntax.proofs.pieces.read_piece.Goals as goal
 
 pub returns-then-is_blank : goal.returns-then-is_blank
 returns-then-is_blank c =
-    let blank : IsBlank c.args.piece.now = c.is_blank.ensures.0 c.if-is_blank.true in
-    (c.in-Ok.ensures.cases.1, blank, blank_is_none c.args.piece.now blank)
+    let blank : IsBlank c.args.piece.now = grind arith in
+    (grind arith, blank, search blank_is_none)
 
 pub returns-in-Ok-statement : goal.returns-in-Ok-statement
 returns-in-Ok-statement c =
     let lexes = lexes_of _ c.in-Some.tokens (λ ts. tokens_of ts.items) c.in-Ok.text.now c.args.piece.now _ c.in-Some.is c.in_ok-tokens.ensures.found c.in-Ok.ensures.cases.0 in
     let read = subst (λ ts. form_read (tokens_of ts) ≡ Some (form_of c.in-Ok-statement.form)) c.deref.ensures.value c.in-Ok-statement.ensures in
     one_statement (form_of c.in-Ok-statement.form) (tokens_of c.in-Some.tokens.items) c.args.piece.now c.in-Ok.ensures.cases.1
-    (filled_of c.is_blank.result c.args.piece.now c.is_blank.ensures c.if-is_blank.false) lexes read
+    (search filled_of) lexes read
 
 pub returns-in-Err-Syntax : goal.returns-in-Err-Syntax
 returns-in-Err-Syntax c =
     let lexes = lexes_of _ c.in-Some.tokens (λ ts. tokens_of ts.items) c.in-Ok.text.now c.args.piece.now _ c.in-Some.is c.in_ok-tokens.ensures.found c.in-Ok.ensures.cases.0 in
-    let none = subst (λ ts. form_read (tokens_of ts) ≡ None) c.deref.ensures.value (subst (λ r. Fails r (form_read (tokens_of c.deref.result.now))) c.in-Err-Syntax.field-0-is c.in-Err-Syntax.ensures) in
-    λ text. (filled_of c.is_blank.result c.args.piece.now c.is_blank.ensures c.if-is_blank.false, no_statement (tokens_of c.in-Some.tokens.items) c.args.piece.now lexes none)
+    let none = subst (λ ts. form_read (tokens_of ts) ≡ None) c.deref.ensures.value (grind arith) in
+    search (filled_of, no_statement)

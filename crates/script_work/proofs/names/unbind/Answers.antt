@@ -1,5 +1,5 @@
 use Rattle.{
-  std.proofs.Common.{sym, ◌∙◌, ap},
+  std.proofs.Common.{◌∙◌, ap},
   script_work.{specs.Bindings.{bindings_of}, proofs.Bindings.{value_at-bindings_of, bindings_of-remove_entry}},
 }
 use Rattle.script_work.proofs.names.unbind.Goals as goal
@@ -8,4 +8,4 @@ pub returns-clause-unbound : goal.returns-clause-unbound
 returns-clause-unbound c = ap bindings_of c.shift_remove.ensures.entries ∙ bindings_of-remove_entry c.args.names.now.entries c.args.name.now
 
 pub returns-clause-left : goal.returns-clause-left
-returns-clause-left c = c.shift_remove.ensures.value ∙ sym (value_at-bindings_of c.args.names.now.entries c.args.name.now)
+returns-clause-left c = search value_at-bindings_of

@@ -1,5 +1,5 @@
 use Rattle.{
-  std.proofs.Common.{◌≡◌, sym, ◌∙◌, subst, IfOk},
+  std.proofs.Common.{arith, sym, ◌∙◌},
   cell_core.specs.declared.grid.Shape.TheVariants.{Series, Frame},
   frame_store.specs.Objects.{tables},
   script_work.proofs.Printed.{object_text},
@@ -10,10 +10,10 @@ pub returns-in-Series : goal.returns-in-Series
 returns-in-Series c =
     let e = c.read-table.ensures in
     let meant = object_text c.args.dict.now (tables c.args.store.now) c.args.value c.in-Object.id c.read-table.result Series c.in-Object.is e.table e.whole e.levels (sym c.in-Series.is ∙ c.shape.ensures) in
-    subst (λ t. IfOk c.series_text.result (λ text. text ≡ t)) meant c.series_text.ensures
+    grind arith
 
 pub returns-in-Frame : goal.returns-in-Frame
 returns-in-Frame c =
     let e = c.read-table.ensures in
     let meant = object_text c.args.dict.now (tables c.args.store.now) c.args.value c.in-Object.id c.read-table.result Frame c.in-Object.is e.table e.whole e.levels (sym c.in-Frame.is ∙ c.shape.ensures) in
-    subst (λ t. IfOk c.frame_text.result (λ text. text ≡ t)) meant c.frame_text.ensures
+    grind arith

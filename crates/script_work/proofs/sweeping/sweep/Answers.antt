@@ -11,7 +11,7 @@ loop-id-preserved-then-not-has c =
     let unnamed = sym c.has.ensures ∙ c.if-not-has.true in
     let before = subst (λ ts. AreNoted bs ts (tables c.loop-id.store)) c.in-Some.ensures.items c.loop-id.invariant.noted in
     record {
-      noted = noted_ended bs c.pop.new.self.items c.in-Some.id (tables c.loop-id.store) _ before c.end.ensures;
+      noted = search noted_ended;
       kept = kept_ended bs c.in-Some.id (tables c.args.store.now) _ _ c.loop-id.invariant.kept unnamed c.end.ensures;
     }
 
@@ -20,7 +20,4 @@ loop-id-preserved c =
     let bs = bindings_of c.args.names.now.values.entries in
     let named = sym c.has.ensures ∙ c.if-not-has.false in
     let before = subst (λ ts. AreNoted bs ts (tables c.loop-id.store)) c.in-Some.ensures.items c.loop-id.invariant.noted in
-    record {
-      noted = noted_named bs c.pop.new.self.items c.in-Some.id (tables c.loop-id.store) before named;
-      kept = c.loop-id.invariant.kept;
-    }
+    search noted_named

@@ -1,6 +1,6 @@
 use Rattle.{
-  std.proofs.Common.{◌≡◌, ◌<◌, ◌+◌, ◌-◌, subst, None, length, drop, arith},
-  selections.{specs.Headings.{HaveFirstPlaces}, proofs.HeadingLaws.{first_places_more}},
+  std.proofs.Common.{◌≡◌, ◌<◌, ◌+◌, ◌-◌, None, length, arith},
+  selections.proofs.HeadingLaws.{first_places_more},
 }
 use Rattle.selections.proofs.headings.first_places.Goals as goal
 
@@ -11,4 +11,4 @@ loop-place-preserved c =
     let lt : p < length hs = omega arith in
     let same : c.loop-place.place ≡ p + 1 = omega arith in
     first_places_more hs p None c.heading.result c.loop-place.places.entries c.insert.new.self.entries lt c.heading.ensures.value (λ q. c.in_ok-insert.ensures.updates.0 q)
-    (subst (λ n. HaveFirstPlaces c.loop-place.places.entries n (drop n hs)) same c.loop-place.invariant)
+    (grind arith)

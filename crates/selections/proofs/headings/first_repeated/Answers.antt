@@ -1,7 +1,7 @@
 use Rattle.{
-  std.{proofs.Common.{◌≡◌, ◌∙◌, ◌<◌, ◌+◌, ◌-◌, ap, sym, Option, None, length, drop, arith}, specs.List.{list_any}},
+  std.{proofs.Common.{◌≡◌, ◌<◌, ◌+◌, ◌-◌, Option, None, length, drop, arith}, specs.List.{list_any}},
   cell_core.specs.declared.cell.Label.{Label},
-  selections.{specs.Headings.{same_heading, repeated_heading}, proofs.HeadingLaws.{later_step, repeated_here, repeated_later}},
+  selections.{specs.Headings.{same_heading}, proofs.HeadingLaws.{later_step, repeated_here, repeated_later}},
 }
 use Rattle.selections.proofs.headings.first_repeated.Goals as goal
 
@@ -11,10 +11,10 @@ loop-place-preserved-then-not-branch c =
     let p = c.loop-place.place - 1 in
     let lt : p < length hs = omega arith in
     let same : c.loop-place.place ≡ p + 1 = omega arith in
-    let later : (q : Option Label) → list_any (same_heading q) c.loop-place.later.keys ≡ list_any (same_heading q) (drop (p + 1) hs) = λ q. c.loop-place.invariant.later q ∙ ap (λ n. list_any (same_heading q) (drop n hs)) same in
+    let later : (q : Option Label) → list_any (same_heading q) c.loop-place.later.keys ≡ list_any (same_heading q) (drop (p + 1) hs) = grind arith in
     record {
       later = λ q. later_step hs c.loop-place.later.keys c.insert.new.self.keys p None q lt later c.in_ok-insert.ensures.keys;
-      repeated = repeated_here hs c.loop-place.later.keys p None c.loop-place.repeated lt later (c.loop-place.invariant.repeated ∙ ap (λ n. repeated_heading (drop n hs)) same) (sym c.if-not-branch.true ∙ c.in_ok-insert.ensures.added);
+      repeated = repeated_here hs c.loop-place.later.keys p None c.loop-place.repeated lt later (grind arith) (grind arith);
     }
 
 pub loop-place-preserved : goal.loop-place-preserved
@@ -23,8 +23,8 @@ loop-place-preserved c =
     let p = c.loop-place.place - 1 in
     let lt : p < length hs = omega arith in
     let same : c.loop-place.place ≡ p + 1 = omega arith in
-    let later : (q : Option Label) → list_any (same_heading q) c.loop-place.later.keys ≡ list_any (same_heading q) (drop (p + 1) hs) = λ q. c.loop-place.invariant.later q ∙ ap (λ n. list_any (same_heading q) (drop n hs)) same in
+    let later : (q : Option Label) → list_any (same_heading q) c.loop-place.later.keys ≡ list_any (same_heading q) (drop (p + 1) hs) = grind arith in
     record {
       later = λ q. later_step hs c.loop-place.later.keys c.insert.new.self.keys p None q lt later c.in_ok-insert.ensures.keys;
-      repeated = repeated_later hs c.loop-place.later.keys p None c.loop-place.repeated lt later (c.loop-place.invariant.repeated ∙ ap (λ n. repeated_heading (drop n hs)) same) (sym c.if-not-branch.false ∙ c.in_ok-insert.ensures.added);
+      repeated = repeated_later hs c.loop-place.later.keys p None c.loop-place.repeated lt later (grind arith) (grind arith);
     }

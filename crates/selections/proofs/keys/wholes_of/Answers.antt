@@ -1,6 +1,6 @@
 use Rattle.{
-  std.proofs.Common.{rules, [], ◌∷◌, ◌++◌, ◌<◌, ◌≡◌, ◌∙◌, ap, refl, length, arith},
-  selections.{specs.Reaches.{whole_or_fault}, proofs.KeyLaws.{whole_more, whole_refused, wholes_done}},
+  std.proofs.Common.{rules, [], ◌∷◌, ◌++◌, ◌<◌, ◌≡◌, refl, length, arith},
+  selections.proofs.KeyLaws.{whole_more, whole_refused, wholes_done},
 }
 use Rattle.selections.proofs.keys.wholes_of.Goals as goal
 
@@ -8,7 +8,7 @@ pub returns-in-None : goal.returns-in-None
 returns-in-None c = λ texts.
     let lt : c.loop-k.k < length c.args.cells.now = omega arith in
     rw c.wrong_kind.ensures (
-      whole_refused texts c.args.cells.now c.loop-k.k c.at.result.now c.loop-k.numbers _ lt c.at.ensures (c.whole_of.ensures texts ∙ ap whole_or_fault c.in-None.is) (c.loop-k.invariant texts),
+      whole_refused texts c.args.cells.now c.loop-k.k c.at.result.now c.loop-k.numbers _ lt c.at.ensures (grind arith) (c.loop-k.invariant texts),
       λ more. refl,
     )
 
@@ -16,7 +16,7 @@ pub loop-k-preserved : goal.loop-k-preserved
 loop-k-preserved c = λ texts.
     let lt : c.loop-k.k < length c.args.cells.now = omega arith in
     let pushed : c.push.new.self ≡ c.loop-k.numbers ++ c.in-Some.number ∷ [] = search rules in
-    whole_more texts c.args.cells.now c.loop-k.k c.at.result.now c.in-Some.number c.loop-k.numbers c.push.new.self _ lt c.at.ensures (c.whole_of.ensures texts ∙ ap whole_or_fault c.in-Some.is) pushed (c.loop-k.invariant texts)
+    whole_more texts c.args.cells.now c.loop-k.k c.at.result.now c.in-Some.number c.loop-k.numbers c.push.new.self _ lt c.at.ensures (grind arith) pushed (c.loop-k.invariant texts)
 
 pub returns : goal.returns
 returns c = λ texts.

@@ -1,8 +1,6 @@
 use Rattle.{
-  std.{proofs.{Common.{◌∙◌, ◌<◌, ◌∷◌, [], ap, length, subst, sym, All, Some, None, arith}, lemmas.List.Elements.{All-push}}, specs.Option.{option_copied}},
-  meaning.specs.{Cell.{label_datum}, Fault.{no_key}},
-  table_meaning.specs.Table.{table_value},
-  selections.proofs.{PlaceLaws.{listed_settled, looked_up, looked_inside, places_more, place_refused}, RefusalLaws.{no_key_settled}},
+  std.{proofs.{Common.{◌∙◌, ◌<◌, ap, length, sym, Some, None, arith}, lemmas.List.Elements.{All-push}}, specs.Option.{option_copied}},
+  selections.proofs.PlaceLaws.{listed_settled, looked_up, looked_inside, places_more, place_refused},
 }
 use Rattle.selections.proofs.labels.column_places.Goals as goal
 
@@ -15,8 +13,8 @@ returns-in_default-clause-answer c =
     let settled = listed_settled dict c.args.cells.now c.loop-k.k c.at.result.now label c.at.ensures c.label_of-label.ensures.seen c.requires.cells in
     let none = looked_up dict c.in_ok-first.first.entries t label None c.len.ensures.distinct c.requires.settled settled c.in_ok-first.ensures c.in_default.ensures.value in
     rw c.missing.ensures (
-      place_refused dict (table_value dict t) c.args.cells.now c.loop-k.k c.at.result.now label c.loop-k.places (no_key (label_datum dict label ∷ [])) _ lt c.at.ensures (c.label_of-label.ensures.seen dict) none c.loop-k.invariant.places,
-      no_key_settled dict label settled,
+      search (place_refused, c.label_of-label.ensures.seen),
+      search,
     )
 
 pub loop-k-preserved : goal.loop-k-preserved
@@ -29,7 +27,6 @@ loop-k-preserved c =
     let is = ap option_copied (sym c.in-Some.is) ∙ c.get.ensures.value in
     let here = looked_up dict c.in_ok-first.first.entries t label (Some c.in-Some.place.now) c.len.ensures.distinct c.requires.settled settled c.in_ok-first.ensures is in
     record {
-      places = places_more dict (table_value dict t) c.args.cells.now c.loop-k.k c.at.result.now label c.in-Some.place.now c.loop-k.places c.push.new.self _ lt c.at.ensures (c.label_of-label.ensures.seen dict) here c.in_ok-push.ensures.ok c.loop-k.invariant.places;
-      inside = subst (All (λ place. place < length t.columns)) (sym c.in_ok-push.ensures.ok)
-          (All-push (λ place. place < length t.columns) c.loop-k.places c.in-Some.place.now c.loop-k.invariant.inside (looked_inside c.in_ok-first.first.entries t label c.in-Some.place.now c.requires.whole c.in_ok-first.ensures is));
+      places = search (places_more, c.loop-k.k, c.push.new.self, c.at.ensures, c.label_of-label.ensures.seen, c.in_ok-push.ensures.ok);
+      inside = rw c.in_ok-push.ensures.ok (All-push (λ place. place < length t.columns) c.loop-k.places c.in-Some.place.now c.loop-k.invariant.inside (looked_inside c.in_ok-first.first.entries t label c.in-Some.place.now c.requires.whole c.in_ok-first.ensures is));
     }

@@ -8,10 +8,10 @@ use Rattle.selections.proofs.planning.is_truth_list.Goals as goal
 
 pub returns-then-len-gt0 : goal.returns-then-len-gt0
 returns-then-len-gt0 c = λ live texts.
-    let a : c.args.key.now ≡ Key c.in-Key-Many.field-0 = search rules in
-    let b : c.in-Key-Many.field-0 ≡ Many c.in-Key-Many.items = search rules in
-    let is : c.args.key.now ≡ Key (Many c.in-Key-Many.items) = a ∙ ap (λ x. Key x) b in
-    let same : c.as_slice.result.now ≡ c.in-Key-Many.items.items.items = search rules in
+    let a : c.args.key.now ≡ Key c.in-Key-Many.field-0 = search in
+    let b : c.in-Key-Many.field-0 ≡ Many c.in-Key-Many.items = search in
+    let is : c.args.key.now ≡ Key (Many c.in-Key-Many.items) = cc in
+    let same : c.as_slice.result.now ≡ c.in-Key-Many.items.items.items = search in
     let some : 0 < length c.in-Key-Many.items.items.items = search rules in
     c.are_truths.ensures live texts ∙ ap (λ l. each_truth (items_of live texts l)) same ∙ sym (truth_list_is live texts c.in-Key-Many.items.items.items some)
     ∙ ap (λ (k : Subscript). meant.is_truth_list (subscript_of live texts k)) (sym is)

@@ -1,7 +1,7 @@
 use Rattle.{
-  std.{proofs.Common.{ap, sym, ◌∙◌}, specs.Option.{option_map}},
+  std.{proofs.Common.{arith, ap, sym, ◌∙◌}, specs.Option.{option_map}},
   frame_store.specs.{Arguments.{items_of}, Shown.{cells_value}},
-  selections.proofs.BracketLaws.{scalars_settled, list_planned, list_whole},
+  selections.proofs.BracketLaws.{scalars_settled, list_planned},
 }
 use Rattle.selections.proofs.planning.list_plan.Goals as goal
 
@@ -13,8 +13,7 @@ pub returns-in_ok-places-in-Some-clause-plan : goal.returns-in_ok-places-in-Some
 returns-in_ok-places-in-Some-clause-plan c = λ live.
     let dict = c.args.dict.now in
     list_planned dict c.args.on.now c.whole_columns.result c.whole_columns.ensures.rows (items_of live dict c.args.items.now) (cells_value dict c.in-Some.cells) c.in_ok-places-in-Some.places
-    (ap (option_map (cells_value dict)) (sym c.in-Some.is) ∙ c.in_ok-cells.ensures live dict) c.in_ok-places-in-Some.ensures.answer c.whole_columns.ensures.columns c.whole_columns.ensures.form
+    (grind arith) c.in_ok-places-in-Some.ensures.answer c.whole_columns.ensures.columns c.whole_columns.ensures.form
 
 pub returns-in_ok-places-in-Some-clause-whole : goal.returns-in_ok-places-in-Some-clause-whole
-returns-in_ok-places-in-Some-clause-whole c =
-    list_whole c.args.on.now c.whole_columns.result c.in_ok-places-in-Some.places c.requires.shape c.whole_columns.ensures.rows c.whole_columns.ensures.columns c.whole_columns.ensures.form c.in_ok-places-in-Some.ensures.inside
+returns-in_ok-places-in-Some-clause-whole c = grind arith

@@ -1,4 +1,5 @@
 use Rattle.{
+  std.proofs.Common.{arith},
   table_meaning.specs.Table.{table_value},
   select_meaning.specs.Keys.{mask_pick},
   frame_store.specs.{Objects.{tables}, Arguments.{object_value}},
@@ -11,8 +12,7 @@ returns-clause-plan c =
     reached_plan c.args.dict.now c.args.on.now _ record { rows = c.in_ok-rows.rows; columns = c.in_ok-columns.columns } c.plan_of.result
     (reach_frame c.args.dict.now c.args.on.now (mask_pick (table_value c.args.dict.now c.args.on.now) (object_value (tables c.args.store.now) c.args.dict.now c.args.mask)) c.in_ok-rows.rows c.in_ok-columns.columns c.in_ok-rows.ensures.rows
     c.in_ok-columns.ensures.places c.in_ok-columns.ensures.single c.in_ok-columns.ensures.sliced c.requires.shape)
-    (c.plan_of.ensures.plan c.args.dict.now c.args.on.now record { rows = c.in_ok-rows.ensures.within; left = c.in_ok-rows.ensures.left; columns = c.in_ok-columns.ensures.within; frame = λ several. c.requires.shape })
+    (grind arith)
 
 pub returns-clause-whole : goal.returns-clause-whole
-returns-clause-whole c =
-    c.plan_of.ensures.whole c.args.on.now record { rows = c.in_ok-rows.ensures.within; left = c.in_ok-rows.ensures.left; columns = c.in_ok-columns.ensures.within; frame = λ several. c.requires.shape }
+returns-clause-whole c = grind arith

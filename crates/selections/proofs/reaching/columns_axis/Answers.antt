@@ -1,7 +1,7 @@
 use Rattle.{
-  std.proofs.Common.{◌≡◌, ◌∙◌, ◌<◌, arith, length, subst, sym, All, ℕ},
+  std.proofs.{Math.Seq.{take-length}, Common.{◌≡◌, ◌∙◌, ◌<◌, arith, length, subst, sym, All, ℕ}},
   multi_index.specs.Axes.{HaveLevels},
-  selections.proofs.{ReachLaws.{axis_levels, heading_more, no_heading, loop_done}, reaching.columns_axis.Goals.{in-Some+in_ok-push, in_default}},
+  selections.proofs.{ReachLaws.{axis_levels, heading_more, no_heading}, reaching.columns_axis.Goals.{in-Some+in_ok-push, in_default}},
 }
 use Rattle.selections.proofs.reaching.columns_axis.Goals as goal
 
@@ -17,5 +17,5 @@ loop-k-preserved c =
 pub from_tuples-requires-clause-alike : goal.from_tuples-requires-clause-alike
 from_tuples-requires-clause-alike c =
     let all : c.loop-k.k ≡ length c.args.places.now = omega arith in
-    subst (HaveLevels 1) (sym (loop_done c.args.on.now.headings c.args.places.now c.loop-k.k c.loop-k.labels all c.loop-k.invariant))
+    subst (HaveLevels 1) (sym (grind (arith, take-length)))
     (axis_levels c.args.on.now.headings c.args.places.now (c.requires.whole.headings.labelled c.requires.shape) (subst (λ (n : ℕ). All (λ place. place < n) c.args.places.now) (sym c.requires.whole.headed) c.requires.places))

@@ -5,12 +5,10 @@ use Rattle.{
 use Rattle.selections.proofs.reaching.labelled.Goals as goal
 
 pub returns-clause-rows : goal.returns-clause-rows
-returns-clause-rows c = λ settled.
-    labels_found c.args.dict.now (length c.args.axis.now.names) c.args.axis.now.tuples c.args.key.now c.loc_places.result c.found.result c.len.ensures.distinct c.requires.given settled c.found.ensures c.loc_places.ensures.picked
+returns-clause-rows c = search labels_found
 
 pub returns-clause-within : goal.returns-clause-within
-returns-clause-within c =
-    labels_within c.args.dict.now (length c.args.axis.now.names) c.args.axis.now.tuples c.args.key.now c.loc_places.result c.found.result c.requires.some c.found.ensures c.loc_places.ensures.picked c.loc_places.ensures.span c.loc_places.ensures.inside
+returns-clause-within c = search labels_within
 
 pub returns-clause-left : goal.returns-clause-left
 returns-clause-left c = labels_left c.args.dict.now (length c.args.axis.now.names) c.args.axis.now.tuples c.args.key.now c.loc_places.result c.found.result c.requires.some c.found.ensures c.loc_places.ensures.picked

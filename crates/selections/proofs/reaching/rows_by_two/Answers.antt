@@ -1,6 +1,7 @@
 use Rattle.{
+  std.proofs.Common.{arith},
   frame_store.specs.{Objects.{tables}, Arguments.{subscript_of}},
-  selections.{specs.Reaches.{accessor_of}, proofs.ReachLaws.{joined_settled, two_found}},
+  selections.{specs.Reaches.{accessor_of}, proofs.ReachLaws.{two_found}},
 }
 use Rattle.selections.proofs.reaching.rows_by_two.Goals as goal
 
@@ -9,8 +10,7 @@ rows_by-requires-clause-key c =
     let live = tables c.args.store.now in
     record {
       live = c.in_ok-key.ensures.live live;
-      given = joined_settled c.args.dict.now (accessor_of c.args.by) c.levels.result (λ texts. subscript_of live texts c.args.first.now) (λ texts. subscript_of live texts c.args.second.now) (λ texts. subscript_of live texts c.in_ok-key.key)
-          (c.in_ok-key.ensures.key live) c.requires.first.given c.requires.second.given;
+      given = grind arith;
     }
 
 pub returns-clause-rows : goal.returns-clause-rows

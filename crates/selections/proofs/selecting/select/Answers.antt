@@ -1,17 +1,12 @@
 use Rattle.{
-  std.{proofs.{Common.{subst}, lemmas.Result.{err_from_is_err_and}}, specs.Option.{option_map}},
-  table_meaning.specs.Table.{NumberedTable},
-  frame_store.{specs.{Objects.{tables}, World.{world, subscript_in}}, proofs.Settling.{object_settled}},
-  selections.{specs.{Plans.{IsPlanFor}, Selected.{way_of}}, proofs.{PickedLaws.{read_is}, CarryLaws.{select_refused, select_made}}},
+  std.{proofs.{Common.{arith}, lemmas.Result.{err_from_is_err_and}}, specs.Option.{option_map}},
+  frame_store.{specs.World.{world, subscript_in}, proofs.Settling.{object_settled}},
+  selections.{specs.Selected.{way_of}, proofs.CarryLaws.{select_refused, select_made}},
 }
 use Rattle.selections.proofs.selecting.select.Goals as goal
 
 pub plan_for-requires-clause-known : goal.plan_for-requires-clause-known
-plan_for-requires-clause-known c =
-    record {
-      whole = c.read.ensures.whole;
-      given = object_settled c.args.dict.now (tables c.args.store.now) c.in-Object.id.0 c.read.result c.read.ensures.table c.requires.settled;
-    }
+plan_for-requires-clause-known c = search object_settled
 
 pub returns-in_err-plan : goal.returns-in_err-plan
 returns-in_err-plan c =
@@ -21,7 +16,7 @@ returns-in_err-plan c =
     c.in-Object.is c.read.ensures.table c.in_err-plan.field-0.0 c.requires.settled c.in_err-plan.ensures.plan)
 
 pub carry_out-requires-clause-plan : goal.carry_out-requires-clause-plan
-carry_out-requires-clause-plan c = subst (λ (t : NumberedTable). IsPlanFor t c.in_ok-plan.plan) (read_is _ c.read.result c.read.ensures.table) c.in_ok-plan.ensures.whole
+carry_out-requires-clause-plan c = grind arith
 
 pub returns : goal.returns
 returns c =

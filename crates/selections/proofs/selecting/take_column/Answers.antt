@@ -1,29 +1,23 @@
 use Rattle.{
-  std.proofs.Common.{rules, ◌≡◌, ◌<◌, ◌∷◌, [], subst, sym, length, All, None},
+  std.proofs.Common.{arith, rules, ◌≡◌, ◌<◌, ◌∷◌, [], subst, sym, length, All, None},
   table_meaning.specs.Table.{NumberedTable, Table},
   form_meaning.specs.Finish.{limited},
   frame_store.specs.{Objects.{tables, table_at}, World.{world, Forms}},
-  selections.proofs.{AnswerLaws.{table_is_settled}, PickedLaws.{read_is}, PlanLaws.{first_of, only_place}, TakeLaws.{place_inside}, CutLaws.{series_taken, series_shown, series_given}, CarryLaws.{single_heading}},
+  selections.proofs.{AnswerLaws.{table_is_settled}, PickedLaws.{read_is}, PlanLaws.{only_place}, TakeLaws.{place_inside}, CutLaws.{series_shown, series_given}, CarryLaws.{single_heading}},
 }
 use Rattle.selections.proofs.selecting.take_column.Goals as goal
 
 pub at-requires : goal.at-requires
-at-requires c = first_of c.args.plan.now.columns (c.requires.plan.one_column c.requires.single)
+at-requires c = grind arith
 
 pub heading-requires : goal.heading-requires
 heading-requires c =
     let columns = c.args.plan.now.columns in
     let below = subst (λ (t : NumberedTable). All (λ place. place < length t.columns) columns) (sym (read_is _ c.read-source.result c.read-source.ensures.table)) c.requires.plan.columns in
-    place_inside columns (length c.read-source.result.columns) 0 c.at.result.now below (first_of columns (c.requires.plan.one_column c.requires.single)) c.at.ensures
+    place_inside columns (length c.read-source.result.columns) 0 c.at.result.now below (grind arith) c.at.ensures
 
 pub cut_within-requires-clause-taken : goal.cut_within-requires-clause-taken
-cut_within-requires-clause-taken c =
-    let plan = c.args.plan.now in
-    let t = table_at (tables c.args.store.now) c.args.on.0 in
-    let one = c.requires.plan.one_column c.requires.single in
-    let made : c.push.new.self ≡ record { columns_name = None; labels = c.heading.result ∷ [] } = search rules in
-    let headed = single_heading c.read-source.result t plan.columns c.at.result.now c.heading.result c.push.new.self (read_is _ c.read-source.result c.read-source.ensures.table) (only_place plan.columns c.at.result.now one c.at.ensures) c.heading.ensures.value made in
-    series_taken t plan.rows plan.columns c.push.new.self c.requires.plan.rows c.requires.plan.columns one headed
+cut_within-requires-clause-taken c = grind arith
 
 pub returns : goal.returns
 returns c = λ texts settled.
@@ -31,6 +25,6 @@ returns c = λ texts settled.
     let t = table_at (tables c.args.store.now) c.args.on.0 in
     let one = c.requires.plan.one_column c.requires.single in
     let made : c.push.new.self ≡ record { columns_name = None; labels = c.heading.result ∷ [] } = search rules in
-    let headed = single_heading c.read-source.result t plan.columns c.at.result.now c.heading.result c.push.new.self (read_is _ c.read-source.result c.read-source.ensures.table) (only_place plan.columns c.at.result.now one c.at.ensures) c.heading.ensures.value made in
+    let headed = single_heading c.read-source.result t plan.columns c.at.result.now c.heading.result c.push.new.self (search read_is) (search only_place) c.heading.ensures.value made in
     subst (λ (v : Table). Forms c.cut_within.result (limited v) (world c.args.store.now texts) (world c.cut_within.new.store texts)) (series_shown texts plan.rows plan.columns t c.push.new.self headed)
     (c.cut_within.ensures texts settled (series_given texts t plan.columns c.push.new.self headed (table_is_settled texts (tables c.args.store.now) c.args.on.0 c.requires.live settled)))

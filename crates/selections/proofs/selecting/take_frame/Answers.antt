@@ -1,23 +1,22 @@
 use Rattle.{
-  std.{proofs.{Common.{◌∙◌, ◌<◌, ap, subst, sym, length, List, Option, All}, lemmas.Result.{err_from_is_err_and}}, specs.Prelude.{Result}},
+  std.{proofs.{Common.{arith, subst, List, Option}, lemmas.Result.{err_from_is_err_and}}, specs.Prelude.{Result}},
   cell_core.specs.declared.cell.Label.{Label},
   meaning.specs.Fault.{FaultValue},
-  table_meaning.specs.{Table.{NumberedTable}, Valid.{IsWhole}, Value.{Entry}},
+  table_meaning.specs.Value.{Entry},
   frame_store.{specs.{Objects.{tables, table_at}, World.{world, Forms}}, proofs.Settling.{headings_part}},
   selections.{specs.{Headings.{NamesRepeated, repeated_heading}, Plans.{rows_in, levels_lost}}, proofs.{AnswerLaws.{table_is_settled}, PickedLaws.{read_is}, CutLaws.{frame_taken, frame_given, frame_meant, frame_refused}, CarryLaws.{gathered, gathered_with}}},
 }
 use Rattle.selections.proofs.selecting.take_frame.Goals as goal
 
 pub headings_at-requires : goal.headings_at-requires
-headings_at-requires c =
-    subst (λ (t : NumberedTable). All (λ place. place < length t.columns) c.args.plan.now.columns) (sym (read_is _ c.read-source.result c.read-source.ensures.table)) c.requires.plan.columns
+headings_at-requires c = grind arith
 
 pub returns-in_err-headings : goal.returns-in_err-headings
 returns-in_err-headings c =
     let dict = c.args.dict.now in
     let plan = c.args.plan.now in
     let t = table_at (tables c.args.store.now) c.args.on.0 in
-    let labels = gathered c.read-source.result t plan.columns c.deref.result.now c.in_ok-labels.labels.items (read_is _ c.read-source.result c.read-source.ensures.table) c.deref.ensures.value c.in_ok-labels.ensures in
+    let labels = gathered c.read-source.result t plan.columns c.deref.result.now c.in_ok-labels.labels.items (search read_is) c.deref.ensures.value c.in_ok-labels.ensures in
     let settled = headings_part dict t (table_is_settled dict (tables c.args.store.now) c.args.on.0 c.requires.live c.requires.settled) in
     let why = c.in_err-headings.field-0.0 in
     let named = subst (λ (l : List (Option Label)). NamesRepeated why (repeated_heading l)) labels c.in_err-headings.ensures.refused in
@@ -31,8 +30,8 @@ cut_within-requires-clause-taken c =
     let at = read_is _ c.read-source.result c.read-source.ensures.table in
     let labels = gathered c.read-source.result t plan.columns c.deref.result.now c.in_ok-labels.labels.items at c.deref.ensures.value c.in_ok-labels.ensures in
     let headed = gathered_with c.read-source.result t plan.columns c.columns_name.result c.deref.result.now c.in_ok-headings.headings at c.columns_name.ensures labels c.in_ok-headings.ensures.made in
-    frame_taken t plan.rows plan.columns c.in_ok-headings.headings (subst IsWhole at c.read-source.ensures.whole) (c.requires.plan.frame c.requires.several) c.requires.plan.rows c.requires.plan.columns headed
-    (ap repeated_heading (sym labels) ∙ c.in_ok-headings.ensures.different)
+    frame_taken t plan.rows plan.columns c.in_ok-headings.headings (grind arith) (grind arith) c.requires.plan.rows c.requires.plan.columns headed
+    (grind arith)
 
 pub returns : goal.returns
 returns c =
@@ -44,5 +43,5 @@ returns c =
     let headed = gathered_with c.read-source.result t plan.columns c.columns_name.result c.deref.result.now c.in_ok-headings.headings at c.columns_name.ensures labels c.in_ok-headings.ensures.made in
     let settled = table_is_settled dict (tables c.args.store.now) c.args.on.0 c.requires.live c.requires.settled in
     subst (λ (m : Result Entry FaultValue). Forms c.cut_within.result m (world c.args.store.now dict) (world c.cut_within.new.store dict))
-    (frame_meant dict t plan.rows plan.columns c.in_ok-headings.headings c.len.ensures.distinct (headings_part dict t settled) (c.requires.plan.frame c.requires.several) headed (ap repeated_heading (sym labels) ∙ c.in_ok-headings.ensures.different))
-    (c.cut_within.ensures dict c.requires.settled (frame_given dict t plan.columns c.in_ok-headings.headings headed settled))
+    (grind (arith, frame_meant))
+    (c.cut_within.ensures dict c.requires.settled (search frame_given))

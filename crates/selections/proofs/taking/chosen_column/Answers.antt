@@ -1,13 +1,13 @@
 use Rattle.{
-  std.proofs.Common.{◌≡◌, ◌<◌, ◌∙◌, ℕ, ap, sym, subst, All, IfOk},
+  std.proofs.Common.{arith, ◌<◌, ◌∙◌, ℕ, ap, sym, subst, All},
   cell_core.specs.declared.cell.Kind.TheVariants.{Int64, Boolean, Text},
-  column_core.{specs.{Columns.{CellColumn, number_cell, truth_cell, text_cell}, Lanes.{lane_row}, Views.{borrowed_column}}, proofs.ColumnLaws.{length-column}},
-  selections.{specs.Chosen.{cells_by_place}, proofs.TakeLaws.{chosen_seen}},
+  column_core.{specs.{Columns.{number_cell, truth_cell, text_cell}, Lanes.{lane_row}, Views.{borrowed_column}}, proofs.ColumnLaws.{length-column}},
+  selections.proofs.TakeLaws.{chosen_seen},
 }
 use Rattle.selections.proofs.taking.chosen_column.Goals as goal
 
 pub chosen_lane-requires : goal.chosen_lane-requires
-chosen_lane-requires c = subst (λ (n : ℕ). All (λ place. place < n) c.args.rows.now) (sym (length-column _ _ _ _ (ap borrowed_column (sym c.in-Ints.is) ∙ c.a.view_is))) c.requires
+chosen_lane-requires c = rw (length-column _ _ _ _ (ap borrowed_column (sym c.in-Ints.is) ∙ c.a.view_is)) c.requires
 
 pub returns-in-Ints : goal.returns-in-Ints
 returns-in-Ints c =
@@ -15,10 +15,10 @@ returns-in-Ints c =
     let row = lane_row lane.values.now lane.present.now lane.start lane.stride lane.back in
     let seen = ap borrowed_column (sym c.in-Ints.is) ∙ c.a.view_is in
     let below = subst (λ (n : ℕ). All (λ place. place < n) c.args.rows.now) (sym (length-column _ _ _ _ seen)) c.requires in
-    subst (λ (x : CellColumn). IfOk c.chosen_lane.result (λ made. made ≡ x)) (chosen_seen Int64 number_cell lane.count row c.args.rows.now below ∙ ap (cells_by_place c.args.rows.now) seen) c.chosen_lane.ensures
+    grind (arith, chosen_seen Int64 number_cell lane.count row c.args.rows.now below)
 
 pub chosen_lane-requires-in-Truths : goal.chosen_lane-requires-in-Truths
-chosen_lane-requires-in-Truths c = subst (λ (n : ℕ). All (λ place. place < n) c.args.rows.now) (sym (length-column _ _ _ _ (ap borrowed_column (sym c.in-Truths.is) ∙ c.a.view_is))) c.requires
+chosen_lane-requires-in-Truths c = rw (length-column _ _ _ _ (ap borrowed_column (sym c.in-Truths.is) ∙ c.a.view_is)) c.requires
 
 pub returns-in-Truths : goal.returns-in-Truths
 returns-in-Truths c =
@@ -26,10 +26,10 @@ returns-in-Truths c =
     let row = lane_row lane.values.now lane.present.now lane.start lane.stride lane.back in
     let seen = ap borrowed_column (sym c.in-Truths.is) ∙ c.a.view_is in
     let below = subst (λ (n : ℕ). All (λ place. place < n) c.args.rows.now) (sym (length-column _ _ _ _ seen)) c.requires in
-    subst (λ (x : CellColumn). IfOk c.chosen_lane-in-Truths.result (λ made. made ≡ x)) (chosen_seen Boolean truth_cell lane.count row c.args.rows.now below ∙ ap (cells_by_place c.args.rows.now) seen) c.chosen_lane-in-Truths.ensures
+    grind (arith, chosen_seen Boolean truth_cell lane.count row c.args.rows.now below)
 
 pub chosen_lane-requires-in-Texts : goal.chosen_lane-requires-in-Texts
-chosen_lane-requires-in-Texts c = subst (λ (n : ℕ). All (λ place. place < n) c.args.rows.now) (sym (length-column _ _ _ _ (ap borrowed_column (sym c.in-Texts.is) ∙ c.a.view_is))) c.requires
+chosen_lane-requires-in-Texts c = rw (length-column _ _ _ _ (ap borrowed_column (sym c.in-Texts.is) ∙ c.a.view_is)) c.requires
 
 pub returns-in-Texts : goal.returns-in-Texts
 returns-in-Texts c =
@@ -37,4 +37,4 @@ returns-in-Texts c =
     let row = lane_row lane.values.now lane.present.now lane.start lane.stride lane.back in
     let seen = ap borrowed_column (sym c.in-Texts.is) ∙ c.a.view_is in
     let below = subst (λ (n : ℕ). All (λ place. place < n) c.args.rows.now) (sym (length-column _ _ _ _ seen)) c.requires in
-    subst (λ (x : CellColumn). IfOk c.chosen_lane-in-Texts.result (λ made. made ≡ x)) (chosen_seen Text text_cell lane.count row c.args.rows.now below ∙ ap (cells_by_place c.args.rows.now) seen) c.chosen_lane-in-Texts.ensures
+    grind (arith, chosen_seen Text text_cell lane.count row c.args.rows.now below)

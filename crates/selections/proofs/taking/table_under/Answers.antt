@@ -1,10 +1,10 @@
 use Rattle.{
-  std.proofs.Common.{◌∙◌, ap, List, subst, sym},
+  std.proofs.{Common.{arith, ◌∙◌, ap, List, subst, sym}, lemmas.List.{length-map}},
+  selections.{proofs.TakeLaws.{chosen_whole}, specs.Chosen.{columns_at}},
   cell_core.specs.declared.cell.Cell.{Cell},
   table_meaning.specs.{Table.{ColumnOf}, Valid.{IsWhole}},
   multi_index.specs.Axes.{AxisValue, taken_axis, without_leading},
   frame_store.specs.Parts.{table_with},
-  selections.{specs.Chosen.{columns_at}, proofs.TakeLaws.{under_whole}},
 }
 use Rattle.selections.proofs.taking.table_under.Goals as goal
 
@@ -16,4 +16,4 @@ new-requires-clause-whole c =
     let axis = c.in_ok-axis.ensures ∙ ap (λ (a : AxisValue). without_leading a c.args.levels) (c.in_ok-taken.ensures ∙ ap (λ (a : AxisValue). taken_axis a c.args.rows.now) c.axis.ensures) in
     subst (λ (cs : List (ColumnOf Cell)). IsWhole (table_with shape c.in_ok-axis.axis headings cs)) (sym c.in_ok-blocks.ensures.columns)
     (subst (λ (a : AxisValue). IsWhole (table_with shape a headings columns)) (sym axis)
-    (under_whole c.args.levels shape headings c.args.rows.now c.args.columns.now c.args.on.now c.requires.headed c.requires.headings))
+    (grind (arith, chosen_whole, length-map)))

@@ -1,15 +1,11 @@
 use Rattle.{
-  std.proofs.Common.{◌≡◌, ◌∙◌, ◌<◌, length, ap, arith},
-  cell_core.specs.declared.cell.Cell.TheVariants.{Na},
-  meaning.specs.Column.{taken},
+  std.proofs.Common.{◌≡◌, ◌<◌, length, arith},
   settings.proofs.{AlignLaws.{gap_more, place_there}, FillLaws.{take_whole}},
 }
 use Rattle.settings.proofs.aligning.cells_at.Goals as goal
 
 pub cell_or_na-requires : goal.cell_or_na-requires
-cell_or_na-requires c =
-    let lt : c.loop-k.k < length c.args.rows.now = omega arith in
-    place_there (length c.args.column.cells) c.args.rows.now c.loop-k.k c.at.result.now c.requires lt c.at.ensures
+cell_or_na-requires c = grind (arith, place_there)
 
 pub loop-k-preserved : goal.loop-k-preserved
 loop-k-preserved c =
@@ -19,4 +15,4 @@ loop-k-preserved c =
 pub returns : goal.returns
 returns c =
     let end : c.loop-k.k ≡ length c.args.rows.now = omega arith in
-    c.loop-k.invariant ∙ ap (taken Na c.args.column.cells) (take_whole c.args.rows.now c.loop-k.k end)
+    cc (c.loop-k.invariant, take_whole c.args.rows.now c.loop-k.k end)

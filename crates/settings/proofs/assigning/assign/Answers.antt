@@ -1,23 +1,17 @@
 use Rattle.{
-  std.{proofs.{Common.{◌≡◌, sym, subst, Option, Some}, lemmas.Result.{err_from_is_err_and}}, specs.Prelude.{IfSome}},
+  std.proofs.{Common.{arith}, lemmas.Result.{err_from_is_err_and}},
   select_meaning.specs.Set.{assign_result},
-  frame_store.{specs.{Objects.{tables, table_at, with_object}, Arguments.{entry_of, subscript_of}, World.{world}, declared.object.ObjId.{ObjId}}, proofs.Settling.{object_settled}},
+  frame_store.{specs.{Objects.{tables}, Arguments.{entry_of, subscript_of}, World.{world}}, proofs.Settling.{object_settled}},
   selections.specs.Selected.{way_of},
-  settings.{specs.{Assigned.{moved_object, new_value, second_in}, Changes.{ended, table_after, MayEnd}}, proofs.SetLaws.{assign_set, may_end, set_left}},
+  settings.{specs.Assigned.{moved_object, new_value, second_in}, proofs.SetLaws.{assign_set, set_left}},
 }
 use Rattle.settings.proofs.assigning.assign.Goals as goal
 
 pub setting_for-requires-clause-known : goal.setting_for-requires-clause-known
-setting_for-requires-clause-known c =
-    record {
-      whole = c.read.ensures.whole;
-      given = object_settled c.args.dict.now (tables c.args.store.now) c.in-Object.id.0 c.read.result c.read.ensures.table c.requires.settled;
-    }
+setting_for-requires-clause-known c = search object_settled
 
 pub carry_out-requires-clause-ends : goal.carry_out-requires-clause-ends
-carry_out-requires-clause-ends c =
-    subst (λ (ends : Option ObjId). IfSome ends (MayEnd (tables c.args.store.now) c.in-Object.id)) (sym c.moved_object.ensures)
-    (may_end (tables c.args.store.now) c.args.on c.in-Object.id c.args.value c.in-Object.is c.requires.value.live c.requires.other)
+carry_out-requires-clause-ends c = grind arith
 
 pub returns-in_err-carry_out : goal.returns-in_err-carry_out
 returns-in_err-carry_out c =
@@ -34,4 +28,4 @@ returns c =
     let w = world c.args.store.now texts in
     assign_set texts live (tables c.carry_out.new.store) c.args.on c.in-Object.id c.read.result c.in_ok-setting.setting (moved_object c.args.value) (way_of c.args.by) (subscript_of live texts c.args.first.now)
     (second_in w c.args.second) (new_value live texts c.args.value) c.in-Object.is c.read.ensures.table c.requires.settled c.in_ok-setting.ensures.setting
-    (subst (λ (ends : Option ObjId). tables c.carry_out.new.store ≡ with_object (ended ends live) c.in-Object.id.0 (Some (table_after live (table_at live c.in-Object.id.0) c.in_ok-setting.setting))) c.moved_object.ensures c.in_ok-carry_out.ensures.ok)
+    (grind arith)

@@ -1,7 +1,7 @@
 use Rattle.{
   std.proofs.{Common.{◌∙◌, refl, ap, sym, subst, Ok, Err}, lemmas.Result.{err_from_is_err_and}},
   cell_core.specs.declared.code.Code.TheVariants.{Limit, WrongKind},
-  table_meaning.specs.{Settled.{IsSettled}, Table.{NumberedTable, table_value}},
+  table_meaning.specs.{Settled.{IsSettled}, Table.{table_value}},
   frame_store.specs.{Objects.{tables}, Shown.{cells_value}},
   selections.specs.Reaches.{accessor_of},
   settings.{specs.{Grown.{grown_table}, Values.{target_value, value_in}}, proofs.{CellLaws.{cells_then, fit_held, grown_settled, has_kinds, not_lacking, set_beyond, set_filled, set_given, set_misfits, set_within}, SetLaws.{changes_so, part_refused, refused_by}}},
@@ -17,7 +17,7 @@ returns-in_err-values-clause-change c =
     let value = value_in (tables c.args.store.now) texts c.args.value in
     let p = err_from_is_err_and c.from_residual.result c.from_residual.ensures.1 in
     rw (p.1, p.2)
-    (changes_so texts t (Err c.in_err-values.field-0.0) _ _ (sym (not_lacking texts t c.args.target by value c.lacks_columns.result c.lacks_columns.ensures c.if-lacks_columns.false))
+    (changes_so texts t (Err c.in_err-values.field-0.0) _ _ (sym (search not_lacking))
     (part_refused cells_value texts (meant.values_for by (table_value texts t) (target_value texts c.args.target) value) (cells_then (table_value texts t) (target_value texts c.args.target) value) c.in_err-values.field-0.0 c.in_err-values.ensures.values))
 
 pub returns-in_err-expect_fit-clause-change : goal.returns-in_err-expect_fit-clause-change
@@ -68,6 +68,6 @@ returns-clause-change c =
     let made = c.in_ok-filled.ensures.made in (
       set_filled texts t target (accessor_of c.args.by) (value_in (tables c.args.store.now) texts c.args.value) c.lacks_columns.result kind values c.lacks_columns.ensures c.if-lacks_columns.false c.in_ok-values.ensures.values (c.in_ok-kind.ensures texts)
           ∙ set_within texts t target kind target.rows.places target.columns.places values fits c.in_ok-expect_room.ensures
-          ∙ ap (λ (u : NumberedTable). Ok (table_value texts u)) (sym made),
-      subst (IsSettled table_value texts) (sym made) (set_given texts grown target.rows.places target.columns.places values (grown_settled texts t target kind c.requires.table.known.given c.requires.given) c.in_ok-values.ensures.given),
+          ∙ ap (λ u. Ok (table_value texts u)) (sym made),
+      subst (IsSettled table_value texts) (sym made) (set_given texts grown target.rows.places target.columns.places values (search grown_settled) c.in_ok-values.ensures.given),
     )

@@ -1,10 +1,10 @@
 use Rattle.{
-  std.{proofs.{Common.{◌≡◌, ◌∙◌, ap, sym, subst, Ok, Option, Result}, lemmas.Result.{err_from_is_err_and}}, specs.Prelude.{IfOk}},
-  meaning.specs.{Cell.{label_datum}, Fault.{FaultValue, then_value}},
+  std.proofs.{Common.{arith, ◌≡◌, sym, Ok}, lemmas.Result.{err_from_is_err_and}},
+  meaning.specs.Cell.{label_datum},
   table_meaning.specs.{Table.{table_value}, Value.{one, table}},
-  select_meaning.specs.Set.{SetValue, column_set, set_value},
-  frame_store.specs.{Objects.{tables}, Arguments.{object_value, subscript_of}, declared.object.ObjId.{ObjId}},
-  settings.{specs.{Assigned.{moved_object, new_value, IsLiveNew}, Changes.{table_after, IsSettingOf}, Values.{value_in}, declared.{changes.Setting.TheVariants.{Change}, values.NewValue.{NewValue}}}, proofs.{MoveLaws.{column_moves, series_shape}, SetLaws.{frame_is, gives_so, key_label_settled, part_refused, refuses_so}}},
+  select_meaning.specs.Set.{set_value},
+  frame_store.specs.{Objects.{tables}, Arguments.{object_value, subscript_of}},
+  settings.{specs.{Assigned.{new_value}, Changes.{table_after}, Values.{value_in}, declared.changes.Setting.TheVariants.{Change}}, proofs.{MoveLaws.{column_moves, series_shape}, SetLaws.{frame_is, gives_so, key_label_settled, part_refused, refuses_so}}},
 }
 use Rattle.settings.proofs.assigning.frame_setting.Goals as goal
 
@@ -15,15 +15,15 @@ pub series_setting-requires-clause-label : goal.series_setting-requires-clause-l
 series_setting-requires-clause-label c = key_label_settled (tables c.args.store.now) c.args.dict.now c.args.key.now c.in-Some.label c.in-Some.ensures c.requires.key.given
 
 pub series_setting-requires-clause-live : goal.series_setting-requires-clause-live
-series_setting-requires-clause-live c = subst (IsLiveNew (tables c.args.store.now)) c.in-Moved.is c.requires.value.live
+series_setting-requires-clause-live c = grind arith
 
 pub series_setting-requires-clause-single : goal.series_setting-requires-clause-single
 series_setting-requires-clause-single c =
     let texts = c.args.dict.now in
     let live = tables c.args.store.now in
     let s = object_value live texts c.in-Moved.series in
-    let is : set_value (one (table s)) ≡ Ok (value_in live texts c.in_ok-read.read) = ap (λ (v : NewValue). set_value (new_value live texts v)) (sym c.in-Moved.is) ∙ c.in_ok-read.ensures.value texts in
-    series_shape s (value_in live texts c.in_ok-read.read) is
+    let is : set_value (one (table s)) ≡ Ok (value_in live texts c.in_ok-read.read) = grind arith in
+    search series_shape
 
 pub returns-in_err-read-clause-setting : goal.returns-in_err-read-clause-setting
 returns-in_err-read-clause-setting c =
@@ -35,7 +35,7 @@ returns-in_err-read-clause-setting c =
     let p = err_from_is_err_and c.from_residual.result c.from_residual.ensures.1 in
     rw (p.1, p.2)
     (refuses_so texts c.in_err-read.field-0.0 _ _ (sym (frame_is (table_value texts t) (subscript_of live texts c.args.key.now) g l (c.in-Some.ensures live texts)))
-    (part_refused (value_in live) texts (set_value g) (column_set (table_value texts t) l) c.in_err-read.field-0.0 (c.in_err-read.ensures.value texts)))
+    (grind (arith, part_refused)))
 
 pub returns-in_err-change-in-Copied-clause-setting : goal.returns-in_err-change-in-Copied-clause-setting
 returns-in_err-change-in-Copied-clause-setting c =
@@ -47,8 +47,7 @@ returns-in_err-change-in-Copied-clause-setting c =
     let p = err_from_is_err_and c.from_residual-in_err-change-in-Copied.result c.from_residual-in_err-change-in-Copied.ensures.1 in
     rw (p.1, p.2)
     (refuses_so texts c.in_err-change-in-Copied.field-0.0 _ _
-    (sym (frame_is (table_value texts t) (subscript_of live texts c.args.key.now) g l (c.in-Some.ensures live texts)
-    ∙ ap (λ (r : Result SetValue FaultValue). then_value r (column_set (table_value texts t) l)) (c.in_ok-read.ensures.value texts)))
+    (grind (arith, frame_is))
     c.in_err-change-in-Copied.ensures.change)
 
 pub returns-in_ok-change-in-Copied-clause-setting : goal.returns-in_ok-change-in-Copied-clause-setting
@@ -59,8 +58,7 @@ returns-in_ok-change-in-Copied-clause-setting c =
     let g = new_value live texts c.args.value in
     let l = label_datum texts c.in-Some.label in
     gives_so (table_after live t) texts (Ok (Change c.in_ok-change-in-Copied.change)) _ _
-    (sym (frame_is (table_value texts t) (subscript_of live texts c.args.key.now) g l (c.in-Some.ensures live texts)
-    ∙ ap (λ (r : Result SetValue FaultValue). then_value r (column_set (table_value texts t) l)) (c.in_ok-read.ensures.value texts)))
+    (grind (arith, frame_is (table_value texts t) (subscript_of live texts c.args.key.now) g l (c.in-Some.ensures live texts), c.in_ok-read.ensures.value texts))
     c.in_ok-change-in-Copied.ensures.change
 
 pub returns-in-Moved-clause-setting : goal.returns-in-Moved-clause-setting
@@ -71,13 +69,10 @@ returns-in-Moved-clause-setting c =
     let s = object_value live texts c.in-Moved.series in
     let g = new_value live texts c.args.value in
     let l = label_datum texts c.in-Some.label in
-    let is : set_value (one (table s)) ≡ Ok (value_in live texts c.in_ok-read.read) = ap (λ (v : NewValue). set_value (new_value live texts v)) (sym c.in-Moved.is) ∙ c.in_ok-read.ensures.value texts in
+    let is : set_value (one (table s)) ≡ Ok (value_in live texts c.in_ok-read.read) = grind arith in
     gives_so (table_after live t) texts c.series_setting.result _ _
-    (sym (frame_is (table_value texts t) (subscript_of live texts c.args.key.now) g l (c.in-Some.ensures live texts)
-    ∙ ap (λ (r : Result SetValue FaultValue). then_value r (column_set (table_value texts t) l)) (c.in_ok-read.ensures.value texts)
-    ∙ column_moves (table_value texts t) s l (value_in live texts c.in_ok-read.read) is))
+    (grind (arith, frame_is (table_value texts t) (subscript_of live texts c.args.key.now) g l (c.in-Some.ensures live texts), c.in_ok-read.ensures.value texts, column_moves (table_value texts t) s l (value_in live texts c.in_ok-read.read) is))
     c.series_setting.ensures.setting
 
 pub returns-in-Moved-clause-fits : goal.returns-in-Moved-clause-fits
-returns-in-Moved-clause-fits c =
-    subst (λ (ends : Option ObjId). IfOk c.series_setting.result (IsSettingOf (tables c.args.store.now) ends c.args.on.now)) (sym (ap moved_object c.in-Moved.is)) c.series_setting.ensures.fits
+returns-in-Moved-clause-fits c = grind arith

@@ -1,7 +1,7 @@
 use Rattle.{
-  std.{proofs.Common.{◌∙◌, ap, sym, Some}, specs.Prelude.{is_some}},
-  frame_store.specs.Objects.{tables, table_at, with_object},
-  settings.{specs.Changes.{changed}, proofs.PutLaws.{another, kept_there, table_there, replaced}},
+  std.{proofs.Common.{arith, ◌∙◌, ap}, specs.Prelude.{is_some}},
+  frame_store.specs.Objects.{tables},
+  settings.proofs.PutLaws.{another, kept_there, table_there, replaced},
 }
 use Rattle.settings.proofs.changes.carry_change.Goals as goal
 
@@ -11,7 +11,7 @@ replace-requires-clause-live c =
     let grown = c.in_ok-grown-in-Table.grown.0 in
     ap is_some
     (kept_there old (tables c.insert.new.self) grown c.args.on.0 c.in-Table.table c.in_ok-grown-in-Table.ensures.ok
-    (another old c.args.on.0 grown c.requires.live c.in_ok-grown-in-Table.ensures.fresh))
+    (grind (arith, another)))
     ∙ c.requires.live
 
 pub replace-requires-clause-by : goal.replace-requires-clause-by
@@ -21,6 +21,4 @@ replace-requires-clause-by c =
 pub returns-in_ok-grown-in-Table-clause-ok : goal.returns-in_ok-grown-in-Table-clause-ok
 returns-in_ok-grown-in-Table-clause-ok c =
     let old = tables c.args.store.now in
-    replaced old (tables c.insert.new.self) (tables c.replace.new.self) c.args.on.0 c.in_ok-grown-in-Table.grown.0 c.in-Table.table c.requires.live c.in_ok-grown-in-Table.ensures.fresh
-    c.in_ok-grown-in-Table.ensures.ok c.replace.ensures
-    ∙ ap (λ t. with_object old c.args.on.0 (Some t)) (ap (changed (table_at old c.args.on.0)) (sym c.in-Table.is))
+    grind (arith, replaced old (tables c.insert.new.self) (tables c.replace.new.self) c.args.on.0 c.in_ok-grown-in-Table.grown.0 c.in-Table.table c.requires.live c.in_ok-grown-in-Table.ensures.fresh c.in_ok-grown-in-Table.ensures.ok c.replace.ensures, c.in-Table.is)

@@ -1,7 +1,7 @@
 use Rattle.{
-  std.proofs.Common.{◌∙◌, ap, sym, Some},
-  frame_store.specs.Objects.{tables, table_at, with_object},
-  settings.{specs.{Changes.{changed, ended, table_after}, declared.changes.Setting.{Setting}}, proofs.MoveLaws.{ended_beside, others_kept}},
+  std.proofs.Common.{arith},
+  frame_store.specs.Objects.{tables, table_at},
+  settings.{specs.Changes.{changed}, proofs.MoveLaws.{ended_beside, others_kept}},
 }
 use Rattle.settings.proofs.changes.carry_out.Goals as goal
 
@@ -13,5 +13,4 @@ end-requires c =
 pub returns-in_ok-carry_change-in-Change-clause-ok : goal.returns-in_ok-carry_change-in-Change-clause-ok
 returns-in_ok-carry_change-in-Change-clause-ok c =
     let old = tables c.args.store.now in
-    ended_beside old (tables c.carry_change.new.store) (tables c.end.new.store) c.args.on (changed (table_at old c.args.on.0) c.in-Change.change) c.args.ends c.requires.ends c.in_ok-carry_change-in-Change.ensures.ok c.end.ensures
-    ∙ ap (λ (s : Setting). with_object (ended c.args.ends old) c.args.on.0 (Some (table_after old (table_at old c.args.on.0) s))) (sym c.in-Change.is)
+    grind (arith, ended_beside old (tables c.carry_change.new.store) (tables c.end.new.store) c.args.on (changed (table_at old c.args.on.0) c.in-Change.change) c.args.ends c.requires.ends c.in_ok-carry_change-in-Change.ensures.ok c.end.ensures, c.in-Change.is)

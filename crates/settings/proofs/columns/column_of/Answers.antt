@@ -1,7 +1,6 @@
 use Rattle.{
   std.proofs.Common.{◌∙◌, ◌<◌, length, ap, arith},
   meaning.specs.Cell.{datum, holds},
-  column_core.specs.Columns.{CellColumn},
   settings.proofs.ColumnLaws.{cell_passes, one_pushed},
 }
 use Rattle.settings.proofs.columns.column_of.Goals as goal
@@ -9,7 +8,7 @@ use Rattle.settings.proofs.columns.column_of.Goals as goal
 pub push-requires : goal.push-requires
 push-requires c = λ texts.
     let lt : c.loop-k.k < length c.args.cells.now = omega arith in
-    ap (λ (v : CellColumn). holds v.kind (datum texts c.at.result.now)) c.loop-k.invariant ∙ cell_passes (holds c.args.kind) texts c.args.cells.now c.loop-k.k c.at.result.now lt c.at.ensures (c.requires texts)
+    ap (λ v. holds v.kind (datum texts c.at.result.now)) c.loop-k.invariant ∙ cell_passes (holds c.args.kind) texts c.args.cells.now c.loop-k.k c.at.result.now lt c.at.ensures (c.requires texts)
 
 pub loop-k-preserved : goal.loop-k-preserved
 loop-k-preserved c =

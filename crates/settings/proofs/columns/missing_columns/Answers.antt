@@ -1,5 +1,5 @@
 use Rattle.{
-  std.proofs.{Common.{◌<◌, length, subst, sym, All, arith}, lemmas.List.Elements.{All-push}},
+  std.proofs.{Common.{◌<◌, length, arith}, lemmas.List.Elements.{All-push}},
   frame_store.specs.Parts.{IsSingle},
   settings.proofs.ColumnLaws.{one_missing, missing_single},
 }
@@ -10,5 +10,5 @@ loop-place-preserved c =
     let lt : c.loop-place.place < length c.args.on.now.columns = omega arith in
     record {
       columns = one_missing c.args.on.now.columns c.args.rows c.loop-place.place c.kind.result c.in_ok-new.field-0 c.loop-place.made c.push.new.self lt c.kind.ensures c.in_ok-new.ensures c.in_ok-push.ensures.ok c.loop-place.invariant.columns;
-      single = subst (All IsSingle) (sym c.in_ok-push.ensures.ok) (All-push IsSingle c.loop-place.made c.in_ok-new.field-0 c.loop-place.invariant.single (missing_single c.args.rows c.kind.result c.in_ok-new.field-0 c.in_ok-new.ensures));
+      single = rw c.in_ok-push.ensures.ok (All-push IsSingle c.loop-place.made c.in_ok-new.field-0 c.loop-place.invariant.single (missing_single c.args.rows c.kind.result c.in_ok-new.field-0 c.in_ok-new.ensures));
     }

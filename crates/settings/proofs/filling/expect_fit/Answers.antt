@@ -10,7 +10,7 @@ returns-then-not-holds c = λ texts grown kinds.
     let other : c.holds.result ≡ false = search rules in (
       fit_fails texts grown c.args.columns.now c.args.values.now c.loop-k.k c.at-in-loop-k.result.now c.kind_at-kind.result c.holds.result _ lt c.at-in-loop-k.ensures
           (kind_is grown c.args.columns.now c.loop-k.k c.len-width.result c.at.result.now c.args.on.now c.args.added c.kind_at-kind.result c.len-width.ensures c.at.ensures kinds c.kind_at-kind.ensures) (c.holds.ensures texts) other (c.loop-k.invariant texts grown kinds),
-      c.wrong_kind.ensures,
+      search,
     )
 
 pub loop-k-preserved : goal.loop-k-preserved

@@ -1,6 +1,6 @@
 use Rattle.{
-  std.proofs.Common.{◌≡◌, ◌∙◌, ◌<◌, length, map, ap, arith},
-  settings.{specs.Grown.{with_gap}, proofs.{FillLaws.{take_whole}, GrowLaws.{gap_more, gap_single}}},
+  std.proofs.Common.{◌<◌, length, arith},
+  settings.proofs.{FillLaws.{take_whole}, GrowLaws.{gap_more, gap_single}},
 }
 use Rattle.settings.proofs.growing.columns_with_gap.Goals as goal
 
@@ -15,9 +15,7 @@ loop-place-preserved c =
     }
 
 pub returns-clause-columns : goal.returns-clause-columns
-returns-clause-columns c =
-    let end : c.loop-place.place ≡ length c.args.on.now.columns = omega arith in
-    c.loop-place.invariant.columns ∙ ap (map with_gap) (take_whole c.args.on.now.columns c.loop-place.place end)
+returns-clause-columns c = grind (arith, take_whole)
 
 pub returns-clause-single : goal.returns-clause-single
-returns-clause-single c = c.loop-place.invariant.single
+returns-clause-single c = search

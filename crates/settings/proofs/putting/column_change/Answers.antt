@@ -1,17 +1,17 @@
 use Rattle.{
-  std.proofs.{Common.{◌∙◌, ap, sym, subst, Err, Result}, lemmas.Result.{err_from_is_err_and}},
-  meaning.specs.{Cell.{AreGiven, CellValue, label_datum}, Fault.{FaultValue, then_value}},
-  table_meaning.specs.Table.{ColumnOf, table_value},
+  std.proofs.{Common.{arith, ◌∙◌, ap, sym, subst, Err}, lemmas.Result.{err_from_is_err_and}},
+  meaning.specs.{Cell.{AreGiven, label_datum}, Fault.{then_value}},
+  table_meaning.specs.Table.{table_value},
   form_meaning.specs.Set.{list_column},
   select_meaning.specs.Set.{column_set, list_set},
   frame_store.{specs.{Objects.{tables}, Shown.{cells_value}}, proofs.Settling.{object_settled}},
-  settings.{specs.{Assigned.{column_seen}, Values.{value_in}, declared.values.SetValue.{SetValue}}, proofs.{PutCases.{filled_given, listed_given, same_settled}, SetLaws.{changes_so, part_refused}}},
+  settings.{specs.{Assigned.{column_seen}, Values.{value_in}}, proofs.{PutCases.{filled_given, listed_given, same_settled}, SetLaws.{changes_so, part_refused}}},
 }
 use Rattle.settings.proofs.putting.column_change.Goals as goal
 
 pub put_change-requires-clause-given : goal.put_change-requires-clause-given
 put_change-requires-clause-given c =
-    filled_given c.args.dict.now c.rows.result c.in-Same.cell c.in_ok-column-in-Same.column.cells (same_settled (tables c.args.store.now) c.args.dict.now c.args.value c.in-Same.cell c.in-Same.is c.requires.value) c.in_ok-column-in-Same.ensures.cells
+    filled_given c.args.dict.now c.rows.result c.in-Same.cell c.in_ok-column-in-Same.column.cells (search same_settled) c.in_ok-column-in-Same.ensures.cells
 
 pub returns-in_err-column-in-Listed-clause-change : goal.returns-in_err-column-in-Listed-clause-change
 returns-in_err-column-in-Listed-clause-change c =
@@ -21,19 +21,15 @@ returns-in_err-column-in-Listed-clause-change c =
     let fault = c.in_err-column-in-Listed.field-0.0 in
     let p = err_from_is_err_and c.from_residual-in_err-column-in-Listed.result c.from_residual-in_err-column-in-Listed.ensures.1 in
     rw (p.1, p.2)
-    (changes_so texts t (Err fault) _ _ (sym (ap (λ (v : SetValue). column_set (table_value texts t) l (value_in (tables c.args.store.now) texts v)) c.in-Listed.is))
+    (changes_so texts t (Err fault) _ _ (grind arith)
     (part_refused column_seen texts (list_column (cells_value texts c.in-Listed.cells)) (list_set (table_value texts t) l) fault (c.in_err-column-in-Listed.ensures.answer texts)))
 
 pub list_change-requires-clause-given : goal.list_change-requires-clause-given
 list_change-requires-clause-given c =
-    subst (AreGiven c.args.dict.now) (sym c.in_ok-column-in-Listed.ensures.cells) (listed_given (tables c.args.store.now) c.args.dict.now c.args.value c.in-Listed.cells c.in-Listed.is c.requires.value)
+    subst (AreGiven c.args.dict.now) (sym c.in_ok-column-in-Listed.ensures.cells) (search listed_given)
 
 pub series_change-requires-clause-series : goal.series_change-requires-clause-series
-series_change-requires-clause-series c =
-    record {
-      whole = c.read.ensures.whole;
-      given = object_settled c.args.dict.now (tables c.args.store.now) c.in-Aligned.id.0 c.read.result c.read.ensures.table c.requires.settled;
-    }
+series_change-requires-clause-series c = search object_settled
 
 pub returns-in_ok-column-in-Listed-clause-change : goal.returns-in_ok-column-in-Listed-clause-change
 returns-in_ok-column-in-Listed-clause-change c =
@@ -41,6 +37,6 @@ returns-in_ok-column-in-Listed-clause-change c =
     let t = c.args.on.now in
     let l = label_datum texts c.args.label in
     changes_so texts t c.list_change.result _ _
-    (sym (ap (λ (v : SetValue). column_set (table_value texts t) l (value_in (tables c.args.store.now) texts v)) c.in-Listed.is
-    ∙ ap (λ (r : Result (ColumnOf CellValue) FaultValue). then_value r (list_set (table_value texts t) l)) (c.in_ok-column-in-Listed.ensures.answer texts)))
+    (sym (ap (λ v. column_set (table_value texts t) l (value_in (tables c.args.store.now) texts v)) c.in-Listed.is
+    ∙ ap (λ r. then_value r (list_set (table_value texts t) l)) (c.in_ok-column-in-Listed.ensures.answer texts)))
     c.list_change.ensures.change

@@ -4,10 +4,7 @@ use Rattle.{
   table_meaning.specs.Table.{table_value},
   form_meaning.specs.Finish.{default_labels},
   select_meaning.specs.Set.{put_result, with_rows},
-  column_core.specs.Columns.{CellColumn},
-  frame_store.specs.Shown.{headings_value},
-  selections.specs.Selected.{as_it_is},
-  settings.{specs.{Assigned.{column_seen, put_place}, Changes.{changed}}, proofs.{PutCases.{default_rows, list_fits, list_rows, range_count, range_names, range_seen, range_settled, rows_given, rows_meant, rows_put}, PutLaws.{put_there}, SetLaws.{changes_so, part_refused}, putting.list_change.Goals.{else-rows-eq0-via-then-rows-eq0+else-count-gt0, else-rows-eq0-via-else-rows-eq0}}},
+  settings.{specs.{Assigned.{column_seen}, Changes.{changed}}, proofs.{PutCases.{default_rows, list_fits, list_rows, range_count, range_names, range_seen, range_settled, rows_given, rows_meant, rows_put}, PutLaws.{put_there}, SetLaws.{changes_so, part_refused}, putting.list_change.Goals.{else-rows-eq0-via-then-rows-eq0+else-count-gt0}}},
 }
 use Rattle.settings.proofs.putting.list_change.Goals as goal
 
@@ -18,7 +15,7 @@ returns-in_err-place-clause-change c =
     let l = label_datum texts c.args.label in
     let seen = column_seen texts c.args.column in
     let n = length c.args.column.cells in
-    let count : c.len-count.result ≡ n = c.len-count.ensures ∙ ap (λ (v : CellColumn). length v.cells) c.as_ref.ensures in
+    let count : c.len-count.result ≡ n = search in
     let none : length t.labels ≡ 0 = omega (arith, c.rows.ensures) in
     let some : 0 < n = omega (arith, count) in
     let frame = with_rows (table_value texts t) (default_labels n) (None ∷ []) in
@@ -26,12 +23,10 @@ returns-in_err-place-clause-change c =
     rw (p.1, p.2)
     (changes_so texts t (Err c.in_err-place.field-0.0) _ _
     (rows_put texts t (default_labels n) (None ∷ []) c.args.label seen c.len-count.result c.requires.known.whole (count ∙ default_rows n) ∙ sym (list_rows texts t l c.args.column none some))
-    (part_refused as_it_is texts (put_place c.len-count.result (headings_value texts t.headings) l) (put_there frame l seen) c.in_err-place.field-0.0 c.in_err-place.ensures.answer))
+    (grind (arith, part_refused, put_there)))
 
 pub rows_change-requires-clause-rows : goal.rows_change-requires-clause-rows
-rows_change-requires-clause-rows c =
-    let count : c.len-count.result ≡ length c.args.column.cells = c.len-count.ensures ∙ ap (λ (v : CellColumn). length v.cells) c.as_ref.ensures in
-    sym (range_count c.len-count.result c.in_ok-axis.axis c.in_ok-axis.ensures ∙ count)
+rows_change-requires-clause-rows c = grind (arith, range_count)
 
 pub returns-then-count-gt0-clause-change : goal.returns-then-count-gt0-clause-change
 returns-then-count-gt0-clause-change c =
@@ -42,7 +37,7 @@ returns-then-count-gt0-clause-change c =
     let n = length c.args.column.cells in
     let rows = c.len-count.result in
     let axis = c.in_ok-axis.axis in
-    let count : rows ≡ n = c.len-count.ensures ∙ ap (λ (v : CellColumn). length v.cells) c.as_ref.ensures in
+    let count : rows ≡ n = cc (c.len-count.ensures, c.as_ref.ensures) in
     let none : length t.labels ≡ 0 = omega (arith, c.rows.ensures) in
     let some : 0 < n = omega (arith, count) in
     let made = c.in_ok-rows_change.ensures.made in (
@@ -54,14 +49,4 @@ returns-then-count-gt0-clause-change c =
     )
 
 pub returns-clause-change : goal.returns-clause-change
-returns-clause-change c =
-    let texts = c.args.dict.now in
-    let t = c.args.on.now in
-    let count : c.len-count.result ≡ length c.args.column.cells = c.len-count.ensures ∙ ap (λ (v : CellColumn). length v.cells) c.as_ref.ensures in
-    let unless : length t.labels ≡ 0 → 0 < length c.args.column.cells → ⊥ = λ none some.
-    elim c.else-rows-eq0.branch [
-      | else-rows-eq0-via-then-rows-eq0+else-count-gt0 w ↦ omega (arith, count, none, some, c.rows.ensures)
-      | else-rows-eq0-via-else-rows-eq0 w ↦ omega (arith, count, none, some, c.rows.ensures)
-    ] in
-    let same : length t.labels ≡ length c.args.column.cells = omega (arith, count, c.rows-2.ensures, c.if-rows-count.false) in
-    changes_so texts t c.put_change.result _ _ (list_fits texts t (label_datum texts c.args.label) c.args.column unless same) c.put_change.ensures.change
+returns-clause-change c = grind (arith, else-rows-eq0-via-then-rows-eq0+else-count-gt0, changes_so, list_fits)

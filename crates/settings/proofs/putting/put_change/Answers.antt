@@ -1,8 +1,6 @@
 use Rattle.{
-  std.proofs.Common.{◌≡◌, ap, sym, subst, Some},
-  cell_core.specs.declared.cell.Cell.{Cell},
-  meaning.specs.Cell.{AreGiven},
-  table_meaning.specs.{Change.{with_column}, Table.{ColumnOf}},
+  std.proofs.Common.{arith, ◌≡◌, ap, Some},
+  table_meaning.specs.Change.{with_column},
   frame_store.specs.Parts.{block_column},
   settings.{specs.Assigned.{table_column}, proofs.PutLaws.{put_meant, put_settled}},
 }
@@ -14,7 +12,7 @@ returns-clause-change c =
     let t = c.args.on.now in
     let place = c.in_ok-place.place in
     let block = c.into_block.result in
-    let column : block_column block ≡ table_column c.args.column = ap block_column c.into_block.ensures in (
+    let column : block_column block ≡ table_column c.args.column = grind arith in (
       put_meant texts t place c.rows.result c.args.label c.args.column (with_column t place (Some c.args.label) (block_column block)) c.requires.known.whole c.rows.ensures c.in_ok-place.ensures.answer (ap (with_column t place (Some c.args.label)) column),
-      put_settled texts t place c.args.label (block_column block) c.requires.known.given c.requires.label (subst (λ (k : ColumnOf Cell). AreGiven texts k.cells) (sym column) c.requires.given),
+      put_settled texts t place c.args.label (block_column block) c.requires.known.given c.requires.label (grind arith),
     )

@@ -1,28 +1,21 @@
 use Rattle.{
-  std.proofs.{Common.{◌≡◌, ◌∙◌, ◌<◌, length, ap, sym, subst, rules}, lemmas.Result.{err_from_is_err_and}},
+  std.proofs.{Common.{arith, ◌≡◌, rules}, lemmas.Result.{err_from_is_err_and}},
   cell_core.specs.declared.grid.Shape.TheVariants.{Frame},
   select_meaning.specs.Set.{removal_result},
-  table_meaning.specs.{Table.{NumberedTable}, Valid.{IsWhole}},
-  frame_store.{specs.{Arguments.{entry_of}, Objects.{tables, table_at, table_or}}, proofs.Settling.{headings_part, object_settled}},
+  frame_store.{specs.{Arguments.{entry_of}, Objects.{tables}}, proofs.Settling.{headings_part, object_settled}},
   settings.proofs.SetLaws.{entry_label_settled, removal_set, removed_headed, set_left},
 }
 use Rattle.settings.proofs.removing.remove.Goals as goal
 
 pub column_place-requires-clause-settled : goal.column_place-requires-clause-settled
 column_place-requires-clause-settled c =
-    headings_part c.args.dict.now c.read-source.result (object_settled c.args.dict.now (tables c.args.store.now) c.in-Object-Scalar.id.0 c.read-source.result c.read-source.ensures.table c.requires.settled)
+    headings_part c.args.dict.now c.read-source.result (search object_settled)
 
 pub column_place-requires-clause-label : goal.column_place-requires-clause-label
-column_place-requires-clause-label c =
-    entry_label_settled (tables c.args.store.now) c.args.dict.now c.args.label c.in-Object-Scalar.cell c.label_of.result c.in-Object-Scalar.is-1 c.label_of.ensures.seen c.requires.label.given
+column_place-requires-clause-label c = search entry_label_settled
 
 pub remove_column-requires-clause-headings : goal.remove_column-requires-clause-headings
-remove_column-requires-clause-headings c =
-    let t = table_at (tables c.args.store.now) c.in-Object-Scalar.id.0 in
-    let at : c.read-source.result ≡ t = sym (ap table_or c.read-source.ensures.table) in
-    let frame : c.read-source.result.shape ≡ Frame = search rules in
-    removed_headed t c.in_ok-place.place (subst IsWhole at c.read-source.ensures.whole) (sym (ap (λ (u : NumberedTable). u.shape) at) ∙ frame)
-    (subst (λ (u : NumberedTable). c.in_ok-place.place < length u.columns) at c.in_ok-place.ensures.inside)
+remove_column-requires-clause-headings c = grind (arith, removed_headed)
 
 pub returns-in_err-remove_column : goal.returns-in_err-remove_column
 returns-in_err-remove_column c =

@@ -1,13 +1,12 @@
 use Rattle.{
-  std.proofs.Common.{◌≡◌, ◌∙◌, sym, subst, length, Option},
-  meaning.specs.Cell.{LabelValue},
+  std.proofs.{lemmas.List.{length-map}, Common.{arith, ◌≡◌, subst, length}},
   table_meaning.specs.Table.{table_value},
   form_meaning.specs.Finish.{column_labels},
   select_meaning.specs.{Keys.{columns_by}, Set.{or_added, added_label}},
   form_parts.specs.Makes.{MakesBy},
   frame_store.specs.Arguments.{subscript_of},
   selections.specs.Reaches.{accessor_of},
-  settings.{specs.Values.{reached_value, TellsAbsence}, proofs.TargetLaws.{columns_tell, column_count, fresh_reached, label_settled}},
+  settings.{specs.Values.{reached_value}, proofs.TargetLaws.{columns_tell, fresh_reached, label_settled}},
 }
 use Rattle.settings.proofs.targets.columns_reached.Goals as goal
 
@@ -17,10 +16,10 @@ returns-clause-columns c = λ live settled.
     let t = table_value texts c.args.on.now in
     let k = subscript_of live texts c.args.key.now in
     let by = accessor_of c.args.by in
-    let many : length (column_labels t) ≡ c.columns.result = column_count texts c.args.on.now c.requires.table.known.whole ∙ sym c.columns.ensures in
-    subst (λ (o : Option LabelValue). MakesBy reached_value texts c.picked_or_added.result (or_added o (column_labels t) (columns_by by t k))) (c.label_to_add.ensures live texts)
+    let many : length (column_labels t) ≡ c.columns.result = grind (arith, length-map) in
+    subst (λ o. MakesBy reached_value texts c.picked_or_added.result (or_added o (column_labels t) (columns_by by t k))) (c.label_to_add.ensures live texts)
     (c.picked_or_added.ensures.reached texts (column_labels t) (columns_by by t k) many (c.columns_by-columns.ensures.columns live settled)
-    (subst (λ (o : Option LabelValue). TellsAbsence o (column_labels t) (columns_by by t k)) (sym (c.label_to_add.ensures live texts)) (columns_tell by t k)))
+    (rw (c.label_to_add.ensures live texts) (columns_tell by t k)))
 
 pub returns-clause-fresh : goal.returns-clause-fresh
 returns-clause-fresh c = λ live settled.

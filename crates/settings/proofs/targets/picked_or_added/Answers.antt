@@ -1,18 +1,17 @@
 use Rattle.{
-  std.proofs.Common.{◌∙◌, ap, Err},
-  frame_store.specs.declared.fault.OpFault.TheVariants.{Refused},
-  settings.proofs.TargetLaws.{as_nothing, added_own, added_settled},
+  std.proofs.Common.{arith},
+  settings.proofs.TargetLaws.{as_nothing, added_settled},
 }
 use Rattle.settings.proofs.targets.picked_or_added.Goals as goal
 
 pub returns-in-None-clause-reached : goal.returns-in-None-clause-reached
 returns-in-None-clause-reached c = λ texts tuples pick many makes tells.
     as_nothing texts c.args.label c.args.rows c.in-Err-Refused-NoKey.key tuples pick c.in-None.is
-    (c.in-Err-Refused-NoKey.is ∙ ap Err (c.in-Err-Refused-NoKey.field-0-is ∙ ap Refused c.in-Err-Refused-NoKey.field-0-0-is)) makes
+    (grind arith) makes
 
 pub returns-in_ok-added-in-Some-clause-given : goal.returns-in_ok-added-in-Some-clause-given
 returns-in_ok-added-in-Some-clause-given c = λ texts settled.
     added_settled texts c.args.label c.in-Some.label c.args.count c.in_ok-added-in-Some.field-0 c.in-Some.is c.in_ok-added-in-Some.ensures settled
 
 pub returns-in_ok-added-in-Some-clause-own : goal.returns-in_ok-added-in-Some-clause-own
-returns-in_ok-added-in-Some-clause-own c = added_own c.args.label c.in-Some.label c.args.count c.in_ok-added-in-Some.field-0 c.in-Some.is c.in_ok-added-in-Some.ensures
+returns-in_ok-added-in-Some-clause-own c = grind arith

@@ -1,4 +1,5 @@
 use Rattle.{
+  std.proofs.Common.{arith},
   frame_store.specs.{Objects.{tables}, Arguments.{subscript_of}},
   selections.{specs.Reaches.{accessor_of}, proofs.ReachLaws.{joined_settled}},
   settings.proofs.TargetLaws.{pair_reached},
@@ -10,8 +11,7 @@ rows_reached-requires-clause-key c =
     let live = tables c.args.store.now in
     record {
       live = c.in_ok-key.ensures.live live;
-      given = joined_settled c.args.dict.now (accessor_of c.args.by) c.levels.result (λ texts. subscript_of live texts c.args.first.now) (λ texts. subscript_of live texts c.args.second.now) (λ texts. subscript_of live texts c.in_ok-key.key)
-          (c.in_ok-key.ensures.key live) c.requires.first.given c.requires.second.given;
+      given = grind (arith, joined_settled);
     }
 
 pub returns-clause-rows : goal.returns-clause-rows

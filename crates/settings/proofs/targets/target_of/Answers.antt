@@ -7,7 +7,7 @@ use Rattle.settings.proofs.targets.target_of.Goals as goal
 
 pub returns-in_ok-all_columns-in-None-clause-given : goal.returns-in_ok-all_columns-in-None-clause-given
 returns-in_ok-all_columns-in-None-clause-given c =
-    target_settled c.args.dict.now c.in_ok-rows-in-None.rows c.picked-columns.result c.in_ok-rows-in-None.ensures.given (picked_settled c.args.dict.now _ c.picked-columns.result c.picked-columns.ensures)
+    target_settled c.args.dict.now c.in_ok-rows-in-None.rows c.picked-columns.result c.in_ok-rows-in-None.ensures.given (search picked_settled)
 
 pub returns-in_ok-columns-in-Some-clause-given : goal.returns-in_ok-columns-in-Some-clause-given
 returns-in_ok-columns-in-Some-clause-given c =
@@ -16,4 +16,4 @@ returns-in_ok-columns-in-Some-clause-given c =
 
 pub returns-in_ok-all_columns-in-Some-2-clause-given : goal.returns-in_ok-all_columns-in-Some-2-clause-given
 returns-in_ok-all_columns-in-Some-2-clause-given c =
-    target_settled c.args.dict.now c.in_ok-rows-in-Some-2.rows c.picked-columns-in-Some-2.result c.in_ok-rows-in-Some-2.ensures.given (picked_settled c.args.dict.now _ c.picked-columns-in-Some-2.result c.picked-columns-in-Some-2.ensures)
+    target_settled c.args.dict.now c.in_ok-rows-in-Some-2.rows c.picked-columns-in-Some-2.result c.in_ok-rows-in-Some-2.ensures.given (search picked_settled)

@@ -1,10 +1,7 @@
-use Rattle.{
-  std.proofs.Common.{◌/◌, ◌^◌, ap, ◌∙◌},
-  column_operators.proofs.QuotientLaws.{by_inverse},
-}
+use Rattle.column_operators.proofs.QuotientLaws.{by_inverse}
 use Rattle.column_operators.proofs.divisors.Divisor.quotient.Goals as goal
 
 pub returns : goal.returns
 returns c =
     let divisor = c.args.self.now in
-    ap (λ p. p / 2 ^ 64 / 2 ^ divisor.shift) c.product.ensures ∙ by_inverse c.args.dividend divisor.value divisor.inverse divisor.shift c.requires divisor.above divisor.inverts
+    cc (c.product.ensures, by_inverse c.args.dividend divisor.value divisor.inverse divisor.shift c.requires divisor.above divisor.inverts)

@@ -1,7 +1,7 @@
 use Rattle.{
-  std.proofs.Common.{◌≡◌, ◌∙◌, sym, ap, false, is_some, rules},
+  std.proofs.Common.{arith, ◌≡◌, false, rules},
   csv_meaning.specs.CsvRead.{is_missing},
-  csv_frames.proofs.{GrowingLaws.{missing_grown, mixed_grown, kept_grown, mixed_up}, growing.Growing.push.Goals.{else-not-fits-via-then-not-fits+else-is_none, else-not-fits-via-else-not-fits}},
+  csv_frames.proofs.GrowingLaws.{missing_grown, mixed_grown, kept_grown},
 }
 use Rattle.csv_frames.proofs.growing.Growing.push.Goals as goal
 
@@ -13,13 +13,10 @@ returns-in_ok-first_value-in-Missing-clause-grown c = λ fields count grown.
 pub returns-then-is_none-clause-grown : goal.returns-then-is_none-clause-grown
 returns-then-is_none-clause-grown c = λ fields count grown.
     mixed_grown c.args.dict.now c.push_field.new.dict fields c.args.field.now c.args.named c.args.self.now c.in-Cells.column c.in_ok-fits-in-Cells.fits c.in-Cells.is c.in_ok-fits-in-Cells.ensures.fits grown
-    (search rules) (search rules)
+    (search) (search rules)
 
 pub returns-else-not-fits-clause-grown : goal.returns-else-not-fits-clause-grown
 returns-else-not-fits-clause-grown c = λ fields count grown.
     kept_grown c.args.dict.now c.push_field.new.dict fields c.args.field.now c.args.named c.args.self.now c.in-Cells.column c.in_ok-fits-in-Cells.fits c.in-Cells.is c.in_ok-fits-in-Cells.ensures.fits grown c.push_field.new.column
-    (elim c.else-not-fits.branch [
-      | else-not-fits-via-then-not-fits+else-is_none w ↦ λ none. mixed_up (sym w.if-is_none.ensures ∙ ap is_some none)
-      | else-not-fits-via-else-not-fits w ↦ λ none. search rules
-    ])
+    (grind arith)
     c.in_ok-fits-in-Cells.ensures.grown

@@ -1,18 +1,18 @@
 use Rattle.{
-  std.proofs.{Common.{rules, [], map, slice_index_or}, lemmas.Option.{slice_get-get_or}},
+  std.proofs.{Common.{arith, [], slice_index_or}, lemmas.Option.{slice_get-get_or}},
   row_keys.{specs.Keys.{label_in}, proofs.ZipLaws.{zip_right, row_of_zip, zip_get_map}},
 }
 use Rattle.factorize.proofs.numbers.UpperLevelKeyRowsTuple2LabelUsize.key.Goals as goal
 
 pub offset_bounds-self-row : goal.offset_bounds-self-row
-offset_bounds-self-row g c = let lt = zip_right (map (label_in c.args.self.now.level) (g.R.KeyLevels.keys c.args.self.now.rows.now)) c.args.self.now.codes.now c.args.row c.requires in search rules
+offset_bounds-self-row g c = grind (arith, zip_right)
 
 pub bounds-self-row : goal.bounds-self-row
-bounds-self-row g c = zip_right (map (label_in c.args.self.now.level) (g.R.KeyLevels.keys c.args.self.now.rows.now)) c.args.self.now.codes.now c.args.row c.requires
+bounds-self-row g c = search zip_right
 
 pub returns : goal.returns
 returns g c =
     let keys = g.R.KeyLevels.keys c.args.self.now.rows.now in
     let codes = c.args.self.now.codes.now in
     zip_get_map (label_in c.args.self.now.level) keys codes c.args.row (slice_index_or keys c.args.row []) c.label.result c.requires
-    (slice_get-get_or keys c.args.row [] (row_of_zip (label_in c.args.self.now.level) keys codes c.args.row c.requires)) c.label.ensures
+    (search (slice_get-get_or, row_of_zip)) c.label.ensures

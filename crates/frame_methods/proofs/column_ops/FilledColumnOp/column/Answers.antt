@@ -1,5 +1,5 @@
 use Rattle.{
-  std.proofs.Common.{◌≡◌, true, refl, subst, arith, rules},
+  std.proofs.Common.{◌≡◌, true, refl, subst, rules},
   cell_core.specs.declared.cell.Kind.{Kind},
   meaning.specs.Cell.{holds, datum},
   frame_methods.proofs.OpLaws.{filled_given, filled_answer},
@@ -7,7 +7,7 @@ use Rattle.{
 use Rattle.frame_methods.proofs.column_ops.FilledColumnOp.column.Goals as goal
 
 pub returns-clause-given : goal.returns-clause-given
-returns-clause-given c = filled_given c.args.self.now.value c.args.dict.now c.args.a.kind c.args.a c.in_ok-fillna.field-0 (c.requires.own 0 c.args.self.now.value (omega arith)) c.requires.cells c.in_ok-fillna.ensures
+returns-clause-given c = filled_given c.args.self.now.value c.args.dict.now c.args.a.kind c.args.a c.in_ok-fillna.field-0 c.requires.own.0 c.requires.cells c.in_ok-fillna.ensures
 
 pub returns-clause-answer : goal.returns-clause-answer
 returns-clause-answer c =

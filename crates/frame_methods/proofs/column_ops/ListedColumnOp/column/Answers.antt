@@ -1,4 +1,4 @@
-use Rattle.frame_methods.proofs.ListedLaws.{listed_given, listed_answer}
+use Rattle.frame_methods.proofs.{HeldLaws.{are_given}, ListedLaws.{listed_given, listed_answer}}
 use Rattle.frame_methods.proofs.column_ops.ListedColumnOp.column.Goals as goal
 
 pub returns-clause-given : goal.returns-clause-given
@@ -6,4 +6,4 @@ returns-clause-given c = listed_given c.args.dict.now c.args.self.now.values.key
 
 pub returns-clause-answer : goal.returns-clause-answer
 returns-clause-answer c =
-    listed_answer c.args.dict.now c.args.self.now.values.keys c.args.a c.in_ok-isin.field-0 c.len.ensures.distinct c.requires.own c.requires.cells c.in_ok-isin.ensures
+    listed_answer c.args.dict.now c.args.self.now.values.keys c.args.a c.in_ok-isin.field-0 c.len.ensures.distinct (are_given _ _ c.requires.own) c.requires.cells c.in_ok-isin.ensures

@@ -1,5 +1,5 @@
 use Rattle.{
-  std.proofs.Common.{◌∙◌, [], ◌∷◌, ◌++◌, ap, sym, subst},
+  std.proofs.Common.{arith, ◌∙◌, [], ◌∷◌, ◌++◌, ap, sym, subst},
   cell_core.specs.declared.cell.Kind.{Kind as CellKind},
   meaning.specs.Cell.{int_cell, datum},
   group_by.{specs.{Cells.{IsCellOf}, Gathered.{plus, total_of}}, proofs.GatherLaws.{total_more}},
@@ -19,4 +19,4 @@ returns-clause-value g c = λ cells was.
 pub returns-clause-held : goal.returns-clause-held
 returns-clause-held g c = λ kind far here.
     let numbers = g.met.N.Amount.numbers kind in
-    subst (λ (k : CellKind). IsCellOf c.args._dict.now k c.added.result) (sym numbers) (c.added.ensures.held c.args._dict.now (subst (λ (k : CellKind). IsCellOf c.args._dict.now k c.args.so_far) numbers far))
+    subst (λ (k : CellKind). IsCellOf c.args._dict.now k c.added.result) (sym numbers) (c.added.ensures.held c.args._dict.now (grind arith))

@@ -1,12 +1,11 @@
 use Rattle.{
-  std.proofs.Common.{◌∙◌, ap, sym, subst},
-  cell_core.specs.Grids.{AreRowsBelow},
-  index_core.{specs.Views.{kept_labels}, proofs.{RangeLaws.{length_of_range}, SplitLaws.{slice_of_range}}},
+  std.proofs.Common.{arith},
+  index_core.proofs.{RangeLaws.{length_of_range}, SplitLaws.{slice_of_range}},
 }
 use Rattle.index_core.proofs.index.Index.slice_places.Goals as goal
 
 pub returns-in-Below-clause-rows : goal.returns-in-Below-clause-rows
-returns-in-Below-clause-rows c = slice_of_range c.args.dict.now c.args.from c.args.to c.in-Below.n c.args.self.now c.slice_of.result (ap kept_labels (sym c.in-Below.is) ∙ c.self.view_is) (c.slice_of.ensures.rows c.args.dict.now)
+returns-in-Below-clause-rows c = slice_of_range c.args.dict.now c.args.from c.args.to c.in-Below.n c.args.self.now c.slice_of.result (search) (c.slice_of.ensures.rows c.args.dict.now)
 
 pub returns-in-Below-clause-below : goal.returns-in-Below-clause-below
-returns-in-Below-clause-below c = subst (AreRowsBelow c.slice_of.result) (length_of_range _ _ (ap kept_labels (sym c.in-Below.is) ∙ c.self.view_is)) c.slice_of.ensures.below
+returns-in-Below-clause-below c = grind (arith, length_of_range)

@@ -1,7 +1,7 @@
 use Rattle.{
-  std.proofs.Common.{◌≡◌, ◌≤◌, ◌∙◌, ap, sym, subst, map, length, arith},
+  std.proofs.Common.{◌≡◌, ◌∙◌, ap, sym, subst, map, length, arith},
   index_core.specs.Labels.{labels_at},
-  multi_index.{specs.{Axes.{HaveLevels, single_tuples}, Views.{kept_tuples, IsKeptAs}}, proofs.{LevelLaws.{levels_at, only_place}, axis.Axis.of_levels.Goals.{then-order-eq1+in_ok-labels_of, else-order-eq1+in_ok-tuples_of}}},
+  multi_index.{specs.{Axes.{HaveLevels, single_tuples}, Views.{kept_tuples}}, proofs.{LevelLaws.{levels_at, only_place}, axis.Axis.of_levels.Goals.{then-order-eq1+in_ok-labels_of, else-order-eq1+in_ok-tuples_of}}},
 }
 use Rattle.multi_index.proofs.axis.Axis.of_levels.Goals as goal
 
@@ -10,7 +10,7 @@ invariant_of-result c =
     let tuples = c.args.self.now.tuples in
     let order = c.args.order.now in
     record {
-      room = c.names_of.ensures.room;
+      room = search;
       some = c.requires.some;
       few = c.requires.few;
       alike = elim c.if-order-eq1.branch [
@@ -22,23 +22,8 @@ invariant_of-result c =
             let made = ap kept_tuples w.rows-is ∙ w.in_ok-tuples_of.ensures in
             subst (HaveLevels (length order)) (sym made) (levels_at tuples order)
       ];
-      kept = elim c.if-order-eq1.branch [
-        | then-order-eq1+in_ok-labels_of w ↦ let one : length order ≡ 1 = omega arith in subst (IsKeptAs (length order)) (sym w.rows-is) one
-        | else-order-eq1+in_ok-tuples_of w ↦ let some = c.requires.some in let several : 2 ≤ length order = omega arith in subst (IsKeptAs (length order)) (sym w.rows-is) several
-      ];
+      kept = grind (arith, then-order-eq1+in_ok-labels_of);
     }
 
 pub returns : goal.returns
-returns c =
-    let tuples = c.args.self.now.tuples in
-    let order = c.args.order.now in
-    let names = c.names_of.ensures.names in
-    elim c.if-order-eq1.branch [
-      | then-order-eq1+in_ok-labels_of w ↦
-          let one : length order ≡ 1 = omega arith in
-          let made = ap kept_tuples w.rows-is ∙ ap single_tuples w.from_vec.ensures ∙ w.in_ok-labels_of.ensures ∙ ap (λ o. map (λ tuple. labels_at tuple o) tuples) (only_place order one) in
-          λ i. record { tuples = made i; names = names i }
-      | else-order-eq1+in_ok-tuples_of w ↦
-          let made = ap kept_tuples w.rows-is ∙ w.in_ok-tuples_of.ensures in
-          λ i. record { tuples = made i; names = names i }
-    ]
+returns c = grind (arith, then-order-eq1+in_ok-labels_of, only_place)

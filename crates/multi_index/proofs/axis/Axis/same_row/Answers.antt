@@ -1,5 +1,5 @@
 use Rattle.{
-  std.proofs.Common.{subst, arith, sym},
+  std.proofs.Common.{arith},
   multi_index.{specs.Axes.{HaveLevels}, proofs.SameTuples.{same_at_row}},
   index_core.proofs.SameLaws.{holds},
 }
@@ -7,5 +7,5 @@ use Rattle.multi_index.proofs.axis.Axis.same_row.Goals as goal
 
 pub returns : goal.returns
 returns c =
-    let alike : HaveLevels c.levels-level-end.result c.args.other.now.tuples = subst (λ n. HaveLevels n c.args.other.now.tuples) (sym c.levels-level-end.ensures.count) c.requires.alike in
+    let alike : HaveLevels c.levels-level-end.result c.args.other.now.tuples = grind arith in
     holds (same_at_row c.args.self.now c.args.other.now c.args.row c.levels-level-end.result c.requires.row c.requires.other c.levels-level-end.ensures.alike alike (λ level lt. c.loop-level.invariant level (omega arith)))

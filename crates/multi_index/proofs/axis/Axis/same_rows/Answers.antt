@@ -1,14 +1,11 @@
 use Rattle.{
-  std.proofs.Common.{◌≡◌, length, subst, arith},
-  multi_index.specs.Axes.{HaveLevels},
+  std.proofs.Common.{◌≡◌, length, arith},
   index_core.proofs.SameLaws.{holds, all_same},
 }
 use Rattle.multi_index.proofs.axis.Axis.same_rows.Goals as goal
 
 pub same_row-requires-clause-alike : goal.same_row-requires-clause-alike
-same_row-requires-clause-alike c =
-    let same : c.levels-2.result ≡ length c.args.self.now.names = omega arith in
-    subst (λ n. HaveLevels n c.args.other.now.tuples) same c.levels-2.ensures.alike
+same_row-requires-clause-alike c = grind arith
 
 pub returns : goal.returns
 returns c =

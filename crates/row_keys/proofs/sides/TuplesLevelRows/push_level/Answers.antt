@@ -10,7 +10,7 @@ loop-row-preserved c =
     let rows = c.args.self.now in
     let lt : c.loop-row.row < length rows = omega arith in
     one_row_more (label_in c.args.level) rows c.loop-row.row [] c.tuple_label.result c.args.labels.now.items c.loop-row.labels.items c.push.new.self.items lt
-    (c.tuple_label.ensures ∙ ap (label_in c.args.level) (sym (get_or_from_slice_get rows c.loop-row.row c.at.result.now [] c.at.ensures))) c.loop-row.invariant c.in_ok-push.ensures.items
+    (c.tuple_label.ensures ∙ ap (label_in c.args.level) (sym (search get_or_from_slice_get))) c.loop-row.invariant c.in_ok-push.ensures.items
 
 pub returns : goal.returns
 returns c =

@@ -1,8 +1,8 @@
 use Rattle.{
-  std.proofs.Common.{refl, sym, ◌∙◌, ap},
-  script_work.{specs.{Bindings.{Bindings, state_over}, Work.{names_in, tables_in, world_of, state_in}}, proofs.{States.{state_swept}, Naming.{live_are_named, named_live}}},
+  std.proofs.Common.{arith, sym},
+  script_work.{specs.Work.{names_in, tables_in, world_of, state_in}, proofs.{States.{state_swept}, Naming.{live_are_named, named_live}}},
   script_tree.specs.View.{form_of},
-  script_session.proofs.{Answering.{performs_after, refused_kept, state_refused, live_refused}, Settings.{apart_after}},
+  script_session.proofs.{Answering.{performs_after, refused_kept, live_refused}, Settings.{apart_after}},
 }
 use Rattle.script_session.proofs.session.Session.perform.Goals as goal
 
@@ -12,7 +12,7 @@ returns-clause-answers g c =
     let w = c.sweep.new.self in
     let e = c.sweep.ensures in
     λ held. performs_after _ _ _ _ (state_in p) (state_in w) c.perform-result.result (c.perform-result.ensures.answers held)
-    (sym (state_swept (names_in w) (names_in w) (world_of p) (world_of w) refl e.texts e.kept ∙ ap (λ (b : Bindings). state_over b (world_of p)) e.names)) (sym e.texts)
+    (grind (arith, state_swept)) (sym e.texts)
 
 pub returns-clause-apart : goal.returns-clause-apart
 returns-clause-apart g c =
@@ -21,16 +21,10 @@ returns-clause-apart g c =
     let w = c.sweep.new.self in
     let e = c.sweep.ensures in
     apart_after c.perform-result.result (form_of c.args.form.now) (state_in s) (state_in p) (state_in w) c.perform-result.ensures.apart
-    (sym (state_swept (names_in w) (names_in w) (world_of p) (world_of w) refl e.texts e.kept ∙ ap (λ (b : Bindings). state_over b (world_of p)) e.names))
+    (grind (arith, state_swept))
 
 pub returns-clause-same : goal.returns-clause-same
-returns-clause-same g c =
-    let s = c.args.self.now.work in
-    let p = c.perform-result.new.work in
-    let w = c.sweep.new.self in
-    let e = c.sweep.ensures in
-    let same = refused_kept s p c.perform-result.result c.perform-result.ensures.names c.perform-result.ensures.kept in
-    state_refused c.perform-result.result (state_in s) (state_in p) (names_in p) (names_in w) (world_of p) (world_of w) same refl e.names e.texts e.kept
+returns-clause-same g c = grind (arith, refused_kept, state_swept)
 
 pub returns-clause-objects : goal.returns-clause-objects
 returns-clause-objects g c =

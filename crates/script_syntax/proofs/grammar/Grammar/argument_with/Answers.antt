@@ -12,7 +12,7 @@ pub returns-in_err-list : goal.returns-in_err-list
 returns-in_err-list g c =
     let p = err_from_is_err_and c.from_residual-in_err-list.result c.from_residual-in_err-list.ensures.1 in
     rw (p.1, p.2) (rooms.list_fails c.args.self.now.room (tokens_of c.args.tokens.now) (tokens_of c.in-Some-after_mark.rest.now) (sym c.in_default.ensures) (sym c.in-Some-after_mark.ensures)
-    c.in_err-list.field-0.0 (loops.items_begin_fails _ (parts_of c.new.result) _ c.new.ensures c.in_err-list.ensures))
+    c.in_err-list.field-0.0 (grind (arith, loops.items_begin_fails)))
 
 pub returns-in-Some-after_mark : goal.returns-in-Some-after_mark
 returns-in-Some-after_mark g c =

@@ -1,5 +1,5 @@
 use Rattle.{
-  std.proofs.{Common.{sym, refl, arith}, lemmas.Result.{err_from_is_err_and}},
+  std.proofs.{Common.{sym, arith}, lemmas.Result.{err_from_is_err_and}},
   script_tokens.specs.View.{tokens_of},
   script_tree.specs.View.{named_of, named_parts_of},
   script_syntax.proofs.Turns.{turn, no_turn},
@@ -8,15 +8,11 @@ use Rattle.script_syntax.proofs.Loops as loops
 use Rattle.script_syntax.proofs.grammar.Grammar.arguments.Goals as goal
 
 pub loop-init : goal.loop-init
-loop-init g c = record {
-  same = loops.arguments_begin c.args.self.now.room _ (named_parts_of c.new-args.result) (tokens_of c.args.tokens.now) c.new-args.ensures (omega arith);
-  deep = rw c.new-args.ensures refl;
-  fits = omega arith;
-}
+loop-init g c = grind (arith, loops.arguments_begin)
 
 pub returns-in-Some : goal.returns-in-Some
 returns-in-Some g c =
-    (loops.arguments_close c.args.self.now.room _ _ (turn c.args.tokens.now c.loop.counter c.loop-test.true) c.loop.after_name (named_parts_of c.loop.args) (tokens_of c.loop.rest.now) (tokens_of c.in-Some.after.now) _ (sym c.in-Some.ensures) c.loop.invariant.same, c.loop.invariant.deep, c.loop.invariant.fits)
+    (loops.arguments_close c.args.self.now.room _ _ (turn c.args.tokens.now c.loop.counter c.loop-test.true) c.loop.after_name (named_parts_of c.loop.args) (tokens_of c.loop.rest.now) (tokens_of c.in-Some.after.now) _ (sym c.in-Some.ensures) c.loop.invariant.same, search, search)
 
 pub returns-in_err-name : goal.returns-in_err-name
 returns-in_err-name g c =

@@ -9,7 +9,7 @@ use Rattle.script_syntax.proofs.grammar.Grammar.items.Goals as goal
 
 pub returns-in-Some : goal.returns-in-Some
 returns-in-Some g c =
-    (loops.items_close c.args.self.now.room _ _ (turn c.args.tokens.now c.loop.counter c.loop-test.true) (mark_of c.args.close) (parts_of c.loop.list) (tokens_of c.loop.rest.now) (tokens_of c.in-Some.after.now) _ (sym c.in-Some.ensures) c.loop.invariant.same, c.loop.invariant.deep, c.loop.invariant.fits)
+    (loops.items_close c.args.self.now.room _ _ (turn c.args.tokens.now c.loop.counter c.loop-test.true) (mark_of c.args.close) (parts_of c.loop.list) (tokens_of c.loop.rest.now) (tokens_of c.in-Some.after.now) _ (sym c.in-Some.ensures) c.loop.invariant.same, search, search)
 
 pub returns-in_err-arg : goal.returns-in_err-arg
 returns-in_err-arg g c =

@@ -10,7 +10,7 @@ use Rattle.script_syntax.proofs.grammar.Grammar.operators.Goals as goal
 
 pub returns-in_default : goal.returns-in_default
 returns-in_default g c =
-    (loops.operators_stop c.args.self.now.room _ _ (turn c.args.tokens.now c.loop.counter c.loop-test.true) c.args.least (expr_of c.loop.x) (tokens_of c.loop.rest.now) _ (sym c.in_default.ensures) c.loop.invariant.same, c.loop.invariant.deep, c.loop.invariant.fits)
+    (loops.operators_stop c.args.self.now.room _ _ (turn c.args.tokens.now c.loop.counter c.loop-test.true) c.args.least (expr_of c.loop.x) (tokens_of c.loop.rest.now) _ (sym c.in_default.ensures) c.loop.invariant.same, search, search)
 
 pub returns-in-Err : goal.returns-in-Err
 returns-in-Err g c =
@@ -25,7 +25,7 @@ returns-in_err-x g c =
 
 pub returns-then-level-eq0 : goal.returns-then-level-eq0
 returns-then-level-eq0 g c =
-    let low : level (binary_of c.in-Some.operator) ≡ 0 = sym c.level-in-loop.ensures.value ∙ c.if-level-eq0.true in (
+    let low : level (binary_of c.in-Some.operator) ≡ 0 = grind arith in (
       rw c.onwards-rest.ensures (loops.operators_last c.args.self.now.room _ _ (turn c.args.tokens.now c.loop.counter c.loop-test.true) c.args.least c.level.result (binary_of c.in-Some.operator) (expr_of c.loop.x) (expr_of (c.in-Ok.found.0)) (expr_of c.in_ok-x.field-0-0)
           (tokens_of c.loop.rest.now) (tokens_of c.in-Some.right.now) (tokens_of (c.in-Ok.found.2).now) _ (sym c.in-Some.ensures) c.level.ensures.value (c.in-Ok.ensures).0 (c.in_ok-x.ensures).0
           (omega (arith, (c.in_ok-x.ensures).1, (c.in_ok-x.ensures).2)) low c.loop.invariant.same),
@@ -40,10 +40,10 @@ loop-preserved g c =
       same = rw c.onwards-rest.ensures (loops.operators_go c.args.self.now.room _ _ (turn c.args.tokens.now c.loop.counter c.loop-test.true) c.args.least c.level.result (binary_of c.in-Some.operator) (expr_of c.loop.x) (expr_of (c.in-Ok.found.0)) (expr_of c.in_ok-x.field-0-0)
           (tokens_of c.loop.rest.now) (tokens_of c.in-Some.right.now) (tokens_of (c.in-Ok.found.2).now) _ (sym c.in-Some.ensures) c.level.ensures.value (c.in-Ok.ensures).0 (c.in_ok-x.ensures).0
           (omega (arith, (c.in_ok-x.ensures).1, (c.in_ok-x.ensures).2)) high c.loop.invariant.same);
-      deep = (c.in_ok-x.ensures).1 ∙ ap depth (c.in_ok-x.ensures).0;
+      deep = grind arith;
       fits = (c.in_ok-x.ensures).2;
     }
 
 pub returns : goal.returns
 returns g c =
-    (loops.operators_end c.args.self.now.room _ c.args.least (expr_of c.loop.x) (tokens_of c.loop.rest.now) _ (no_turn c.args.tokens.now c.loop.counter c.loop-test.false) c.loop.invariant.same, c.loop.invariant.deep, c.loop.invariant.fits)
+    (loops.operators_end c.args.self.now.room _ c.args.least (expr_of c.loop.x) (tokens_of c.loop.rest.now) _ (no_turn c.args.tokens.now c.loop.counter c.loop-test.false) c.loop.invariant.same, search, search)

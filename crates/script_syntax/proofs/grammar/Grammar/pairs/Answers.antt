@@ -1,5 +1,5 @@
 use Rattle.{
-  std.proofs.{Common.{sym, refl, arith}, lemmas.Result.{err_from_is_err_and}},
+  std.proofs.{Common.{sym, arith}, lemmas.Result.{err_from_is_err_and}},
   script_tokens.specs.View.{tokens_of},
   script_tree.specs.View.{arg_of, literal_of, pair_parts_of},
   script_syntax.proofs.Turns.{turn, no_turn},
@@ -8,15 +8,11 @@ use Rattle.script_syntax.proofs.Loops as loops
 use Rattle.script_syntax.proofs.grammar.Grammar.pairs.Goals as goal
 
 pub loop-init : goal.loop-init
-loop-init g c = record {
-  same = loops.pairs_begin c.args.self.now.room _ (pair_parts_of c.new-entries.result) (tokens_of c.args.tokens.now) c.new-entries.ensures (omega arith);
-  deep = rw c.new-entries.ensures refl;
-  fits = omega arith;
-}
+loop-init g c = grind (arith, loops.pairs_begin)
 
 pub returns-in-Some : goal.returns-in-Some
 returns-in-Some g c =
-    (loops.pairs_close c.args.self.now.room _ _ (turn c.args.tokens.now c.loop.counter c.loop-test.true) (pair_parts_of c.loop.entries) (tokens_of c.loop.rest.now) (tokens_of c.in-Some.after.now) _ (sym c.in-Some.ensures) c.loop.invariant.same, c.loop.invariant.deep, c.loop.invariant.fits)
+    (loops.pairs_close c.args.self.now.room _ _ (turn c.args.tokens.now c.loop.counter c.loop-test.true) (pair_parts_of c.loop.entries) (tokens_of c.loop.rest.now) (tokens_of c.in-Some.after.now) _ (sym c.in-Some.ensures) c.loop.invariant.same, search, search)
 
 pub returns-in_err-key : goal.returns-in_err-key
 returns-in_err-key g c =

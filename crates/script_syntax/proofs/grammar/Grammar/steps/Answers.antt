@@ -10,7 +10,7 @@ use Rattle.script_syntax.proofs.grammar.Grammar.steps.Goals as goal
 
 pub returns-then-not-begins_step : goal.returns-then-not-begins_step
 returns-then-not-begins_step g c =
-    (loops.steps_stop c.args.self.now.room _ _ (turn c.args.tokens.now c.loop.counter c.loop-test.true) (expr_of c.loop.x) (tokens_of c.loop.rest.now) _ (grind arith) c.loop.invariant.same, c.loop.invariant.deep, c.loop.invariant.fits)
+    (loops.steps_stop c.args.self.now.room _ _ (turn c.args.tokens.now c.loop.counter c.loop-test.true) (expr_of c.loop.x) (tokens_of c.loop.rest.now) _ (grind arith) c.loop.invariant.same, search, search)
 
 pub returns-in-Err : goal.returns-in-Err
 returns-in-Err g c =
@@ -32,4 +32,4 @@ loop-preserved g c = record {
 
 pub returns : goal.returns
 returns g c =
-    (loops.steps_end c.args.self.now.room _ (expr_of c.loop.x) (tokens_of c.loop.rest.now) _ (no_turn c.args.tokens.now c.loop.counter c.loop-test.false) c.loop.invariant.same, c.loop.invariant.deep, c.loop.invariant.fits)
+    (loops.steps_end c.args.self.now.room _ (expr_of c.loop.x) (tokens_of c.loop.rest.now) _ (no_turn c.args.tokens.now c.loop.counter c.loop-test.false) c.loop.invariant.same, search, search)

@@ -1,8 +1,5 @@
-use Rattle.{
-  std.{proofs.Common.{◌∙◌, ap}, specs.Prelude.{nat_lt}},
-  script_work.{specs.Bindings.{bindings_of}, proofs.UseLaws.{named_uses}},
-}
+use Rattle.script_work.{specs.Bindings.{bindings_of}, proofs.UseLaws.{named_uses}}
 use Rattle.script_work.proofs.names.Names.has.Goals as goal
 
 pub returns : goal.returns
-returns c = ap (λ n. nat_lt 0 n) (c.count.ensures ∙ c.args.self.now.counted c.args.id) ∙ named_uses (bindings_of c.args.self.now.values.entries) c.args.id.0
+returns c = cc (c.count.ensures, c.args.self.now.counted c.args.id, named_uses (bindings_of c.args.self.now.values.entries) c.args.id.0)

@@ -5,9 +5,7 @@ use Rattle.{
 use Rattle.script_work.proofs.names.Names.unbind.Goals as goal
 
 pub take-requires : goal.take-requires
-take-requires c =
-    let s = c.args.self.now in
-    takes_unbound (bindings_of s.values.entries) c.args.name.now (count_at s.uses) s.counted c.unbind-left.result c.unbind-left.ensures.left
+take-requires c = search takes_unbound
 
 pub invariant_of-self-clause-counted : goal.invariant_of-self-clause-counted
 invariant_of-self-clause-counted c = λ id.

@@ -1,5 +1,5 @@
 use Rattle.{
-  std.proofs.Common.{◌∙◌, ℕ, ap, nat_eq},
+  std.proofs.Common.{◌∙◌, ap, nat_eq},
   indexmap.specs.IndexMap.{get},
   script_work.{specs.Uses.{same_id, or_none, count_at}, proofs.{Numbers.{nat_same}, UseLaws.{same_after}}},
 }
@@ -10,4 +10,4 @@ returns-clause-same c = λ other.
     let s = c.args.self.now in
     let id = c.args.id in
     ap or_none (c.in_ok-insert.ensures.updates.0 other)
-    ∙ same_after (nat_eq id.0 other.0) _ (get same_id s.counts other) (λ same. c.count-count.ensures ∙ ap (λ (k : ℕ). count_at s (record { 0 = k })) (nat_same id.0 other.0 same))
+    ∙ same_after (nat_eq id.0 other.0) _ (get same_id s.counts other) (λ same. c.count-count.ensures ∙ ap (λ k. count_at s (record { 0 = k })) (nat_same id.0 other.0 same))

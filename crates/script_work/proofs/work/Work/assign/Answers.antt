@@ -1,40 +1,33 @@
 use Rattle.{
-  std.{proofs.Common.{◌∙◌, ◌++◌, ap, sym, subst, Result}, specs.Prelude.{IfSome, option_map}},
-  meaning.specs.Fault.{FaultValue},
+  std.{proofs.Common.{arith, ◌∙◌, ap, sym, subst}, specs.Prelude.{IfSome, option_map}},
   table_laws.{specs.Validity.{IsHeldCell, IsValidGiven}, proofs.SetLaws.{assign_result_keeps}},
-  table_meaning.specs.Table.{Table},
-  select_meaning.specs.Set.{assign_result},
-  frame_store.specs.{Objects.{tables}, World.{World, Sets, entry_in, subscript_in}},
-  selections.specs.Selected.{way_of},
+  frame_store.specs.{Objects.{tables}, World.{World, subscript_in}},
   settings.specs.Assigned.{moved_object, without},
   script_work.{specs.Work.{names_in, world_of}, proofs.{Worlds.{live_set, noted_set, given_after}, Binding.{swept_live}, Validity.{object_valid, argument_valid, set_valid}, Spending.{unnamed_spare, spent_valid, spent_keeps, spent_noted, spent_on, second_seen}}},
 }
 use Rattle.script_work.proofs.work.Work.assign.Goals as goal
 
 pub assign-requires-clause-value : goal.assign-requires-clause-value
-assign-requires-clause-value c =
-    let s = c.args.self.now in
-    let n = c.new_value-value.ensures in
-    record { live = n.live; given = λ more. n.meant (s.dict ++ more) ∙ c.requires.value.given more ∙ sym (n.meant s.dict) }
+assign-requires-clause-value c = grind arith
 
 pub invariant_of-self : goal.invariant_of-self
 invariant_of-self c =
     let s = c.args.self.now in
     let n = c.new_value-value.ensures in
     let spare = moved_object c.new_value-value.result in
-    let old : World = without c.assign.result spare (world_of s) in
+    let old = without c.assign.result spare (world_of s) in
     let new : World = record { tables = tables c.assign.new.store; texts = c.assign.new.dict } in
-    let sets : Sets c.assign.result c.args.on _ old new = c.assign.ensures in
+    let sets = c.assign.ensures in
     let held = subst (λ o. IfSome o IsHeldCell) (c.scalar-scalar.ensures (tables s.store) s.dict) (c.is_held.ensures.held s.dict) in
     let valid = subst IsValidGiven (sym (n.meant s.dict)) (argument_valid (world_of s) c.args.value.now s.valid c.requires.value.live held) in
     let named = spent_keeps (names_in s) c.assign.result spare (tables s.store) (unnamed_spare (names_in s) c.args.value.now spare n.spare) in
     record {
       settled = sets.2;
-      valid = set_valid c.assign.result c.args.on _ old new sets (assign_result_keeps _ _ _ _ _ (object_valid (world_of s) c.args.on s.valid c.requires.on.live) valid) (spent_valid s.dict c.assign.result spare (tables s.store) s.valid);
+      valid = set_valid c.assign.result c.args.on _ old new sets (search (assign_result_keeps, object_valid)) (spent_valid s.dict c.assign.result spare (tables s.store) s.valid);
       live = live_set old new (names_in s) c.assign.result c.args.on _ sets (swept_live (names_in s) (tables s.store) old.tables named s.live);
-      given = given_after (names_in s) s.dict _ sets.1 s.given;
-      noted = noted_set old new (names_in s) s.temps.items c.assign.result c.args.on _ (spent_on (tables s.store) c.args.on spare c.assign.result n.other c.requires.on.live) sets
-          (spent_noted (names_in s) s.temps.items c.assign.result spare (tables s.store) s.noted);
+      given = search given_after;
+      noted = noted_set old new (names_in s) s.temps.items c.assign.result c.args.on _ (search spent_on) sets
+          (search spent_noted);
     }
 
 pub returns-clause-sets : goal.returns-clause-sets
@@ -44,10 +37,4 @@ returns-clause-sets c =
     let spare = moved_object c.new_value-value.result in
     let new : World = record { tables = tables c.assign.new.store; texts = c.assign.new.dict } in
     let second = second_seen (subscript_in (world_of s)) c.as_ref-second.result ∙ ap (option_map (subscript_in (world_of s))) c.as_ref-second.ensures.value in
-    record {
-      spare = spare;
-      unnamed = n.spare;
-      sets = subst (λ (m : Result Table FaultValue). Sets c.assign.result c.args.on m (without c.assign.result spare (world_of s)) new)
-          (λ j. assign_result (entry_in (world_of s) c.args.on) (way_of c.args.by) (subscript_in (world_of s) c.args.first.now) (second j) (n.meant s.dict j))
-          c.assign.ensures;
-    }
+    grind arith

@@ -10,7 +10,7 @@ use Rattle.{
 use Rattle.script_work.proofs.work.Work.call.Goals as goal
 
 pub returns-then-not-reads_file-clause-kept : goal.returns-then-not-reads_file-clause-kept
-returns-then-not-reads_file-clause-kept g c = form_keeps c.make.result _ _ _ c.make.ensures.answers
+returns-then-not-reads_file-clause-kept g c = search form_keeps
 
 pub returns-then-not-reads_file-clause-reads : goal.returns-then-not-reads_file-clause-reads
 returns-then-not-reads_file-clause-reads g c =
@@ -46,7 +46,7 @@ returns-in_err-bytes-clause-reads g c =
     (ap (λ b. if b then then_read (at_once (file_name_of ReadCsv given)) (λ name. of_file fs name (λ bytes. read_result bytes given)) else at_once (function_result None n given)) reads) (c.in_err-bytes.ensures.reads held))
 
 pub returns-clause-kept : goal.returns-clause-kept
-returns-clause-kept g c = form_keeps c.make-2.result _ _ _ c.make-2.ensures.answers
+returns-clause-kept g c = search form_keeps
 
 pub returns-clause-reads : goal.returns-clause-reads
 returns-clause-reads g c =

@@ -1,6 +1,6 @@
 use Rattle.{
-  frame_store.{specs.Shown.{shown}, proofs.Settling.{settled_later}},
-  script_work.{specs.Work.{names_in, tables_in}, proofs.{Worlds.{longer_keeps, given_after}, Validity.{longer_valid}}},
+  frame_store.proofs.Settling.{settled_later},
+  script_work.{specs.Work.{tables_in}, proofs.{Worlds.{longer_keeps, given_after}, Validity.{longer_valid}}},
 }
 use Rattle.script_work.proofs.work.Work.key.Goals as goal
 
@@ -9,15 +9,15 @@ invariant_of-self c =
     let s = c.args.self.now in
     let longer = c.cell_of.ensures.longer in
     record {
-      settled = settled_later shown s.dict _ (tables_in s) longer s.settled;
+      settled = search settled_later;
       valid = longer_valid (tables_in s) s.dict _ longer s.settled s.valid;
       live = s.live;
-      given = given_after (names_in s) s.dict _ longer s.given;
+      given = search given_after;
       noted = s.noted;
     }
 
 pub returns-in_err-cell-clause-kept : goal.returns-in_err-cell-clause-kept
-returns-in_err-cell-clause-kept c = longer_keeps (tables_in c.args.self.now) c.args.self.now.dict _ c.cell_of.ensures.longer c.args.self.now.settled
+returns-in_err-cell-clause-kept c = search longer_keeps
 
 pub returns-clause-kept : goal.returns-clause-kept
-returns-clause-kept c = longer_keeps (tables_in c.args.self.now) c.args.self.now.dict _ c.cell_of.ensures.longer c.args.self.now.settled
+returns-clause-kept c = search longer_keeps

@@ -1,5 +1,4 @@
 use Rattle.{
-  std.proofs.Common.{refl},
   frame_store.proofs.Settling.{longer_self},
   script_work.{specs.Work.{world_of}, proofs.Lengths.{length_answer}},
 }
@@ -9,4 +8,4 @@ pub returns-in-Object : goal.returns-in-Object
 returns-in-Object c =
     let s = c.args.self.now in
     let length = length_answer (world_of s) c.args.on c.in-Object.id _ _ _ c.in-Object.is c.read.ensures.table c.rows-rows.ensures c.rows-rows.type_inv c.cast_signed.ensures in
-    ((length, (refl, λ more. refl)), longer_self s.dict, s.settled)
+    search longer_self

@@ -1,16 +1,16 @@
 use Rattle.{
-  std.proofs.Common.{◌≡◌, Bool, true, false, refl, sym, subst, IsSome},
+  std.proofs.Common.{refl, sym, subst, IsSome},
   table_meaning.specs.Settled.{IsSettled},
-  frame_store.specs.{Objects.{Tables}, Shown.{shown}},
+  frame_store.specs.Shown.{shown},
   table_laws.specs.Validity.{AreValid},
 }
 use Rattle.script_work.proofs.work.Work.new.Goals as goal
 
 pub invariant_of-result-clause-settled : goal.invariant_of-result-clause-settled
-invariant_of-result-clause-settled c = subst (λ (h : Tables). IsSettled shown c.new.result h) (sym c.new-3.ensures) (λ more. refl)
+invariant_of-result-clause-settled c = subst (λ h. IsSettled shown c.new.result h) (sym c.new-3.ensures) (λ more. refl)
 
 pub invariant_of-result-clause-valid : goal.invariant_of-result-clause-valid
-invariant_of-result-clause-valid c = subst (λ (h : Tables). AreValid (shown c.new.result h)) (sym c.new-3.ensures) (λ id t is. Prim.cc)
+invariant_of-result-clause-valid c = subst (λ h. AreValid (shown c.new.result h)) (sym c.new-3.ensures) (λ id t is. Prim.cc)
 
 pub invariant_of-result-clause-noted : goal.invariant_of-result-clause-noted
-invariant_of-result-clause-noted c = λ id live. let none : ◌≡◌ {A = Bool} false true = subst (λ (h : Tables). IsSome (h id)) c.new-3.ensures live in Prim.cc
+invariant_of-result-clause-noted c = λ id live. let none = subst (λ h. IsSome (h id)) c.new-3.ensures live in Prim.cc

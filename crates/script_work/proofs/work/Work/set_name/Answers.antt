@@ -1,4 +1,4 @@
-use Rattle.script_work.{specs.Work.{names_in, tables_in, world_of}, proofs.Binding.{bound_is, given_is, bound_noted}}
+use Rattle.script_work.{specs.Work.{names_in, world_of}, proofs.Binding.{bound_is, given_is, bound_noted}}
 use Rattle.script_work.proofs.work.Work.set_name.Goals as goal
 
 pub invariant_of-self-2 : goal.invariant_of-self-2
@@ -12,5 +12,5 @@ invariant_of-self-2 c =
       valid = s.valid;
       live = bound_is (names_in s) _ n v (world_of s) e.bound c.requires s.live;
       given = given_is (names_in s) _ n v (world_of s) e.bound c.requires s.given;
-      noted = bound_noted (names_in s) _ s.temps.items _ _ n v c.in_ok-left.left (tables_in s) e.bound e.left c.reserve.ensures.items c.note_left.ensures s.noted;
+      noted = search bound_noted;
     }

@@ -1,5 +1,5 @@
 use Rattle.{
-  frame_store.specs.{Objects.{tables}, World.{World, Forms}},
+  frame_store.specs.{Objects.{tables}, World.{World}},
   script_work.{specs.Work.{names_in, world_of}, proofs.{Worlds.{form_keeps, live_after, given_after, noted_made, noted_refused}, Validity.{object_valid, form_valid}}},
   table_laws.proofs.InfixLaws.{sign_result_keeps},
 }
@@ -9,12 +9,12 @@ pub invariant_of-self-in-Break-branch-2 : goal.invariant_of-self-in-Break-branch
 invariant_of-self-in-Break-branch-2 c =
     let s = c.args.self.now in
     let new : World = record { tables = tables c.invert_or_negate.new.store; texts = c.invert_or_negate.new.dict } in
-    let answers : Forms c.invert_or_negate.result _ (world_of s) new = c.invert_or_negate.ensures in
+    let answers = c.invert_or_negate.ensures in
     record {
       settled = answers.2;
       valid = form_valid c.invert_or_negate.result _ (world_of s) new answers (sign_result_keeps _ _ (object_valid (world_of s) c.args.a s.valid c.requires.live)) s.valid;
       live = live_after (names_in s) (world_of s) new (form_keeps c.invert_or_negate.result _ (world_of s) new answers) s.live;
-      given = given_after (names_in s) s.dict _ answers.1 s.given;
+      given = search given_after;
       noted = noted_refused (names_in s) s.temps.items _ c.invert_or_negate.result c.in_err-made.field-0.0 _ (world_of s) new c.in_err-made.was answers c.reserve.ensures.items s.noted;
     }
 
@@ -22,11 +22,11 @@ pub invariant_of-self-2 : goal.invariant_of-self-2
 invariant_of-self-2 c =
     let s = c.args.self.now in
     let new : World = record { tables = tables c.invert_or_negate.new.store; texts = c.invert_or_negate.new.dict } in
-    let answers : Forms c.invert_or_negate.result _ (world_of s) new = c.invert_or_negate.ensures in
+    let answers = c.invert_or_negate.ensures in
     record {
       settled = answers.2;
       valid = form_valid c.invert_or_negate.result _ (world_of s) new answers (sign_result_keeps _ _ (object_valid (world_of s) c.args.a s.valid c.requires.live)) s.valid;
       live = live_after (names_in s) (world_of s) new (form_keeps c.invert_or_negate.result _ (world_of s) new answers) s.live;
-      given = given_after (names_in s) s.dict _ answers.1 s.given;
+      given = search given_after;
       noted = noted_made (names_in s) s.temps.items _ _ c.invert_or_negate.result c.in_ok-made.made _ (world_of s) new c.in_ok-made.was answers c.reserve.ensures.items c.note.ensures s.noted;
     }
